@@ -1,0 +1,12 @@
+use Rattle.std.proofs.Common.{◌≡◌}
+use Rattle.std.specs.List.{list_any}
+use Rattle.lra_id.specs.Ids.{same_id}
+use Rattle.lra_facts.specs.Sets.{chain}
+use Rattle.lra_facts.proofs.plain.under.Given as goal
+
+-- the test comes out as from here on
+abbrev pub invariant-above : goal.invariant-above
+invariant-above l = list_any (same_id l.id) (chain l.facts l.fn.inner) ≡ list_any (same_id l.id) (chain l.facts l.at)
+
+abbrev pub decreases-above : goal.decreases-above
+decreases-above l = l.at.num

@@ -1,0 +1,41 @@
+-- When a call is refused, over the set of facts that a node holds and the front that counts it.
+use Rattle.std.specs.Prelude.{◌==◌, ℕ, Bool, Option, Some, None, List, [], ◌∷◌, if◌then◌else◌, is_none, nat_lt}
+use Rattle.lra_id.specs.Ids.{Id}
+use Rattle.lra_id.specs.Fronts.{count}
+use Rattle.lra_facts.specs.declared.fact.Fact.{Fact}
+use Rattle.lra_facts.specs.declared.refusal.Refusal.{Refusal}
+use Rattle.lra_facts.specs.declared.refusal.Refusal.TheVariants.{UnknownLra, NotHeld, NotHome, NotActive, LrasFull, NumbersSpent}
+use Rattle.lra_facts.specs.Sets.{is_covered, is_held, want, shows_now, held_at}
+
+-- a refusal, unless the test holds
+abbrev pub unless : Bool → Refusal → Option Refusal
+unless b r = if b then None else Some r
+
+-- the first of them
+abbrev pub first : List (Option Refusal) → Option Refusal
+first [] = None
+first (Some r ∷ rest) = Some r
+first (None ∷ rest) = first rest
+
+-- the front does not reach its number
+abbrev pub unknown : List ℕ → Id → Option Refusal
+unknown v l = unless (is_covered v l) UnknownLra
+
+abbrev pub gone : List Fact → Id → Option Refusal
+gone S l = unless (is_held S l) NotHeld
+
+-- the node is not its home
+abbrev pub away : ℕ → Id → Option Refusal
+away node l = unless (l.home == node) (NotHome l.home)
+
+-- it wants something already
+abbrev pub settled : List Fact → Id → Option Refusal
+settled S l = unless (is_none (want S l)) (NotActive (shows_now S l))
+
+-- the node holds as many LRAs of its own as it may
+abbrev pub crowded : List Fact → ℕ → Option Refusal
+crowded S node = unless (nat_lt (held_at S node) 256) LrasFull
+
+-- the node gave its last number
+abbrev pub spent : List ℕ → ℕ → Option Refusal
+spent v node = unless (nat_lt (count v node) 281474976710655) NumbersSpent

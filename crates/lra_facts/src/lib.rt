@@ -1,0 +1,11 @@
+//! Facts, what a set of them says, refusals, and slow evaluators that read every fact.
+#![tactic(auto)]
+
+mod fact;
+mod links;
+pub mod plain;
+mod refusal;
+
+pub use fact::{Body, Fact};
+pub use links::{LINK_LIMIT, Link, Links};
+pub use refusal::Refusal;

@@ -1,0 +1,87 @@
+// Why a call is refused.
+ghost use Rattle.std.specs.Prelude.{Some};
+ghost use Rattle.lra_facts.specs.Texts.{refusal_text};
+
+use lra_id::{Front, LraId, NodeId};
+use lra_states::LraStatus;
+use std::fmt;
+
+/// Why a call was refused, in the order in which refusals are looked for. A refused call changes nothing.
+#[derive(Clone, Copy, Debug, PartialEq, Eq)]
+pub enum Refusal {
+    /// E1: a text, link, number or body breaks its grammar.
+    BadText,
+    /// E2: the id's number is beyond the front for its home.
+    UnknownLra,
+    /// E3: the front covers the id, and no LRA of that id is held.
+    NotHeld,
+    /// E4: the call is for the home alone, which is this node.
+    NotHome(NodeId),
+    /// E5: no participant joined with this number, or it left.
+    UnknownMember,
+    /// E6: the LRA wants something already, and shows this.
+    NotActive(LraStatus),
+    /// E7: nothing demands what is reported or forgotten; the LRA shows this.
+    NotDue(LraStatus),
+    /// E8: the root is not ended, and shows this.
+    NotEnded(LraStatus),
+    /// E9: a nested LRA is not purged by itself.
+    NotRoot,
+    /// E10: this participant of this LRA is still to be told to forget.
+    StillToForget(LraId, u8),
+    /// E11: 32 member numbers were given.
+    MembersFull,
+    /// E12: the parent has depth 8.
+    DepthFull,
+    /// E13: 256 LRAs of this home are held.
+    LrasFull,
+    /// E14: the node's last number is 281,474,976,710,655.
+    NumbersSpent,
+    /// E15: a base is not below this front.
+    Gap(Front),
+    /// E16: a frame, pull body or journal row breaks its grammar at this place.
+    BadFrame(u64),
+    /// E17: a request for memory was refused.
+    NoMemory,
+    /// E18: the journal refused a statement.
+    JournalFailed,
+    /// E19: the journal failed since the book was opened.
+    Stopped,
+    /// E20: the run has no room for one more entry.
+    RunFull,
+    /// E21: the trail has lost what this number shows.
+    TrailLost(u64),
+    /// E22: receipts and trail differ at this place.
+    Strange(u64),
+}
+
+impl fmt::Display for Refusal {
+    ghost output = { λ refusal. Some (refusal_text refusal) };
+
+    fn fmt<W: fmt::Write>(&self, f: &mut fmt::Formatter<W>) -> fmt::Result {
+        match *self {
+            Refusal::BadText => f.write_str("E1 BadText"),
+            Refusal::UnknownLra => f.write_str("E2 UnknownLra"),
+            Refusal::NotHeld => f.write_str("E3 NotHeld"),
+            Refusal::NotHome(home) => write!(f, "E4 NotHome {home}"),
+            Refusal::UnknownMember => f.write_str("E5 UnknownMember"),
+            Refusal::NotActive(status) => write!(f, "E6 NotActive {status}"),
+            Refusal::NotDue(status) => write!(f, "E7 NotDue {status}"),
+            Refusal::NotEnded(status) => write!(f, "E8 NotEnded {status}"),
+            Refusal::NotRoot => f.write_str("E9 NotRoot"),
+            Refusal::StillToForget(id, member) => write!(f, "E10 StillToForget {id} {member}"),
+            Refusal::MembersFull => f.write_str("E11 MembersFull"),
+            Refusal::DepthFull => f.write_str("E12 DepthFull"),
+            Refusal::LrasFull => f.write_str("E13 LrasFull"),
+            Refusal::NumbersSpent => f.write_str("E14 NumbersSpent"),
+            Refusal::Gap(front) => write!(f, "E15 Gap {front}"),
+            Refusal::BadFrame(place) => write!(f, "E16 BadFrame {place}"),
+            Refusal::NoMemory => f.write_str("E17 NoMemory"),
+            Refusal::JournalFailed => f.write_str("E18 JournalFailed"),
+            Refusal::Stopped => f.write_str("E19 Stopped"),
+            Refusal::RunFull => f.write_str("E20 RunFull"),
+            Refusal::TrailLost(number) => write!(f, "E21 TrailLost {number}"),
+            Refusal::Strange(place) => write!(f, "E22 Strange {place}"),
+        }
+    }
+}

@@ -1,0 +1,136 @@
+// Sources and sinks over std's readers and writers.
+ghost use Rattle.std.specs.Prelude.{◌≡◌, ◌+◌};
+ghost use Rattle.lra_http.specs.Streams.{failed_calls, interrupted_calls};
+
+use crate::count::Count;
+use crate::{CallError, Sink, Source};
+use std::io::{ErrorKind, Read, Write};
+
+/// How the calls of a source or a sink came out so far.
+#[derive(Drop)]
+struct Calls {
+    made: Count,
+    failed: Count,
+    interrupted: Count,
+}
+
+impl Calls {
+    fn none() -> Calls
+        ensures made { result.made ≡ 0 }
+        ensures failed { result.failed ≡ 0 }
+        ensures interrupted { result.interrupted ≡ 0 }
+    {
+        Calls {
+            made: Count::zero(),
+            failed: Count::zero(),
+            interrupted: Count::zero(),
+        }
+    }
+
+    /// Counts a call that came out so.
+    fn count(&mut self, outcome: &Result<usize, CallError>)
+        ensures made { self.new.made ≡ self.old.made + 1 }
+        ensures failed { self.new.failed ≡ self.old.failed + failed_calls outcome.now }
+        ensures interrupted { self.new.interrupted ≡ self.old.interrupted + interrupted_calls outcome.now }
+    {
+        self.made = self.made.next();
+        match outcome {
+            Ok(_) => {}
+            Err(CallError::Interrupted) => self.interrupted = self.interrupted.next(),
+            Err(CallError::Failed) => self.failed = self.failed.next(),
+        }
+    }
+}
+
+/// What an error of std's tells of a call.
+fn call_error(kind: ErrorKind) -> CallError {
+    if kind == ErrorKind::Interrupted {
+        CallError::Interrupted
+    } else {
+        CallError::Failed
+    }
+}
+
+/// A reader of std as a source.
+#[derive(Drop)]
+pub struct OverRead<R> {
+    reader: R,
+    calls: Calls,
+}
+
+impl<R: Read> OverRead<R> {
+    /// Reads from this reader.
+    pub fn new(reader: R) -> OverRead<R>
+        ensures reader { result.reader ≡ reader }
+    {
+        OverRead {
+            reader,
+            calls: Calls::none(),
+        }
+    }
+}
+
+impl<R: Read> Source for OverRead<R> {
+    ghost left = { λ r. R.remaining r.reader };
+
+    ghost calls = { λ r. r.calls.made };
+
+    ghost failed = { λ r. r.calls.failed };
+
+    ghost interrupted = { λ r. r.calls.interrupted };
+
+    fn read_some(&mut self, buffer: &mut [u8]) -> Result<usize, CallError> {
+        let outcome = match self.reader.read(buffer) {
+            Ok(n) => Ok(n),
+            Err(error) => Err(call_error(error.kind())),
+        };
+        self.calls.count(&outcome);
+        outcome
+    }
+}
+
+/// A writer of std as a sink.
+#[derive(Drop)]
+pub struct OverWrite<W> {
+    writer: W,
+    calls: Calls,
+}
+
+impl<W: Write> OverWrite<W> {
+    /// Writes to this writer.
+    pub fn new(writer: W) -> OverWrite<W>
+        ensures writer { result.writer ≡ writer }
+    {
+        OverWrite {
+            writer,
+            calls: Calls::none(),
+        }
+    }
+
+    /// Gives the writer back.
+    pub fn into_inner(self) -> W
+        ensures { result ≡ self.writer }
+    {
+        self.writer
+    }
+}
+
+impl<W: Write> Sink for OverWrite<W> {
+    ghost written = { λ w. W.contents w.writer };
+
+    ghost calls = { λ w. w.calls.made };
+
+    ghost failed = { λ w. w.calls.failed };
+
+    ghost interrupted = { λ w. w.calls.interrupted };
+
+    fn write_some(&mut self, bytes: &[u8]) -> Result<usize, CallError> {
+        let outcome = match self.writer.write(bytes) {
+            Ok(0) if !bytes.is_empty() => Err(CallError::Failed),
+            Ok(n) => Ok(n),
+            Err(error) => Err(call_error(error.kind())),
+        };
+        self.calls.count(&outcome);
+        outcome
+    }
+}

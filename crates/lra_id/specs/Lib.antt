@@ -1,0 +1,3 @@
+pub mod FrontParts
+pub mod Fronts
+pub mod Ids

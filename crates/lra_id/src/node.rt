@@ -1,0 +1,57 @@
+// The names of nodes.
+ghost use Rattle.std.specs.Prelude.{◌≡◌, Some, IfOk, MatchResult};
+ghost use Rattle.std.specs.Fmt.{decimal};
+ghost use Rattle.lra_id.specs.Ids.{IsNodeNumber};
+
+use crate::{BadText, MOST_NODES};
+use std::fmt;
+use std::marker::Model;
+
+/// A node, by its number from 1 to 8.
+#[derive(Clone, Copy, Debug, PartialEq, Eq, PartialOrd, Ord)]
+pub struct NodeId {
+    number: u8,
+}
+
+impl Model for NodeId {
+    ghost use Rattle.std.specs.Prelude.{ℕ};
+    ghost use Rattle.lra_id.specs.Ids.{IsNodeNumber};
+
+    ghost Value = { ℕ };
+
+    ghost view = { λ n. n.number };
+
+    ghost invariant = { λ n. IsNodeNumber n.number };
+
+    ghost inverse = { λ n. record { number = n } };
+}
+
+impl NodeId {
+    /// The node with this number, which is from 1 to 8.
+    pub fn new(number: u8) -> Result<NodeId, BadText>
+        ensures value { IfOk result (λ node. node ≡ number) }
+        ensures exact { MatchResult result (λ _. IsNodeNumber number) (λ _. IsNodeNumber number → ⊥) }
+    {
+        if number == 0 || number > MOST_NODES {
+            return Err(BadText);
+        }
+        Ok(NodeId { number })
+    }
+
+    /// Its number.
+    pub fn number(self) -> u8
+        ensures value { result ≡ self }
+        ensures range { IsNodeNumber self }
+    {
+        self.number
+    }
+}
+
+impl fmt::Display for NodeId {
+    ghost output = { λ node. Some (decimal node) };
+
+    fn fmt<W: fmt::Write>(&self, f: &mut fmt::Formatter<W>) -> fmt::Result {
+        let number = self.number;
+        write!(f, "{number}")
+    }
+}

@@ -1,0 +1,106 @@
+-- Orders on statuses, outcomes and verdicts, and what is shown by what is wanted and heard.
+use Rattle.std.specs.Prelude.{ℕ, Bool, true, false, Option, Some, None, ◌==◌}
+use Rattle.lra_states.specs.declared.status.LraStatus.{LraStatus}
+use Rattle.lra_states.specs.declared.status.LraStatus.TheVariants.{Active, Closing, Closed, FailedToClose, Cancelling, Cancelled, FailedToCancel}
+use Rattle.lra_states.specs.declared.status.MemberStatus.{MemberStatus}
+use Rattle.lra_states.specs.declared.status.MemberStatus.TheVariants.{Active as MemberActive, Completing, Completed, FailedToComplete, Compensating, Compensated, FailedToCompensate}
+use Rattle.lra_states.specs.declared.outcome.Outcome.{Outcome}
+use Rattle.lra_states.specs.declared.outcome.Outcome.TheVariants.{Busy, Done, Failed}
+use Rattle.lra_states.specs.declared.outcome.Verdict.{Verdict}
+use Rattle.lra_states.specs.declared.outcome.Verdict.TheVariants.{Close, Cancel}
+use Rattle.lra_states.specs.declared.outcome.Act.{Act}
+use Rattle.lra_states.specs.declared.outcome.Act.TheVariants.{Complete, Compensate}
+
+-- the order in which an LRA's statuses follow each other
+abbrev pub rank : LraStatus → ℕ
+rank Active = 0
+rank Closing = 1
+rank Closed = 2
+rank FailedToClose = 3
+rank Cancelling = 4
+rank Cancelled = 5
+rank FailedToCancel = 6
+
+-- one that is not held comes last
+abbrev pub rank_of : Option LraStatus → ℕ
+rank_of None = 7
+rank_of (Some s) = rank s
+
+-- the order of outcomes: none, Busy, Done, Failed (this project's profile)
+abbrev pub level : Option Outcome → ℕ
+level None = 0
+level (Some Busy) = 1
+level (Some Done) = 2
+level (Some Failed) = 3
+
+-- the greater of two outcomes
+abbrev pub greater : Option Outcome → Option Outcome → Option Outcome
+greater None b = b
+greater (Some Busy) None = Some Busy
+greater (Some Busy) (Some b) = Some b
+greater (Some Done) None = Some Done
+greater (Some Done) (Some Busy) = Some Done
+greater (Some Done) (Some Done) = Some Done
+greater (Some Done) (Some Failed) = Some Failed
+greater (Some Failed) b = Some Failed
+
+-- whether two verdicts are one
+abbrev pub same_verdict : Verdict → Verdict → Bool
+same_verdict Close Close = true
+same_verdict Cancel Cancel = true
+same_verdict Close Cancel = false
+same_verdict Cancel Close = false
+
+-- whether two acts are one
+abbrev pub same_act : Act → Act → Bool
+same_act Complete Complete = true
+same_act Compensate Compensate = true
+same_act Complete Compensate = false
+same_act Compensate Complete = false
+
+-- what a participant that is asked to complete shows, by what was heard of it
+abbrev pub completing : Option Outcome → MemberStatus
+completing None = Completing
+completing (Some Busy) = Completing
+completing (Some Done) = Completed
+completing (Some Failed) = FailedToComplete
+
+-- what a participant that is asked to compensate shows, by what was heard of it
+abbrev pub compensating : Option Outcome → MemberStatus
+compensating None = Compensating
+compensating (Some Busy) = Compensating
+compensating (Some Done) = Compensated
+compensating (Some Failed) = FailedToCompensate
+
+abbrev pub member_rank : MemberStatus → ℕ
+member_rank MemberActive = 0
+member_rank Completing = 1
+member_rank Completed = 2
+member_rank FailedToComplete = 3
+member_rank Compensating = 4
+member_rank Compensated = 5
+member_rank FailedToCompensate = 6
+
+-- whether two statuses of participants are one
+abbrev pub same_member_status : MemberStatus → MemberStatus → Bool
+same_member_status a b = member_rank a == member_rank b
+
+-- a participant is final where nothing is left for it to do
+abbrev pub is_final : MemberStatus → Bool
+is_final Completed = true
+is_final FailedToComplete = true
+is_final Compensated = true
+is_final FailedToCompensate = true
+is_final Completing = false
+is_final Compensating = false
+is_final MemberActive = false
+
+-- what an LRA shows by what it wants, whether it is ended, and whether a participant failed to complete or to compensate
+abbrev pub shown : Option Verdict → (ended incomplete uncompensated : Bool) → LraStatus
+shown None ended incomplete uncompensated = Active
+shown (Some Close) false incomplete uncompensated = Closing
+shown (Some Close) true false uncompensated = Closed
+shown (Some Close) true true uncompensated = FailedToClose
+shown (Some Cancel) false incomplete uncompensated = Cancelling
+shown (Some Cancel) true incomplete false = Cancelled
+shown (Some Cancel) true incomplete true = FailedToCancel

@@ -1,0 +1,129 @@
+// What a participant is asked, what is heard of it, and how an LRA is decided.
+ghost use Rattle.std.specs.Prelude.{◌≡◌, ◌≢◌, Some, IfErr, IfOk};
+ghost use Rattle.lra_states.specs.declared.outcome.Act.{Act};
+ghost use Rattle.lra_states.specs.declared.outcome.Outcome.{Outcome};
+ghost use Rattle.lra_states.specs.declared.outcome.Verdict.{Verdict};
+ghost use Rattle.lra_states.specs.Names.{act_name, outcome_name, verdict_name};
+
+use lra_id::BadText;
+use std::fmt;
+
+/// What a participant is asked to do: to complete where its LRA closes, to compensate where it is cancelled.
+#[derive(Clone, Copy, Debug, PartialEq, Eq)]
+pub enum Act {
+    Complete,
+    Compensate,
+}
+
+impl Act {
+    /// The word for it in commands and requests.
+    pub fn name(self) -> &'static str
+        ensures { result.now ≡ act_name self }
+    {
+        match self {
+            Act::Complete => "complete",
+            Act::Compensate => "compensate",
+        }
+    }
+
+    /// The act that has this name; another text is refused.
+    pub fn from_name(name: &str) -> Result<Act, BadText>
+        ensures found { IfOk result (λ act. name.now ≡ act_name act) }
+        ensures refused { IfErr result (λ _. (act : Act) → name.now ≢ act_name act) }
+    {
+        match name {
+            "complete" => Ok(Act::Complete),
+            "compensate" => Ok(Act::Compensate),
+            _ => Err(BadText),
+        }
+    }
+}
+
+impl fmt::Display for Act {
+    ghost output = { λ act. Some (act_name act) };
+
+    fn fmt<W: fmt::Write>(&self, f: &mut fmt::Formatter<W>) -> fmt::Result {
+        f.write_str(self.name())
+    }
+}
+
+/// What was heard of an act. Of several outcomes the greatest is shown: Busy is less than Done, and Done than Failed.
+#[derive(Clone, Copy, Debug, PartialEq, Eq, PartialOrd, Ord)]
+pub enum Outcome {
+    Busy,
+    Done,
+    Failed,
+}
+
+impl Outcome {
+    /// The word for it in commands and requests.
+    pub fn name(self) -> &'static str
+        ensures { result.now ≡ outcome_name self }
+    {
+        match self {
+            Outcome::Busy => "busy",
+            Outcome::Done => "done",
+            Outcome::Failed => "failed",
+        }
+    }
+
+    /// The outcome that has this name; another text is refused.
+    pub fn from_name(name: &str) -> Result<Outcome, BadText>
+        ensures found { IfOk result (λ outcome. name.now ≡ outcome_name outcome) }
+        ensures refused { IfErr result (λ _. (outcome : Outcome) → name.now ≢ outcome_name outcome) }
+    {
+        match name {
+            "busy" => Ok(Outcome::Busy),
+            "done" => Ok(Outcome::Done),
+            "failed" => Ok(Outcome::Failed),
+            _ => Err(BadText),
+        }
+    }
+}
+
+impl fmt::Display for Outcome {
+    ghost output = { λ outcome. Some (outcome_name outcome) };
+
+    fn fmt<W: fmt::Write>(&self, f: &mut fmt::Formatter<W>) -> fmt::Result {
+        f.write_str(self.name())
+    }
+}
+
+/// How an LRA is decided.
+#[derive(Clone, Copy, Debug, PartialEq, Eq)]
+pub enum Verdict {
+    Close,
+    Cancel,
+}
+
+impl Verdict {
+    /// The word for it in commands and requests.
+    pub fn name(self) -> &'static str
+        ensures { result.now ≡ verdict_name self }
+    {
+        match self {
+            Verdict::Close => "close",
+            Verdict::Cancel => "cancel",
+        }
+    }
+
+    /// The verdict that has this name; another text is refused.
+    pub fn from_name(name: &str) -> Result<Verdict, BadText>
+        ensures found { IfOk result (λ verdict. name.now ≡ verdict_name verdict) }
+        ensures refused { IfErr result (λ _. (verdict : Verdict) → name.now ≢ verdict_name verdict) }
+    {
+        match name {
+            "close" => Ok(Verdict::Close),
+            "cancel" => Ok(Verdict::Cancel),
+            _ => Err(BadText),
+        }
+    }
+}
+
+impl fmt::Display for Verdict {
+    ghost output = { λ verdict. Some (verdict_name verdict) };
+
+    fn fmt<W: fmt::Write>(&self, f: &mut fmt::Formatter<W>) -> fmt::Result {
+        f.write_str(self.name())
+    }
+}
