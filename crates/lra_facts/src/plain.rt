@@ -3,7 +3,7 @@ ghost use Rattle.std.specs.Prelude.{◌≡◌, ◌+◌, ◌&&◌, ◌≤◌, is_
 ghost use mathlib.Core.Bool.{not};
 ghost use Rattle.std.specs.List.{list_any, AllByRecursion};
 ghost use Rattle.std.specs.Option.{option_copied};
-ghost use Rattle.lra_facts.specs.Sets.{IsNumbered, NamesEarlier, begins, begins_held, begun_by, is_begun, parent_of, parent_named, links_of, joined_links, member_status, chain, held_at, is_decided, is_decision, want, is_under, is_held, is_purged_root, is_purge, has_left, is_leave, heard, reported, status_by, joined_status, shows, some_shows, is_ended, is_open, status};
+ghost use Rattle.lra_facts.specs.Sets.{IsNumbered, NamesEarlier, begins, begins_held, begun_by, is_begun, parent_of, parent_named, links_of, joined_links, member_status, chain, held_at, is_decided, is_decision, want, is_under, is_held, is_purged_root, is_purge, has_left, is_leave, heard, reported, status_by, joined_status, shows, some_shows, shows_now, is_ended, is_open, status};
 ghost use Rattle.lra_states.specs.States.{same_member_status, greater, completing, compensating, shown};
 ghost use Rattle.lra_id.specs.Ids.{same_id};
 
@@ -390,6 +390,17 @@ fn shown_status(
     }
 }
 
+/// What an LRA that is held shows.
+pub fn shows_now(facts: &[Fact], id: LraId) -> LraStatus
+    requires { AllByRecursion NamesEarlier facts.now }
+    ensures { result ≡ shows_now facts.now id }
+{
+    let unsettled = open_under(facts, id);
+    let incomplete = failed_under(facts, id, MemberStatus::FailedToComplete);
+    let uncompensated = failed_under(facts, id, MemberStatus::FailedToCompensate);
+    shown_status(want_of(facts, id), unsettled, incomplete, uncompensated)
+}
+
 /// The status of an LRA, where it is held.
 pub fn status_of(facts: &[Fact], id: LraId) -> Option<LraStatus>
     requires { AllByRecursion NamesEarlier facts.now }
@@ -398,8 +409,5 @@ pub fn status_of(facts: &[Fact], id: LraId) -> Option<LraStatus>
     if !holds(facts, id) {
         return None;
     }
-    let unsettled = open_under(facts, id);
-    let incomplete = failed_under(facts, id, MemberStatus::FailedToComplete);
-    let uncompensated = failed_under(facts, id, MemberStatus::FailedToCompensate);
-    Some(shown_status(want_of(facts, id), unsettled, incomplete, uncompensated))
+    Some(shows_now(facts, id))
 }

@@ -54,7 +54,7 @@ pub fn read_byte<R: Source>(source: &mut R, interrupted: &mut u16) -> Result<Opt
     ensures some { IfOk result (λ byte. IfSome byte (λ b. Consumes (R.left source.old) (R.left source.new) (b ∷ []))) }
     ensures end { IfOk result (λ byte. IfNone byte (IsAtEnd (R.left source.old) × Keeps (R.left source.old) (R.left source.new))) }
     ensures err { OnErr result (Keeps (R.left source.old) (R.left source.new)) }
-    ensures called { OnOk result (R.calls source.old < R.calls source.new) }
+    ensures called { R.calls source.old < R.calls source.new }
     ensures counted { R.interrupted source.new + interrupted.old ≡ R.interrupted source.old + interrupted.new }
     ensures below { OnOk result (interrupted.new < most_interrupted) }
     ensures none_failed { OnOk result (R.failed source.new ≡ R.failed source.old) }

@@ -1,5 +1,5 @@
 // The ids of LRAs and their texts.
-ghost use Rattle.std.specs.Prelude.{◌≡◌, ◌↔◌, Some, IfOk, IfErr, IsTrue, MatchResult, length, take, codes};
+ghost use Rattle.std.specs.Prelude.{◌≡◌, ◌↔◌, Some, IfOk, IfErr, IsTrue, IsUtf8, MatchResult, length, take, codes};
 ghost use Rattle.lra_id.specs.Ids.{Id, IsNodeNumber, IsFactNumber, IsId, IsTextOf, id_text, layout, text_of};
 
 use crate::{BadText, LAST_NUMBER, NodeId};
@@ -66,6 +66,7 @@ impl LraId {
     /// Its text as a UUID: 36 bytes, in lower case with hyphens.
     pub fn to_text(self) -> [u8; 36]
         ensures text { result ≡ text_of self }
+        ensures utf8 { IsUtf8 result }
         ensures read_back { IsTextOf result self }
         ensures range { IsId self }
     {

@@ -1,0 +1,20 @@
+-- The parts of a text between single bytes: the lines of an input, the words of a line.
+use Rattle.std.specs.Prelude.{ℕ, ◌==◌, List, [], ◌∷◌, if◌then◌else◌}
+
+-- b, and then the first part
+abbrev pub onto_first : ℕ → List (List ℕ) → List (List ℕ)
+onto_first b [] = (b ∷ []) ∷ []
+onto_first b (part ∷ parts) = (b ∷ part) ∷ parts
+
+-- what stands before, between and after the bytes that equal `at`: always one part more than there are such bytes
+abbrev pub parts : ℕ → List ℕ → List (List ℕ)
+parts at [] = [] ∷ []
+parts at (b ∷ bs) = if b == at then [] ∷ parts at bs else onto_first b (parts at bs)
+
+-- each line ends with a line feed; the last may lack it. After a last line feed an empty line is left
+abbrev pub lines_of : List ℕ → List (List ℕ)
+lines_of = parts 10
+
+-- words are parted by one space
+abbrev pub words_of : List ℕ → List (List ℕ)
+words_of = parts 32
