@@ -9,10 +9,15 @@ mod line;
 mod number;
 mod room;
 mod script;
+#[cfg(test)]
+mod tests;
 mod words;
 mod world;
 
+ghost use Rattle.std.specs.Prelude.{◌≡◌, ◌↔◌, IsTrue, OnOk, OnErr, codes};
+
 use lra_http::{OverRead, OverWrite};
+use script::{ScriptFault, script};
 use std::process::ExitCode;
 use std::{env, io};
 
@@ -27,20 +32,36 @@ fn main(rt: HostRuntime) -> ExitCode {
     }
     let mut reader = OverRead::new(rt.reader());
     let mut writer = OverWrite::new(io::writer(&rt));
-    match script::script(rt.alloc(), &mut reader, &mut writer, 1) {
-        Ok(()) => ExitCode::SUCCESS,
-        Err(_) => ExitCode::from(1),
-    }
+    let outcome = script(rt.alloc(), &mut reader, &mut writer, 1);
+    ExitCode::from(status_of(outcome))
 }
 
-/// Whether the arguments are `script 1`: there is one node until nodes exchange frames.
+/// Whether there are two arguments, which ask for a script of one node.
 fn asks_for_script(rt: &HostRuntime) -> bool {
     let Ok(mut words) = env::args(rt) else {
         return false;
     };
     let _program = words.next();
-    let (Some(command), Some(nodes)) = (words.next(), words.next()) else {
-        return false;
-    };
-    command.as_str() == "script" && nodes.as_str() == "1" && words.next().is_none()
+    match (words.next(), words.next(), words.next()) {
+        (Some(command), Some(nodes), None) => is_script(command.as_str(), nodes.as_str()),
+        _ => false,
+    }
+}
+
+/// Whether two arguments ask for a script of one node: there is no other count until nodes exchange frames.
+fn is_script(command: &str, nodes: &str) -> bool
+    ensures { IsTrue result ↔ (command.now ≡ codes "script") × (nodes.now ≡ codes "1") }
+{
+    command == "script" && nodes == "1"
+}
+
+/// The exit status after a script.
+fn status_of(outcome: Result<(), ScriptFault>) -> u8
+    ensures ended { OnOk outcome (result ≡ 0) }
+    ensures fault { OnErr outcome (result ≡ 1) }
+{
+    match outcome {
+        Ok(()) => 0,
+        Err(_) => 1,
+    }
 }

@@ -1,0 +1,296 @@
+// What no clause says: the texts that outside examples give, and runs that end in the middle.
+use crate::command::{Command, CommandReply};
+use crate::script::{ScriptFault, script};
+use crate::world::World;
+use crate::{USAGE, is_script, status_of};
+use lra_http::{OverRead, OverWrite};
+use lra_states::{LraStatus, Verdict};
+use std::alloc::{AllocError, Global};
+use std::io;
+use std::io::{Read, Write};
+use std::test::Fail;
+
+/// Runs a script over memory.
+fn run(alloc: Global, input: &[u8]) -> (Result<(), ScriptFault>, Vec<u8>) {
+    let mut reader = OverRead::new(input);
+    let mut writer = OverWrite::new(Vec::new(alloc));
+    let outcome = script(alloc, &mut reader, &mut writer, 1);
+    (outcome, writer.into_inner())
+}
+
+/// Whether a script prints this.
+fn prints(alloc: Global, input: &[u8], output: &[u8]) -> bool {
+    let (outcome, text) = run(alloc, input);
+    outcome.is_ok() && text.as_slice() == output
+}
+
+#[test]
+fn id_texts(rt: HostRuntime) {
+    let input =
+        b"text 3.7\nread 00000000-0000-8003-8000-000000000007\nread 00000000-0000-4003-8000-000000000007\n";
+    let output = b"00000000-0000-8003-8000-000000000007\n3.7\nrefused E1 BadText\n";
+    assert!(rt; prints(rt.alloc(), input, output));
+}
+
+#[test]
+fn close_then_cancel(rt: HostRuntime) {
+    let input = b"begin 1 0\nshow 1 1.1\nclose 1 1.1\nshow 1 1.1\ncancel 1 1.1\n";
+    let output = b"began 1.1\nActive\nClosed\nClosed\nrefused E6 NotActive Closed\n";
+    assert!(rt; prints(rt.alloc(), input, output));
+}
+
+#[test]
+fn a_refused_command_spends_no_number(rt: HostRuntime) {
+    let input =
+        b"close 1 1.1\nbegin 1 0\ncancel 1 1.1\nclose 1 1.1\nbegin 1 5\nshow 1 1.1\nshow 1 1.3\n";
+    let output =
+        b"refused E2 UnknownLra\nbegan 1.1\nCancelled\nrefused E6 NotActive Cancelled\nbegan 1.3\nCancelled\nActive\n";
+    assert!(rt; prints(rt.alloc(), input, output));
+}
+
+#[test]
+fn ids_that_name_no_lra(rt: HostRuntime) {
+    let input =
+        b"begin 1 0\nclose 1 1.1\nshow 1 1.2\ncancel 1 1.2\nshow 1 1.3\nshow 1 2.1\nclose 1 2.1\n";
+    let output =
+        b"began 1.1\nClosed\nrefused E3 NotHeld\nrefused E3 NotHeld\nrefused E2 UnknownLra\nrefused E2 UnknownLra\nrefused E2 UnknownLra\n";
+    assert!(rt; prints(rt.alloc(), input, output));
+}
+
+#[test]
+fn lines_that_fit_no_command(rt: HostRuntime) {
+    let lines: [&[u8]; 22] = [
+        b"foo",
+        b" ",
+        b"begin",
+        b"begin 1",
+        b"begin 1 ",
+        b"begin 1 0 ",
+        b"begin  1 0",
+        b" begin 1 0",
+        b"begin 1 00",
+        b"begin 01 0",
+        b"begin 2 0",
+        b"begin 0 0",
+        b"begin 1 +1",
+        b"begin 1 18446744073709551616",
+        b"begin 1 0\r",
+        b"Begin 1 0",
+        b"show 1 1",
+        b"show 1 9.1",
+        b"show 1 1.0",
+        b"show 1 1.281474976710656",
+        b"text 1.1 1.1",
+        b"read \xff\xfe",
+    ];
+    for line in lines {
+        assert!(rt;
+            prints(rt.alloc(), line, b"refused E1 BadText\n"),
+            "{line:?}"
+        );
+    }
+    assert!(rt; prints(rt.alloc(), b"begin 1 18446744073709551615", b"began 1.1\n"));
+}
+
+#[test]
+fn empty_lines_and_empty_inputs_print_nothing(rt: HostRuntime) {
+    assert!(rt; prints(rt.alloc(), b"", b""));
+    assert!(rt; prints(rt.alloc(), b"\n\n", b""));
+    assert!(rt;
+        prints(
+            rt.alloc(),
+            b"\nbegin 1 0\n\nshow 1 1.1",
+            b"began 1.1\nActive\n"
+        )
+    );
+}
+
+#[test]
+fn bytes_that_are_no_text(rt: HostRuntime) {
+    assert!(rt;
+        prints(
+            rt.alloc(),
+            b"\xc3\x28\nbegin 1 0\n",
+            b"refused E1 BadText\nbegan 1.1\n"
+        )
+    );
+}
+
+#[test]
+fn a_line_that_is_too_long_is_one_refusal(rt: HostRuntime) -> Result<(), Fail> {
+    for length in [4096, 4097, 4098, 9000] {
+        let mut input = vec![in rt.alloc(); b'x'; length]?;
+        input.extend_from_slice(b"\nbegin 1 0\n")?;
+        assert!(rt;
+            prints(rt.alloc(), &input, b"refused E1 BadText\nbegan 1.1\n"),
+            "{length}"
+        );
+    }
+    Ok(())
+}
+
+#[test]
+fn as_many_lras_as_a_home_holds(rt: HostRuntime) -> Result<(), Fail> {
+    let (_, text) = run_after(
+        rt.alloc(),
+        256,
+        b"begin 1 0\nclose 1 1.1\nbegin 1 0\nshow 1 1.256\n",
+    )?;
+    assert!(rt;
+        text.as_slice().ends_with(
+            b"began 1.256\nrefused E13 LrasFull\nClosed\nrefused E13 LrasFull\nActive\n"
+        )
+    );
+    Ok(())
+}
+
+/// Runs a script of so many begins, and then more lines.
+fn run_after(
+    alloc: Global,
+    begins: usize,
+    more: &[u8],
+) -> Result<(Result<(), ScriptFault>, Vec<u8>), AllocError> {
+    let mut input = Vec::new(alloc);
+    for _ in 0..begins {
+        input.extend_from_slice(b"begin 1 0\n")?;
+    }
+    input.extend_from_slice(more)?;
+    Ok(run(alloc, &input))
+}
+
+#[test]
+fn a_world_shows_what_it_decided(rt: HostRuntime) -> Result<(), Fail> {
+    let mut world = World::new(rt.alloc());
+    let CommandReply::Began(id) = world.step(Command::Begin { deadline: 7 })? else {
+        return Err(Fail::from("begun"));
+    };
+    assert_eq!(rt; world.status(id), Ok(LraStatus::Active));
+    let verdict = Verdict::Cancel;
+    assert_eq!(rt;
+        world.step(Command::Decide { id, verdict })?,
+        CommandReply::Decided(LraStatus::Cancelled)
+    );
+    assert_eq!(rt; world.status(id), Ok(LraStatus::Cancelled));
+    assert_eq!(rt; world.facts().len(), 2);
+    Ok(())
+}
+
+#[test]
+fn arguments_and_exit_statuses(rt: HostRuntime) {
+    assert!(rt; is_script("script", "1"));
+    assert!(rt; !is_script("script", "2"));
+    assert!(rt; !is_script("script", "01"));
+    assert!(rt; !is_script("serve", "1"));
+    assert_eq!(rt; status_of(Ok(())), 0);
+    assert_eq!(rt; status_of(Err(ScriptFault::Read)), 1);
+    assert_eq!(rt; status_of(Err(ScriptFault::Write)), 1);
+    assert_eq!(rt; status_of(Err(ScriptFault::NoMemory)), 1);
+    assert_eq!(rt; USAGE, "usage: lra_node script N | serve N PORT DIR");
+}
+
+/// Gives its bytes one at a time, each after so many interruptions, and fails where it is cut.
+#[derive(Drop)]
+struct Halting<'a> {
+    bytes: &'a [u8],
+    interruptions: u16,
+    left: u16,
+    cut: Option<usize>,
+}
+
+impl<'a> Read for Halting<'a> {
+    fn read(&mut self, buf: &mut [u8]) -> io::Result<usize> {
+        if self.cut == Some(self.bytes.len()) {
+            return Err(io::ErrorKind::Other.into());
+        }
+        if self.left > 0 {
+            self.left -= 1;
+            return Err(io::ErrorKind::Interrupted.into());
+        }
+        if self.bytes.is_empty() || buf.is_empty() {
+            return Ok(0);
+        }
+        buf[0] = self.bytes[0];
+        if self.bytes[0] == b'\n' {
+            self.left = self.interruptions;
+        }
+        self.bytes = &self.bytes[1..];
+        Ok(1)
+    }
+}
+
+/// Takes at most so many bytes a call, and none any more once it is full.
+#[derive(Drop)]
+struct Filling {
+    bytes: Vec<u8>,
+    room: usize,
+}
+
+impl Write for Filling {
+    fn write(&mut self, buf: &[u8]) -> io::Result<usize> {
+        if buf.is_empty() || self.bytes.len() >= self.room {
+            return Ok(0);
+        }
+        match self.bytes.push(buf[0]) {
+            Ok(()) => Ok(1),
+            Err(_) => Err(io::ErrorKind::OutOfMemory.into()),
+        }
+    }
+
+    fn flush(&mut self) -> io::Result<()> {
+        Ok(())
+    }
+}
+
+#[test]
+fn interruptions_are_counted_by_the_line(rt: HostRuntime) {
+    for (interruptions, want) in [(1023, Ok(())), (1024, Err(ScriptFault::Read))] {
+        let mut reader = OverRead::new(Halting {
+            bytes: b"begin 1 0\nshow 1 1.1\nshow 1 1.1\n",
+            interruptions,
+            left: 0,
+            cut: None,
+        });
+        let mut writer = OverWrite::new(Vec::new(rt.alloc()));
+        assert_eq!(rt; script(rt.alloc(), &mut reader, &mut writer, 1), want);
+    }
+}
+
+#[test]
+fn a_reader_that_fails_in_mid_stream(rt: HostRuntime) {
+    let input = b"begin 1 0\nclose 1 1.1\n";
+    for cut in 0..=input.len() {
+        let mut reader = OverRead::new(Halting {
+            bytes: input,
+            interruptions: 0,
+            left: 0,
+            cut: Some(cut),
+        });
+        let mut writer = OverWrite::new(Vec::new(rt.alloc()));
+        assert_eq!(rt;
+            script(rt.alloc(), &mut reader, &mut writer, 1),
+            Err(ScriptFault::Read)
+        );
+        let text = writer.into_inner();
+        assert!(rt; b"began 1.1\nClosed\n".starts_with(&text), "{cut}");
+    }
+}
+
+#[test]
+fn a_writer_that_fails_in_mid_stream(rt: HostRuntime) {
+    let output = b"began 1.1\nClosed\n";
+    for room in 0..output.len() {
+        let mut reader = OverRead::new(b"begin 1 0\nclose 1 1.1\n".as_slice());
+        let mut writer = OverWrite::new(Filling {
+            bytes: Vec::new(rt.alloc()),
+            room,
+        });
+        assert_eq!(rt;
+            script(rt.alloc(), &mut reader, &mut writer, 1),
+            Err(ScriptFault::Write)
+        );
+        assert!(rt;
+            writer.into_inner().bytes.as_slice() == &output[..room],
+            "{room}"
+        );
+    }
+}
