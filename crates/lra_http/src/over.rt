@@ -59,9 +59,12 @@ pub struct OverRead<R> {
 }
 
 impl<R: Read> OverRead<R> {
-    /// Reads from this reader.
+    /// Reads from this reader. No call was made so far.
     pub fn new(reader: R) -> OverRead<R>
         ensures reader { result.reader ≡ reader }
+        ensures made { result.calls.made ≡ 0 }
+        ensures failed { result.calls.failed ≡ 0 }
+        ensures interrupted { result.calls.interrupted ≡ 0 }
     {
         OverRead {
             reader,
@@ -97,9 +100,12 @@ pub struct OverWrite<W> {
 }
 
 impl<W: Write> OverWrite<W> {
-    /// Writes to this writer.
+    /// Writes to this writer. No call was made so far.
     pub fn new(writer: W) -> OverWrite<W>
         ensures writer { result.writer ≡ writer }
+        ensures made { result.calls.made ≡ 0 }
+        ensures failed { result.calls.failed ≡ 0 }
+        ensures interrupted { result.calls.interrupted ≡ 0 }
     {
         OverWrite {
             writer,

@@ -3,6 +3,8 @@
 
 mod outcome;
 mod status;
+#[cfg(test)]
+mod tests;
 
 pub use outcome::{Act, Outcome, Verdict};
 pub use status::{LraStatus, MemberStatus};
