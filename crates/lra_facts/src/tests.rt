@@ -190,83 +190,116 @@ fn shows(link: &Option<Link>, text: &str) -> bool {
 
 // Lists of facts
 
+/// A fact that node 1 enters, about LRAs that it began, or what the facts so far say. An LRA is named by its number, and
+/// each participant is member 1.
+#[derive(Clone, Copy)]
+enum Step {
+    Begin,
+    Nest(u64),
+    Join(u64, Option<&'static str>),
+    Leave(u64),
+    LeaveOther(u64),
+    Decide(u64, Verdict),
+    Report(u64, Act, Outcome),
+    Purge(u64),
+    Wants(u64, Option<Verdict>),
+    Member(u64, Option<MemberStatus>),
+    Shows(u64, Option<LraStatus>),
+    Holds(u64, bool),
+    HoldsInAll(u64),
+}
+
 /// The LRA that node 1 began with its fact of this number.
 fn lra(num: u64) -> Result<LraId, Fail> {
     Ok(LraId::new(NodeId::new(1)?, num)?)
 }
 
-fn begin(parent: Option<LraId>) -> Body {
-    Body::Begin {
-        parent,
-        deadline: 0,
-    }
+/// The fact of a step, if it is one.
+fn told(alloc: Global, step: Step) -> Result<Option<Body>, Fail> {
+    let body = match step {
+        Step::Begin => Body::Begin {
+            parent: None,
+            deadline: 0,
+        },
+        Step::Nest(parent) => Body::Begin {
+            parent: Some(lra(parent)?),
+            deadline: 0,
+        },
+        Step::Join(id, complete) => {
+            let links = Links::read(alloc, complete, Some("http://p/compensate"), None, None)?;
+            Body::Join {
+                id: lra(id)?,
+                member: 1,
+                links,
+            }
+        }
+        Step::Leave(id) => Body::Leave {
+            id: lra(id)?,
+            member: 1,
+        },
+        Step::LeaveOther(id) => Body::Leave {
+            id: lra(id)?,
+            member: 2,
+        },
+        Step::Decide(id, verdict) => Body::Decide {
+            id: lra(id)?,
+            verdict,
+        },
+        Step::Report(id, act, outcome) => Body::Report {
+            id: lra(id)?,
+            member: 1,
+            act,
+            outcome,
+        },
+        Step::Purge(root) => Body::Purge { root: lra(root)? },
+        _ => return Ok(None),
+    };
+    Ok(Some(body))
 }
 
-/// A participant joins as member 1, with a link to complete or without one.
-fn join(alloc: Global, id: LraId, complete: Option<&str>) -> Result<Body, Fail> {
-    let links = Links::read(alloc, complete, Some("http://p/compensate"), None, None)?;
-    Ok(Body::Join {
-        id,
-        member: 1,
-        links,
+/// Whether the facts say what a step says of them.
+fn says(facts: &[Fact], step: Step) -> Result<bool, Fail>
+    requires earlier { AllByRecursion NamesEarlier facts.now }
+    requires numbered { AllByRecursion IsNumbered facts.now }
+{
+    Ok(match step {
+        Step::Wants(id, verdict) => plain::want_of(facts, lra(id)?) == verdict,
+        Step::Member(id, status) => plain::member_of(facts, lra(id)?, 1) == status,
+        Step::Shows(id, status) => plain::status_of(facts, lra(id)?) == status,
+        Step::Holds(id, held) => plain::holds(facts, lra(id)?) == held,
+        Step::HoldsInAll(count) => plain::held_at(facts, NodeId::new(1)?) as u64 == count,
+        _ => true,
     })
 }
 
-fn decide(id: LraId, verdict: Verdict) -> Body {
-    Body::Decide { id, verdict }
-}
-
-fn report(id: LraId, act: Act, outcome: Outcome) -> Body {
-    Body::Report {
-        id,
-        member: 1,
-        act,
-        outcome,
-    }
-}
-
-/// Facts that node 1 enters one after the other.
-#[derive(Drop)]
-struct Story {
-    facts: Vec<Fact>,
-}
-
-impl Story {
-    fn new(alloc: Global) -> Story {
-        Story {
-            facts: Vec::new(alloc),
+/// Enters the facts one after the other, after one LRA of node 2, and looks at what is said between them.
+fn play(rt: &impl Abort, alloc: Global, steps: &[Step]) -> Result<(), Fail> {
+    let mut facts = Vec::new(alloc);
+    let there = NodeId::new(2)?;
+    let elsewhere = Body::Begin {
+        parent: None,
+        deadline: 0,
+    };
+    facts.push(Fact {
+        origin: there,
+        num: 1,
+        body: elsewhere,
+    })?;
+    for (place, step) in steps.iter().enumerate() {
+        if let Some(body) = told(alloc, *step)? {
+            let num = facts.len() as u64;
+            facts.push(Fact {
+                origin: NodeId::new(1)?,
+                num,
+                body,
+            })?;
         }
+        assert!(rt; are_in_order(&facts));
+        assert!(rt; says(&facts, *step)?, "step {place}");
     }
-
-    fn tell(&mut self, body: Body) -> Result<(), Fail> {
-        let num = self.facts.len() as u64 + 1;
-        self.facts.push(Fact {
-            origin: NodeId::new(1)?,
-            num,
-            body,
-        })?;
-        Ok(())
-    }
-
-    fn status(&self, rt: &impl Abort, id: LraId) -> Option<LraStatus> {
-        assert!(rt; are_in_order(&self.facts));
-        plain::status_of(&self.facts, id)
-    }
-
-    fn member(&self, rt: &impl Abort, id: LraId) -> Option<MemberStatus> {
-        assert!(rt; are_in_order(&self.facts));
-        plain::member_of(&self.facts, id, 1)
-    }
-
-    fn want(&self, rt: &impl Abort, id: LraId) -> Option<Verdict> {
-        assert!(rt; are_in_order(&self.facts));
-        plain::want_of(&self.facts, id)
-    }
-
-    fn holds(&self, rt: &impl Abort, id: LraId) -> bool {
-        assert!(rt; are_in_order(&self.facts));
-        plain::holds(&self.facts, id)
-    }
+    assert!(rt; are_in_order(&facts));
+    assert_eq!(rt; plain::held_at(&facts, there), 1);
+    Ok(())
 }
 
 /// Whether facts have numbers, and a nested LRA is begun at its parent's home after it: what the evaluators ask.
@@ -302,178 +335,165 @@ fn names_earlier(fact: &Fact) -> bool
 
 #[test]
 fn an_lra_with_no_participant(rt: HostRuntime) -> Result<(), Fail> {
-    let root = lra(1)?;
-    let mut story = Story::new(rt.alloc());
-    assert_eq!(rt; story.status(&rt, root), None);
-    assert!(rt; !story.holds(&rt, root));
-    story.tell(begin(None))?;
-    assert_eq!(rt; story.status(&rt, root), Some(LraStatus::Active));
-    assert_eq!(rt; story.want(&rt, root), None);
-    story.tell(decide(root, Verdict::Close))?;
-    assert_eq!(rt; story.status(&rt, root), Some(LraStatus::Closed));
-    assert_eq!(rt; story.want(&rt, root), Some(Verdict::Close));
-    // Another node cancelled it before it heard of this.
-    story.tell(decide(root, Verdict::Cancel))?;
-    assert_eq!(rt; story.status(&rt, root), Some(LraStatus::Cancelled));
-    assert_eq!(rt; story.want(&rt, root), Some(Verdict::Cancel));
-    assert!(rt; story.holds(&rt, root));
-    assert_eq!(rt; story.status(&rt, lra(2)?), None, "this id was never begun");
-    assert_eq!(rt; story.want(&rt, lra(2)?), None);
-    Ok(())
+    let steps = [
+        Step::Shows(1, None),
+        Step::Holds(1, false),
+        Step::HoldsInAll(0),
+        Step::Begin,
+        Step::Shows(1, Some(LraStatus::Active)),
+        Step::Wants(1, None),
+        Step::Decide(1, Verdict::Close),
+        Step::Shows(1, Some(LraStatus::Closed)),
+        Step::Wants(1, Some(Verdict::Close)),
+        // Another node cancelled it before it heard of this.
+        Step::Decide(1, Verdict::Cancel),
+        Step::Shows(1, Some(LraStatus::Cancelled)),
+        Step::Wants(1, Some(Verdict::Cancel)),
+        Step::Holds(1, true),
+        // This id was never begun.
+        Step::Shows(2, None),
+        Step::Wants(2, None),
+        Step::HoldsInAll(1),
+    ];
+    play(&rt, rt.alloc(), &steps)
 }
 
 #[test]
 fn a_closed_nested_lra_is_compensated_with_its_parent(rt: HostRuntime) -> Result<(), Fail> {
-    let (root, child) = (lra(1)?, lra(2)?);
-    let mut story = Story::new(rt.alloc());
-    story.tell(begin(None))?;
-    story.tell(begin(Some(root)))?;
-    assert_eq!(rt; story.member(&rt, child), None);
-    story.tell(join(rt.alloc(), child, Some("http://p/complete"))?)?;
-    assert_eq!(rt; story.member(&rt, child), Some(MemberStatus::Active));
-    assert_eq!(rt; story.member(&rt, root), None);
-    story.tell(decide(child, Verdict::Close))?;
-    assert_eq!(rt; story.member(&rt, child), Some(MemberStatus::Completing));
-    assert_eq!(rt; story.status(&rt, child), Some(LraStatus::Closing));
-    assert_eq!(rt; story.status(&rt, root), Some(LraStatus::Active));
-    assert_eq!(rt; story.want(&rt, root), None);
-    story.tell(report(child, Act::Complete, Outcome::Busy))?;
-    assert_eq!(rt; story.status(&rt, child), Some(LraStatus::Closing));
-    story.tell(report(child, Act::Complete, Outcome::Done))?;
-    assert_eq!(rt; story.member(&rt, child), Some(MemberStatus::Completed));
-    assert_eq!(rt; story.status(&rt, child), Some(LraStatus::Closed));
-    story.tell(decide(root, Verdict::Cancel))?;
-    assert_eq!(rt; story.want(&rt, child), Some(Verdict::Cancel));
-    assert_eq!(rt; story.member(&rt, child), Some(MemberStatus::Compensating));
-    assert_eq!(rt; story.status(&rt, child), Some(LraStatus::Cancelling));
-    assert_eq!(rt; story.status(&rt, root), Some(LraStatus::Cancelling));
-    story.tell(report(child, Act::Compensate, Outcome::Done))?;
-    assert_eq!(rt; story.member(&rt, child), Some(MemberStatus::Compensated));
-    assert_eq!(rt; story.status(&rt, child), Some(LraStatus::Cancelled));
-    assert_eq!(rt; story.status(&rt, root), Some(LraStatus::Cancelled));
-    Ok(())
+    let steps = [
+        Step::Begin,
+        Step::Nest(1),
+        Step::Member(2, None),
+        Step::Join(2, Some("http://p/complete")),
+        Step::Member(2, Some(MemberStatus::Active)),
+        Step::Member(1, None),
+        Step::Decide(2, Verdict::Close),
+        Step::Member(2, Some(MemberStatus::Completing)),
+        Step::Shows(2, Some(LraStatus::Closing)),
+        Step::Shows(1, Some(LraStatus::Active)),
+        Step::Wants(1, None),
+        Step::Report(2, Act::Complete, Outcome::Busy),
+        Step::Shows(2, Some(LraStatus::Closing)),
+        Step::Report(2, Act::Complete, Outcome::Done),
+        Step::Member(2, Some(MemberStatus::Completed)),
+        Step::Shows(2, Some(LraStatus::Closed)),
+        Step::Decide(1, Verdict::Cancel),
+        Step::Wants(2, Some(Verdict::Cancel)),
+        Step::Member(2, Some(MemberStatus::Compensating)),
+        Step::Shows(2, Some(LraStatus::Cancelling)),
+        Step::Shows(1, Some(LraStatus::Cancelling)),
+        Step::Report(2, Act::Compensate, Outcome::Done),
+        Step::Member(2, Some(MemberStatus::Compensated)),
+        Step::Shows(2, Some(LraStatus::Cancelled)),
+        Step::Shows(1, Some(LraStatus::Cancelled)),
+    ];
+    play(&rt, rt.alloc(), &steps)
 }
 
 #[test]
 fn a_nested_lra_closes_with_its_parent(rt: HostRuntime) -> Result<(), Fail> {
-    let (root, child) = (lra(1)?, lra(2)?);
-    let mut story = Story::new(rt.alloc());
-    story.tell(begin(None))?;
-    story.tell(begin(Some(root)))?;
-    // It has no link to complete, so nothing is asked of it where its LRA closes.
-    story.tell(join(rt.alloc(), child, None)?)?;
-    story.tell(decide(root, Verdict::Close))?;
-    assert_eq!(rt; story.want(&rt, child), Some(Verdict::Close));
-    assert_eq!(rt; story.member(&rt, child), Some(MemberStatus::Completed));
-    assert_eq!(rt; story.status(&rt, child), Some(LraStatus::Closed));
-    assert_eq!(rt; story.status(&rt, root), Some(LraStatus::Closed));
-    Ok(())
+    let steps = [
+        Step::Begin,
+        Step::Nest(1),
+        // It has no link to complete, so nothing is asked of it where its LRA closes.
+        Step::Join(2, None),
+        Step::Decide(1, Verdict::Close),
+        Step::Wants(2, Some(Verdict::Close)),
+        Step::Member(2, Some(MemberStatus::Completed)),
+        Step::Shows(2, Some(LraStatus::Closed)),
+        Step::Shows(1, Some(LraStatus::Closed)),
+    ];
+    play(&rt, rt.alloc(), &steps)
+}
+
+fn fails_to_close(
+    rt: &impl Abort,
+    alloc: Global,
+    first: Outcome,
+    second: Outcome,
+) -> Result<(), Fail> {
+    let steps = [
+        Step::Begin,
+        Step::Join(1, Some("http://p/complete")),
+        Step::Decide(1, Verdict::Close),
+        Step::Report(1, Act::Complete, first),
+        Step::Report(1, Act::Complete, second),
+        Step::Member(1, Some(MemberStatus::FailedToComplete)),
+        Step::Shows(1, Some(LraStatus::FailedToClose)),
+        // What was heard of completing says nothing of compensating.
+        Step::Decide(1, Verdict::Cancel),
+        Step::Member(1, Some(MemberStatus::Compensating)),
+        Step::Shows(1, Some(LraStatus::Cancelling)),
+        Step::Report(1, Act::Compensate, Outcome::Failed),
+        Step::Shows(1, Some(LraStatus::FailedToCancel)),
+    ];
+    play(rt, alloc, &steps)
 }
 
 #[test]
-fn the_greatest_outcome_counts_in_any_order(rt: HostRuntime) -> Result<(), Fail> {
-    for (first, second) in [
-        (Outcome::Failed, Outcome::Done),
-        (Outcome::Done, Outcome::Failed),
-    ] {
-        let root = lra(1)?;
-        let mut story = Story::new(rt.alloc());
-        story.tell(begin(None))?;
-        story.tell(join(rt.alloc(), root, Some("http://p/complete"))?)?;
-        story.tell(decide(root, Verdict::Close))?;
-        story.tell(report(root, Act::Complete, first))?;
-        story.tell(report(root, Act::Complete, second))?;
-        assert_eq!(rt;
-            story.member(&rt, root),
-            Some(MemberStatus::FailedToComplete)
-        );
-        assert_eq!(rt; story.status(&rt, root), Some(LraStatus::FailedToClose));
-        // What was heard of completing says nothing of compensating.
-        story.tell(decide(root, Verdict::Cancel))?;
-        assert_eq!(rt; story.member(&rt, root), Some(MemberStatus::Compensating));
-        assert_eq!(rt; story.status(&rt, root), Some(LraStatus::Cancelling));
-        story.tell(report(root, Act::Compensate, Outcome::Failed))?;
-        assert_eq!(rt; story.status(&rt, root), Some(LraStatus::FailedToCancel));
-    }
-    Ok(())
+fn a_failure_is_not_hidden_by_a_later_success(rt: HostRuntime) -> Result<(), Fail> {
+    fails_to_close(&rt, rt.alloc(), Outcome::Failed, Outcome::Done)
+}
+
+#[test]
+fn a_failure_is_seen_after_an_earlier_success(rt: HostRuntime) -> Result<(), Fail> {
+    fails_to_close(&rt, rt.alloc(), Outcome::Done, Outcome::Failed)
 }
 
 #[test]
 fn a_failure_in_a_child_that_was_cancelled_alone(rt: HostRuntime) -> Result<(), Fail> {
-    let (root, child) = (lra(1)?, lra(2)?);
-    let mut story = Story::new(rt.alloc());
-    story.tell(begin(None))?;
-    story.tell(begin(Some(root)))?;
-    story.tell(join(rt.alloc(), child, None)?)?;
-    story.tell(decide(child, Verdict::Cancel))?;
-    assert_eq!(rt; story.status(&rt, child), Some(LraStatus::Cancelling));
-    story.tell(decide(root, Verdict::Close))?;
-    assert_eq!(rt; story.want(&rt, child), Some(Verdict::Cancel));
-    // A child that is not ended holds up its parent.
-    assert_eq!(rt; story.status(&rt, root), Some(LraStatus::Closing));
-    story.tell(report(child, Act::Compensate, Outcome::Failed))?;
-    assert_eq!(rt;
-        story.member(&rt, child),
-        Some(MemberStatus::FailedToCompensate)
-    );
-    assert_eq!(rt; story.status(&rt, child), Some(LraStatus::FailedToCancel));
-    assert_eq!(rt; story.status(&rt, root), Some(LraStatus::Closed));
-    Ok(())
+    let steps = [
+        Step::Begin,
+        Step::Nest(1),
+        Step::Join(2, None),
+        Step::Decide(2, Verdict::Cancel),
+        Step::Shows(2, Some(LraStatus::Cancelling)),
+        Step::Decide(1, Verdict::Close),
+        Step::Wants(2, Some(Verdict::Cancel)),
+        // A child that is not ended holds up its parent.
+        Step::Shows(1, Some(LraStatus::Closing)),
+        Step::Report(2, Act::Compensate, Outcome::Failed),
+        Step::Member(2, Some(MemberStatus::FailedToCompensate)),
+        Step::Shows(2, Some(LraStatus::FailedToCancel)),
+        Step::Shows(1, Some(LraStatus::Closed)),
+    ];
+    play(&rt, rt.alloc(), &steps)
 }
 
 #[test]
 fn a_participant_that_left_does_not_count(rt: HostRuntime) -> Result<(), Fail> {
-    let root = lra(1)?;
-    let mut story = Story::new(rt.alloc());
-    story.tell(begin(None))?;
-    story.tell(join(rt.alloc(), root, Some("http://p/complete"))?)?;
-    story.tell(Body::Leave {
-        id: root,
-        member: 2,
-    })?;
-    assert_eq!(rt;
-        story.member(&rt, root),
-        Some(MemberStatus::Active),
-        "another one left"
-    );
-    story.tell(Body::Leave {
-        id: root,
-        member: 1,
-    })?;
-    assert_eq!(rt; story.member(&rt, root), None);
-    story.tell(decide(root, Verdict::Cancel))?;
-    assert_eq!(rt; story.status(&rt, root), Some(LraStatus::Cancelled));
-    Ok(())
+    let steps = [
+        Step::Begin,
+        Step::Join(1, Some("http://p/complete")),
+        Step::LeaveOther(1),
+        Step::Member(1, Some(MemberStatus::Active)),
+        Step::Leave(1),
+        Step::Member(1, None),
+        Step::Decide(1, Verdict::Cancel),
+        Step::Shows(1, Some(LraStatus::Cancelled)),
+    ];
+    play(&rt, rt.alloc(), &steps)
 }
 
 #[test]
 fn a_purge_removes_a_root_and_all_that_is_nested(rt: HostRuntime) -> Result<(), Fail> {
-    let (root, child, other) = (lra(1)?, lra(2)?, lra(3)?);
-    let (here, there) = (NodeId::new(1)?, NodeId::new(2)?);
-    let mut story = Story::new(rt.alloc());
-    story.tell(begin(None))?;
-    story.tell(begin(Some(root)))?;
-    story.tell(begin(None))?;
-    story.facts.push(Fact {
-        origin: there,
-        num: 1,
-        body: begin(None),
-    })?;
-    story.tell(join(rt.alloc(), child, None)?)?;
-    assert!(rt; are_in_order(&story.facts));
-    assert_eq!(rt; plain::held_at(&story.facts, here), 3);
-    assert_eq!(rt; plain::held_at(&story.facts, there), 1);
-    assert_eq!(rt; plain::held_at(&story.facts, NodeId::new(3)?), 0);
-    // A nested LRA is not removed by itself.
-    story.tell(Body::Purge { root: child })?;
-    assert!(rt; story.holds(&rt, child));
-    story.tell(Body::Purge { root })?;
-    assert!(rt; !story.holds(&rt, root) && !story.holds(&rt, child) && story.holds(&rt, other));
-    assert_eq!(rt; story.status(&rt, root), None);
-    assert_eq!(rt; story.status(&rt, child), None);
-    assert_eq!(rt; story.member(&rt, child), None);
-    assert!(rt; are_in_order(&story.facts));
-    assert_eq!(rt; plain::held_at(&story.facts, here), 1);
-    assert_eq!(rt; plain::held_at(&story.facts, there), 1);
-    Ok(())
+    let steps = [
+        Step::Begin,
+        Step::Nest(1),
+        Step::Begin,
+        Step::Join(2, None),
+        Step::HoldsInAll(3),
+        // A nested LRA is not removed by itself.
+        Step::Purge(2),
+        Step::Holds(2, true),
+        Step::Purge(1),
+        Step::Holds(1, false),
+        Step::Holds(2, false),
+        Step::Holds(3, true),
+        Step::Shows(1, None),
+        Step::Shows(2, None),
+        Step::Member(2, None),
+        Step::HoldsInAll(1),
+    ];
+    play(&rt, rt.alloc(), &steps)
 }
