@@ -1,3 +1,4 @@
+pub mod Links
 pub mod Refusals
 pub mod Sets
 pub mod Texts

@@ -5,6 +5,8 @@ mod fact;
 mod links;
 pub mod plain;
 mod refusal;
+#[cfg(test)]
+mod tests;
 
 pub use fact::{Body, Fact};
 pub use links::{LINK_LIMIT, Link, Links};

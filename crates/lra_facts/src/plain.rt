@@ -1,4 +1,4 @@
-// Slow evaluators that read every fact. They take no memory.
+//! Slow evaluators: what a list of facts says, read from every fact at each call. They take no memory.
 ghost use Rattle.std.specs.Prelude.{◌≡◌, ◌+◌, ◌&&◌, ◌≤◌, is_some};
 ghost use mathlib.Core.Bool.{not};
 ghost use Rattle.std.specs.List.{list_any, AllByRecursion};
@@ -11,7 +11,7 @@ use crate::{Body, Fact, Links};
 use lra_id::{LraId, NodeId};
 use lra_states::{Act, LraStatus, MemberStatus, Outcome, Verdict};
 
-/// Whether it is the begin of an LRA.
+/// Whether a fact is the begin of an LRA.
 fn begins_lra(id: LraId, fact: &Fact) -> bool
     ensures { result ≡ begins id fact.now }
 {
@@ -21,12 +21,14 @@ fn begins_lra(id: LraId, fact: &Fact) -> bool
     }
 }
 
+/// Whether an LRA was begun.
 fn begun(facts: &[Fact], id: LraId) -> bool
     ensures { result ≡ is_begun facts.now id }
 {
     facts.iter().any(|fact| begins_lra(id, fact))
 }
 
+/// The parent that the begin of an LRA names.
 fn named_parent(fact: &Fact) -> Option<LraId>
     ensures { result ≡ parent_named fact.now.body }
 {
@@ -36,6 +38,7 @@ fn named_parent(fact: &Fact) -> Option<LraId>
     }
 }
 
+/// The parent of an LRA, where it was begun and is nested.
 fn parent(facts: &[Fact], id: LraId) -> Option<LraId>
     ensures { result ≡ parent_of facts.now id }
 {
@@ -47,6 +50,7 @@ fn parent(facts: &[Fact], id: LraId) -> Option<LraId>
     None
 }
 
+/// Whether a fact decides an LRA by this verdict.
 fn decides(id: LraId, verdict: Verdict, fact: &Fact) -> bool
     ensures { result ≡ is_decision id verdict fact.now.body }
 {
@@ -59,12 +63,14 @@ fn decides(id: LraId, verdict: Verdict, fact: &Fact) -> bool
     }
 }
 
+/// Whether an LRA itself was decided by this verdict.
 fn decided(facts: &[Fact], verdict: Verdict, id: LraId) -> bool
     ensures { result ≡ is_decided facts.now verdict id }
 {
     facts.iter().any(|fact| decides(id, verdict, fact))
 }
 
+/// Whether an LRA or one of its ancestors was decided by this verdict.
 #[tactic(auto, using(crate::proofs::Chains::parent_lesser, crate::proofs::Chains::chain_any))]
 fn decided_above(facts: &[Fact], verdict: Verdict, id: LraId) -> bool
     requires { AllByRecursion NamesEarlier facts.now }
@@ -96,6 +102,7 @@ pub fn want_of(facts: &[Fact], id: LraId) -> Option<Verdict>
     }
 }
 
+/// Whether an LRA is another, or is nested in it at some depth.
 #[tactic(auto, using(crate::proofs::Chains::parent_lesser, crate::proofs::Chains::chain_any))]
 fn under(facts: &[Fact], id: LraId, inner: LraId) -> bool
     requires { AllByRecursion NamesEarlier facts.now }
@@ -113,12 +120,14 @@ fn under(facts: &[Fact], id: LraId, inner: LraId) -> bool
     }
 }
 
+/// Whether a purge names an LRA.
 fn purged(facts: &[Fact], id: LraId) -> bool
     ensures { result ≡ list_any (λ f. is_purge id f.body) facts.now }
 {
     facts.iter().any(|fact| matches!(&fact.body, Body::Purge { root } if *root == id))
 }
 
+/// Whether the root of an LRA was purged.
 #[tactic(auto, using(crate::proofs::Chains::parent_lesser, crate::proofs::Chains::chain_any))]
 fn root_purged(facts: &[Fact], id: LraId) -> bool
     requires { AllByRecursion NamesEarlier facts.now }
@@ -141,7 +150,7 @@ pub fn holds(facts: &[Fact], id: LraId) -> bool
     begun(facts, id) && !root_purged(facts, id)
 }
 
-/// Whether it is the begin of an LRA of a home that is held.
+/// Whether a fact is the begin of an LRA of a home that is held.
 fn begins_held(facts: &[Fact], home: NodeId, fact: &Fact) -> bool
     requires earlier { AllByRecursion NamesEarlier facts.now }
     requires numbered { IsNumbered fact.now }
@@ -168,6 +177,7 @@ pub fn held_at(facts: &[Fact], home: NodeId) -> usize
     count
 }
 
+/// Whether a fact is the leave of a participant.
 fn leaves(id: LraId, member: u8, fact: &Fact) -> bool
     ensures { result ≡ is_leave id member fact.now.body }
 {
@@ -180,12 +190,14 @@ fn leaves(id: LraId, member: u8, fact: &Fact) -> bool
     }
 }
 
+/// Whether a participant left.
 fn left(facts: &[Fact], id: LraId, member: u8) -> bool
     ensures { result ≡ has_left facts.now id member }
 {
     facts.iter().any(|fact| leaves(id, member, fact))
 }
 
+/// The outcome that a fact reports of an act of a participant.
 fn report_of(id: LraId, member: u8, act: Act, fact: &Fact) -> Option<Outcome>
     ensures { result ≡ reported id member act fact.now.body }
 {
@@ -206,6 +218,7 @@ fn report_of(id: LraId, member: u8, act: Act, fact: &Fact) -> Option<Outcome>
     }
 }
 
+/// The greatest outcome that was reported of an act of a participant.
 fn greatest_report(facts: &[Fact], id: LraId, member: u8, act: Act) -> Option<Outcome>
     ensures { result ≡ heard facts.now id member act }
 {
@@ -216,6 +229,7 @@ fn greatest_report(facts: &[Fact], id: LraId, member: u8, act: Act) -> Option<Ou
     greatest
 }
 
+/// The greater of two outcomes, where none is the least.
 fn greater_of(a: Option<Outcome>, b: Option<Outcome>) -> Option<Outcome>
     ensures { result ≡ greater a b }
 {
@@ -226,6 +240,7 @@ fn greater_of(a: Option<Outcome>, b: Option<Outcome>) -> Option<Outcome>
     }
 }
 
+/// The status of a participant, by what its LRA wants, its links and what was heard of it.
 fn status_for(
     want: Option<Verdict>,
     links: &Links,
@@ -254,6 +269,7 @@ fn status_for(
     }
 }
 
+/// The status of a participant that joined with these links.
 fn participant_status(facts: &[Fact], id: LraId, member: u8, links: &Links) -> MemberStatus
     requires { AllByRecursion NamesEarlier facts.now }
     ensures { result ≡ joined_status facts.now id member links.now }
@@ -263,6 +279,7 @@ fn participant_status(facts: &[Fact], id: LraId, member: u8, links: &Links) -> M
     status_for(want_of(facts, id), links, completed, compensated)
 }
 
+/// The links of a participant, where a fact is its join.
 fn links_joined(id: LraId, member: u8, fact: &Fact) -> Option<&Links>
     ensures { option_copied result ≡ joined_links id member fact.now.body }
 {
@@ -298,6 +315,7 @@ pub fn member_of(facts: &[Fact], id: LraId, member: u8) -> Option<MemberStatus>
     None
 }
 
+/// Whether a fact is the join of a participant under an LRA that still has something to do.
 fn shows_open(facts: &[Fact], id: LraId, fact: &Fact) -> bool
     requires { AllByRecursion NamesEarlier facts.now }
     ensures { result ≡ shows is_open facts.now id fact.now.body }
@@ -316,6 +334,7 @@ fn shows_open(facts: &[Fact], id: LraId, fact: &Fact) -> bool
     }
 }
 
+/// Whether something is left for a participant to do.
 fn is_open(status: MemberStatus) -> bool
     ensures { result ≡ is_open status }
 {
@@ -325,6 +344,7 @@ fn is_open(status: MemberStatus) -> bool
     )
 }
 
+/// Whether a fact is the join of a participant under an LRA that shows this failure.
 fn shows_failed(facts: &[Fact], id: LraId, failed: MemberStatus, fact: &Fact) -> bool
     requires { AllByRecursion NamesEarlier facts.now }
     ensures { result ≡ shows (same_member_status failed) facts.now id fact.now.body }
@@ -343,6 +363,7 @@ fn shows_failed(facts: &[Fact], id: LraId, failed: MemberStatus, fact: &Fact) ->
     }
 }
 
+/// Whether a participant under an LRA still has something to do.
 fn open_under(facts: &[Fact], id: LraId) -> bool
     requires { AllByRecursion NamesEarlier facts.now }
     ensures { result ≡ some_shows is_open facts.now id }
@@ -350,6 +371,7 @@ fn open_under(facts: &[Fact], id: LraId) -> bool
     facts.iter().any(|fact| shows_open(facts, id, fact))
 }
 
+/// Whether a participant under an LRA shows this failure.
 fn failed_under(facts: &[Fact], id: LraId, failed: MemberStatus) -> bool
     requires { AllByRecursion NamesEarlier facts.now }
     ensures { result ≡ some_shows (same_member_status failed) facts.now id }
@@ -359,6 +381,7 @@ fn failed_under(facts: &[Fact], id: LraId, failed: MemberStatus) -> bool
         .any(|fact| shows_failed(facts, id, failed, fact))
 }
 
+/// The status of an LRA, by what it wants and how the participants under it stand.
 fn shown_status(
     want: Option<Verdict>,
     unsettled: bool,

@@ -1,9 +1,10 @@
 // Why a call is refused.
-ghost use Rattle.std.specs.Prelude.{Some};
+ghost use Rattle.std.specs.Prelude.{◌≡◌, Some};
 ghost use Rattle.lra_facts.specs.Texts.{refusal_text};
 
 use lra_id::{Front, LraId, NodeId};
 use lra_states::LraStatus;
+use std::alloc::AllocError;
 use std::fmt;
 
 /// Why a call was refused, in the order in which refusals are looked for. A refused call changes nothing.
@@ -53,6 +54,16 @@ pub enum Refusal {
     TrailLost(u64),
     /// E22: receipts and trail differ at this place.
     Strange(u64),
+}
+
+impl From<AllocError> for Refusal {
+    ghost use Rattle.lra_facts.specs.declared.refusal.Refusal.TheVariants.{NoMemory};
+
+    ghost from_gives = { λ _ refusal. refusal ≡ NoMemory };
+
+    fn from(_: AllocError) -> Refusal {
+        Refusal::NoMemory
+    }
 }
 
 impl fmt::Display for Refusal {
