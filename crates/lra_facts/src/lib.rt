@@ -2,6 +2,7 @@
 #![tactic(auto)]
 
 mod fact;
+pub mod laws;
 mod links;
 pub mod plain;
 mod refusal;

@@ -1,0 +1,91 @@
+-- What is due of a participant: to compensate, in saga order, and to forget.
+use Rattle.std.specs.Prelude.{◌==◌, ◌&&◌, ◌||◌, ◌++◌, ℕ, Bool, true, false, Option, Some, None, List, [], ◌∷◌, if◌then◌else◌, is_some, nat_lt}
+use mathlib.Core.Bool.{not}
+use Rattle.std.specs.List.{list_any}
+use Rattle.std.specs.Option.{option_map_or}
+use Rattle.lra_id.specs.Ids.{Id, same_id}
+use Rattle.lra_states.specs.States.{level, same_member_status}
+use Rattle.lra_states.specs.declared.status.MemberStatus.{MemberStatus}
+use Rattle.lra_states.specs.declared.status.MemberStatus.TheVariants.{Completed, FailedToComplete, FailedToCompensate}
+use Rattle.lra_states.specs.declared.outcome.Act.TheVariants.{Compensate}
+use Rattle.lra_states.specs.declared.outcome.Outcome.{Outcome}
+use Rattle.lra_states.specs.declared.outcome.Verdict.TheVariants.{Cancel}
+use Rattle.lra_facts.specs.declared.fact.Body.{Body}
+use Rattle.lra_facts.specs.declared.fact.Body.TheVariants.{Join, Forgot}
+use Rattle.lra_facts.specs.declared.fact.Fact.{Fact}
+use Rattle.lra_facts.specs.declared.links.Links.{Links}
+use Rattle.lra_facts.specs.Sets.{member_number, parent_of, chain, is_root, is_under, is_decided, is_participant, links_of, has_left, heard, joined_status, is_ended}
+
+-- Saga order. A saga T1 .. Tj that is given up runs the compensations Cj .. C1 (Garcia-Molina and Salem, Sagas, 1987,
+-- section 2). Here what is nested is compensated in the place at which it was begun
+
+-- of the LRAs in a list, the last that passes
+abbrev pub last_that : (Id → Bool) → List Id → Option Id
+last_that test [] = None
+last_that test (x ∷ xs) = option_map_or (λ y. Some y) (last_that test xs) (if test x then Some x else None)
+
+-- the topmost cancelled LRA of the chain of l
+abbrev pub topmost_cancelled : List Fact → Id → Option Id
+topmost_cancelled S l = last_that (is_decided S Cancel) (chain S l)
+
+-- the member number of an LRA in its parent: none of a root
+abbrev pub slot_of : List Fact → Id → List ℕ
+slot_of S l = option_map_or (λ p. member_number S p l.num ∷ []) (parent_of S l) []
+
+-- along a chain, which begins at its lower end: the member numbers from below a down
+abbrev pub slots_below : List Fact → Id → List Id → List ℕ
+slots_below S a [] = []
+slots_below S a (x ∷ xs) = if same_id x a then [] else slots_below S a xs ++ slot_of S x
+
+-- the member numbers from the topmost cancelled LRA of the chain of l down to the participant m of l
+abbrev pub saga_path : List Fact → Id → ℕ → List ℕ
+saga_path S l m = option_map_or (λ a. slots_below S a (chain S l)) (topmost_cancelled S l) [] ++ m ∷ []
+
+-- lexicographically greater: later in the saga
+abbrev pub is_later : List ℕ → List ℕ → Bool
+is_later [] q = false
+is_later (x ∷ p) [] = true
+is_later (x ∷ p) (y ∷ q) = nat_lt y x || ((x == y) && is_later p q)
+
+-- no outcome that ends an act was heard
+abbrev pub is_pending : Option Outcome → Bool
+is_pending o = nat_lt (level o) 2
+
+-- it tells of a participant under a that is later in the saga than the path, and was not heard to be done or to have failed
+abbrev pub holds_back : List Fact → Id → List ℕ → Body → Bool
+holds_back S a path (Join d m links) =
+    is_under S a d && (not (has_left S d m) && (is_later (saga_path S d m) path && is_pending (heard S d m Compensate)))
+holds_back S a path _ = false
+
+-- the participant m of l is to be asked to compensate now: it is pending, and none later in the saga is
+abbrev pub is_compensation_due : List Fact → Id → ℕ → Bool
+is_compensation_due S l m =
+    option_map_or
+    (λ a. is_participant S l m && (is_pending (heard S l m Compensate) && not (list_any (λ f. holds_back S a (saga_path S l m) f.body) S)))
+    (topmost_cancelled S l) false
+
+-- Forgetting (this project's profile of the standard's forget callback)
+
+-- the root of l is ended
+abbrev pub is_over : List Fact → Id → Bool
+is_over S l = list_any (λ a. is_root S a && is_ended S a) (chain S l)
+
+abbrev pub is_forgot : Id → ℕ → Body → Bool
+is_forgot l m (Forgot id member) = same_id id l && (member == m)
+is_forgot l m _ = false
+
+abbrev pub has_forgot : List Fact → Id → ℕ → Bool
+has_forgot S l m = list_any (λ f. is_forgot l m f.body) S
+
+-- it has something to forget: it failed, or it was completed in a nested LRA, which might still have been cancelled
+abbrev pub has_to_forget : Bool → MemberStatus → Bool
+has_to_forget nested s =
+    same_member_status FailedToComplete s || (same_member_status FailedToCompensate s || (nested && same_member_status Completed s))
+
+-- a participant of l with this number and these links is to be told that it may forget
+abbrev pub owes_forget : List Fact → Id → ℕ → Links → Bool
+owes_forget S l m links =
+    is_over S l && (is_some links.forget && (not (has_forgot S l m) && has_to_forget (not (is_root S l)) (joined_status S l m links)))
+
+abbrev pub is_forget_duty : List Fact → Id → ℕ → Bool
+is_forget_duty S l m = is_participant S l m && option_map_or (owes_forget S l m) (links_of S l m) false
