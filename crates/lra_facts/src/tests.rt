@@ -1,5 +1,5 @@
 // Texts, links, and what small lists of facts say.
-ghost use Rattle.std.specs.Prelude.{◌≡◌, IsTrue};
+ghost use Rattle.std.specs.Prelude.{IsTrue};
 ghost use Rattle.std.specs.List.{AllByRecursion};
 ghost use Rattle.lra_facts.specs.Sets.{IsNumbered, NamesEarlier};
 
