@@ -1,10 +1,12 @@
 // Sources and sinks over std's readers and writers.
 ghost use Rattle.std.specs.Prelude.{◌≡◌, ◌+◌};
+ghost use Rattle.lra_http.specs.Counted.{uncalled};
 ghost use Rattle.lra_http.specs.Streams.{failed_calls, interrupted_calls};
 
 use crate::count::Count;
 use crate::{CallError, Sink, Source};
 use std::io::{ErrorKind, Read, Write};
+use std::marker::Model;
 
 /// How the calls of a source or a sink came out so far.
 #[derive(Drop)]
@@ -58,13 +60,18 @@ pub struct OverRead<R> {
     calls: Calls,
 }
 
+impl<R> Model for OverRead<R> {
+    ghost use Rattle.lra_http.specs.Counted.{Counted};
+
+    ghost Value = { Counted R };
+
+    ghost view = { λ a. record { inner = a.reader; made = a.calls.made; failed = a.calls.failed; interrupted = a.calls.interrupted } };
+}
+
 impl<R: Read> OverRead<R> {
     /// Reads from this reader. No call was made so far.
     pub fn new(reader: R) -> OverRead<R>
-        ensures reader { result.reader ≡ reader }
-        ensures made { result.calls.made ≡ 0 }
-        ensures failed { result.calls.failed ≡ 0 }
-        ensures interrupted { result.calls.interrupted ≡ 0 }
+        ensures { result ≡ uncalled reader }
     {
         OverRead {
             reader,
@@ -74,13 +81,13 @@ impl<R: Read> OverRead<R> {
 }
 
 impl<R: Read> Source for OverRead<R> {
-    ghost left = { λ r. R.remaining r.reader };
+    ghost left = { λ r. R.remaining r.inner };
 
-    ghost calls = { λ r. r.calls.made };
+    ghost calls = { λ r. r.made };
 
-    ghost failed = { λ r. r.calls.failed };
+    ghost failed = { λ r. r.failed };
 
-    ghost interrupted = { λ r. r.calls.interrupted };
+    ghost interrupted = { λ r. r.interrupted };
 
     fn read_some(&mut self, buffer: &mut [u8]) -> Result<usize, CallError> {
         let outcome = match self.reader.read(buffer) {
@@ -99,13 +106,18 @@ pub struct OverWrite<W> {
     calls: Calls,
 }
 
+impl<W> Model for OverWrite<W> {
+    ghost use Rattle.lra_http.specs.Counted.{Counted};
+
+    ghost Value = { Counted W };
+
+    ghost view = { λ a. record { inner = a.writer; made = a.calls.made; failed = a.calls.failed; interrupted = a.calls.interrupted } };
+}
+
 impl<W: Write> OverWrite<W> {
     /// Writes to this writer. No call was made so far.
     pub fn new(writer: W) -> OverWrite<W>
-        ensures writer { result.writer ≡ writer }
-        ensures made { result.calls.made ≡ 0 }
-        ensures failed { result.calls.failed ≡ 0 }
-        ensures interrupted { result.calls.interrupted ≡ 0 }
+        ensures { result ≡ uncalled writer }
     {
         OverWrite {
             writer,
@@ -115,20 +127,20 @@ impl<W: Write> OverWrite<W> {
 
     /// Gives the writer back.
     pub fn into_inner(self) -> W
-        ensures { result ≡ self.writer }
+        ensures { result ≡ self.inner }
     {
         self.writer
     }
 }
 
 impl<W: Write> Sink for OverWrite<W> {
-    ghost written = { λ w. W.contents w.writer };
+    ghost written = { λ w. W.contents w.inner };
 
-    ghost calls = { λ w. w.calls.made };
+    ghost calls = { λ w. w.made };
 
-    ghost failed = { λ w. w.calls.failed };
+    ghost failed = { λ w. w.failed };
 
-    ghost interrupted = { λ w. w.calls.interrupted };
+    ghost interrupted = { λ w. w.interrupted };
 
     fn write_some(&mut self, bytes: &[u8]) -> Result<usize, CallError> {
         let outcome = match self.writer.write(bytes) {
