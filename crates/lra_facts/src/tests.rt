@@ -191,16 +191,19 @@ fn shows(link: &Option<Link>, text: &str) -> bool {
 // Lists of facts
 
 /// A fact that node 1 enters, about LRAs that it began, or what the facts so far say. An LRA is named by its number, and
-/// each participant is member 1.
+/// each participant is member 1, unless a
+/// step names another.
 #[derive(Clone, Copy)]
 enum Step {
     Begin,
     Nest(u64),
     Join(u64, Option<&'static str>),
+    JoinAs(u64, u8),
     Leave(u64),
     LeaveOther(u64),
     Decide(u64, Verdict),
     Report(u64, Act, Outcome),
+    Compensated(u64, u8),
     Purge(u64),
     Wants(u64, Option<Verdict>),
     Member(u64, Option<MemberStatus>),
@@ -233,6 +236,14 @@ fn told(alloc: Global, step: Step) -> Result<Option<Body>, Fail> {
                 links,
             }
         }
+        Step::JoinAs(id, member) => {
+            let links = Links::read(alloc, None, Some("http://p/compensate"), None, None)?;
+            Body::Join {
+                id: lra(id)?,
+                member,
+                links,
+            }
+        }
         Step::Leave(id) => Body::Leave {
             id: lra(id)?,
             member: 1,
@@ -250,6 +261,12 @@ fn told(alloc: Global, step: Step) -> Result<Option<Body>, Fail> {
             member: 1,
             act,
             outcome,
+        },
+        Step::Compensated(id, member) => Body::Report {
+            id: lra(id)?,
+            member,
+            act: Act::Compensate,
+            outcome: Outcome::Done,
         },
         Step::Purge(root) => Body::Purge { root: lra(root)? },
         _ => return Ok(None),
@@ -456,6 +473,30 @@ fn a_failure_in_a_child_that_was_cancelled_alone(rt: HostRuntime) -> Result<(), 
         Step::Member(2, Some(MemberStatus::FailedToCompensate)),
         Step::Shows(2, Some(LraStatus::FailedToCancel)),
         Step::Shows(1, Some(LraStatus::Closed)),
+    ];
+    play(&rt, rt.alloc(), &steps)
+}
+
+#[test]
+fn a_saga_is_cancelled_when_all_of_it_is_compensated(rt: HostRuntime) -> Result<(), Fail> {
+    let steps = [
+        Step::Begin,
+        Step::JoinAs(1, 1),
+        Step::Nest(1),
+        Step::JoinAs(3, 1),
+        Step::JoinAs(3, 2),
+        Step::JoinAs(1, 3),
+        Step::Decide(1, Verdict::Cancel),
+        Step::Shows(1, Some(LraStatus::Cancelling)),
+        Step::Shows(3, Some(LraStatus::Cancelling)),
+        Step::Compensated(1, 3),
+        Step::Compensated(3, 2),
+        Step::Shows(3, Some(LraStatus::Cancelling)),
+        Step::Compensated(3, 1),
+        Step::Shows(3, Some(LraStatus::Cancelled)),
+        Step::Shows(1, Some(LraStatus::Cancelling)),
+        Step::Compensated(1, 1),
+        Step::Shows(1, Some(LraStatus::Cancelled)),
     ];
     play(&rt, rt.alloc(), &steps)
 }
