@@ -1,8 +1,8 @@
 -- the definitions, computed on small sets
-use Rattle.std.proofs.Common.{◌≡◌, ℕ, List, [], ◌∷◌, refl, Option, Some, None, Bool, true, false}
+use Rattle.std.proofs.Common.{◌≡◌, ℕ, List, [], ◌∷◌, refl, Some, None, true, false}
 use Rattle.lra_id.specs.Ids.{Id}
 use Rattle.lra_states.specs.declared.status.LraStatus.TheVariants.{Closed, Cancelling, Cancelled}
-use Rattle.lra_states.specs.declared.status.MemberStatus.TheVariants.{Compensating, Completed}
+use Rattle.lra_states.specs.declared.status.MemberStatus.TheVariants.{Compensating}
 use Rattle.lra_states.specs.declared.outcome.Verdict.TheVariants.{Close, Cancel}
 use Rattle.lra_states.specs.declared.outcome.Act.TheVariants.{Complete, Compensate}
 use Rattle.lra_states.specs.declared.outcome.Outcome.TheVariants.{Done, Failed}

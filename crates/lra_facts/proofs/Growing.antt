@@ -1,5 +1,5 @@
 -- what more facts leave as it was
-use Rattle.std.proofs.Common.{◌≡◌, ◌⊎◌, inl, inr, ◌<◌, ◌≤◌, ◌||◌, ◌&&◌, ℕ, zero, suc, List, [], ◌∷◌, ◌++◌, refl, sym, ap, ◌∙◌, Bool, true, false, cond, arith, Option, Some, None}
+use Rattle.std.proofs.Common.{◌≡◌, inl, inr, ◌<◌, ℕ, zero, suc, List, [], ◌∷◌, ◌++◌, refl, sym, ap, ◌∙◌, Bool, true, false, cond, arith, Option, Some, None}
 use Rattle.std.specs.List.{list_any, AllByRecursion}
 use Rattle.std.specs.Option.{option_map_or}
 use Rattle.lra_id.specs.Ids.{Id}
@@ -7,12 +7,12 @@ use Rattle.lra_states.specs.States.{greater}
 use Rattle.lra_states.specs.declared.outcome.Act.{Act}
 use Rattle.lra_states.specs.declared.outcome.Outcome.{Outcome}
 use Rattle.lra_states.specs.declared.outcome.Outcome.TheVariants.{Busy, Done, Failed}
-use Rattle.lra_states.specs.declared.outcome.Verdict.TheVariants.{Close, Cancel}
+use Rattle.lra_states.specs.declared.outcome.Verdict.TheVariants.{Cancel}
 use Rattle.lra_facts.specs.declared.fact.Fact.{Fact}
-use Rattle.lra_facts.specs.Lists.{In, IsInside}
+use Rattle.lra_facts.specs.Lists.{In}
 use Rattle.lra_facts.specs.Laws.{Falls}
 use Rattle.lra_facts.specs.Sets.{begins, parent_named, parent_of, chain_within, chain, is_decided, is_decision, want, reported, heard, NamesEarlier}
-use Rattle.lra_facts.proofs.Membership.{any_from, any_gives, any_inside}
+use Rattle.lra_facts.proofs.Membership.{any_from, any_inside}
 use Rattle.lra_facts.proofs.Chains.{parent_lesser}
 
 parent_at : (f : Fact) (l p : Id) (S T : List Fact) → (parent_of S l ≡ Some p → parent_of T l ≡ Some p) → (b : Bool) → cond b (parent_named f.body) (parent_of S l) ≡ Some p → cond b (parent_named f.body) (parent_of T l) ≡ Some p

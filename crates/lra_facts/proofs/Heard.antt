@@ -1,14 +1,13 @@
 -- what was heard, and stamps, in a union
-use Rattle.std.proofs.Common.{◌≡◌, ◌⊎◌, inl, inr, ◌≤◌, ◌<◌, ◌+◌, ◌||◌, ◌&&◌, ℕ, zero, suc, List, [], ◌∷◌, refl, sym, ap, ◌∙◌, Bool, true, false, cond, arith, Option, Some, None, max}
-use Rattle.lra_id.specs.Ids.{Id, same_id}
+use Rattle.std.proofs.Common.{◌≡◌, ◌≤◌, ℕ, zero, suc, List, [], ◌∷◌, refl, sym, ap, ◌∙◌, arith, Option, Some, None, max}
+use Rattle.lra_id.specs.Ids.{Id}
 use Rattle.lra_states.specs.States.{level, greater}
 use Rattle.lra_states.specs.declared.outcome.Act.{Act}
 use Rattle.lra_states.specs.declared.outcome.Outcome.{Outcome}
 use Rattle.lra_states.specs.declared.outcome.Outcome.TheVariants.{Busy, Done, Failed}
-use Rattle.lra_facts.specs.declared.fact.Body.{Body}
 use Rattle.lra_facts.specs.declared.fact.Fact.{Fact}
 use Rattle.lra_facts.specs.Sets.{reported, heard}
-use Rattle.lra_facts.specs.Lists.{In, IsInside, IsUnion, most}
+use Rattle.lra_facts.specs.Lists.{IsInside, IsUnion, most}
 use Rattle.lra_facts.proofs.Membership.{most_union, most_least, most_bounds}
 
 level_greater : (a b : Option Outcome) → level (greater a b) ≡ max (level a) (level b)

@@ -1,5 +1,5 @@
 -- membership, tests and greatest numbers
-use Rattle.std.proofs.Common.{◌≡◌, ◌⊎◌, inl, inr, ◌≤◌, ◌<◌, ◌||◌, ◌&&◌, ℕ, List, [], ◌∷◌, ◌++◌, Bool, true, false, refl, sym, ap, ◌∙◌, subst, arith, cond, max, filter, map}
+use Rattle.std.proofs.Common.{◌≡◌, ◌⊎◌, inl, inr, ◌≤◌, ◌||◌, ℕ, List, [], ◌∷◌, ◌++◌, Bool, true, false, refl, sym, ap, arith, cond, max, filter, map}
 use Rattle.std.specs.List.{list_any}
 use Rattle.lra_facts.specs.Lists.{In, IsInside, IsUnion, most}
 

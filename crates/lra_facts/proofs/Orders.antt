@@ -1,10 +1,10 @@
 -- lists of the same facts say the same
-use Rattle.std.proofs.Common.{◌≡◌, ◌⊎◌, inl, inr, ◌≤◌, ◌<◌, ◌+◌, ◌||◌, ◌&&◌, ℕ, zero, suc, List, [], ◌∷◌, ◌++◌, refl, sym, ap, subst, ◌∙◌, Bool, true, false, cond, arith, Option, Some, None, IfSome, is_some}
+use Rattle.std.proofs.Common.{◌≡◌, inl, inr, ◌||◌, ◌&&◌, ℕ, zero, suc, List, [], ◌∷◌, refl, sym, ap, ◌∙◌, Bool, true, false, cond, arith, Option, Some, None, is_some}
 use mathlib.Core.Bool.{not}
-use Rattle.std.specs.List.{list_any, AllByRecursion}
+use Rattle.std.specs.List.{list_any}
 use Rattle.std.specs.Option.{option_map_or}
 use Rattle.lra_id.specs.Ids.{Id, same_id}
-use Rattle.lra_states.specs.States.{level, greater, same_member_status, shown}
+use Rattle.lra_states.specs.States.{same_member_status, shown}
 use Rattle.lra_states.specs.declared.status.MemberStatus.{MemberStatus}
 use Rattle.lra_states.specs.declared.status.MemberStatus.TheVariants.{FailedToComplete, FailedToCompensate}
 use Rattle.lra_states.specs.declared.outcome.Act.{Act}
@@ -16,10 +16,10 @@ use Rattle.lra_facts.specs.declared.fact.Body.{Body}
 use Rattle.lra_facts.specs.declared.fact.Body.TheVariants.{Begin, Join, Leave, Decide, Report, Forgot, Purge}
 use Rattle.lra_facts.specs.declared.fact.Fact.{Fact}
 use Rattle.lra_facts.specs.declared.links.Links.{Links}
-use Rattle.lra_facts.specs.Lists.{In, IsInside, most}
+use Rattle.lra_facts.specs.Lists.{In}
 use Rattle.lra_facts.specs.Laws.{IsSameSet, AreNumberedOnce, AreJoinedOnce}
-use Rattle.lra_facts.specs.Sets.{begins, is_begun, parent_named, parent_of, chain_within, chain, is_root, is_purge, is_purged_root, is_held, is_decision, is_decided, want, is_under, joined_links, links_of, is_leave, has_left, reported, heard, status_by, joined_status, member_status, shows, some_shows, is_open, is_ended, shows_now, status}
-use Rattle.lra_facts.proofs.Membership.{any_from, any_gives, any_inside, any_agree, same_bools}
+use Rattle.lra_facts.specs.Sets.{begins, is_begun, parent_named, parent_of, chain_within, chain, is_purge, is_purged_root, is_held, is_decision, is_decided, want, is_under, joined_links, links_of, is_leave, has_left, heard, status_by, joined_status, member_status, shows, some_shows, is_open, is_ended, shows_now, status}
+use Rattle.lra_facts.proofs.Membership.{any_gives, any_inside, any_agree, same_bools}
 use Rattle.lra_facts.proofs.Heard.{heard_inside, same_level}
 use Rattle.lra_facts.proofs.Chains.{same_rest}
 

@@ -1,5 +1,5 @@
 // Where a participant is called.
-ghost use Rattle.std.specs.Prelude.{◌≡◌, string_bytes};
+ghost use Rattle.std.specs.Prelude.{◌≡◌, IfOk, Some, string_bytes};
 ghost use Rattle.std.specs.Option.{option_copied};
 ghost use Rattle.lra_facts.specs.Links.{Reads, is_link, kept_text, kept_if_given, kept_links};
 
@@ -39,9 +39,10 @@ fn is_link(url: &Url) -> bool
 }
 
 impl Link {
-    /// Reads a link, and keeps the text that the URL is serialised to.
+    /// Reads a link, and keeps the text that the URL is serialised to. That text is read as itself again.
     pub fn read(alloc: Global, text: &str) -> Result<Link, Refusal>
-        ensures { Reads (kept_text text.now) result }
+        ensures answer { Reads (kept_text text.now) result }
+        ensures kept { IfOk result (λ link. kept_text link ≡ Some link) }
     {
         if text.len() > LINK_LIMIT {
             return Err(Refusal::BadText);
