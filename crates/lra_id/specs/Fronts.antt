@@ -1,11 +1,34 @@
 -- Fronts: how many facts of each node are counted.
-use Rattle.std.specs.Prelude.{ℕ, ◌-◌, List, [], ◌∷◌, ◌++◌, slice_index, codes}
+use Rattle.std.specs.Prelude.{ℕ, ◌-◌, ◌≤◌, Bool, List, [], ◌∷◌, ◌++◌, slice_index, codes, max, min, nat_le}
 use Rattle.std.specs.List.{flat_map}
 use Rattle.std.specs.Fmt.{decimal}
+use Rattle.lra_id.specs.Ids.{Id}
 
 -- how many facts of a node the front counts: none, where there is no such node
 abbrev pub count : List ℕ → ℕ → ℕ
 count v node = slice_index v (node - 1)
+
+-- the front counts the number of an id at its home
+abbrev pub is_covered : List ℕ → Id → Bool
+is_covered v l = nat_le l.num (count v l.home)
+
+-- each count is at most the other's
+abbrev pub IsBelow : List ℕ → List ℕ → Type 0
+IsBelow v w = (node : ℕ) → count v node ≤ count w node
+
+-- what f makes of the two counts of each node
+abbrev pub pairwise : (ℕ → ℕ → ℕ) → List ℕ → List ℕ → List ℕ
+pairwise f [] w = w
+pairwise f (a ∷ v) [] = a ∷ v
+pairwise f (a ∷ v) (b ∷ w) = f a b ∷ pairwise f v w
+
+-- of each node the greater count
+abbrev pub join_fronts : List ℕ → List ℕ → List ℕ
+join_fronts = pairwise max
+
+-- of each node the lesser count
+abbrev pub meet_fronts : List ℕ → List ℕ → List ℕ
+meet_fronts = pairwise min
 
 -- one more count of a text
 abbrev pub one_more_count : ℕ → List ℕ

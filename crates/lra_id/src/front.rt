@@ -1,8 +1,8 @@
 // Version vectors.
-ghost use Rattle.std.specs.Prelude.{◌≡◌, ◌≤◌, ◌-◌, Some, length, replicate, slice_set};
-ghost use Rattle.lra_id.specs.Fronts.{count, front_text};
+ghost use Rattle.std.specs.Prelude.{◌≡◌, ◌≤◌, ◌-◌, ◌↔◌, ℕ, List, Some, IsTrue, length, replicate, slice_index, slice_set};
+ghost use Rattle.lra_id.specs.Fronts.{IsBelow, count, front_text, is_covered, join_fronts, meet_fronts};
 
-use crate::NodeId;
+use crate::{LraId, NodeId};
 use std::fmt;
 use std::marker::Model;
 
@@ -71,6 +71,83 @@ impl Front {
         let place = usize::from(node.number() - 1);
         self.counts[place] = count;
     }
+}
+
+impl Front {
+    /// Whether it counts the begin of an LRA.
+    pub fn covers(&self, id: LraId) -> bool
+        ensures { result ≡ is_covered self.now id }
+    {
+        id.num() <= self.count(id.home())
+    }
+
+    /// Whether each of its counts is at most the other's.
+    pub fn below(&self, other: &Front) -> bool
+        requires { length self.now ≡ length other.now }
+        ensures { IsTrue result ↔ IsBelow self.now other.now }
+    {
+        are_below(&self.counts, &other.counts)
+    }
+
+    /// The least front above both: of each node the greater count.
+    pub fn join(&self, other: &Front) -> Front
+        requires { length self.now ≡ length other.now }
+        ensures value { result ≡ join_fronts self.now other.now }
+        ensures upper { IsBelow self.now result × IsBelow other.now result }
+        ensures least { (w : List ℕ) → IsBelow self.now w → IsBelow other.now w → IsBelow result w }
+    {
+        Front {
+            nodes: self.nodes,
+            counts: greater(&self.counts, &other.counts),
+        }
+    }
+
+    /// The greatest front below both: of each node the lesser count.
+    pub fn meet(&self, other: &Front) -> Front
+        requires { length self.now ≡ length other.now }
+        ensures value { result ≡ meet_fronts self.now other.now }
+        ensures lower { IsBelow result self.now × IsBelow result other.now }
+        ensures greatest { (w : List ℕ) → IsBelow w self.now → IsBelow w other.now → IsBelow w result }
+    {
+        Front {
+            nodes: self.nodes,
+            counts: lesser(&self.counts, &other.counts),
+        }
+    }
+}
+
+/// Whether each count is at most the other at its place.
+fn are_below(counts: &[u64; 8], others: &[u64; 8]) -> bool
+    ensures { IsTrue result ↔ ((place : ℕ) → slice_index counts.now place ≤ slice_index others.now place) }
+{
+    for place in 0..8 {
+        if counts[place] > others[place] {
+            return false;
+        }
+    }
+    true
+}
+
+/// At each place the greater count.
+fn greater(counts: &[u64; 8], others: &[u64; 8]) -> [u64; 8]
+    ensures { result ≡ join_fronts counts.now others.now }
+{
+    let mut joined = *counts;
+    for place in 0..8 {
+        joined[place] = joined[place].max(others[place]);
+    }
+    joined
+}
+
+/// At each place the lesser count.
+fn lesser(counts: &[u64; 8], others: &[u64; 8]) -> [u64; 8]
+    ensures { result ≡ meet_fronts counts.now others.now }
+{
+    let mut met = *counts;
+    for place in 0..8 {
+        met[place] = met[place].min(others[place]);
+    }
+    met
 }
 
 impl fmt::Display for Front {

@@ -122,3 +122,23 @@ fn a_front_counts_each_node(rt: HostRuntime) -> Result<(), Fail> {
     assert_ne!(rt; Front::zero(2), Front::zero(1));
     Ok(())
 }
+
+#[test]
+fn fronts_are_a_lattice(rt: HostRuntime) -> Result<(), Fail> {
+    let one = NodeId::new(1)?;
+    let two = NodeId::new(2)?;
+    let mut early = Front::zero(2);
+    early.set(one, 4);
+    let mut late = Front::zero(2);
+    late.set(one, 3);
+    late.set(two, 1);
+    let joined = early.join(&late);
+    let met = early.meet(&late);
+    assert_eq!(rt; (joined.count(one), joined.count(two)), (4, 1));
+    assert_eq!(rt; (met.count(one), met.count(two)), (3, 0));
+    assert!(rt; early.below(&joined) && late.below(&joined) && met.below(&early));
+    assert!(rt; !early.below(&late) && !late.below(&early));
+    assert!(rt; early.covers(LraId::new(one, 4)?) && !early.covers(LraId::new(one, 5)?));
+    assert!(rt; !early.covers(LraId::new(NodeId::new(3)?, 1)?));
+    Ok(())
+}

@@ -1,0 +1,132 @@
+-- two fronts, node by node
+use Rattle.std.proofs.Common.{◌≡◌, ◌≤◌, ◌<◌, ◌+◌, ◌-◌, ℕ, zero, suc, List, [], ◌∷◌, ◌++◌, refl, sym, ap, ◌∙◌, arith, length, take, get_or, max, min, replicate, set}
+use Rattle.std.proofs.lemmas.List.{length-take-le}
+use Rattle.lra_id.specs.declared.front.Front.TheInside.{Inside}
+use Rattle.lra_id.specs.FrontParts.{IsKept, counts_of}
+use Rattle.lra_id.specs.Fronts.{count, pairwise, join_fronts, meet_fronts, IsBelow}
+
+-- the first i nodes are paired
+abbrev pub paired_to : (ℕ → ℕ → ℕ) → ℕ → List ℕ → List ℕ → List ℕ
+paired_to f zero xs ys = xs
+paired_to f (suc i) [] ys = []
+paired_to f (suc i) (x ∷ xs) [] = x ∷ xs
+paired_to f (suc i) (x ∷ xs) (y ∷ ys) = f x y ∷ paired_to f i xs ys
+
+pub paired_at : (f : ℕ → ℕ → ℕ) (i : ℕ) (xs ys : List ℕ) → get_or (paired_to f i xs ys) i 0 ≡ get_or xs i 0
+paired_at f zero xs ys = refl
+paired_at f (suc i) [] ys = refl
+paired_at f (suc i) (x ∷ xs) [] = refl
+paired_at f (suc i) (x ∷ xs) (y ∷ ys) = paired_at f i xs ys
+
+pub paired_more : (f : ℕ → ℕ → ℕ) (i : ℕ) (xs ys : List ℕ) → i < length xs → i < length ys → set (paired_to f i xs ys) i (f (get_or xs i 0) (get_or ys i 0)) ≡ paired_to f (suc i) xs ys
+paired_more f i [] ys a b = absurd (omega (arith, a))
+paired_more f i (x ∷ xs) [] a b = absurd (omega (arith, b))
+paired_more f zero (x ∷ xs) (y ∷ ys) a b = refl
+paired_more f (suc i) (x ∷ xs) (y ∷ ys) a b = ap (λ r. f x y ∷ r) (paired_more f i xs ys (omega (arith, a)) (omega (arith, b)))
+
+pub paired_all : (f : ℕ → ℕ → ℕ) (xs ys : List ℕ) (n : ℕ) → length xs ≡ n → length ys ≡ n → paired_to f n xs ys ≡ pairwise f xs ys
+paired_all f [] [] zero a b = refl
+paired_all f [] (y ∷ ys) zero a b = absurd (omega (arith, b))
+paired_all f (x ∷ xs) ys zero a b = absurd (omega (arith, a))
+paired_all f [] ys (suc n) a b = absurd (omega (arith, a))
+paired_all f (x ∷ xs) [] (suc n) a b = absurd (omega (arith, b))
+paired_all f (x ∷ xs) (y ∷ ys) (suc n) a b = ap (λ r. f x y ∷ r) (paired_all f xs ys n (omega (arith, a)) (omega (arith, b)))
+
+take_pairs : (f : ℕ → ℕ → ℕ) (n : ℕ) (xs ys : List ℕ) → length xs ≡ length ys → take n (pairwise f xs ys) ≡ pairwise f (take n xs) (take n ys)
+take_pairs f zero xs ys e = refl
+take_pairs f (suc n) [] [] e = refl
+take_pairs f (suc n) [] (y ∷ ys) e = absurd cc
+take_pairs f (suc n) (x ∷ xs) [] e = absurd cc
+take_pairs f (suc n) (x ∷ xs) (y ∷ ys) e = ap (λ r. f x y ∷ r) (take_pairs f n xs ys (omega (arith, e)))
+
+pairs_append : (f : ℕ → ℕ → ℕ) (xs ys zs : List ℕ) → length xs ≡ length ys → pairwise f (xs ++ zs) (ys ++ zs) ≡ pairwise f xs ys ++ pairwise f zs zs
+pairs_append f [] [] zs e = refl
+pairs_append f [] (y ∷ ys) zs e = absurd cc
+pairs_append f (x ∷ xs) [] zs e = absurd cc
+pairs_append f (x ∷ xs) (y ∷ ys) zs e = ap (λ r. f x y ∷ r) (pairs_append f xs ys zs (omega (arith, e)))
+
+pairs_one : (f : ℕ → ℕ → ℕ) → ((n : ℕ) → f n n ≡ n) → (zs : List ℕ) → pairwise f zs zs ≡ zs
+pairs_one f same [] = refl
+pairs_one f same (z ∷ zs) = ap (λ n. n ∷ pairwise f zs zs) (same z) ∙ ap (λ r. z ∷ r) (pairs_one f same zs)
+
+length-pairwise : (f : ℕ → ℕ → ℕ) (xs ys : List ℕ) → length xs ≡ length ys → length (pairwise f xs ys) ≡ length xs
+length-pairwise f [] [] e = refl
+length-pairwise f [] (y ∷ ys) e = absurd cc
+length-pairwise f (x ∷ xs) [] e = absurd cc
+length-pairwise f (x ∷ xs) (y ∷ ys) e = ap suc (length-pairwise f xs ys (omega (arith, e)))
+
+-- fronts of as many nodes have as many counts, and the second's are split where the first's are
+pub record AreAlike (a b : Inside) : Type 0 where
+  pub sizes : length a.counts ≡ length b.counts
+  pub nodes : b.nodes ≡ a.nodes
+  pub fronts : length (take a.nodes a.counts) ≡ length (take a.nodes b.counts)
+
+pub alike : (a b : Inside) → IsKept a → IsKept b → length (counts_of a) ≡ length (counts_of b) → AreAlike a b
+alike a b ha hb e =
+    let la : length (take a.nodes a.counts) ≡ a.nodes = length-take-le a.nodes a.counts (omega (arith, ha.few, ha.size)) in
+    let lb : length (take b.nodes b.counts) ≡ b.nodes = length-take-le b.nodes b.counts (omega (arith, hb.few, hb.size)) in
+    let nodes : b.nodes ≡ a.nodes = sym lb ∙ sym e ∙ la in
+    record { sizes = ha.size ∙ sym hb.size; nodes = nodes; fronts = e ∙ ap (λ k. length (take k b.counts)) nodes }
+
+paired : (ℕ → ℕ → ℕ) → Inside → Inside → Inside
+paired f a b = record { nodes = a.nodes; counts = pairwise f a.counts b.counts }
+
+pub pairs_kept : (f : ℕ → ℕ → ℕ) → ((n : ℕ) → f n n ≡ n) → (a b : Inside) → IsKept a → IsKept b → length (counts_of a) ≡ length (counts_of b)
+    → IsKept (record { nodes = a.nodes; counts = pairwise f a.counts b.counts })
+pairs_kept f same a b ha hb e =
+    let al = alike a b ha hb e in
+    let zs : List ℕ = replicate (8 - a.nodes) 0 in
+    let rest : b.counts ≡ take a.nodes b.counts ++ zs = hb.rest ∙ ap (λ k. take k b.counts ++ replicate (8 - k) 0) al.nodes in
+    record {
+      some = ha.some;
+      few = ha.few;
+      size = length-pairwise f a.counts b.counts al.sizes ∙ ha.size;
+      rest =
+          ap (λ r. pairwise f r b.counts) ha.rest ∙ ap (pairwise f (take a.nodes a.counts ++ zs)) rest
+          ∙ pairs_append f (take a.nodes a.counts) (take a.nodes b.counts) zs al.fronts
+          ∙ ap (λ r. pairwise f (take a.nodes a.counts) (take a.nodes b.counts) ++ r) (pairs_one f same zs)
+          ∙ ap (λ r. r ++ zs) (sym (take_pairs f a.nodes a.counts b.counts al.sizes));
+    }
+
+pub pairs_seen : (f : ℕ → ℕ → ℕ) (a b : Inside) → IsKept a → IsKept b → length (counts_of a) ≡ length (counts_of b)
+    → take a.nodes (pairwise f a.counts b.counts) ≡ pairwise f (counts_of a) (counts_of b)
+pairs_seen f a b ha hb e =
+    let al = alike a b ha hb e in
+    take_pairs f a.nodes a.counts b.counts al.sizes ∙ ap (λ k. pairwise f (take a.nodes a.counts) (take k b.counts)) (sym al.nodes)
+
+-- a count that is kept is the one that is seen
+in_front : (xs : List ℕ) (n k : ℕ) → get_or (xs ++ replicate n 0) k 0 ≡ get_or xs k 0
+in_front [] zero k = refl
+in_front [] (suc n) zero = refl
+in_front [] (suc n) (suc k) = in_front [] n k
+in_front (x ∷ xs) n zero = refl
+in_front (x ∷ xs) n (suc k) = in_front xs n k
+
+pub kept_count : (a : Inside) → IsKept a → (k : ℕ) → get_or (counts_of a) k 0 ≡ get_or a.counts k 0
+kept_count a h k = sym (ap (λ r. get_or r k 0) h.rest ∙ in_front (take a.nodes a.counts) (8 - a.nodes) k)
+
+-- the count of a pair
+pair_count : (f : ℕ → ℕ → ℕ) → f 0 0 ≡ 0 → (v w : List ℕ) → length v ≡ length w → (k : ℕ) → get_or (pairwise f v w) k 0 ≡ f (get_or v k 0) (get_or w k 0)
+pair_count f none [] [] e k = sym none
+pair_count f none [] (b ∷ w) e k = absurd cc
+pair_count f none (a ∷ v) [] e k = absurd cc
+pair_count f none (a ∷ v) (b ∷ w) e zero = refl
+pair_count f none (a ∷ v) (b ∷ w) e (suc k) = pair_count f none v w (omega (arith, e)) k
+
+pub join_count : (v w : List ℕ) → length v ≡ length w → (k : ℕ) → get_or (join_fronts v w) k 0 ≡ max (get_or v k 0) (get_or w k 0)
+join_count v w e k = pair_count max refl v w e k
+
+pub meet_count : (v w : List ℕ) → length v ≡ length w → (k : ℕ) → get_or (meet_fronts v w) k 0 ≡ min (get_or v k 0) (get_or w k 0)
+meet_count v w e k = pair_count min refl v w e k
+
+pub join_above : (v w : List ℕ) → length v ≡ length w → IsBelow v (join_fronts v w) × IsBelow w (join_fronts v w)
+join_above v w e = (λ node. omega (arith, join_count v w e (node - 1)), λ node. omega (arith, join_count v w e (node - 1)))
+
+pub join_least : (v w u : List ℕ) → length v ≡ length w → IsBelow v u → IsBelow w u → IsBelow (join_fronts v w) u
+join_least v w u e a b = λ node. omega (arith, join_count v w e (node - 1), a node, b node)
+
+pub meet_below : (v w : List ℕ) → length v ≡ length w → IsBelow (meet_fronts v w) v × IsBelow (meet_fronts v w) w
+meet_below v w e = (λ node. omega (arith, meet_count v w e (node - 1)), λ node. omega (arith, meet_count v w e (node - 1)))
+
+pub meet_greatest : (v w u : List ℕ) → length v ≡ length w → IsBelow u v → IsBelow u w → IsBelow u (meet_fronts v w)
+meet_greatest v w u e a b = λ node. omega (arith, meet_count v w e (node - 1), a node, b node)

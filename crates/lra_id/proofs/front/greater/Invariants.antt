@@ -1,0 +1,7 @@
+use Rattle.std.proofs.Common.{◌≡◌, max}
+use Rattle.lra_id.proofs.Pairs.{paired_to}
+use Rattle.lra_id.proofs.front.greater.Given as goal
+
+-- the first places are done
+abbrev pub invariant-loop-place : goal.invariant-loop-place
+invariant-loop-place l = l.joined ≡ paired_to max l.place l.counts l.others
