@@ -1,7 +1,7 @@
 -- The first of some refusals: what the first ones say of all.
-use Rattle.std.proofs.Common.{◌≡◌, Option, Some, None, List, [], ◌∷◌, Bool, true, false, refl}
+use Rattle.std.proofs.Common.{◌≡◌, Option, Some, None, List, [], ◌∷◌, refl}
 use Rattle.lra_facts.specs.declared.refusal.Refusal.{Refusal}
-use Rattle.lra_facts.specs.Refusals.{first, unless}
+use Rattle.lra_facts.specs.Refusals.{first}
 
 -- one of the first ones comes before all others
 pub first_some_2 : (a b : Option Refusal) (rest : List (Option Refusal)) (r : Refusal) → first (a ∷ b ∷ []) ≡ Some r → first (a ∷ b ∷ rest) ≡ Some r
@@ -37,8 +37,3 @@ first_some_5 None b c d k rest r e = first_some_4 b c d k rest r e
 pub first_none_5 : (a b c d k : Option Refusal) (rest : List (Option Refusal)) → first (a ∷ b ∷ c ∷ d ∷ k ∷ []) ≡ None → first (a ∷ b ∷ c ∷ d ∷ k ∷ rest) ≡ first rest
 first_none_5 (Some a) b c d k rest e = absurd cc
 first_none_5 None b c d k rest e = first_none_4 b c d k rest e
-
--- what is not refused holds
-pub holds_unless : (b : Bool) (r : Refusal) → unless b r ≡ None → b ≡ true
-holds_unless true r e = refl
-holds_unless false r e = absurd cc

@@ -1,7 +1,6 @@
 pub mod Answering
 pub mod Firsts
 pub mod Members
-pub mod Nesting
 pub mod Numbers
 pub mod Readings
 pub mod Runs

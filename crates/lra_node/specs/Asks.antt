@@ -6,7 +6,8 @@ use Rattle.lra_states.specs.Names.{verdict_name, act_name, outcome_name}
 use Rattle.lra_node.specs.declared.ask.Ask.{Ask}
 use Rattle.lra_node.specs.declared.ask.Ask.TheVariants.{Enter, Show, Member, Text, Read}
 use Rattle.lra_node.specs.declared.command.Command.{Command}
-use Rattle.lra_node.specs.declared.command.Command.TheVariants.{Begin, Leave, Decide, Report}
+use Rattle.lra_node.specs.declared.command.Command.TheVariants.{Begin, Join, Leave, Decide, Report}
+use Rattle.lra_node.specs.Joins.{GivesLinks}
 use Rattle.lra_node.specs.Parts.{words_of}
 
 -- one of so many nodes
@@ -19,6 +20,7 @@ IsMemberNumber m = (1 ≤ m) × (m ≤ 32)
 
 abbrev pub CommandFits : Command → Type 0
 CommandFits (Begin parent deadline) = IfSome parent IsId × (deadline < 2 ^ 64)
+CommandFits (Join id links) = IsId id
 CommandFits (Leave id member) = IsId id × IsMemberNumber member
 CommandFits (Decide id verdict) = IsId id
 CommandFits (Report id member act outcome) = IsId id × IsMemberNumber member
@@ -34,6 +36,7 @@ Fits nodes (Read id) = IsId id
 -- the word that a line begins with
 abbrev pub verb_of : Ask → List ℕ
 verb_of (Enter node (Begin parent deadline)) = codes "begin"
+verb_of (Enter node (Join id links)) = codes "join"
 verb_of (Enter node (Leave id member)) = codes "leave"
 verb_of (Enter node (Decide id verdict)) = verdict_name verdict
 verb_of (Enter node (Report id member act outcome)) = codes "report"
@@ -50,6 +53,8 @@ parent_words (Some p) = id_text p ∷ []
 -- the words after it; numbers are decimal without leading zeros
 abbrev pub HasArguments : List (List ℕ) → Ask → Type 0
 HasArguments words (Enter node (Begin parent deadline)) = words ≡ decimal node ∷ decimal deadline ∷ parent_words parent
+HasArguments words (Enter node (Join id links)) =
+    (given : List (List ℕ)) × (words ≡ decimal node ∷ id_text id ∷ given) × GivesLinks given links
 HasArguments words (Enter node (Leave id member)) = words ≡ decimal node ∷ id_text id ∷ decimal member ∷ []
 HasArguments words (Enter node (Decide id verdict)) = words ≡ decimal node ∷ id_text id ∷ []
 HasArguments words (Enter node (Report id member act outcome)) =

@@ -12,7 +12,7 @@ use Rattle.lra_facts.specs.declared.refusal.Refusal.TheVariants.{BadText, NoMemo
 use Rattle.lra_node.specs.declared.ask.Ask.{Ask}
 use Rattle.lra_node.specs.declared.ask.Ask.TheVariants.{Enter, Show, Member, Text, Read}
 use Rattle.lra_node.specs.declared.command.CommandReply.{CommandReply}
-use Rattle.lra_node.specs.declared.command.CommandReply.TheVariants.{Began, Left, Decided, Reported, Known, Refused}
+use Rattle.lra_node.specs.declared.command.CommandReply.TheVariants.{Began, Joined, Left, Decided, Reported, Known, Refused}
 use Rattle.lra_node.specs.Asks.{Spells}
 use Rattle.lra_node.specs.Parts.{lines_of}
 use Rattle.lra_node.specs.Worlds.{reply_of, after, shown_of, member_shown}
@@ -35,6 +35,7 @@ began_text id (suc m) = codes "began " ++ id_text id ++ codes " member " ++ deci
 -- the line that a reply prints
 abbrev pub reply_line : CommandReply → List ℕ
 reply_line (Began id member) = printed (began_text id member)
+reply_line (Joined member) = printed (codes "joined " ++ decimal member)
 reply_line Left = printed (codes "left")
 reply_line (Decided status) = printed (lra_name status)
 reply_line Reported = printed (codes "reported")

@@ -6,16 +6,16 @@ use Rattle.lra_id.specs.Ids.{Id}
 use Rattle.lra_states.specs.declared.status.LraStatus.{LraStatus}
 use Rattle.lra_states.specs.declared.status.MemberStatus.{MemberStatus}
 use Rattle.lra_facts.specs.declared.fact.Body.{Body}
-use Rattle.lra_facts.specs.declared.fact.Body.TheVariants.{Begin, Leave, Decide, Report}
+use Rattle.lra_facts.specs.declared.fact.Body.TheVariants.{Begin, Join, Leave, Decide, Report}
 use Rattle.lra_facts.specs.declared.fact.Fact.{Fact}
 use Rattle.lra_facts.specs.declared.refusal.Refusal.{Refusal}
 use Rattle.lra_facts.specs.declared.refusal.Refusal.TheVariants.{UnknownMember}
 use Rattle.lra_facts.specs.Sets.{NamesEarlier, IsNumbered, begun_by, is_heard, member_status, numbers_given, shows_now}
 use Rattle.lra_facts.specs.Refusals.{first, unknown, gone, away, stranger, settled, unasked, full, deep, crowded, spent}
 use Rattle.lra_node.specs.declared.command.Command.{Command}
-use Rattle.lra_node.specs.declared.command.Command.TheVariants.{Begin as BeginAsked, Leave as LeaveAsked, Decide as DecideAsked, Report as ReportAsked}
+use Rattle.lra_node.specs.declared.command.Command.TheVariants.{Begin as BeginAsked, Join as JoinAsked, Leave as LeaveAsked, Decide as DecideAsked, Report as ReportAsked}
 use Rattle.lra_node.specs.declared.command.CommandReply.{CommandReply}
-use Rattle.lra_node.specs.declared.command.CommandReply.TheVariants.{Began, Left, Decided, Reported, Known, Refused}
+use Rattle.lra_node.specs.declared.command.CommandReply.TheVariants.{Began, Joined, Left, Decided, Reported, Known, Refused}
 
 -- the one node
 abbrev pub here : ℕ
@@ -30,6 +30,7 @@ abbrev pub refusal_of : List Fact → Command → Option Refusal
 refusal_of S (BeginAsked None deadline) = first (crowded S here ∷ [])
 refusal_of S (BeginAsked (Some p) deadline) =
     first (unknown (front_of S) p ∷ gone S p ∷ away here p ∷ settled S p ∷ full S p ∷ deep S p ∷ crowded S here ∷ [])
+refusal_of S (JoinAsked l links) = first (unknown (front_of S) l ∷ gone S l ∷ away here l ∷ settled S l ∷ full S l ∷ [])
 refusal_of S (LeaveAsked l m) = first (unknown (front_of S) l ∷ gone S l ∷ away here l ∷ stranger S l m ∷ settled S l ∷ [])
 refusal_of S (DecideAsked l verdict) = first (unknown (front_of S) l ∷ gone S l ∷ away here l ∷ settled S l ∷ [])
 refusal_of S (ReportAsked l m act outcome) = first (unknown (front_of S) l ∷ gone S l ∷ stranger S l m ∷ unasked S l m act ∷ [])
@@ -40,11 +41,12 @@ is_known S (ReportAsked l m act outcome) = is_heard S l m act outcome
 is_known S _ = false
 
 -- what is entered for a command
-abbrev pub body_for : Command → Body
-body_for (BeginAsked parent deadline) = Begin parent deadline
-body_for (LeaveAsked l m) = Leave l m
-body_for (DecideAsked l verdict) = Decide l verdict
-body_for (ReportAsked l m act outcome) = Report l m act outcome
+abbrev pub body_for : List Fact → Command → Body
+body_for S (BeginAsked parent deadline) = Begin parent deadline
+body_for S (JoinAsked l links) = Join l (numbers_given S l + 1) links
+body_for S (LeaveAsked l m) = Leave l m
+body_for S (DecideAsked l verdict) = Decide l verdict
+body_for S (ReportAsked l m act outcome) = Report l m act outcome
 
 -- the fact with the next number
 abbrev pub next_fact : List Fact → Body → Fact
@@ -62,6 +64,7 @@ next_member S (Some p) = numbers_given S p + 1
 -- the reply to a command that is entered
 abbrev pub accepted : List Fact → Command → CommandReply
 accepted S (BeginAsked parent deadline) = Began (begun_by (next_fact S (Begin parent deadline))) (next_member S parent)
+accepted S (JoinAsked l links) = Joined (numbers_given S l + 1)
 accepted S (LeaveAsked l m) = Left
 accepted S (DecideAsked l verdict) = Decided (shows_now (entered S (Decide l verdict)) l)
 accepted S (ReportAsked l m act outcome) = Reported
@@ -97,7 +100,7 @@ after_by Taken before with_it = with_it
 
 -- only a command that is taken enters something
 abbrev pub after : List Fact → Command → List Fact
-after S c = after_by (judge S c) S (entered S (body_for c))
+after S c = after_by (judge S c) S (entered S (body_for S c))
 
 -- what is shown of an LRA, or the refusal
 abbrev pub shown_of : List Fact → Id → Result LraStatus Refusal

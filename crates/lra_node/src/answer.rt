@@ -1,6 +1,7 @@
 // What a line prints, and what it does to the world.
-ghost use Rattle.std.specs.Prelude.{◌≡◌, ◌≤◌, [], length, IfOk, OnErr, string_bytes};
+ghost use Rattle.std.specs.Prelude.{◌≡◌, ◌≤◌, ◌++◌, [], length, codes, IfOk, OnErr, string_bytes};
 ghost use Rattle.lra_facts.specs.declared.refusal.Refusal.TheVariants.{NoMemory};
+ghost use Rattle.std.specs.Fmt.{decimal};
 ghost use Rattle.lra_id.specs.Ids.{id_text, text_of};
 ghost use Rattle.lra_node.specs.Scripts.{Answers, began_text, facts_after, line_for, member_line, printed, refused, reply_line, status_line};
 ghost use Rattle.lra_node.specs.Worlds.{after, member_shown, reply_of, shown_of};
@@ -33,7 +34,8 @@ pub fn answer(
     if line.len() > MOST_IN_LINE {
         return refusal_line(alloc, Refusal::BadText);
     }
-    let Some(ask) = ask_of(line, nodes) else {
+    let found = ask_of(alloc, line, nodes)?;
+    let Some(ask) = found else {
         return refusal_line(alloc, Refusal::BadText);
     };
     obey(alloc, world, ask)
@@ -63,6 +65,7 @@ fn enter(alloc: Global, world: &mut World, command: Command) -> Result<String, A
     let room = Room::new(alloc)?;
     match world.step(command)? {
         CommandReply::Began(id, member) => Ok(began_line(room, id, member)),
+        CommandReply::Joined(member) => Ok(joined_line(room, member)),
         CommandReply::Left => Ok(word_line(room, "left")),
         CommandReply::Decided(status) => Ok(word_line(room, status.name())),
         CommandReply::Reported => Ok(word_line(room, "reported")),
@@ -82,6 +85,16 @@ fn began_line(mut room: Room, id: LraId, member: u8) -> String
         room.text(" member ");
         room.number(u64::from(member));
     }
+    room.into_line()
+}
+
+/// The line that tells of a participant that joined.
+fn joined_line(mut room: Room, member: u8) -> String
+    requires { room ≡ [] }
+    ensures { string_bytes result ≡ printed (codes "joined " ++ decimal member) }
+{
+    room.text("joined ");
+    room.number(u64::from(member));
     room.into_line()
 }
 

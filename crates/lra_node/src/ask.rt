@@ -5,7 +5,7 @@ use lra_id::{LraId, NodeId};
 /// What a line asks.
 #[derive(Debug, Drop)]
 pub enum Ask {
-    /// `begin NODE DEADLINE`, `begin NODE DEADLINE PARENT`, `leave NODE ID M`, `close NODE ID`, `cancel NODE ID`,
+    /// `begin NODE DEADLINE`, `begin NODE DEADLINE PARENT`, `join NODE ID WORD=LINK ..`, `leave NODE ID M`, `close NODE ID`, `cancel NODE ID`,
     /// `report NODE ID M ACT OUTCOME`: a node is asked to enter something.
     Enter { node: NodeId, command: Command },
     /// `show NODE ID`: what a node shows of an LRA.

@@ -1,24 +1,41 @@
 // Reading a line as what it asks.
-ghost use Rattle.std.specs.Prelude.{◌≤◌, MatchOption};
+ghost use Rattle.std.specs.Prelude.{◌≡◌, ◌≤◌, IfOk, MatchOption, codes};
 ghost use Rattle.lra_node.specs.declared.ask.Ask.{Ask};
-ghost use Rattle.lra_node.specs.Asks.{Spells};
+ghost use Rattle.lra_node.specs.Asks.{ReadsArguments, Spells};
 
+mod joins;
 mod lras;
 mod members;
 
 use crate::ask::Ask;
 use crate::words::Words;
+use joins::join_of;
 use lra_states::Verdict;
 use lras::{begin_of, decide_of, read_of, show_of, text_of};
 use members::{leave_of, member_of, report_of};
+use std::alloc::{AllocError, Global};
 
-/// What a line asks of a world of so many nodes.
-pub fn ask_of(line: &[u8], nodes: u8) -> Option<Ask>
+/// What a line asks of a world of so many nodes. Only the links of a join take memory.
+pub fn ask_of(alloc: Global, line: &[u8], nodes: u8) -> Result<Option<Ask>, AllocError>
     requires { nodes ≤ 8 }
-    ensures { MatchOption result ((ask : Ask) → Spells nodes line.now ask → ⊥) (Spells nodes line.now) }
+    ensures { IfOk result (λ found. MatchOption found ((ask : Ask) → Spells nodes line.now ask → ⊥) (Spells nodes line.now)) }
 {
     let mut words = Words::of(line);
-    let verb = words.next()?;
+    let Some(verb) = words.next() else {
+        return Ok(None);
+    };
+    if verb == b"join".as_slice() {
+        return join_of(alloc, words, nodes);
+    }
+    Ok(asked_without_links(verb, words, nodes))
+}
+
+/// What the words after a verb ask, where no links are read.
+fn asked_without_links(verb: &[u8], words: Words<'_>, nodes: u8) -> Option<Ask>
+    requires few { nodes ≤ 8 }
+    requires other { verb.now ≡ codes "join" → ⊥ }
+    ensures { ReadsArguments nodes verb.now words.entry result }
+{
     if verb == b"begin".as_slice() {
         return begin_of(words, nodes);
     }

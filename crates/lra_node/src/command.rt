@@ -1,5 +1,5 @@
 // What a world is asked to enter, and what it replies.
-use lra_facts::Refusal;
+use lra_facts::{Links, Refusal};
 use lra_id::LraId;
 use lra_states::{Act, LraStatus, Outcome, Verdict};
 
@@ -10,6 +10,11 @@ pub enum Command {
     Begin {
         parent: Option<LraId>,
         deadline: u64,
+    },
+    /// Have a participant join an LRA.
+    Join {
+        id: LraId,
+        links: Links,
     },
     /// Have a participant leave an LRA.
     Leave {
@@ -35,6 +40,8 @@ pub enum Command {
 pub enum CommandReply {
     /// An LRA of this id was begun, with this member number in its parent, or 0 where it has none.
     Began(LraId, u8),
+    /// The participant joined under this member number.
+    Joined(u8),
     /// The participant left.
     Left,
     /// The LRA was closed or cancelled, and shows this now.

@@ -46,6 +46,7 @@ pub fn refusal_to(facts: &[Fact], command: &Command) -> Option<Refusal>
             parent: Some(parent),
             ..
         } => refusal_to_nest(facts, *parent),
+        Command::Join { id, .. } => refusal_to_number_member(facts, *id),
         Command::Leave { id, member } => refusal_to_leave(facts, *id, *member),
         Command::Decide { id, .. } => refusal_to_change(facts, *id),
         Command::Report {

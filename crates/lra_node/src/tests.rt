@@ -1,4 +1,5 @@
 // What no clause says: the texts that outside examples give, and runs that end in the middle.
+mod members;
 mod nesting;
 
 use crate::command::{Command, CommandReply};

@@ -6,7 +6,7 @@ ghost use Rattle.lra_node.specs.Worlds.{IsWorld, accepted, after, body_for, ente
 
 use crate::command::{Command, CommandReply};
 use crate::refusing::{first_node, is_known, refusal_to, refusal_to_number, refusal_to_show};
-use lra_facts::{Body, Fact, Refusal, plain};
+use lra_facts::{Body, Fact, Links, Refusal, plain};
 use lra_id::LraId;
 use lra_states::{LraStatus, MemberStatus, Verdict};
 use std::alloc::{AllocError, Global};
@@ -94,11 +94,12 @@ impl World {
         requires allowed { refusal_of self.old command ≡ None }
         requires number { spent (front_of self.old) here ≡ None }
         ensures reply { IfOk result (λ reply. reply ≡ accepted self.old command) }
-        ensures after { OnOk result (self.new ≡ entered self.old (body_for command)) }
+        ensures after { OnOk result (self.new ≡ entered self.old (body_for self.old command)) }
         ensures err { OnErr result (self.new ≡ self.old) }
     {
         match command {
             Command::Begin { parent, deadline } => self.begin(parent, deadline),
+            Command::Join { id, links } => self.join(id, links),
             Command::Leave { id, member } => {
                 self.enter(Body::Leave { id, member })?;
                 Ok(CommandReply::Left)
@@ -158,6 +159,18 @@ impl World {
         let parent = Some(parent);
         let id = self.enter(Body::Begin { parent, deadline })?;
         Ok(CommandReply::Began(id, member))
+    }
+
+    fn join(&mut self, id: LraId, links: Links) -> Result<CommandReply, AllocError>
+        requires number { spent (front_of self.old) here ≡ None }
+        requires few { numbers_given self.old id < 32 }
+        ensures reply { IfOk result (λ reply. reply ≡ accepted self.old (Command.Join id links)) }
+        ensures after { OnOk result (self.new ≡ entered self.old (body_for self.old (Command.Join id links))) }
+        ensures err { OnErr result (self.new ≡ self.old) }
+    {
+        let member = self.next_member(id);
+        self.enter(Body::Join { id, member, links })?;
+        Ok(CommandReply::Joined(member))
     }
 
     fn decide(&mut self, id: LraId, verdict: Verdict) -> Result<CommandReply, AllocError>

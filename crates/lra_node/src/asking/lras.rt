@@ -1,5 +1,5 @@
 // Reading what is asked of LRAs.
-ghost use Rattle.std.specs.Prelude.{◌≡◌, ◌≤◌, ℕ, [], ◌∷◌, codes, Option, IfSome, MatchOption};
+ghost use Rattle.std.specs.Prelude.{◌≡◌, ◌≤◌, ℕ, List, [], ◌∷◌, codes, Option, IfSome, MatchOption};
 ghost use Rattle.std.specs.Fmt.{decimal};
 ghost use Rattle.lra_id.specs.Ids.{Id, IsId, id_text};
 ghost use Rattle.lra_states.specs.Names.{verdict_name};
@@ -59,11 +59,20 @@ fn node_and_id(mut words: Words<'_>, nodes: u8) -> Option<(NodeId, LraId)>
     requires { nodes ≤ 8 }
     ensures { MatchOption result ((node : ℕ) (id : Id) → IsNodeOf nodes node → IsId id → words.entry ≡ decimal node ∷ id_text id ∷ [] → ⊥) (λ p. IsNodeOf nodes p.0 × IsId p.1 × (words.entry ≡ decimal p.0 ∷ id_text p.1 ∷ [])) }
 {
-    let node = node_of(words.next()?, nodes)?;
-    let id = id_of(words.next()?)?;
+    let node_and_id = next_node_and_id(&mut words, nodes)?;
     if !words.is_done() {
         return None;
     }
+    Some(node_and_id)
+}
+
+/// The node and the id that the next two words spell.
+pub fn next_node_and_id(words: &mut Words<'_>, nodes: u8) -> Option<(NodeId, LraId)>
+    requires { nodes ≤ 8 }
+    ensures { MatchOption result ((node : ℕ) (id : Id) (rest : List (List ℕ)) → IsNodeOf nodes node → IsId id → words.old ≡ decimal node ∷ id_text id ∷ rest → ⊥) (λ p. IsNodeOf nodes p.0 × IsId p.1 × (words.old ≡ decimal p.0 ∷ id_text p.1 ∷ words.new)) }
+{
+    let node = node_of(words.next()?, nodes)?;
+    let id = id_of(words.next()?)?;
     Some((node, id))
 }
 

@@ -7,9 +7,10 @@ ghost use Rattle.lra_states.specs.declared.outcome.Outcome.{Outcome};
 ghost use Rattle.lra_states.specs.Names.{act_name, outcome_name};
 ghost use Rattle.lra_node.specs.Asks.{IsMemberNumber, IsNodeOf, ReadsArguments};
 
+use super::lras::next_node_and_id;
 use crate::ask::Ask;
 use crate::command::Command;
-use crate::number::{id_of, member_number_of, node_of};
+use crate::number::member_number_of;
 use crate::words::Words;
 use lra_id::{LraId, NodeId};
 use lra_states::{Act, Outcome};
@@ -63,8 +64,7 @@ fn next_participant(words: &mut Words<'_>, nodes: u8) -> Option<(NodeId, LraId, 
     requires { nodes ≤ 8 }
     ensures { MatchOption result ((node : ℕ) (id : Id) (m : ℕ) (rest : List (List ℕ)) → IsNodeOf nodes node → IsId id → IsMemberNumber m → words.old ≡ decimal node ∷ id_text id ∷ decimal m ∷ rest → ⊥) (λ p. IsNodeOf nodes p.0 × IsId p.1 × IsMemberNumber p.2 × (words.old ≡ decimal p.0 ∷ id_text p.1 ∷ decimal p.2 ∷ words.new)) }
 {
-    let node = node_of(words.next()?, nodes)?;
-    let id = id_of(words.next()?)?;
+    let (node, id) = next_node_and_id(words, nodes)?;
     let member = member_number_of(words.next()?)?;
     Some((node, id, member))
 }
