@@ -5,7 +5,7 @@ use Rattle.std.specs.Option.{option_map_or}
 use Rattle.std.proofs.lemmas.List.{drop_more}
 use Rattle.lra_id.specs.Ids.{Id}
 use Rattle.lra_facts.specs.declared.fact.Fact.{Fact}
-use Rattle.lra_facts.specs.Sets.{begins, parent_named, parent_of, chain_within, chain, NamesEarlier}
+use Rattle.lra_facts.specs.Sets.{begins, parent_named, parent_of, chain_within, chain, depth, NamesEarlier}
 
 -- what is left of a list at an element that was read there
 pub drop_at : {X : Type 0} (xs : List X) (i : ℕ) (x : X) → i < length xs → x ≡ get_or xs i x → drop i xs ≡ x ∷ drop (i + 1) xs
@@ -57,3 +57,7 @@ chain_is S h l =
 -- a test along the chain, at its first
 pub chain_any : (S : List Fact) → AllByRecursion NamesEarlier S → (test : Id → Bool) (l : Id) → list_any test (chain S l) ≡ (test l || list_any test (option_map_or (chain S) (parent_of S l) []))
 chain_any S h test l = ap (list_any test) (chain_is S h l)
+
+-- the depth, by that of the parent
+pub depth_is : (S : List Fact) → AllByRecursion NamesEarlier S → (l : Id) → depth S l ≡ length (option_map_or (chain S) (parent_of S l) []) + 1
+depth_is S h l = omega (arith, ap length (chain_is S h l))

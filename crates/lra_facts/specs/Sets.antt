@@ -6,7 +6,7 @@ use Rattle.std.specs.List.{list_any}
 use Rattle.std.specs.Option.{option_map_or}
 use Rattle.lra_id.specs.Ids.{Id, IsFactNumber, same_id}
 use Rattle.lra_id.specs.Fronts.{count}
-use Rattle.lra_states.specs.States.{greater, same_act, same_verdict, is_final, same_member_status, completing, compensating, shown}
+use Rattle.lra_states.specs.States.{greater, level, same_act, same_verdict, is_final, same_member_status, completing, compensating, shown}
 use Rattle.lra_states.specs.declared.status.LraStatus.{LraStatus}
 use Rattle.lra_states.specs.declared.status.MemberStatus.{MemberStatus}
 use Rattle.lra_states.specs.declared.status.MemberStatus.TheVariants.{Active, Completed, FailedToComplete, FailedToCompensate}
@@ -69,6 +69,10 @@ gives_number l _ = false
 -- the member number that the fact with this number gives in l: members are numbered from 1 in order of coming
 abbrev pub member_number : List Fact → Id → ℕ → ℕ
 member_number S l num = length (filter (λ f. gives_number l f.body && nat_lt f.num num) S) + 1
+
+-- how many member numbers of l were given: the next one is one more
+abbrev pub numbers_given : List Fact → Id → ℕ
+numbers_given S l = length (filter (λ f. gives_number l f.body) S)
 
 -- Nesting: the standard's parents and children
 
@@ -148,6 +152,21 @@ is_participant S l m = is_some (links_of S l m) && not (has_left S l m)
 abbrev pub heard : List Fact → Id → ℕ → Act → Option Outcome
 heard [] l m act = None
 heard (f ∷ S) l m act = greater (reported l m act f.body) (heard S l m act)
+
+-- this much was heard of it, or more
+abbrev pub is_heard : List Fact → Id → ℕ → Act → Outcome → Bool
+is_heard S l m act outcome = nat_le (level (Some outcome)) (level (heard S l m act))
+
+-- whether a want demands the act of a participant with these links
+abbrev pub demands : Option Verdict → Links → Act → Bool
+demands (Some Close) links Complete = is_some links.complete
+demands (Some Cancel) links Compensate = true
+demands (Some Close) links Compensate = false
+demands (Some Cancel) links Complete = false
+demands None links act = false
+
+abbrev pub is_demanded : List Fact → Id → ℕ → Act → Bool
+is_demanded S l m act = option_map_or (λ links. demands (want S l) links act) (links_of S l m) false
 
 -- The status of a participant, by what its LRA wants, its links and what was heard of it: the standard's states. One
 -- without a complete link is Completed as soon as its LRA closes

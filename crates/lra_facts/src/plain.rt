@@ -3,7 +3,7 @@ ghost use Rattle.std.specs.Prelude.{◌≡◌, ◌+◌, ◌&&◌, ◌≤◌, is_
 ghost use mathlib.Core.Bool.{not};
 ghost use Rattle.std.specs.List.{list_any, AllByRecursion};
 ghost use Rattle.std.specs.Option.{option_copied};
-ghost use Rattle.lra_facts.specs.Sets.{IsNumbered, NamesEarlier, begins, begins_held, begun_by, is_begun, parent_of, parent_named, links_of, joined_links, member_status, chain, held_at, is_decided, is_decision, want, is_under, is_held, is_purged_root, is_purge, has_left, is_leave, heard, reported, status_by, joined_status, shows, some_shows, shows_now, is_ended, is_open, status};
+ghost use Rattle.lra_facts.specs.Sets.{IsNumbered, NamesEarlier, begins, begins_held, begun_by, is_begun, parent_of, parent_named, links_of, joined_links, member_status, is_participant, demands, is_demanded, gives_number, numbers_given, depth, is_heard, chain, held_at, is_decided, is_decision, want, is_under, is_held, is_purged_root, is_purge, has_left, is_leave, heard, reported, status_by, joined_status, shows, some_shows, shows_now, is_ended, is_open, status};
 ghost use Rattle.lra_states.specs.States.{same_member_status, greater, completing, compensating, shown};
 ghost use Rattle.lra_id.specs.Ids.{same_id};
 
@@ -219,7 +219,7 @@ fn report_of(id: LraId, member: u8, act: Act, fact: &Fact) -> Option<Outcome>
 }
 
 /// The greatest outcome that was reported of an act of a participant.
-fn greatest_report(facts: &[Fact], id: LraId, member: u8, act: Act) -> Option<Outcome>
+pub fn greatest_report(facts: &[Fact], id: LraId, member: u8, act: Act) -> Option<Outcome>
     ensures { result ≡ heard facts.now id member act }
 {
     let mut greatest = None;
@@ -433,4 +433,100 @@ pub fn status_of(facts: &[Fact], id: LraId) -> Option<LraStatus>
         return None;
     }
     Some(shows_now(facts, id))
+}
+
+/// Whether a fact gives a member number of an LRA.
+fn gives_number(id: LraId, fact: &Fact) -> bool
+    ensures { result ≡ gives_number id fact.now.body }
+{
+    match &fact.body {
+        Body::Join { id: joined, .. } => *joined == id,
+        Body::Begin {
+            parent: Some(parent),
+            ..
+        } => *parent == id,
+        _ => false,
+    }
+}
+
+/// How many member numbers of an LRA were given.
+pub fn numbers_given(facts: &[Fact], id: LraId) -> usize
+    ensures { result ≡ numbers_given facts.now id }
+{
+    let mut count = 0;
+    for fact in facts {
+        if gives_number(id, fact) {
+            count += 1;
+        }
+    }
+    count
+}
+
+/// The depth of an LRA: 1 for a root, and one more for each LRA above it.
+#[tactic(auto, using(crate::proofs::Chains::parent_lesser, crate::proofs::Chains::depth_is))]
+pub fn depth_of(facts: &[Fact], id: LraId) -> u64
+    requires { AllByRecursion NamesEarlier facts.now }
+    ensures { result ≡ depth facts.now id }
+{
+    let _num = id.num();
+    let mut at = id;
+    let mut depth = 1;
+    'above: loop {
+        match parent(facts, at) {
+            Some(above) => at = above,
+            None => return depth,
+        }
+        depth += 1;
+    }
+}
+
+/// The links with which a participant joined.
+fn links(facts: &[Fact], id: LraId, member: u8) -> Option<&Links>
+    ensures { option_copied result ≡ links_of facts.now id member }
+{
+    for fact in facts {
+        if let Some(links) = links_joined(id, member, fact) {
+            return Some(links);
+        }
+    }
+    None
+}
+
+/// Whether a participant joined with this number and did not leave.
+pub fn is_participant(facts: &[Fact], id: LraId, member: u8) -> bool
+    ensures { result ≡ is_participant facts.now id member }
+{
+    links(facts, id, member).is_some() && !left(facts, id, member)
+}
+
+/// Whether a want demands an act of a participant with these links.
+fn demands(want: Option<Verdict>, links: &Links, act: Act) -> bool
+    ensures { result ≡ demands want links.now act }
+{
+    match (want, act) {
+        (Some(Verdict::Close), Act::Complete) => links.complete.is_some(),
+        (Some(Verdict::Cancel), Act::Compensate) => true,
+        _ => false,
+    }
+}
+
+/// Whether what an LRA wants demands an act of a participant.
+pub fn is_demanded(facts: &[Fact], id: LraId, member: u8, act: Act) -> bool
+    requires { AllByRecursion NamesEarlier facts.now }
+    ensures { result ≡ is_demanded facts.now id member act }
+{
+    match links(facts, id, member) {
+        Some(links) => demands(want_of(facts, id), links, act),
+        None => false,
+    }
+}
+
+/// Whether this outcome of an act of a participant was heard, or a greater one.
+pub fn is_heard(facts: &[Fact], id: LraId, member: u8, act: Act, outcome: Outcome) -> bool
+    ensures { result ≡ is_heard facts.now id member act outcome }
+{
+    match greatest_report(facts, id, member, act) {
+        Some(greatest) => outcome <= greatest,
+        None => false,
+    }
 }

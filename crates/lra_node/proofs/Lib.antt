@@ -1,5 +1,8 @@
 pub mod Answering
+pub mod Firsts
+pub mod Members
 pub mod Numbers
 pub mod Readings
 pub mod Runs
 pub mod Splits
+pub mod Steps

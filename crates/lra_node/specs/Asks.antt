@@ -1,42 +1,66 @@
 -- The commands of the script, and how a line spells them.
-use Rattle.std.specs.Prelude.{◌≡◌, ◌≤◌, ◌<◌, ◌^◌, ℕ, List, [], ◌∷◌, codes, Option, Some, None}
+use Rattle.std.specs.Prelude.{◌≡◌, ◌≤◌, ◌<◌, ◌^◌, ℕ, List, [], ◌∷◌, codes, Option, Some, None, IfSome}
 use Rattle.std.specs.Fmt.{decimal}
-use Rattle.lra_id.specs.Ids.{IsId, IsTextOf, id_text}
-use Rattle.lra_states.specs.Names.{verdict_name}
+use Rattle.lra_id.specs.Ids.{Id, IsId, IsTextOf, id_text}
+use Rattle.lra_states.specs.Names.{verdict_name, act_name, outcome_name}
 use Rattle.lra_node.specs.declared.ask.Ask.{Ask}
-use Rattle.lra_node.specs.declared.ask.Ask.TheVariants.{Enter, Show, Text, Read}
+use Rattle.lra_node.specs.declared.ask.Ask.TheVariants.{Enter, Show, Member, Text, Read}
 use Rattle.lra_node.specs.declared.command.Command.{Command}
-use Rattle.lra_node.specs.declared.command.Command.TheVariants.{Begin, Decide}
+use Rattle.lra_node.specs.declared.command.Command.TheVariants.{Begin, Join, Leave, Decide, Report}
+use Rattle.lra_node.specs.Joins.{GivesLinks}
 use Rattle.lra_node.specs.Parts.{words_of}
 
 -- one of so many nodes
 abbrev pub IsNodeOf : ℕ → ℕ → Type 0
 IsNodeOf nodes n = (1 ≤ n) × (n ≤ nodes)
 
+-- an LRA gives at most 32 member numbers, from 1
+abbrev pub IsMemberNumber : ℕ → Type 0
+IsMemberNumber m = (1 ≤ m) × (m ≤ 32)
+
 abbrev pub CommandFits : Command → Type 0
-CommandFits (Begin deadline) = deadline < 2 ^ 64
+CommandFits (Begin parent deadline) = IfSome parent IsId × (deadline < 2 ^ 64)
+CommandFits (Join id links) = IsId id
+CommandFits (Leave id member) = IsId id × IsMemberNumber member
 CommandFits (Decide id verdict) = IsId id
+CommandFits (Report id member act outcome) = IsId id × IsMemberNumber member
 
 -- the values of what is asked are in their ranges
 abbrev pub Fits : ℕ → Ask → Type 0
 Fits nodes (Enter node command) = IsNodeOf nodes node × CommandFits command
 Fits nodes (Show node id) = IsNodeOf nodes node × IsId id
+Fits nodes (Member node id member) = IsNodeOf nodes node × IsId id × IsMemberNumber member
 Fits nodes (Text id) = IsId id
 Fits nodes (Read id) = IsId id
 
 -- the word that a line begins with
 abbrev pub verb_of : Ask → List ℕ
-verb_of (Enter node (Begin deadline)) = codes "begin"
+verb_of (Enter node (Begin parent deadline)) = codes "begin"
+verb_of (Enter node (Join id links)) = codes "join"
+verb_of (Enter node (Leave id member)) = codes "leave"
 verb_of (Enter node (Decide id verdict)) = verdict_name verdict
+verb_of (Enter node (Report id member act outcome)) = codes "report"
 verb_of (Show node id) = codes "show"
+verb_of (Member node id member) = codes "member"
 verb_of (Text id) = codes "text"
 verb_of (Read id) = codes "read"
 
+-- a parent is a last word, which need not be there
+abbrev pub parent_words : Option Id → List (List ℕ)
+parent_words None = []
+parent_words (Some p) = id_text p ∷ []
+
 -- the words after it; numbers are decimal without leading zeros
 abbrev pub HasArguments : List (List ℕ) → Ask → Type 0
-HasArguments words (Enter node (Begin deadline)) = words ≡ decimal node ∷ decimal deadline ∷ []
+HasArguments words (Enter node (Begin parent deadline)) = words ≡ decimal node ∷ decimal deadline ∷ parent_words parent
+HasArguments words (Enter node (Join id links)) =
+    (given : List (List ℕ)) × (words ≡ decimal node ∷ id_text id ∷ given) × GivesLinks given links
+HasArguments words (Enter node (Leave id member)) = words ≡ decimal node ∷ id_text id ∷ decimal member ∷ []
 HasArguments words (Enter node (Decide id verdict)) = words ≡ decimal node ∷ id_text id ∷ []
+HasArguments words (Enter node (Report id member act outcome)) =
+    words ≡ decimal node ∷ id_text id ∷ decimal member ∷ act_name act ∷ outcome_name outcome ∷ []
 HasArguments words (Show node id) = words ≡ decimal node ∷ id_text id ∷ []
+HasArguments words (Member node id member) = words ≡ decimal node ∷ id_text id ∷ decimal member ∷ []
 HasArguments words (Text id) = words ≡ id_text id ∷ []
 HasArguments words (Read id) = (text : List ℕ) × (words ≡ text ∷ []) × IsTextOf text id
 

@@ -1,4 +1,5 @@
 pub mod Asks
+pub mod Joins
 pub mod Parts
 pub mod Scripts
 pub mod Worlds

@@ -1,19 +1,21 @@
 -- The script: what its lines print, one after another, and what it says of a run that ends in a fault.
-use Rattle.std.specs.Prelude.{◌≡◌, ℕ, ◌+◌, ◌-◌, ◌^◌, ◌<◌, ◌≤◌, ◌⊎◌, List, [], ◌∷◌, ◌++◌, length, take, codes, Option, None, Some, Result, Ok, Err, Bool, true, false}
-use Rattle.lra_id.specs.Ids.{id_text, text_of}
-use Rattle.lra_states.specs.Names.{lra_name}
+use Rattle.std.specs.Prelude.{◌≡◌, ℕ, ◌+◌, ◌-◌, ◌^◌, ◌<◌, ◌≤◌, ◌⊎◌, List, [], ◌∷◌, ◌++◌, length, take, codes, zero, suc, Option, None, Some, Result, Ok, Err, Bool, true, false}
+use Rattle.std.specs.Fmt.{decimal}
+use Rattle.lra_id.specs.Ids.{Id, id_text, text_of}
+use Rattle.lra_states.specs.Names.{lra_name, member_name}
 use Rattle.lra_states.specs.declared.status.LraStatus.{LraStatus}
+use Rattle.lra_states.specs.declared.status.MemberStatus.{MemberStatus}
 use Rattle.lra_facts.specs.Texts.{refusal_text}
 use Rattle.lra_facts.specs.declared.fact.Fact.{Fact}
 use Rattle.lra_facts.specs.declared.refusal.Refusal.{Refusal}
 use Rattle.lra_facts.specs.declared.refusal.Refusal.TheVariants.{BadText, NoMemory}
 use Rattle.lra_node.specs.declared.ask.Ask.{Ask}
-use Rattle.lra_node.specs.declared.ask.Ask.TheVariants.{Enter, Show, Text, Read}
+use Rattle.lra_node.specs.declared.ask.Ask.TheVariants.{Enter, Show, Member, Text, Read}
 use Rattle.lra_node.specs.declared.command.CommandReply.{CommandReply}
-use Rattle.lra_node.specs.declared.command.CommandReply.TheVariants.{Began, Decided, Refused}
+use Rattle.lra_node.specs.declared.command.CommandReply.TheVariants.{Began, Joined, Left, Decided, Reported, Known, Refused}
 use Rattle.lra_node.specs.Asks.{Spells}
 use Rattle.lra_node.specs.Parts.{lines_of}
-use Rattle.lra_node.specs.Worlds.{reply_of, after, shown_of}
+use Rattle.lra_node.specs.Worlds.{reply_of, after, shown_of, member_shown}
 
 -- a line of at most so many bytes is read
 abbrev pub most_in_line : ℕ
@@ -25,20 +27,34 @@ printed text = text ++ 10 ∷ []
 abbrev pub refused : Refusal → List ℕ
 refused r = printed (codes "refused " ++ refusal_text r)
 
+-- what is printed of an LRA that was begun: its member number only where it has one
+abbrev pub began_text : Id → ℕ → List ℕ
+began_text id zero = codes "began " ++ id_text id
+began_text id (suc m) = codes "began " ++ id_text id ++ codes " member " ++ decimal (suc m)
+
 -- the line that a reply prints
 abbrev pub reply_line : CommandReply → List ℕ
-reply_line (Began id) = printed (codes "began " ++ id_text id)
+reply_line (Began id member) = printed (began_text id member)
+reply_line (Joined member) = printed (codes "joined " ++ decimal member)
+reply_line Left = printed (codes "left")
 reply_line (Decided status) = printed (lra_name status)
+reply_line Reported = printed (codes "reported")
+reply_line Known = printed (codes "known")
 reply_line (Refused r) = refused r
 
 abbrev pub status_line : Result LraStatus Refusal → List ℕ
 status_line (Ok status) = printed (lra_name status)
 status_line (Err r) = refused r
 
+abbrev pub member_line : Result MemberStatus Refusal → List ℕ
+member_line (Ok status) = printed (member_name status)
+member_line (Err r) = refused r
+
 -- what is printed in a world of these facts for what a line asks
 abbrev pub line_for : List Fact → Ask → List ℕ
 line_for S (Enter node command) = reply_line (reply_of S command)
 line_for S (Show node id) = status_line (shown_of S id)
+line_for S (Member node id member) = member_line (member_shown S id member)
 line_for S (Text id) = printed (text_of id)
 line_for S (Read id) = printed (id_text id)
 

@@ -1,27 +1,46 @@
 // Reading a line as what it asks.
-ghost use Rattle.std.specs.Prelude.{◌≡◌, ◌≤◌, ℕ, [], ◌∷◌, codes, MatchOption};
-ghost use Rattle.std.specs.Fmt.{decimal};
-ghost use Rattle.lra_id.specs.Ids.{Id, IsId, id_text};
-ghost use Rattle.lra_states.specs.Names.{verdict_name};
+ghost use Rattle.std.specs.Prelude.{◌≡◌, ◌≤◌, IfOk, MatchOption, codes};
 ghost use Rattle.lra_node.specs.declared.ask.Ask.{Ask};
-ghost use Rattle.lra_node.specs.Asks.{IsNodeOf, ReadsArguments, Spells};
+ghost use Rattle.lra_node.specs.Asks.{ReadsArguments, Spells};
+
+mod joins;
+mod lras;
+mod members;
 
 use crate::ask::Ask;
-use crate::command::Command;
-use crate::number::{id_of, node_of, number_of};
 use crate::words::Words;
-use lra_id::{LraId, NodeId};
+use joins::join_of;
 use lra_states::Verdict;
+use lras::{begin_of, decide_of, read_of, show_of, text_of};
+use members::{leave_of, member_of, report_of};
+use std::alloc::{AllocError, Global};
 
-/// What a line asks of a world of so many nodes.
-pub fn ask_of(line: &[u8], nodes: u8) -> Option<Ask>
+/// What a line asks of a world of so many nodes. Only the links of a join take memory.
+pub fn ask_of(alloc: Global, line: &[u8], nodes: u8) -> Result<Option<Ask>, AllocError>
     requires { nodes ≤ 8 }
-    ensures { MatchOption result ((ask : Ask) → Spells nodes line.now ask → ⊥) (Spells nodes line.now) }
+    ensures { IfOk result (λ found. MatchOption found ((ask : Ask) → Spells nodes line.now ask → ⊥) (Spells nodes line.now)) }
 {
     let mut words = Words::of(line);
-    let verb = words.next()?;
+    let Some(verb) = words.next() else {
+        return Ok(None);
+    };
+    if verb == b"join".as_slice() {
+        return join_of(alloc, words, nodes);
+    }
+    Ok(asked_without_links(verb, words, nodes))
+}
+
+/// What the words after a verb ask, where no links are read.
+fn asked_without_links(verb: &[u8], words: Words<'_>, nodes: u8) -> Option<Ask>
+    requires few { nodes ≤ 8 }
+    requires other { verb.now ≡ codes "join" → ⊥ }
+    ensures { ReadsArguments nodes verb.now words.entry result }
+{
     if verb == b"begin".as_slice() {
         return begin_of(words, nodes);
+    }
+    if verb == b"leave".as_slice() {
+        return leave_of(words, nodes);
     }
     if verb == b"close".as_slice() {
         return decide_of(words, nodes, Verdict::Close);
@@ -29,8 +48,14 @@ pub fn ask_of(line: &[u8], nodes: u8) -> Option<Ask>
     if verb == b"cancel".as_slice() {
         return decide_of(words, nodes, Verdict::Cancel);
     }
+    if verb == b"report".as_slice() {
+        return report_of(words, nodes);
+    }
     if verb == b"show".as_slice() {
         return show_of(words, nodes);
+    }
+    if verb == b"member".as_slice() {
+        return member_of(words, nodes);
     }
     if verb == b"text".as_slice() {
         return text_of(words);
@@ -39,70 +64,4 @@ pub fn ask_of(line: &[u8], nodes: u8) -> Option<Ask>
         return read_of(words);
     }
     None
-}
-
-fn begin_of(mut words: Words<'_>, nodes: u8) -> Option<Ask>
-    requires { nodes ≤ 8 }
-    ensures { ReadsArguments nodes (codes "begin") words.entry result }
-{
-    let node = node_of(words.next()?, nodes)?;
-    let deadline = number_of(words.next()?)?;
-    if !words.is_done() {
-        return None;
-    }
-    let command = Command::Begin { deadline };
-    Some(Ask::Enter { node, command })
-}
-
-fn decide_of(words: Words<'_>, nodes: u8, verdict: Verdict) -> Option<Ask>
-    requires { nodes ≤ 8 }
-    ensures { ReadsArguments nodes (verdict_name verdict) words.entry result }
-{
-    let (node, id) = node_and_id(words, nodes)?;
-    let command = Command::Decide { id, verdict };
-    Some(Ask::Enter { node, command })
-}
-
-fn show_of(words: Words<'_>, nodes: u8) -> Option<Ask>
-    requires { nodes ≤ 8 }
-    ensures { ReadsArguments nodes (codes "show") words.entry result }
-{
-    let (node, id) = node_and_id(words, nodes)?;
-    Some(Ask::Show { node, id })
-}
-
-/// The node and the id that two words spell.
-fn node_and_id(mut words: Words<'_>, nodes: u8) -> Option<(NodeId, LraId)>
-    requires { nodes ≤ 8 }
-    ensures { MatchOption result ((node : ℕ) (id : Id) → IsNodeOf nodes node → IsId id → words.entry ≡ decimal node ∷ id_text id ∷ [] → ⊥) (λ p. IsNodeOf nodes p.0 × IsId p.1 × (words.entry ≡ decimal p.0 ∷ id_text p.1 ∷ [])) }
-{
-    let node = node_of(words.next()?, nodes)?;
-    let id = id_of(words.next()?)?;
-    if !words.is_done() {
-        return None;
-    }
-    Some((node, id))
-}
-
-fn text_of(mut words: Words<'_>) -> Option<Ask>
-    ensures { (nodes : ℕ) → ReadsArguments nodes (codes "text") words.entry result }
-{
-    let id = id_of(words.next()?)?;
-    if !words.is_done() {
-        return None;
-    }
-    Some(Ask::Text(id))
-}
-
-fn read_of(mut words: Words<'_>) -> Option<Ask>
-    ensures { (nodes : ℕ) → ReadsArguments nodes (codes "read") words.entry result }
-{
-    let text = words.next()?;
-    if !words.is_done() {
-        return None;
-    }
-    match LraId::from_ascii(text) {
-        Ok(id) => Some(Ask::Read(id)),
-        Err(_) => None,
-    }
 }

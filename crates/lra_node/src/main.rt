@@ -7,6 +7,7 @@ mod asking;
 mod command;
 mod line;
 mod number;
+mod refusing;
 mod room;
 mod script;
 #[cfg(test)]

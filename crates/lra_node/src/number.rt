@@ -2,10 +2,13 @@
 ghost use Rattle.std.specs.Prelude.{◌≡◌, ◌≢◌, ◌+◌, ◌<◌, ◌≤◌, ◌^◌, ℕ, length, slice_index, IsTrue, MatchOption};
 ghost use Rattle.std.specs.Fmt.{decimal};
 ghost use Rattle.lra_id.specs.Ids.{Id, IsId, id_text};
-ghost use Rattle.lra_node.specs.Asks.{IsNodeOf};
+ghost use Rattle.lra_node.specs.Asks.{IsMemberNumber, IsNodeOf};
 
 use lra_id::{LraId, MOST_NODES, NodeId};
 use std::str;
+
+/// How many member numbers an LRA gives at most.
+const MOST_MEMBERS: u64 = 32;
 
 /// The number that a word spells in decimal, without leading zeros.
 pub fn number_of(word: &[u8]) -> Option<u64>
@@ -49,6 +52,19 @@ pub fn node_of(word: &[u8], nodes: u8) -> Option<NodeId>
         Ok(node) => Some(node),
         Err(_) => None,
     }
+}
+
+/// The member number that a word spells.
+pub fn member_number_of(word: &[u8]) -> Option<u8>
+    ensures { MatchOption result ((m : ℕ) → IsMemberNumber m → word.now ≡ decimal m → ⊥) (λ m. IsMemberNumber m × (word.now ≡ decimal m)) }
+{
+    let Some(number) = number_of(word) else {
+        return None;
+    };
+    if number == 0 || number > MOST_MEMBERS {
+        return None;
+    }
+    Some(number as u8)
 }
 
 /// The id that a word spells: its home, which has one digit, and its number, parted by a point.

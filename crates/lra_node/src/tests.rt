@@ -1,4 +1,7 @@
 // What no clause says: the texts that outside examples give, and runs that end in the middle.
+mod members;
+mod nesting;
+
 use crate::command::{Command, CommandReply};
 use crate::script::{ScriptFault, script};
 use crate::world::World;
@@ -161,7 +164,11 @@ fn run_after(
 #[test]
 fn a_world_shows_what_it_decided(rt: HostRuntime) -> Result<(), Fail> {
     let mut world = World::new(rt.alloc());
-    let CommandReply::Began(id) = world.step(Command::Begin { deadline: 7 })? else {
+    let begin = Command::Begin {
+        parent: None,
+        deadline: 7,
+    };
+    let CommandReply::Began(id, 0) = world.step(begin)? else {
         return Err(Fail::from("begun"));
     };
     assert_eq!(rt; world.status(id), Ok(LraStatus::Active));

@@ -38,6 +38,13 @@ impl<'a> Words<'a> {
         Some(word)
     }
 
+    /// The same words, to be read once more.
+    pub fn again(&self) -> Words<'a>
+        ensures { result ≡ self.now }
+    {
+        Words { rest: self.rest }
+    }
+
     /// Whether all words were read.
     pub fn is_done(&self) -> bool
         ensures { IsTrue result ↔ (self.now ≡ []) }

@@ -1,18 +1,16 @@
 // The world of one node: a list of facts. It stands in for the nodes and their frames until those are there.
-ghost use Rattle.std.specs.Prelude.{◌≡◌, ◌+◌, None, [], ◌∷◌, length, IfOk, OnOk, OnErr};
-ghost use Rattle.lra_facts.specs.Sets.{is_covered, parent_named};
-ghost use Rattle.lra_facts.specs.Refusals.{first, crowded, unknown, gone, away, settled, spent};
-ghost use Rattle.lra_node.specs.Worlds.{IsWorld, after, entered, front_of, here, refusal_of, reply_of, shown_of};
+ghost use Rattle.std.specs.Prelude.{◌≡◌, ◌+◌, ◌<◌, None, Some, [], length, IfOk, OnOk, OnErr};
+ghost use Rattle.lra_facts.specs.Sets.{NamesEarlier, numbers_given};
+ghost use Rattle.lra_facts.specs.Refusals.{spent};
+ghost use Rattle.lra_node.specs.Worlds.{IsWorld, accepted, after, body_for, entered, front_of, here, member_shown, next_fact, refusal_of, reply_of, shown_of};
 
 use crate::command::{Command, CommandReply};
-use lra_facts::{Body, Fact, Refusal, plain};
-use lra_id::{LAST_NUMBER, LraId, NodeId};
-use lra_states::{LraStatus, Verdict};
+use crate::refusing::{first_node, is_known, refusal_to, refusal_to_number, refusal_to_show};
+use lra_facts::{Body, Fact, Links, Refusal, plain};
+use lra_id::LraId;
+use lra_states::{LraStatus, MemberStatus, Verdict};
 use std::alloc::{AllocError, Global};
 use std::marker::Model;
-
-/// How many LRAs of its own a node holds at most.
-const MOST_LRAS: usize = 256;
 
 /// The facts that the node entered, in order.
 #[derive(Drop)]
@@ -54,12 +52,22 @@ impl World {
     pub fn status(&self, id: LraId) -> Result<LraStatus, Refusal>
         ensures { result ≡ shown_of self.now id }
     {
-        if !self.covers(id) {
-            return Err(Refusal::UnknownLra);
+        match refusal_to_show(&self.facts, id) {
+            Some(refusal) => Err(refusal),
+            None => Ok(plain::shows_now(&self.facts, id)),
         }
-        match plain::status_of(&self.facts, id) {
+    }
+
+    /// What a participant shows, or why there is nothing to show.
+    pub fn member(&self, id: LraId, member: u8) -> Result<MemberStatus, Refusal>
+        ensures { result ≡ member_shown self.now id member }
+    {
+        if let Some(refusal) = refusal_to_show(&self.facts, id) {
+            return Err(refusal);
+        }
+        match plain::member_of(&self.facts, id, member) {
             Some(status) => Ok(status),
-            None => Err(Refusal::NotHeld),
+            None => Err(Refusal::UnknownMember),
         }
     }
 
@@ -69,86 +77,124 @@ impl World {
         ensures after { OnOk result (self.new ≡ after self.old command) }
         ensures err { OnErr result (self.new ≡ self.old) }
     {
+        if let Some(refusal) = refusal_to(&self.facts, &command) {
+            return Ok(CommandReply::Refused(refusal));
+        }
+        if is_known(&self.facts, &command) {
+            return Ok(CommandReply::Known);
+        }
+        if let Some(refusal) = refusal_to_number(&self.facts) {
+            return Ok(CommandReply::Refused(refusal));
+        }
+        self.accept(command)
+    }
+
+    /// Enters what a command asks that is not refused.
+    fn accept(&mut self, command: Command) -> Result<CommandReply, AllocError>
+        requires allowed { refusal_of self.old command ≡ None }
+        requires number { spent (front_of self.old) here ≡ None }
+        ensures reply { IfOk result (λ reply. reply ≡ accepted self.old command) }
+        ensures after { OnOk result (self.new ≡ entered self.old (body_for self.old command)) }
+        ensures err { OnErr result (self.new ≡ self.old) }
+    {
         match command {
-            Command::Begin { deadline } => self.begin(deadline),
+            Command::Begin { parent, deadline } => self.begin(parent, deadline),
+            Command::Join { id, links } => self.join(id, links),
+            Command::Leave { id, member } => {
+                self.enter(Body::Leave { id, member })?;
+                Ok(CommandReply::Left)
+            }
             Command::Decide { id, verdict } => self.decide(id, verdict),
+            Command::Report {
+                id,
+                member,
+                act,
+                outcome,
+            } => {
+                self.enter(Body::Report {
+                    id,
+                    member,
+                    act,
+                    outcome,
+                })?;
+                Ok(CommandReply::Reported)
+            }
         }
     }
 
-    fn begin(&mut self, deadline: u64) -> Result<CommandReply, AllocError>
-        ensures reply { IfOk result (λ reply. reply ≡ reply_of self.old (Command.Begin deadline)) }
-        ensures after { OnOk result (self.new ≡ after self.old (Command.Begin deadline)) }
+    fn begin(&mut self, parent: Option<LraId>, deadline: u64) -> Result<CommandReply, AllocError>
+        requires allowed { refusal_of self.old (Command.Begin parent deadline) ≡ None }
+        requires number { spent (front_of self.old) here ≡ None }
+        ensures reply { IfOk result (λ reply. reply ≡ accepted self.old (Command.Begin parent deadline)) }
+        ensures after { OnOk result (self.new ≡ entered self.old (Body.Begin parent deadline)) }
         ensures err { OnErr result (self.new ≡ self.old) }
     {
-        if let Some(refusal) = self.refusal_to_begin() {
-            return Ok(CommandReply::Refused(refusal));
+        match parent {
+            Some(parent) => self.nest(parent, deadline),
+            None => self.begin_root(deadline),
         }
-        let id = self.enter(Body::Begin {
-            parent: None,
-            deadline,
-        })?;
-        Ok(CommandReply::Began(id))
+    }
+
+    fn begin_root(&mut self, deadline: u64) -> Result<CommandReply, AllocError>
+        requires number { spent (front_of self.old) here ≡ None }
+        ensures reply { IfOk result (λ reply. reply ≡ accepted self.old (Command.Begin None deadline)) }
+        ensures after { OnOk result (self.new ≡ entered self.old (Body.Begin None deadline)) }
+        ensures err { OnErr result (self.new ≡ self.old) }
+    {
+        let parent = None;
+        let id = self.enter(Body::Begin { parent, deadline })?;
+        Ok(CommandReply::Began(id, 0))
+    }
+
+    /// Begins an LRA in a parent.
+    fn nest(&mut self, parent: LraId, deadline: u64) -> Result<CommandReply, AllocError>
+        requires number { spent (front_of self.old) here ≡ None }
+        requires earlier { NamesEarlier (next_fact self.old (Body.Begin (Some parent) deadline)) }
+        requires few { numbers_given self.old parent < 32 }
+        ensures reply { IfOk result (λ reply. reply ≡ accepted self.old (Command.Begin (Some parent) deadline)) }
+        ensures after { OnOk result (self.new ≡ entered self.old (Body.Begin (Some parent) deadline)) }
+        ensures err { OnErr result (self.new ≡ self.old) }
+    {
+        let member = self.next_member(parent);
+        let parent = Some(parent);
+        let id = self.enter(Body::Begin { parent, deadline })?;
+        Ok(CommandReply::Began(id, member))
+    }
+
+    fn join(&mut self, id: LraId, links: Links) -> Result<CommandReply, AllocError>
+        requires number { spent (front_of self.old) here ≡ None }
+        requires few { numbers_given self.old id < 32 }
+        ensures reply { IfOk result (λ reply. reply ≡ accepted self.old (Command.Join id links)) }
+        ensures after { OnOk result (self.new ≡ entered self.old (body_for self.old (Command.Join id links))) }
+        ensures err { OnErr result (self.new ≡ self.old) }
+    {
+        let member = self.next_member(id);
+        self.enter(Body::Join { id, member, links })?;
+        Ok(CommandReply::Joined(member))
     }
 
     fn decide(&mut self, id: LraId, verdict: Verdict) -> Result<CommandReply, AllocError>
-        ensures reply { IfOk result (λ reply. reply ≡ reply_of self.old (Command.Decide id verdict)) }
-        ensures after { OnOk result (self.new ≡ after self.old (Command.Decide id verdict)) }
+        requires number { spent (front_of self.old) here ≡ None }
+        ensures reply { IfOk result (λ reply. reply ≡ accepted self.old (Command.Decide id verdict)) }
+        ensures after { OnOk result (self.new ≡ entered self.old (Body.Decide id verdict)) }
         ensures err { OnErr result (self.new ≡ self.old) }
     {
-        if let Some(refusal) = self.refusal_to_decide(id) {
-            return Ok(CommandReply::Refused(refusal));
-        }
         self.enter(Body::Decide { id, verdict })?;
         Ok(CommandReply::Decided(plain::shows_now(&self.facts, id)))
     }
 
-    /// Whether the number of an id is one of a fact that was entered.
-    fn covers(&self, id: LraId) -> bool
-        ensures { result ≡ is_covered (front_of self.now) id }
+    /// The member number that is given next in an LRA.
+    fn next_member(&self, id: LraId) -> u8
+        requires { numbers_given self.now id < 32 }
+        ensures { result ≡ numbers_given self.now id + 1 }
     {
-        id.home() == first_node() && id.num() <= self.facts.len() as u64
-    }
-
-    fn refusal_to_begin(&self) -> Option<Refusal>
-        ensures { result ≡ first (crowded self.now here ∷ spent (front_of self.now) here ∷ []) }
-    {
-        if plain::held_at(&self.facts, first_node()) >= MOST_LRAS {
-            return Some(Refusal::LrasFull);
-        }
-        self.refusal_to_number()
-    }
-
-    fn refusal_to_decide(&self, id: LraId) -> Option<Refusal>
-        ensures { result ≡ first (unknown (front_of self.now) id ∷ gone self.now id ∷ away here id ∷ settled self.now id ∷ spent (front_of self.now) here ∷ []) }
-    {
-        if !self.covers(id) {
-            return Some(Refusal::UnknownLra);
-        }
-        if !plain::holds(&self.facts, id) {
-            return Some(Refusal::NotHeld);
-        }
-        if id.home() != first_node() {
-            return Some(Refusal::NotHome(id.home()));
-        }
-        if plain::want_of(&self.facts, id).is_some() {
-            return Some(Refusal::NotActive(plain::shows_now(&self.facts, id)));
-        }
-        self.refusal_to_number()
-    }
-
-    fn refusal_to_number(&self) -> Option<Refusal>
-        ensures { result ≡ spent (front_of self.now) here }
-    {
-        if self.facts.len() as u64 >= LAST_NUMBER {
-            return Some(Refusal::NumbersSpent);
-        }
-        None
+        plain::numbers_given(&self.facts, id) as u8 + 1
     }
 
     /// Enters a fact with the next number, and answers the id that it would begin.
     fn enter(&mut self, body: Body) -> Result<LraId, AllocError>
         requires number { spent (front_of self.old) here ≡ None }
-        requires root { parent_named body ≡ None }
+        requires earlier { NamesEarlier (next_fact self.old body) }
         ensures id { IfOk result (λ id. id ≡ record { home = here; num = length self.old + 1 }) }
         ensures ok { OnOk result (self.new ≡ entered self.old body) }
         ensures err { OnErr result (self.new ≡ self.old) }
@@ -163,15 +209,5 @@ impl World {
             body,
         })?;
         Ok(id)
-    }
-}
-
-/// The one node.
-fn first_node() -> NodeId
-    ensures { result ≡ here }
-{
-    match NodeId::new(1) {
-        Ok(node) => node,
-        Err(_) => unreachable!(),
     }
 }
