@@ -1,12 +1,12 @@
 -- When a call is refused, over the set of facts that a node holds and the front that counts it.
 use Rattle.std.specs.Prelude.{◌==◌, ℕ, Bool, Option, Some, None, List, [], ◌∷◌, if◌then◌else◌, is_none, nat_lt}
 use Rattle.lra_id.specs.Ids.{Id}
-use Rattle.lra_id.specs.Fronts.{count}
+use Rattle.lra_id.specs.Fronts.{count, is_covered}
 use Rattle.lra_facts.specs.declared.fact.Fact.{Fact}
 use Rattle.lra_facts.specs.declared.refusal.Refusal.{Refusal}
 use Rattle.lra_facts.specs.declared.refusal.Refusal.TheVariants.{UnknownLra, NotHeld, NotHome, UnknownMember, NotActive, NotDue, MembersFull, DepthFull, LrasFull, NumbersSpent}
 use Rattle.lra_states.specs.declared.outcome.Act.{Act}
-use Rattle.lra_facts.specs.Sets.{is_covered, is_held, is_participant, is_demanded, want, shows_now, numbers_given, depth, held_at}
+use Rattle.lra_facts.specs.Sets.{is_held, is_participant, is_demanded, want, shows_now, numbers_given, depth, held_at}
 
 -- a refusal, unless the test holds
 abbrev pub unless : Bool → Refusal → Option Refusal

@@ -5,7 +5,6 @@ use mathlib.Core.Bool.{not}
 use Rattle.std.specs.List.{list_any}
 use Rattle.std.specs.Option.{option_map_or}
 use Rattle.lra_id.specs.Ids.{Id, IsFactNumber, same_id}
-use Rattle.lra_id.specs.Fronts.{count}
 use Rattle.lra_states.specs.States.{greater, level, same_act, same_verdict, is_final, same_member_status, completing, compensating, shown}
 use Rattle.lra_states.specs.declared.status.LraStatus.{LraStatus}
 use Rattle.lra_states.specs.declared.status.MemberStatus.{MemberStatus}
@@ -104,10 +103,6 @@ is_under S l d = list_any (same_id l) (chain S d)
 -- a root has no parent
 abbrev pub is_root : List Fact → Id → Bool
 is_root S l = is_none (parent_of S l)
-
--- the front counts its number at its home. A home without a node has count 0
-abbrev pub is_covered : List ℕ → Id → Bool
-is_covered v l = nat_le l.num (count v l.home)
 
 abbrev pub is_purged_root : List Fact → Id → Bool
 is_purged_root S a = is_root S a && list_any (λ f. is_purge a f.body) S

@@ -1,6 +1,6 @@
 // Why a command is refused, over the facts that the node entered.
 ghost use Rattle.std.specs.Prelude.{◌≡◌, [], ◌∷◌};
-ghost use Rattle.lra_facts.specs.Sets.{is_covered};
+ghost use Rattle.lra_id.specs.Fronts.{is_covered};
 ghost use Rattle.lra_facts.specs.Refusals.{first, crowded, unknown, gone, away, stranger, settled, unasked, full, deep, spent};
 ghost use Rattle.lra_node.specs.Worlds.{IsWorld, front_of, here, is_known, refusal_of};
 
