@@ -1,4 +1,5 @@
 // What no clause says: the texts that outside examples give, and runs that end in the middle.
+mod faults;
 mod members;
 mod nesting;
 
@@ -9,8 +10,6 @@ use crate::{USAGE, is_script, status_of};
 use lra_http::{OverRead, OverWrite};
 use lra_states::{LraStatus, Verdict};
 use std::alloc::{AllocError, Global};
-use std::io;
-use std::io::{Read, Write};
 use std::test::Fail;
 
 /// Runs a script over memory.
@@ -168,9 +167,10 @@ fn a_world_shows_what_it_decided(rt: HostRuntime) -> Result<(), Fail> {
         parent: None,
         deadline: 7,
     };
-    let CommandReply::Began(id, 0) = world.step(begin)? else {
+    let CommandReply::Began(id, member) = world.step(begin)? else {
         return Err(Fail::from("begun"));
     };
+    assert_eq!(rt; member, 0);
     assert_eq!(rt; world.status(id), Ok(LraStatus::Active));
     let verdict = Verdict::Cancel;
     assert_eq!(rt;
@@ -193,111 +193,4 @@ fn arguments_and_exit_statuses(rt: HostRuntime) {
     assert_eq!(rt; status_of(Err(ScriptFault::Write)), 1);
     assert_eq!(rt; status_of(Err(ScriptFault::NoMemory)), 1);
     assert_eq!(rt; USAGE, "usage: lra_node script N | serve N PORT DIR");
-}
-
-/// Gives its bytes one at a time, each after so many interruptions, and fails where it is cut.
-#[derive(Drop)]
-struct Halting<'a> {
-    bytes: &'a [u8],
-    interruptions: u16,
-    left: u16,
-    cut: Option<usize>,
-}
-
-impl<'a> Read for Halting<'a> {
-    fn read(&mut self, buf: &mut [u8]) -> io::Result<usize> {
-        if self.cut == Some(self.bytes.len()) {
-            return Err(io::ErrorKind::Other.into());
-        }
-        if self.left > 0 {
-            self.left -= 1;
-            return Err(io::ErrorKind::Interrupted.into());
-        }
-        if self.bytes.is_empty() || buf.is_empty() {
-            return Ok(0);
-        }
-        buf[0] = self.bytes[0];
-        if self.bytes[0] == b'\n' {
-            self.left = self.interruptions;
-        }
-        self.bytes = &self.bytes[1..];
-        Ok(1)
-    }
-}
-
-/// Takes at most so many bytes a call, and none any more once it is full.
-#[derive(Drop)]
-struct Filling {
-    bytes: Vec<u8>,
-    room: usize,
-}
-
-impl Write for Filling {
-    fn write(&mut self, buf: &[u8]) -> io::Result<usize> {
-        if buf.is_empty() || self.bytes.len() >= self.room {
-            return Ok(0);
-        }
-        match self.bytes.push(buf[0]) {
-            Ok(()) => Ok(1),
-            Err(_) => Err(io::ErrorKind::OutOfMemory.into()),
-        }
-    }
-
-    fn flush(&mut self) -> io::Result<()> {
-        Ok(())
-    }
-}
-
-#[test]
-fn interruptions_are_counted_by_the_line(rt: HostRuntime) {
-    for (interruptions, want) in [(1023, Ok(())), (1024, Err(ScriptFault::Read))] {
-        let mut reader = OverRead::new(Halting {
-            bytes: b"begin 1 0\nshow 1 1.1\nshow 1 1.1\n",
-            interruptions,
-            left: 0,
-            cut: None,
-        });
-        let mut writer = OverWrite::new(Vec::new(rt.alloc()));
-        assert_eq!(rt; script(rt.alloc(), &mut reader, &mut writer, 1), want);
-    }
-}
-
-#[test]
-fn a_reader_that_fails_in_mid_stream(rt: HostRuntime) {
-    let input = b"begin 1 0\nclose 1 1.1\n";
-    for cut in 0..=input.len() {
-        let mut reader = OverRead::new(Halting {
-            bytes: input,
-            interruptions: 0,
-            left: 0,
-            cut: Some(cut),
-        });
-        let mut writer = OverWrite::new(Vec::new(rt.alloc()));
-        assert_eq!(rt;
-            script(rt.alloc(), &mut reader, &mut writer, 1),
-            Err(ScriptFault::Read)
-        );
-        let text = writer.into_inner();
-        assert!(rt; b"began 1.1\nClosed\n".starts_with(&text), "{cut}");
-    }
-}
-
-#[test]
-fn a_writer_that_fails_in_mid_stream(rt: HostRuntime) {
-    let output = b"began 1.1\nClosed\n";
-    for room in 0..output.len() {
-        let mut reader = OverRead::new(b"begin 1 0\nclose 1 1.1\n".as_slice());
-        let mut writer = OverWrite::new(Filling {
-            bytes: Vec::new(rt.alloc()),
-            room,
-        });
-        assert_eq!(rt;
-            script(rt.alloc(), &mut reader, &mut writer, 1),
-            Err(ScriptFault::Write)
-        );
-        assert!(rt;
-            writer.into_inner().bytes.as_slice() == &output[..room],
-            "{room}"
-        );
-    }
 }
