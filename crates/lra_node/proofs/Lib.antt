@@ -4,5 +4,6 @@ pub mod Members
 pub mod Numbers
 pub mod Readings
 pub mod Runs
+pub mod Seats
 pub mod Splits
 pub mod Steps

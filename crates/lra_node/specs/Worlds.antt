@@ -1,5 +1,5 @@
 -- The world of one node: the facts that it entered, in order, and what it makes of a command.
-use Rattle.std.specs.Prelude.{◌+◌, ℕ, Bool, true, false, Option, Some, None, List, [], ◌∷◌, ◌++◌, length, Result, Ok, Err}
+use Rattle.std.specs.Prelude.{◌+◌, ◌≤◌, ℕ, Bool, true, false, Option, Some, None, List, [], ◌∷◌, ◌++◌, length, Result, Ok, Err}
 use Rattle.std.specs.List.{AllByRecursion}
 use Rattle.std.specs.Option.{option_map_or}
 use Rattle.lra_id.specs.Ids.{Id}
@@ -112,7 +112,12 @@ member_shown S l m =
     option_map_or (λ r. Err r) (first (unknown (front_of S) l ∷ gone S l ∷ []))
     (option_map_or (λ s. Ok s) (member_status S l m) (Err UnknownMember))
 
+-- its number is at most this
+abbrev pub IsWithin : ℕ → Fact → Type 0
+IsWithin n f = f.num ≤ n
+
 -- what a world keeps of its facts
 pub record IsWorld (S : List Fact) : Type 0 where
   pub earlier : AllByRecursion NamesEarlier S
   pub numbered : AllByRecursion IsNumbered S
+  pub counted : AllByRecursion (IsWithin (length S)) S

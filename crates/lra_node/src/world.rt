@@ -1,6 +1,6 @@
 // The world of one node: a list of facts. It stands in for the nodes and their frames until those are there.
 ghost use Rattle.std.specs.Prelude.{◌≡◌, ◌+◌, ◌<◌, None, Some, [], length, IfOk, OnOk, OnErr};
-ghost use Rattle.lra_facts.specs.Sets.{NamesEarlier, numbers_given};
+ghost use Rattle.lra_facts.specs.Sets.{NamesEarlier, member_number, numbers_given};
 ghost use Rattle.lra_facts.specs.Refusals.{spent};
 ghost use Rattle.lra_node.specs.Worlds.{IsWorld, accepted, after, body_for, entered, front_of, here, member_shown, next_fact, refusal_of, reply_of, shown_of};
 
@@ -183,10 +183,12 @@ impl World {
         Ok(CommandReply::Decided(plain::shows_now(&self.facts, id)))
     }
 
-    /// The member number that is given next in an LRA.
+    /// The member number that the next fact gives, if it gives one in this LRA.
+    #[tactic(auto, using(crate::proofs::Seats::next_number))]
     fn next_member(&self, id: LraId) -> u8
         requires { numbers_given self.now id < 32 }
-        ensures { result ≡ numbers_given self.now id + 1 }
+        ensures value { result ≡ numbers_given self.now id + 1 }
+        ensures numbered { result ≡ member_number self.now id (length self.now + 1) }
     {
         plain::numbers_given(&self.facts, id) as u8 + 1
     }
