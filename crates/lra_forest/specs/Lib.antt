@@ -1,0 +1,7 @@
+pub mod Lists
+pub mod Numbers
+pub mod Places
+pub mod Records
+pub mod Forests
+pub mod Standing
+pub mod Wants

@@ -1,0 +1,162 @@
+// The records of one home.
+ghost use Rattle.std.specs.Prelude.{◌≡◌, ◌↔◌, ◌≤◌, ℕ, [], List, Ok, Err, None, true, IfSome, find, slice_get, if◌then◌else◌};
+ghost use Rattle.std.specs.Option.{option_copied};
+ghost use Rattle.lra_facts.specs.declared.fact.Fact.{Fact};
+ghost use Rattle.lra_facts.specs.declared.refusal.Refusal.TheVariants.{NotHeld};
+ghost use Rattle.lra_facts.specs.Sets.{is_held, want};
+ghost use Rattle.lra_forest.specs.Forests.{AreOf, IsAscending, is_of};
+ghost use Rattle.lra_forest.specs.Places.{count_below, with_number};
+ghost use Rattle.lra_forest.specs.Standing.{IsWhole, Stands, answered};
+ghost use Rattle.lra_forest.specs.Wants.{over};
+
+use crate::Record;
+use lra_facts::Refusal;
+use lra_id::{LraId, NodeId};
+use lra_states::Verdict;
+use std::alloc::Global;
+use std::marker::Model;
+
+/// The records of the LRAs of one home, in order of their numbers.
+#[derive(Debug, Drop)]
+pub struct Forest {
+    home: NodeId,
+    records: Vec<Record>,
+}
+
+impl Model for Forest {
+    ghost use Rattle.lra_forest.specs.Forests.{HomeRecords, AreOf};
+
+    ghost Value = { HomeRecords };
+
+    ghost view = { λ f. record { home = f.home; records = f.records.items } };
+
+    ghost invariant = { λ f. AreOf f.home f.records.items };
+}
+
+#[tactic(auto, using(crate::proofs::Places::place_beyond, crate::proofs::Places::place_within, crate::proofs::Places::place_length))]
+/// Where the record with a number is, or would stand, among records in order of their numbers.
+fn seat(records: &[Record], num: u64) -> usize
+    requires { IsAscending records.now }
+    ensures { result ≡ count_below num records.now }
+{
+    let mut low = 0;
+    let mut high = records.len();
+    'halves: while low < high {
+        let middle = low + (high - low) / 2;
+        if records[middle].num < num {
+            low = middle + 1;
+        } else {
+            high = middle;
+        }
+    }
+    low
+}
+
+/// The record with a number, among records in order of their numbers. It halves them at each step.
+fn with_number(records: &[Record], num: u64) -> Option<&Record>
+    requires { IsAscending records.now }
+    ensures { option_copied result ≡ with_number num (slice_get records.now (count_below num records.now)) }
+{
+    let Some(record) = records.get(seat(records, num)) else {
+        return None;
+    };
+    if record.num == num {
+        Some(record)
+    } else {
+        None
+    }
+}
+
+impl Forest {
+    /// No record of this home.
+    pub fn new(alloc: Global, home: NodeId) -> Forest
+        ensures { result ≡ record { home = home; records = [] } }
+    {
+        Forest {
+            home,
+            records: Vec::new(alloc),
+        }
+    }
+
+    /// The node that began them.
+    pub fn home(&self) -> NodeId
+        ensures { result ≡ self.now.home }
+    {
+        self.home
+    }
+
+    /// The records in order of their numbers.
+    pub fn records(&self) -> &[Record]
+        ensures records { result.now ≡ self.now.records }
+        ensures order { AreOf self.now.home self.now.records }
+    {
+        &self.records
+    }
+
+    /// The record of the LRA that the home began with its fact of this number.
+    #[tactic(auto, using(crate::proofs::Places::found_place))]
+    fn numbered(&self, num: u64) -> Option<&Record>
+        ensures { option_copied result ≡ find (is_of (record { home = self.now.home; num = num })) self.now.records }
+    {
+        with_number(self.records(), num)
+    }
+
+    /// The record of an LRA.
+    pub fn record(&self, id: LraId) -> Option<&Record>
+        ensures home { IfSome result (λ _. id.home ≡ self.now.home) }
+        ensures found { option_copied result ≡ find (is_of id) self.now.records }
+    {
+        let _ = &self.records;
+        if id.home() == self.home() {
+            self.numbered(id.num())
+        } else {
+            None
+        }
+    }
+}
+
+/// What is wanted where this is decided, and this is wanted above.
+fn over(own: Option<Verdict>, above: Option<Verdict>) -> Option<Verdict>
+    ensures { result ≡ over own above }
+{
+    match (own, above) {
+        (None, above) => above,
+        (Some(Verdict::Close), Some(above)) => Some(above),
+        (own, _) => own,
+    }
+}
+
+impl Forest {
+    /// What the LRA with this number wants, by the decisions along its chain of parents.
+    fn wanted(&self, num: u64) -> Option<Verdict>
+        ensures { (nodes : ℕ) (S : List Fact) → IsWhole S → Stands nodes self.now.home S self.now.records →
+            is_held S (record { home = self.now.home; num = num }) ≡ true →
+            result ≡ want S (record { home = self.now.home; num = num }) }
+    {
+        let mut want = None;
+        let mut at = num;
+        'above: loop {
+            let Some(record) = self.numbered(at) else {
+                return want;
+            };
+            want = over(want, record.decision);
+            match record.parent {
+                Some(place) if place.number < at => at = place.number,
+                _ => return want,
+            }
+        }
+    }
+
+    /// What an LRA wants: to be cancelled if it or an LRA that it is nested in is, else to be closed if one of them is. It
+    /// reads the record of each of them.
+    pub fn want(&self, id: LraId) -> Result<Option<Verdict>, Refusal>
+        ensures answer { (nodes : ℕ) (S : List Fact) → IsWhole S → Stands nodes id.home S self.now.records →
+            result ≡ answered (is_held S id) (want S id) }
+        ensures refused { result ≡ Err NotHeld ↔ (find (is_of id) self.now.records ≡ None) }
+    {
+        let Some(_) = self.record(id) else {
+            return Err(Refusal::NotHeld);
+        };
+        Ok(self.wanted(id.num()))
+    }
+}

@@ -1,0 +1,8 @@
+//! What a node knows of the LRAs of one home: a record of each, in order of their numbers.
+#![tactic(auto)]
+
+mod forest;
+mod record;
+
+pub use forest::Forest;
+pub use record::{MOST_MEMBERS, Member, Members, Participant, Place, Record};
