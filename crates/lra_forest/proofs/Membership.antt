@@ -83,3 +83,12 @@ pub all_in : {X : Type 0} (P : X → Type 0) (xs : List X) → AllByRecursion P 
 all_in P [] h x m = absurd m
 all_in P (y ∷ ys) h x (inl s) = subst P (sym s) h.0
 all_in P (y ∷ ys) h x (inr m) = all_in P ys h.1 x m
+
+pub all_from : {X : Type 0} (P : X → Type 0) (xs : List X) → ((x : X) → In x xs → P x) → AllByRecursion P xs
+all_from P [] h = tt
+all_from P (x ∷ xs) h = (h x (inl refl), all_from P xs (λ y m. h y (inr m)))
+
+-- the first of two where the test holds
+pub on_true : {X : Type 0} (b : Bool) (x y z : X) → b ≡ true → x ≡ y → x ≡ cond b y z
+on_true true x y z e same = same
+on_true false x y z e same = absurd cc

@@ -4,4 +4,5 @@ pub mod Places
 pub mod Records
 pub mod Forests
 pub mod Standing
+pub mod Statuses
 pub mod Wants

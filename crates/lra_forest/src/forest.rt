@@ -3,16 +3,18 @@ ghost use Rattle.std.specs.Prelude.{◌≡◌, ◌↔◌, ◌≤◌, ℕ, [], Li
 ghost use Rattle.std.specs.Option.{option_copied};
 ghost use Rattle.lra_facts.specs.declared.fact.Fact.{Fact};
 ghost use Rattle.lra_facts.specs.declared.refusal.Refusal.TheVariants.{NotHeld};
-ghost use Rattle.lra_facts.specs.Sets.{is_held, want};
+ghost use Rattle.lra_facts.specs.Sets.{is_held, member_status, want};
 ghost use Rattle.lra_forest.specs.Forests.{AreOf, IsAscending, is_of};
 ghost use Rattle.lra_forest.specs.Places.{count_below, with_number};
-ghost use Rattle.lra_forest.specs.Standing.{IsWhole, Stands, answered};
+ghost use Rattle.lra_forest.specs.Standing.{IsSeated, IsWhole, Stands, answered};
+ghost use Rattle.lra_forest.specs.Statuses.{known, status_at};
 ghost use Rattle.lra_forest.specs.Wants.{over};
 
-use crate::Record;
+use crate::seen::status_of;
+use crate::{Member, Record};
 use lra_facts::Refusal;
 use lra_id::{LraId, NodeId};
-use lra_states::Verdict;
+use lra_states::{MemberStatus, Verdict};
 use std::alloc::Global;
 use std::marker::Model;
 
@@ -126,6 +128,19 @@ fn over(own: Option<Verdict>, above: Option<Verdict>) -> Option<Verdict>
     }
 }
 
+/// The status of a participant, by what its LRA wants.
+fn participant_status(
+    want: Option<Verdict>,
+    member: Option<&Member>,
+) -> Result<MemberStatus, Refusal>
+    ensures { result ≡ known (status_at want (option_copied member.entry)) }
+{
+    match member {
+        Some(Member::Participant(participant)) => Ok(status_of(want, participant)),
+        _ => Err(Refusal::UnknownMember),
+    }
+}
+
 impl Forest {
     /// What the LRA with this number wants, by the decisions along its chain of parents.
     fn wanted(&self, num: u64) -> Option<Verdict>
@@ -158,5 +173,17 @@ impl Forest {
             return Err(Refusal::NotHeld);
         };
         Ok(self.wanted(id.num()))
+    }
+
+    /// The status of the participant of an LRA with this member number. One that left has none.
+    pub fn member_status(&self, id: LraId, member: u8) -> Result<MemberStatus, Refusal>
+        ensures answer { (nodes : ℕ) (S : List Fact) → IsWhole S → IsSeated S → Stands nodes id.home S self.now.records →
+            result ≡ (if is_held S id then known (member_status S id member) else Err NotHeld) }
+        ensures refused { result ≡ Err NotHeld ↔ (find (is_of id) self.now.records ≡ None) }
+    {
+        let Some(record) = self.record(id) else {
+            return Err(Refusal::NotHeld);
+        };
+        participant_status(self.wanted(id.num()), record.members.get(member))
     }
 }

@@ -3,6 +3,7 @@
 
 mod forest;
 mod record;
+mod seen;
 
 pub use forest::Forest;
 pub use record::{MOST_MEMBERS, Member, Members, Participant, Place, Record};
