@@ -1,7 +1,11 @@
+pub mod Begun
 pub mod Chained
+pub mod Descents
 pub mod Giving
 pub mod Membership
 pub mod Places
 pub mod Seats
+pub mod Seeing
 pub mod Standings
+pub mod Trees
 pub mod Wanting

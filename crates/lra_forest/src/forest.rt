@@ -1,22 +1,26 @@
 // The records of one home.
 ghost use Rattle.std.specs.Prelude.{◌≡◌, ◌↔◌, ◌≤◌, ℕ, [], List, Ok, Err, None, true, IfSome, find, slice_get, if◌then◌else◌};
+ghost use Rattle.std.specs.List.{list_any};
 ghost use Rattle.std.specs.Option.{option_copied};
 ghost use Rattle.lra_facts.specs.declared.fact.Fact.{Fact};
 ghost use Rattle.lra_facts.specs.declared.refusal.Refusal.TheVariants.{NotHeld};
-ghost use Rattle.lra_facts.specs.Sets.{is_held, member_status, want};
+ghost use Rattle.lra_facts.specs.Sets.{is_ended, is_held, member_status, shows_now, want};
 ghost use Rattle.lra_forest.specs.Forests.{AreOf, IsAscending, is_of};
 ghost use Rattle.lra_forest.specs.Places.{count_below, with_number};
-ghost use Rattle.lra_forest.specs.Standing.{IsSeated, IsWhole, Stands, answered};
-ghost use Rattle.lra_forest.specs.Statuses.{known, status_at};
+ghost use Rattle.lra_forest.specs.Standing.{IsNested, IsSeated, IsWhole, Stands, answered};
+ghost use Rattle.lra_forest.specs.Statuses.{known, seen_by, shows_within, status_at};
 ghost use Rattle.lra_forest.specs.Wants.{over};
 
-use crate::seen::status_of;
+use crate::seen::{Seen, status_of};
 use crate::{Member, Record};
 use lra_facts::Refusal;
 use lra_id::{LraId, NodeId};
-use lra_states::{MemberStatus, Verdict};
+use lra_states::{LraStatus, MemberStatus, Verdict};
 use std::alloc::Global;
 use std::marker::Model;
+
+/// The greatest depth of an LRA, where a root has depth 1.
+pub const MOST_DEPTH: u8 = 8;
 
 /// The records of the LRAs of one home, in order of their numbers.
 #[derive(Debug, Drop)]
@@ -185,5 +189,67 @@ impl Forest {
             return Err(Refusal::NotHeld);
         };
         participant_status(self.wanted(id.num()), record.members.get(member))
+    }
+
+    /// What is seen of a member and of those nested in it to this depth, where this is wanted above.
+    #[cycle(descent)]
+    fn seen_in(&self, want: Option<Verdict>, member: &Member, levels: u8) -> Seen
+        ensures { result ≡ seen_by (λ test. shows_within levels test self.now want member.now) }
+    {
+        match member {
+            Member::Nested(num) => {
+                let Some(record) = self.numbered(*num) else {
+                    return Seen::NOTHING;
+                };
+                if levels == 0 {
+                    return Seen::NOTHING;
+                }
+                let members = record.members.as_slice();
+                self.seen(over(record.decision, want), members, levels - 1)
+            }
+            Member::Participant(participant) => Seen::of(status_of(want, participant)),
+            Member::Left => Seen::NOTHING,
+        }
+    }
+
+    /// What is seen of members and of those nested in them to this depth, where this is wanted.
+    #[cycle(descent)]
+    fn seen(&self, want: Option<Verdict>, members: &[Member], levels: u8) -> Seen
+        ensures { result ≡ seen_by (λ test. list_any (shows_within levels test self.now want) members.now) }
+    {
+        let mut seen = Seen::NOTHING;
+        for member in members {
+            seen = seen.or(self.seen_in(want, member, levels));
+        }
+        seen
+    }
+
+    /// Whether an LRA is ended: it wants something, and no participant of it or of what is nested in it has anything left to
+    /// do. It reads the records of the LRAs that it is nested in, and of those that are nested in it.
+    pub fn ended(&self, id: LraId) -> Result<bool, Refusal>
+        ensures answer { (nodes : ℕ) (S : List Fact) → IsWhole S → IsNested S → Stands nodes id.home S self.now.records →
+            result ≡ answered (is_held S id) (is_ended S id) }
+        ensures refused { result ≡ Err NotHeld ↔ (find (is_of id) self.now.records ≡ None) }
+    {
+        let Some(record) = self.record(id) else {
+            return Err(Refusal::NotHeld);
+        };
+        let want = self.wanted(id.num());
+        let seen = self.seen(want, record.members.as_slice(), MOST_DEPTH - 1);
+        Ok(seen.is_ended(want))
+    }
+
+    /// What an LRA shows. It reads the records of the LRAs that it is nested in, and of those that are nested in it.
+    pub fn status(&self, id: LraId) -> Result<LraStatus, Refusal>
+        ensures answer { (nodes : ℕ) (S : List Fact) → IsWhole S → IsNested S → Stands nodes id.home S self.now.records →
+            result ≡ answered (is_held S id) (shows_now S id) }
+        ensures refused { result ≡ Err NotHeld ↔ (find (is_of id) self.now.records ≡ None) }
+    {
+        let Some(record) = self.record(id) else {
+            return Err(Refusal::NotHeld);
+        };
+        let want = self.wanted(id.num());
+        let seen = self.seen(want, record.members.as_slice(), MOST_DEPTH - 1);
+        Ok(seen.shown(want))
     }
 }

@@ -5,5 +5,5 @@ mod forest;
 mod record;
 mod seen;
 
-pub use forest::Forest;
+pub use forest::{Forest, MOST_DEPTH};
 pub use record::{MOST_MEMBERS, Member, Members, Participant, Place, Record};

@@ -49,6 +49,13 @@ impl Seen {
         }
     }
 
+    /// Whether an LRA that wants this, and under which this is seen, is ended.
+    pub fn is_ended(self, want: Option<Verdict>) -> bool
+        ensures { result ≡ (is_some want && not self.unsettled) }
+    {
+        want.is_some() && !self.unsettled
+    }
+
     /// The status of an LRA that wants this, and under which this is seen.
     pub fn shown(self, want: Option<Verdict>) -> LraStatus
         ensures { result ≡ shown want (is_some want && not self.unsettled) self.incomplete self.uncompensated }
