@@ -4,6 +4,7 @@ pub mod Descents
 pub mod Giving
 pub mod Membership
 pub mod Places
+pub mod Puts
 pub mod Seats
 pub mod Seeing
 pub mod Standings

@@ -11,3 +11,10 @@ count_below num (r ∷ rs) = if nat_lt r.num num then count_below num rs + 1 els
 abbrev pub with_number : ℕ → Option Record → Option Record
 with_number num None = None
 with_number num (Some r) = if r.num == num then Some r else None
+
+-- with this record in its place. One with the same number is replaced
+abbrev pub put_record : Record → List Record → List Record
+put_record r [] = r ∷ []
+put_record r (q ∷ qs) =
+    if nat_lt q.num r.num then q ∷ put_record r qs
+    else (if q.num == r.num then r ∷ qs else r ∷ q ∷ qs)

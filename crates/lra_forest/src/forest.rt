@@ -1,12 +1,12 @@
 // The records of one home.
-ghost use Rattle.std.specs.Prelude.{◌≡◌, ◌↔◌, ◌≤◌, ℕ, [], List, Ok, Err, None, true, IfSome, find, slice_get, if◌then◌else◌};
+ghost use Rattle.std.specs.Prelude.{◌≡◌, ◌↔◌, ◌≤◌, ℕ, [], List, Ok, Err, None, true, IfSome, OnErr, OnOk, find, is_some, slice_get, if◌then◌else◌};
 ghost use Rattle.std.specs.List.{list_any};
 ghost use Rattle.std.specs.Option.{option_copied};
 ghost use Rattle.lra_facts.specs.declared.fact.Fact.{Fact};
 ghost use Rattle.lra_facts.specs.declared.refusal.Refusal.TheVariants.{NotHeld};
 ghost use Rattle.lra_facts.specs.Sets.{is_ended, is_held, member_status, shows_now, want};
 ghost use Rattle.lra_forest.specs.Forests.{AreOf, IsAscending, is_of};
-ghost use Rattle.lra_forest.specs.Places.{count_below, with_number};
+ghost use Rattle.lra_forest.specs.Places.{count_below, put_record, with_number};
 ghost use Rattle.lra_forest.specs.Standing.{IsNested, IsSeated, IsWhole, Stands, answered};
 ghost use Rattle.lra_forest.specs.Statuses.{known, seen_by, shows_within, status_at};
 ghost use Rattle.lra_forest.specs.Wants.{over};
@@ -16,7 +16,7 @@ use crate::{Member, Record};
 use lra_facts::Refusal;
 use lra_id::{LraId, NodeId};
 use lra_states::{LraStatus, MemberStatus, Verdict};
-use std::alloc::Global;
+use std::alloc::{AllocError, Global};
 use std::marker::Model;
 
 /// The greatest depth of an LRA, where a root has depth 1.
@@ -73,6 +73,34 @@ fn with_number(records: &[Record], num: u64) -> Option<&Record>
     }
 }
 
+/// Whether the record at a place has this number.
+fn stands_at(records: &[Record], seat: usize, num: u64) -> bool
+    ensures { result ≡ is_some (with_number num (slice_get records.now seat)) }
+{
+    match records.get(seat) {
+        Some(record) => record.num == num,
+        None => false,
+    }
+}
+
+/// Puts a record in its place.
+#[tactic(auto, using(crate::proofs::Puts::put_set, crate::proofs::Puts::put_insert, crate::proofs::Puts::some_within, crate::proofs::Places::place_length))]
+fn put_among(records: &mut Vec<Record>, added: Record) -> Result<(), AllocError>
+    requires { IsAscending records.old.items }
+    ensures ok { OnOk result (records.new.items ≡ put_record added records.old.items) }
+    ensures err { OnErr result (records.new.items ≡ records.old.items) }
+{
+    let seat = seat(records, added.num);
+    if stands_at(records, seat, added.num) {
+        records[seat] = added;
+        return Ok(());
+    }
+    match records.insert(seat, added) {
+        Ok(()) => Ok(()),
+        Err(_) => Err(AllocError),
+    }
+}
+
 impl Forest {
     /// No record of this home.
     pub fn new(alloc: Global, home: NodeId) -> Forest
@@ -97,6 +125,15 @@ impl Forest {
         ensures order { AreOf self.now.home self.now.records }
     {
         &self.records
+    }
+
+    /// Puts a record of this home in its place. One with the same number is replaced.
+    pub fn put(&mut self, added: Record) -> Result<(), AllocError>
+        requires { added.home ≡ self.old.home }
+        ensures ok { OnOk result (self.new ≡ record self.old { records = put_record added self.old.records }) }
+        ensures err { OnErr result (self.new ≡ self.old) }
+    {
+        put_among(&mut self.records, added)
     }
 
     /// The record of the LRA that the home began with its fact of this number.
