@@ -4,6 +4,8 @@
 mod forest;
 mod record;
 mod seen;
+#[cfg(test)]
+mod tests;
 
 pub use forest::{Forest, MOST_DEPTH};
 pub use record::{MOST_MEMBERS, Member, Members, Participant, Place, Record};
