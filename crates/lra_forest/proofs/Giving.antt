@@ -139,7 +139,7 @@ number_is S l n =
     ap (λ (fs : List Fact). length fs + 1) (filter_both (λ (f : Fact). gives_number l f.body) (λ (f : Fact). nat_lt f.num n) S)
     ∙ ap (λ k. k + 1) (sym (length_by_number (λ f. nat_lt f.num n) (filter (λ f. gives_number l f.body) S)))
 
-differ_givers : (l : Id) (S : List Fact) → AreOnce S → ((f : Fact) → In f S → gives_number l f.body ≡ true → f.origin ≡ l.home) → Differ (filter (λ f. gives_number l f.body) S)
+pub differ_givers : (l : Id) (S : List Fact) → AreOnce S → ((f : Fact) → In f S → gives_number l f.body ≡ true → f.origin ≡ l.home) → Differ (filter (λ f. gives_number l f.body) S)
 differ_givers l [] once home = tt
 differ_givers l (f ∷ S) once home = by (gives_number l f.body) refl (differ_givers l S once.1 (λ x m. home x (inr m)))
   where

@@ -1,7 +1,9 @@
 pub mod Begun
 pub mod Chained
 pub mod Descents
+pub mod Gatherings
 pub mod Giving
+pub mod Makings
 pub mod Membership
 pub mod Places
 pub mod Puts

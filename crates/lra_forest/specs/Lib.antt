@@ -1,3 +1,4 @@
+pub mod Gathering
 pub mod Lists
 pub mod Numbers
 pub mod Places

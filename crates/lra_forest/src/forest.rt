@@ -1,19 +1,21 @@
 // The records of one home.
-ghost use Rattle.std.specs.Prelude.{◌≡◌, ◌↔◌, ◌≤◌, ℕ, [], List, Ok, Err, None, true, IfSome, OnErr, OnOk, find, is_some, slice_get, if◌then◌else◌};
-ghost use Rattle.std.specs.List.{list_any};
+ghost use Rattle.std.specs.Prelude.{◌≡◌, ◌↔◌, ◌≤◌, ℕ, [], List, Ok, Err, None, true, IfOk, IfSome, OnErr, OnOk, find, is_some, slice_get, if◌then◌else◌};
+ghost use Rattle.std.specs.List.{list_any, AllByRecursion};
 ghost use Rattle.std.specs.Option.{option_copied};
 ghost use Rattle.lra_facts.specs.declared.fact.Fact.{Fact};
 ghost use Rattle.lra_facts.specs.declared.refusal.Refusal.TheVariants.{NotHeld};
-ghost use Rattle.lra_facts.specs.Sets.{is_ended, is_held, member_status, shows_now, want};
+ghost use Rattle.lra_facts.specs.Sets.{IsNumbered, NamesEarlier, is_ended, is_held, member_status, shows_now, want};
 ghost use Rattle.lra_forest.specs.Forests.{AreOf, IsAscending, is_of};
+ghost use Rattle.lra_forest.specs.Gathering.{IsRecordable};
 ghost use Rattle.lra_forest.specs.Places.{count_below, put_record, with_number};
 ghost use Rattle.lra_forest.specs.Standing.{IsNested, IsSeated, IsWhole, Stands, answered};
 ghost use Rattle.lra_forest.specs.Statuses.{known, seen_by, shows_within, status_at};
 ghost use Rattle.lra_forest.specs.Wants.{over};
 
+use crate::reading::{held_begin, record_of};
 use crate::seen::{Seen, status_of};
 use crate::{Member, Record};
-use lra_facts::Refusal;
+use lra_facts::{Fact, Refusal};
 use lra_id::{LraId, NodeId};
 use lra_states::{LraStatus, MemberStatus, Verdict};
 use std::alloc::{AllocError, Global};
@@ -110,6 +112,30 @@ impl Forest {
             home,
             records: Vec::new(alloc),
         }
+    }
+
+    /// The records of a home's LRAs that are held, made of all facts. It goes over the facts some hundred times for each LRA
+    /// of the home. Only memory can be wanting. The facts may be in any order.
+    pub fn of_facts(
+        alloc: Global,
+        facts: &[Fact],
+        home: NodeId,
+        nodes: usize,
+    ) -> Result<Forest, AllocError>
+        requires some { 1 ≤ nodes }
+        requires few { nodes ≤ 8 }
+        requires earlier { AllByRecursion NamesEarlier facts.now }
+        requires numbered { AllByRecursion IsNumbered facts.now }
+        ensures home { IfOk result (λ forest. forest.home ≡ home) }
+        ensures stands { IsRecordable facts.now → IfOk result (λ forest. Stands nodes home facts.now forest.records) }
+    {
+        let mut forest = Forest::new(alloc, home);
+        for fact in facts {
+            if let Some(id) = held_begin(facts, home, fact) {
+                forest.put(record_of(alloc, facts, id, nodes)?)?;
+            }
+        }
+        Ok(forest)
     }
 
     /// The node that began them.

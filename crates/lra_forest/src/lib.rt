@@ -2,6 +2,7 @@
 #![tactic(auto)]
 
 mod forest;
+mod reading;
 mod record;
 mod seen;
 #[cfg(test)]
