@@ -1,0 +1,14 @@
+pub mod Begun
+pub mod Chained
+pub mod Descents
+pub mod Gatherings
+pub mod Giving
+pub mod Makings
+pub mod Membership
+pub mod Places
+pub mod Puts
+pub mod Seats
+pub mod Seeing
+pub mod Standings
+pub mod Trees
+pub mod Wanting

@@ -1,0 +1,12 @@
+//! What a node knows of the LRAs of one home: a record of each, in order of their numbers.
+#![tactic(auto)]
+
+mod forest;
+mod reading;
+mod record;
+mod seen;
+#[cfg(test)]
+mod tests;
+
+pub use forest::{Forest, MOST_DEPTH};
+pub use record::{MOST_MEMBERS, Member, Members, Participant, Place, Record};

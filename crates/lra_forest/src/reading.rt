@@ -1,0 +1,431 @@
+// What a list of facts says of one LRA, as a record.
+ghost use Rattle.std.specs.Prelude.{◌≡◌, ◌+◌, ◌<◌, ◌≤◌, ◌&&◌, ◌==◌, ◌^◌, IfOk, Some, None, length, map, find, nat_lt, if◌then◌else◌, replicate};
+ghost use Rattle.std.specs.List.{list_any, AllByRecursion};
+ghost use Rattle.std.specs.Option.{option_copied};
+ghost use Rattle.lra_id.specs.Ids.{Id};
+ghost use Rattle.lra_states.specs.States.{greater};
+ghost use Rattle.lra_facts.specs.Sets.{begins, begins_held, begun_by, gives_number, has_left, heard, is_begin, is_decided, is_decision, is_leave, member_number, parent_named, parent_of, reported, IsNumbered, NamesEarlier};
+ghost use Rattle.lra_forest.specs.Records.{deadline_given, deadline_of, decision_of, is_about, is_forgot, is_named, member_by, members_of, nodes_to, place_in, record_of, stamp};
+ghost use Rattle.lra_forest.specs.Lists.{most};
+ghost use Rattle.lra_forest.specs.Gathering.{giver_at, least_above, lesser_number, next_giver, number_above, IsRecordable};
+
+use crate::{MOST_MEMBERS, Member, Members, Participant, Place, Record};
+use lra_facts::{Body, Fact, plain};
+use lra_id::{Front, LraId, NodeId};
+use lra_states::{Act, Outcome, Verdict};
+use std::alloc::{AllocError, Global};
+
+/// Whether a fact is the begin of an LRA.
+fn begins(id: LraId, fact: &Fact) -> bool
+    ensures { result ≡ begins id fact.now }
+{
+    match &fact.body {
+        Body::Begin { .. } => fact.origin == id.home() && fact.num == id.num(),
+        _ => false,
+    }
+}
+
+/// The parent that the begin of an LRA names.
+fn parent_named(fact: &Fact) -> Option<LraId>
+    ensures { result ≡ parent_named fact.now.body }
+{
+    match &fact.body {
+        Body::Begin { parent, .. } => *parent,
+        _ => None,
+    }
+}
+
+/// The deadline that the begin of an LRA gives.
+fn deadline_given(fact: &Fact) -> u64
+    ensures { result ≡ deadline_given fact.now.body }
+{
+    match &fact.body {
+        Body::Begin { deadline, .. } => *deadline,
+        _ => 0,
+    }
+}
+
+/// The parent of an LRA.
+fn parent(facts: &[Fact], id: LraId) -> Option<LraId>
+    ensures { result ≡ parent_of facts.now id }
+{
+    for fact in facts {
+        if begins(id, fact) {
+            return parent_named(fact);
+        }
+    }
+    None
+}
+
+/// The deadline of an LRA.
+fn deadline(facts: &[Fact], id: LraId) -> u64
+    ensures { result ≡ deadline_of facts.now id }
+{
+    for fact in facts {
+        if begins(id, fact) {
+            return deadline_given(fact);
+        }
+    }
+    0
+}
+
+/// Whether a fact gives a member number of an LRA.
+fn gives_number(id: LraId, fact: &Fact) -> bool
+    ensures { result ≡ gives_number id fact.now.body }
+{
+    match &fact.body {
+        Body::Begin {
+            parent: Some(parent),
+            ..
+        } => *parent == id,
+        Body::Join { id: joined, .. } => *joined == id,
+        _ => false,
+    }
+}
+
+/// Whether a fact with a lesser number gives a member number of an LRA.
+fn gives_before(id: LraId, num: u64, fact: &Fact) -> bool
+    ensures { result ≡ (gives_number id fact.now.body && nat_lt fact.now.num num) }
+{
+    gives_number(id, fact) && fact.num < num
+}
+
+/// How many facts with lesser numbers give a member number of an LRA.
+fn given_before(facts: &[Fact], id: LraId, num: u64) -> usize
+    ensures { result + 1 ≡ member_number facts.now id num }
+{
+    let mut before = 0;
+    for fact in facts {
+        if gives_before(id, num, fact) {
+            before += 1;
+        }
+    }
+    before
+}
+
+/// The member number that the fact with this number gives, where a byte holds it.
+fn member_number(facts: &[Fact], id: LraId, num: u64) -> u8
+    ensures { member_number facts.now id num < 2 ^ 8 → result ≡ member_number facts.now id num }
+{
+    let before = given_before(facts, id, num);
+    if before < usize::from(u8::MAX) {
+        before as u8 + 1
+    } else {
+        u8::MAX
+    }
+}
+
+/// Where an LRA is nested.
+fn place(facts: &[Fact], id: LraId) -> Option<Place>
+    ensures { ((p : Id) → member_number facts.now p id.num < 2 ^ 8) → result ≡ place_in facts.now id.num (parent_of facts.now id) }
+{
+    let parent = parent(facts, id)?;
+    Some(Place {
+        number: parent.num(),
+        slot: member_number(facts, parent, id.num()),
+    })
+}
+
+/// Whether a fact decides an LRA by this verdict.
+fn decides(id: LraId, verdict: Verdict, fact: &Fact) -> bool
+    ensures { result ≡ is_decision id verdict fact.now.body }
+{
+    match &fact.body {
+        Body::Decide {
+            id: decided,
+            verdict: given,
+        } => *decided == id && *given == verdict,
+        _ => false,
+    }
+}
+
+/// Whether an LRA itself was decided by this verdict.
+fn decided(facts: &[Fact], verdict: Verdict, id: LraId) -> bool
+    ensures { result ≡ is_decided facts.now verdict id }
+{
+    facts.iter().any(|fact| decides(id, verdict, fact))
+}
+
+/// How an LRA itself was decided.
+fn decision(facts: &[Fact], id: LraId) -> Option<Verdict>
+    ensures { result ≡ decision_of facts.now id }
+{
+    if decided(facts, Verdict::Cancel, id) {
+        Some(Verdict::Cancel)
+    } else if decided(facts, Verdict::Close, id) {
+        Some(Verdict::Close)
+    } else {
+        None
+    }
+}
+
+/// Whether a fact names an LRA.
+fn names(id: LraId, fact: &Fact) -> bool
+    ensures { result ≡ is_named id fact.now.body }
+{
+    match &fact.body {
+        Body::Begin { parent, .. } => *parent == Some(id),
+        Body::Join { id: named, .. } => *named == id,
+        Body::Leave { id: named, .. } => *named == id,
+        Body::Decide { id: named, .. } => *named == id,
+        Body::Report { id: named, .. } => *named == id,
+        Body::Forgot { id: named, .. } => *named == id,
+        Body::Purge { .. } => false,
+    }
+}
+
+/// The number of a fact of a node about an LRA, else 0.
+fn number_about(id: LraId, node: NodeId, fact: &Fact) -> u64
+    ensures { result ≡ (if (fact.now.origin == node) && is_about id fact.now then fact.now.num else 0) }
+{
+    if fact.origin == node && (begins(id, fact) || names(id, fact)) {
+        fact.num
+    } else {
+        0
+    }
+}
+
+/// The greatest number of a node's facts about an LRA.
+fn stamp(facts: &[Fact], id: LraId, node: NodeId) -> u64
+    ensures { result ≡ stamp facts.now id node }
+{
+    let mut greatest = 0;
+    for fact in facts {
+        greatest = number_about(id, node, fact).max(greatest);
+    }
+    greatest
+}
+
+/// The outcome that a fact reports of an act of a participant.
+fn reported(id: LraId, member: u8, act: Act, fact: &Fact) -> Option<Outcome>
+    ensures { result ≡ reported id member act fact.now.body }
+{
+    match &fact.body {
+        Body::Report {
+            id: of,
+            member: number,
+            act: done,
+            outcome,
+        } => {
+            if *of == id && *number == member && *done == act {
+                Some(*outcome)
+            } else {
+                None
+            }
+        }
+        _ => None,
+    }
+}
+
+/// The greater of two outcomes, where none is the least.
+fn greater(a: Option<Outcome>, b: Option<Outcome>) -> Option<Outcome>
+    ensures { result ≡ greater a b }
+{
+    match (a, b) {
+        (None, b) => b,
+        (a, None) => a,
+        (Some(a), Some(b)) => if a < b { Some(b) } else { Some(a) },
+    }
+}
+
+/// The greatest outcome that was reported of an act of a participant.
+fn heard(facts: &[Fact], id: LraId, member: u8, act: Act) -> Option<Outcome>
+    ensures { result ≡ heard facts.now id member act }
+{
+    let mut greatest = None;
+    for fact in facts {
+        greatest = greater(greatest, reported(id, member, act, fact));
+    }
+    greatest
+}
+
+/// Whether a fact is the leave of a participant.
+fn leaves(id: LraId, member: u8, fact: &Fact) -> bool
+    ensures { result ≡ is_leave id member fact.now.body }
+{
+    match &fact.body {
+        Body::Leave {
+            id: left,
+            member: number,
+        } => *left == id && *number == member,
+        _ => false,
+    }
+}
+
+/// Whether a fact tells that a participant was told to forget.
+fn tells_forgot(id: LraId, member: u8, fact: &Fact) -> bool
+    ensures { result ≡ is_forgot id member fact.now.body }
+{
+    match &fact.body {
+        Body::Forgot {
+            id: told,
+            member: number,
+        } => *told == id && *number == member,
+        _ => false,
+    }
+}
+
+/// Whether a participant left.
+fn left(facts: &[Fact], id: LraId, member: u8) -> bool
+    ensures { result ≡ has_left facts.now id member }
+{
+    facts.iter().any(|fact| leaves(id, member, fact))
+}
+
+/// Whether a participant was told to forget.
+fn forgotten(facts: &[Fact], id: LraId, member: u8) -> bool
+    ensures { result ≡ list_any (λ f. is_forgot id member f.body) facts.now }
+{
+    facts.iter().any(|fact| tells_forgot(id, member, fact))
+}
+
+/// What a fact that gives a member number of an LRA gives it to.
+fn member(facts: &[Fact], id: LraId, fact: &Fact) -> Result<Member, AllocError>
+    ensures { IfOk result (λ member. member ≡ member_by facts.now id fact.now.num fact.now.body) }
+{
+    let Body::Join { member, links, .. } = &fact.body else {
+        return Ok(Member::Nested(fact.num));
+    };
+    if left(facts, id, *member) {
+        return Ok(Member::Left);
+    }
+    Ok(Member::Participant(Participant {
+        links: links.clone()?,
+        completed: heard(facts, id, *member, Act::Complete),
+        compensated: heard(facts, id, *member, Act::Compensate),
+        forgotten: forgotten(facts, id, *member),
+    }))
+}
+
+/// The lesser of two numbers, where none is no number.
+fn lesser_number(a: Option<u64>, b: Option<u64>) -> Option<u64>
+    ensures { result ≡ lesser_number a b }
+{
+    match (a, b) {
+        (None, b) => b,
+        (a, None) => a,
+        (Some(a), Some(b)) => if b < a { Some(b) } else { Some(a) },
+    }
+}
+
+/// The number of a fact, if it gives a member number of an LRA and comes after this number.
+fn number_above(id: LraId, after: u64, fact: &Fact) -> Option<u64>
+    ensures { result ≡ number_above after id fact.now }
+{
+    if gives_number(id, fact) && after < fact.num {
+        Some(fact.num)
+    } else {
+        None
+    }
+}
+
+/// The least number after this one of the facts that give a member number of an LRA.
+fn least_above(facts: &[Fact], id: LraId, after: u64) -> Option<u64>
+    ensures { result ≡ least_above after id facts.now }
+{
+    let mut least = None;
+    for fact in facts {
+        least = lesser_number(least, number_above(id, after, fact));
+    }
+    least
+}
+
+/// The fact with this number that gives a member number of an LRA.
+fn giver_at(facts: &[Fact], id: LraId, num: u64) -> Option<&Fact>
+    ensures { option_copied result ≡ giver_at id facts.now num }
+{
+    facts
+        .iter()
+        .find(|fact| gives_number(id, fact) && fact.num == num)
+}
+
+/// The first fact after this number that gives a member number of an LRA.
+fn next_giver(facts: &[Fact], id: LraId, after: u64) -> Option<&Fact>
+    ensures { option_copied result ≡ next_giver after id facts.now }
+{
+    match least_above(facts, id, after) {
+        Some(num) => giver_at(facts, id, num),
+        None => None,
+    }
+}
+
+/// The members of an LRA in order of their numbers. It goes over the facts twice for each.
+#[tactic(auto, using(crate::proofs::Gatherings::next_some, crate::proofs::Gatherings::next_none))]
+fn members(alloc: Global, facts: &[Fact], id: LraId) -> Result<Members, AllocError>
+    requires numbered { AllByRecursion IsNumbered facts.now }
+    ensures { IsRecordable facts.now → IfOk result (λ members. members ≡ members_of facts.now id) }
+{
+    let mut members = Members::new(alloc);
+    let mut after = 0;
+    'places: for _ in 0..MOST_MEMBERS {
+        let Some(fact) = next_giver(facts, id, after) else {
+            return Ok(members);
+        };
+        members.push(member(facts, id, fact)?)?;
+        after = fact.num;
+    }
+    Ok(members)
+}
+
+/// The greatest number of each node's facts about an LRA.
+fn stamps(facts: &[Fact], id: LraId, nodes: usize) -> Front
+    requires some { 1 ≤ nodes }
+    requires few { nodes ≤ 8 }
+    ensures { result ≡ map (stamp facts.now id) (nodes_to nodes) }
+{
+    let mut front = Front::zero(nodes);
+    'nodes: for place in 0..nodes {
+        let Ok(node) = NodeId::new(place as u8 + 1) else {
+            return front;
+        };
+        front.set(node, stamp(facts, id, node));
+    }
+    front
+}
+
+/// What facts say of an LRA, as one record.
+pub fn record_of(
+    alloc: Global,
+    facts: &[Fact],
+    id: LraId,
+    nodes: usize,
+) -> Result<Record, AllocError>
+    requires some { 1 ≤ nodes }
+    requires few { nodes ≤ 8 }
+    requires numbered { AllByRecursion IsNumbered facts.now }
+    ensures home { IfOk result (λ entry. entry.home ≡ id.home) }
+    ensures entry { IsRecordable facts.now → IfOk result (λ entry. entry ≡ record_of nodes facts.now id) }
+{
+    Ok(Record {
+        home: id.home(),
+        num: id.num(),
+        parent: place(facts, id),
+        deadline: deadline(facts, id),
+        decision: decision(facts, id),
+        stamps: stamps(facts, id, nodes),
+        members: members(alloc, facts, id)?,
+    })
+}
+
+/// Whether a fact is a begin.
+fn is_begin(fact: &Fact) -> bool
+    ensures { result ≡ is_begin fact.now.body }
+{
+    matches!(&fact.body, Body::Begin { .. })
+}
+
+/// The LRA that a fact begins, if it is of this home and is held.
+pub fn held_begin(facts: &[Fact], home: NodeId, fact: &Fact) -> Option<LraId>
+    requires earlier { AllByRecursion NamesEarlier facts.now }
+    requires numbered { IsNumbered fact.now }
+    ensures { result ≡ (if begins_held facts.now home fact.now then Some (begun_by fact.now) else None) }
+{
+    let Ok(id) = LraId::new(fact.origin, fact.num) else {
+        return None;
+    };
+    if is_begin(fact) && fact.origin == home && plain::holds(facts, id) {
+        Some(id)
+    } else {
+        None
+    }
+}

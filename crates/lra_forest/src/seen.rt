@@ -1,0 +1,109 @@
+// What is seen of participants.
+ghost use Rattle.std.specs.Prelude.{◌≡◌, ◌&&◌, is_some};
+ghost use mathlib.Core.Bool.{not};
+ghost use Rattle.lra_states.specs.States.{same_member_status, shown};
+ghost use Rattle.lra_forest.specs.Statuses.{seen_by, seen_or, status_in};
+
+use crate::Participant;
+use lra_states::{LraStatus, MemberStatus, Outcome, Verdict};
+
+/// What is seen of some participants: whether one has something left to do, one failed to complete, and one failed to
+/// compensate.
+#[derive(Clone, Copy)]
+pub struct Seen {
+    pub unsettled: bool,
+    pub incomplete: bool,
+    pub uncompensated: bool,
+}
+
+impl Seen {
+    /// What is seen of no participant.
+    pub const NOTHING: Seen = Seen {
+        unsettled: false,
+        incomplete: false,
+        uncompensated: false,
+    };
+
+    /// What is seen of one with this status.
+    pub fn of(status: MemberStatus) -> Seen
+        ensures { result ≡ seen_by (λ test. test status) }
+    {
+        Seen {
+            unsettled: matches!(
+                status,
+                MemberStatus::Active | MemberStatus::Completing | MemberStatus::Compensating
+            ),
+            incomplete: status == MemberStatus::FailedToComplete,
+            uncompensated: status == MemberStatus::FailedToCompensate,
+        }
+    }
+
+    /// What is seen of these and of others.
+    pub fn or(self, other: Seen) -> Seen
+        ensures { result ≡ seen_or self other }
+    {
+        Seen {
+            unsettled: self.unsettled || other.unsettled,
+            incomplete: self.incomplete || other.incomplete,
+            uncompensated: self.uncompensated || other.uncompensated,
+        }
+    }
+
+    /// Whether an LRA that wants this, and under which this is seen, is ended.
+    pub fn is_ended(self, want: Option<Verdict>) -> bool
+        ensures { result ≡ (is_some want && not self.unsettled) }
+    {
+        want.is_some() && !self.unsettled
+    }
+
+    /// The status of an LRA that wants this, and under which this is seen.
+    pub fn shown(self, want: Option<Verdict>) -> LraStatus
+        ensures { result ≡ shown want (is_some want && not self.unsettled) self.incomplete self.uncompensated }
+    {
+        match want {
+            None => LraStatus::Active,
+            Some(Verdict::Close) => {
+                if self.unsettled {
+                    LraStatus::Closing
+                } else if self.incomplete {
+                    LraStatus::FailedToClose
+                } else {
+                    LraStatus::Closed
+                }
+            }
+            Some(Verdict::Cancel) => {
+                if self.unsettled {
+                    LraStatus::Cancelling
+                } else if self.uncompensated {
+                    LraStatus::FailedToCancel
+                } else {
+                    LraStatus::Cancelled
+                }
+            }
+        }
+    }
+}
+
+/// The status of a participant, by what its LRA wants. One without a complete link is completed as soon as its LRA closes.
+pub fn status_of(want: Option<Verdict>, participant: &Participant) -> MemberStatus
+    ensures { result ≡ status_in want participant.now }
+{
+    match want {
+        None => MemberStatus::Active,
+        Some(Verdict::Close) => {
+            if participant.links.complete.is_none() {
+                return MemberStatus::Completed;
+            }
+            match participant.completed {
+                None | Some(Outcome::Busy) => MemberStatus::Completing,
+                Some(Outcome::Done) => MemberStatus::Completed,
+                Some(Outcome::Failed) => MemberStatus::FailedToComplete,
+            }
+        }
+        Some(Verdict::Cancel) => match participant.compensated {
+            None | Some(Outcome::Busy) => MemberStatus::Compensating,
+            Some(Outcome::Done) => MemberStatus::Compensated,
+            Some(Outcome::Failed) => MemberStatus::FailedToCompensate,
+        },
+    }
+}
