@@ -5,9 +5,10 @@ use Rattle.lra_facts.specs.declared.fact.Body.{Body}
 use Rattle.lra_facts.specs.declared.fact.Body.TheVariants.{Begin, Join, Leave, Decide, Report, Forgot, Purge}
 use Rattle.lra_facts.specs.declared.fact.Fact.{Fact}
 use Rattle.lra_facts.specs.Sets.{begins, is_begin, begun_by, is_begun, gives_number, parent_named, parent_of}
-use Rattle.lra_forest.specs.Lists.{In}
+use Rattle.lra_facts.specs.Lists.{In}
 use Rattle.lra_forest.specs.Standing.{AreOnce}
-use Rattle.lra_forest.proofs.Membership.{all_in, any_from}
+use Rattle.lra_facts.proofs.Membership.{any_from}
+use Rattle.lra_forest.proofs.Bools.{all_in}
 use Rattle.lra_forest.proofs.Chained.{begins_at}
 use Rattle.lra_forest.proofs.Seats.{same_self}
 

@@ -9,14 +9,15 @@ use Rattle.lra_facts.specs.Sets.{parent_of, chain, depth, is_begun, is_held, is_
 use Rattle.lra_forest.specs.declared.record.Member.{Member}
 use Rattle.lra_forest.specs.declared.record.Member.TheVariants.{Nested, Participant, Left}
 use Rattle.lra_forest.specs.declared.record.Record.{Record}
-use Rattle.lra_forest.specs.Lists.{In}
+use Rattle.lra_facts.specs.Lists.{In}
 use Rattle.lra_forest.specs.Forests.{HomeRecords, is_of}
 use Rattle.lra_forest.specs.Records.{members_of, record_of}
 use Rattle.lra_forest.specs.Standing.{IsWhole, IsNested, Stands}
 use Rattle.lra_forest.specs.Statuses.{member_passes, seen_by, shows_within}
 use Rattle.lra_facts.proofs.Chains.{chain_is}
 use Rattle.lra_forest.proofs.Seeing.{seen_alike}
-use Rattle.lra_forest.proofs.Membership.{any_agree, and_right, not_false}
+use Rattle.lra_facts.proofs.Membership.{any_agree}
+use Rattle.lra_forest.proofs.Bools.{and_right, not_false}
 use Rattle.lra_forest.proofs.Chained.{chain_up}
 use Rattle.lra_forest.proofs.Begun.{parent_begun}
 use Rattle.lra_forest.proofs.Standings.{stands_at}

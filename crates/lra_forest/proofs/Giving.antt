@@ -5,10 +5,11 @@ use Rattle.std.proofs.lemmas.Bool.Decides.{nat_tests}
 use Rattle.lra_id.specs.Ids.{Id}
 use Rattle.lra_facts.specs.declared.fact.Fact.{Fact}
 use Rattle.lra_facts.specs.Sets.{gives_number, member_number}
-use Rattle.lra_forest.specs.Lists.{In}
+use Rattle.lra_facts.specs.Lists.{In}
 use Rattle.lra_forest.specs.Records.{put_by_number, by_number, givers}
 use Rattle.lra_forest.specs.Standing.{AreOnce, IsSeated}
-use Rattle.lra_forest.proofs.Membership.{all_in, all_from, filter_in, in_filter}
+use Rattle.lra_facts.proofs.Membership.{filter_in, in_filter}
+use Rattle.lra_forest.proofs.Bools.{all_in, all_from}
 
 -- each has a lesser number than those after it
 abbrev pub Ascend : List Fact → Type 0

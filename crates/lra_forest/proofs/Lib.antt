@@ -1,10 +1,10 @@
 pub mod Begun
+pub mod Bools
 pub mod Chained
 pub mod Descents
 pub mod Gatherings
 pub mod Giving
 pub mod Makings
-pub mod Membership
 pub mod Places
 pub mod Puts
 pub mod Seats

@@ -12,7 +12,7 @@ use Rattle.lra_forest.specs.Gathering.{IsRecordable}
 use Rattle.lra_forest.specs.Places.{put_record}
 use Rattle.lra_forest.specs.Records.{record_of}
 use Rattle.lra_forest.specs.Standing.{Stands}
-use Rattle.lra_forest.proofs.Membership.{and_left, and_right}
+use Rattle.lra_forest.proofs.Bools.{and_left, and_right}
 use Rattle.lra_forest.proofs.Puts.{put_are_of, put_find}
 use Rattle.lra_forest.proofs.Seats.{same_is}
 

@@ -14,7 +14,7 @@ use Rattle.lra_facts.specs.Sets.{gives_number, member_number, joined_links, link
 use Rattle.lra_forest.specs.declared.record.Participant.{Participant as ParticipantRecord}
 use Rattle.lra_forest.specs.declared.record.Member.{Member}
 use Rattle.lra_forest.specs.declared.record.Member.TheVariants.{Nested, Participant, Left}
-use Rattle.lra_forest.specs.Lists.{In}
+use Rattle.lra_facts.specs.Lists.{In}
 use Rattle.lra_forest.specs.Numbers.{numbered}
 use Rattle.lra_forest.specs.Records.{givers, member_by, members_of}
 use Rattle.lra_forest.specs.Standing.{IsSeated}

@@ -9,7 +9,7 @@ use Rattle.lra_forest.specs.declared.record.Record.{Record}
 use Rattle.lra_forest.specs.Records.{record_of, place_in}
 use Rattle.lra_forest.specs.Forests.{is_of}
 use Rattle.lra_forest.specs.Standing.{IsWhole, Stands}
-use Rattle.lra_forest.proofs.Membership.{and_left, and_right, not_false, or_false}
+use Rattle.lra_forest.proofs.Bools.{and_left, and_right, not_false, or_false}
 use Rattle.lra_forest.proofs.Chained.{parent_home, chain_up}
 
 pub stands_at : (nodes home : ℕ) (S : List Fact) (records : List Record) (l : Id) → Stands nodes home S records → l.home ≡ home → is_held S l ≡ true → find (is_of l) records ≡ Some (record_of nodes S l)

@@ -15,11 +15,12 @@ use Rattle.lra_facts.proofs.Chains.{parent_lesser, chain_any}
 use Rattle.lra_forest.specs.declared.record.Participant.{Participant as ParticipantRecord}
 use Rattle.lra_forest.specs.declared.record.Member.{Member}
 use Rattle.lra_forest.specs.declared.record.Member.TheVariants.{Nested, Participant, Left}
-use Rattle.lra_forest.specs.Lists.{In}
+use Rattle.lra_facts.specs.Lists.{In}
 use Rattle.lra_forest.specs.Records.{givers, member_by, members_of}
 use Rattle.lra_forest.specs.Standing.{IsWhole, AreOnce}
 use Rattle.lra_forest.specs.Statuses.{shows_at, status_in}
-use Rattle.lra_forest.proofs.Membership.{any_from, any_gives, same_bools, or_cases, and_left, and_right, not_false, in_map, map_in}
+use Rattle.lra_facts.proofs.Membership.{any_from, any_gives, same_bools, in_map, map_in}
+use Rattle.lra_forest.proofs.Bools.{or_cases, and_left, and_right, not_false}
 use Rattle.lra_forest.proofs.Chained.{begins_at, parent_home}
 use Rattle.lra_forest.proofs.Giving.{giver_in, in_givers}
 use Rattle.lra_forest.proofs.Seats.{same_is, same_self}

@@ -3,7 +3,7 @@ use Rattle.std.specs.Prelude.{◌≡◌, ◌≤◌, ◌&&◌, ◌==◌, ℕ, Lis
 use Rattle.lra_id.specs.Ids.{Id}
 use Rattle.lra_facts.specs.declared.fact.Fact.{Fact}
 use Rattle.lra_facts.specs.Sets.{gives_number}
-use Rattle.lra_forest.specs.Lists.{In}
+use Rattle.lra_facts.specs.Lists.{In}
 use Rattle.lra_forest.specs.Records.{givers}
 use Rattle.lra_forest.specs.Standing.{AreOnce}
 

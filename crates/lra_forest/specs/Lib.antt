@@ -1,5 +1,4 @@
 pub mod Gathering
-pub mod Lists
 pub mod Numbers
 pub mod Places
 pub mod Records

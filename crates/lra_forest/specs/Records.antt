@@ -1,7 +1,6 @@
 -- What a set of facts says of an LRA, as one record. The set is given as a list in any order: what goes by order goes by
 -- the facts' numbers.
 use Rattle.std.specs.Prelude.{◌==◌, ◌&&◌, ◌||◌, ◌++◌, ℕ, zero, suc, List, [], ◌∷◌, Bool, false, Option, Some, None, nat_le, filter, map, if◌then◌else◌}
-use Rattle.std.specs.List.{list_any}
 use Rattle.std.specs.Option.{option_map_or}
 use Rattle.lra_id.specs.Ids.{Id, same_id}
 use Rattle.lra_states.specs.declared.outcome.Verdict.{Verdict}
@@ -10,12 +9,13 @@ use Rattle.lra_states.specs.declared.outcome.Act.TheVariants.{Complete, Compensa
 use Rattle.lra_facts.specs.declared.fact.Body.{Body}
 use Rattle.lra_facts.specs.declared.fact.Body.TheVariants.{Begin, Join, Leave, Decide, Report, Forgot, Purge}
 use Rattle.lra_facts.specs.declared.fact.Fact.{Fact}
+use Rattle.lra_facts.specs.Duties.{has_forgot}
 use Rattle.lra_facts.specs.Sets.{is_decided, has_left, heard, begins, parent_of, gives_number, member_number}
 use Rattle.lra_forest.specs.declared.record.Place.{Place}
 use Rattle.lra_forest.specs.declared.record.Member.{Member}
 use Rattle.lra_forest.specs.declared.record.Member.TheVariants.{Nested, Participant, Left}
 use Rattle.lra_forest.specs.declared.record.Record.{Record}
-use Rattle.lra_forest.specs.Lists.{most}
+use Rattle.lra_facts.specs.Lists.{most}
 
 -- Stamps
 
@@ -54,10 +54,6 @@ abbrev pub by_number : List Fact → List Fact
 by_number [] = []
 by_number (f ∷ S) = put_by_number f (by_number S)
 
-abbrev pub is_forgot : Id → ℕ → Body → Bool
-is_forgot l m (Forgot id member) = same_id id l && (member == m)
-is_forgot l m _ = false
-
 -- what a fact that gives a number of l gives it to
 abbrev pub member_by : List Fact → Id → ℕ → Body → Member
 member_by S l num (Join id m links) =
@@ -66,7 +62,7 @@ member_by S l num (Join id m links) =
       links = links;
       completed = heard S l m Complete;
       compensated = heard S l m Compensate;
-      forgotten = list_any (λ f. is_forgot l m f.body) S;
+      forgotten = has_forgot S l m;
     })
 member_by S l num _ = Nested num
 

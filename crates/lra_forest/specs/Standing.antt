@@ -11,7 +11,7 @@ use Rattle.lra_facts.specs.Sets.{is_held, is_begun, parent_of, depth, gives_numb
 use Rattle.lra_forest.specs.declared.record.Record.{Record}
 use Rattle.lra_forest.specs.Records.{record_of}
 use Rattle.lra_forest.specs.Forests.{is_of}
-use Rattle.lra_forest.specs.Lists.{In}
+use Rattle.lra_facts.specs.Lists.{In}
 
 -- parents come before what is nested in them, and are in the set with it
 pub record IsWhole (S : List Fact) : Type 0 where

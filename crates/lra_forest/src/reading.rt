@@ -5,8 +5,9 @@ ghost use Rattle.std.specs.Option.{option_copied};
 ghost use Rattle.lra_id.specs.Ids.{Id};
 ghost use Rattle.lra_states.specs.States.{greater};
 ghost use Rattle.lra_facts.specs.Sets.{begins, begins_held, begun_by, gives_number, has_left, heard, is_begin, is_decided, is_decision, is_leave, member_number, parent_named, parent_of, reported, IsNumbered, NamesEarlier};
-ghost use Rattle.lra_forest.specs.Records.{deadline_given, deadline_of, decision_of, is_about, is_forgot, is_named, member_by, members_of, nodes_to, place_in, record_of, stamp};
-ghost use Rattle.lra_forest.specs.Lists.{most};
+ghost use Rattle.lra_facts.specs.Duties.{has_forgot, is_forgot};
+ghost use Rattle.lra_forest.specs.Records.{deadline_given, deadline_of, decision_of, is_about, is_named, member_by, members_of, nodes_to, place_in, record_of, stamp};
+ghost use Rattle.lra_facts.specs.Lists.{most};
 ghost use Rattle.lra_forest.specs.Gathering.{giver_at, least_above, lesser_number, next_giver, number_above, IsRecordable};
 
 use crate::{MOST_MEMBERS, Member, Members, Participant, Place, Record};
@@ -274,7 +275,7 @@ fn left(facts: &[Fact], id: LraId, member: u8) -> bool
 
 /// Whether a participant was told to forget.
 fn forgotten(facts: &[Fact], id: LraId, member: u8) -> bool
-    ensures { result ≡ list_any (λ f. is_forgot id member f.body) facts.now }
+    ensures { result ≡ has_forgot facts.now id member }
 {
     facts.iter().any(|fact| tells_forgot(id, member, fact))
 }

@@ -3,7 +3,7 @@ use Rattle.lra_facts.specs.declared.refusal.Refusal.TheVariants.{NotHeld}
 use Rattle.lra_facts.specs.Sets.{is_ended, is_held, some_shows, want}
 use Rattle.lra_forest.specs.Statuses.{seen_by}
 use Rattle.lra_forest.proofs.Descents.{seen_is}
-use Rattle.lra_forest.proofs.Membership.{on_true}
+use Rattle.lra_forest.proofs.Bools.{on_true}
 use Rattle.lra_forest.proofs.Seeing.{ended_alike}
 use Rattle.lra_forest.proofs.Standings.{held_if_found, found_is}
 use Rattle.lra_forest.proofs.Wanting.{wanted_is}

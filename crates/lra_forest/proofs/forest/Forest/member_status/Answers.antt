@@ -2,7 +2,7 @@ use Rattle.std.proofs.Common.{sym, ap, ◌∙◌, Err}
 use Rattle.lra_facts.specs.declared.refusal.Refusal.TheVariants.{NotHeld}
 use Rattle.lra_facts.specs.Sets.{is_held, member_status}
 use Rattle.lra_forest.specs.Records.{members_of}
-use Rattle.lra_forest.proofs.Membership.{on_true}
+use Rattle.lra_forest.proofs.Bools.{on_true}
 use Rattle.lra_forest.specs.declared.record.Record.{Record}
 use Rattle.lra_forest.specs.Numbers.{numbered}
 use Rattle.lra_forest.specs.Statuses.{known, status_at}

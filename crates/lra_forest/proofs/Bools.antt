@@ -1,0 +1,41 @@
+-- tests, and what holds of each element
+use Rattle.std.proofs.Common.{◌≡◌, ◌⊎◌, inl, inr, ◌||◌, ◌&&◌, List, [], ◌∷◌, Bool, true, false, refl, sym, subst, cond}
+use mathlib.Core.Bool.{not}
+use Rattle.std.specs.List.{AllByRecursion}
+use Rattle.lra_facts.specs.Lists.{In}
+
+pub or_false : (a b : Bool) → (a || b) ≡ false → b ≡ false
+or_false true b e = absurd cc
+or_false false b e = e
+
+pub or_cases : (a b : Bool) → (a || b) ≡ true → (a ≡ true) ⊎ (b ≡ true)
+or_cases true b e = inl refl
+or_cases false b e = inr e
+
+pub and_left : (a b : Bool) → (a && b) ≡ true → a ≡ true
+and_left true b e = refl
+and_left false b e = absurd cc
+
+pub and_right : (a b : Bool) → (a && b) ≡ true → b ≡ true
+and_right true b e = e
+and_right false b e = absurd cc
+
+pub not_false : (b : Bool) → not b ≡ true → b ≡ false
+not_false true e = absurd cc
+not_false false e = refl
+
+-- what holds of each holds of an element
+pub all_in : {X : Type 0} (P : X → Type 0) (xs : List X) → AllByRecursion P xs → (x : X) → In x xs → P x
+all_in P [] h x m = absurd m
+all_in P (y ∷ ys) h x (inl s) = subst P (sym s) h.0
+all_in P (y ∷ ys) h x (inr m) = all_in P ys h.1 x m
+
+pub all_from : {X : Type 0} (P : X → Type 0) (xs : List X) → ((x : X) → In x xs → P x) → AllByRecursion P xs
+all_from P [] h = tt
+all_from P (x ∷ xs) h = (h x (inl refl), all_from P xs (λ y m. h y (inr m)))
+
+-- the first of two where the test holds
+pub on_true : {X : Type 0} (b : Bool) (x y z : X) → b ≡ true → x ≡ y → x ≡ cond b y z
+on_true true x y z e same = same
+on_true false x y z e same = absurd cc
+
