@@ -38,4 +38,3 @@ all_from P (x ∷ xs) h = (h x (inl refl), all_from P xs (λ y m. h y (inr m)))
 pub on_true : {X : Type 0} (b : Bool) (x y z : X) → b ≡ true → x ≡ y → x ≡ cond b y z
 on_true true x y z e same = same
 on_true false x y z e same = absurd cc
-

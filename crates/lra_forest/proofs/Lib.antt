@@ -11,4 +11,5 @@ pub mod Seats
 pub mod Seeing
 pub mod Standings
 pub mod Trees
+pub mod Uniqueness
 pub mod Wanting

@@ -2,6 +2,7 @@
 #![tactic(auto)]
 
 mod forest;
+pub mod laws;
 mod reading;
 mod record;
 mod seen;
