@@ -256,12 +256,6 @@ nodes_step g n i node v old new h at counts was is =
     ∙ sym done
     ∙ ap (first_nodes g n) (sym one_more)
 
-pub nodes_start : (g : ℕ → ℕ) (n : ℕ) (front : List ℕ) → front ≡ replicate n 0 → front ≡ first_nodes g n 0
-nodes_start g n front e = e ∙ ap (λ (k : ℕ). replicate k 0) (let all : n ≡ n - 0 = omega arith in all)
-
-pub nodes_done : (g : ℕ → ℕ) (n : ℕ) (front : List ℕ) → front ≡ first_nodes g n n → front ≡ map g (nodes_to n)
-nodes_done g n front e = e ∙ ap (λ (k : ℕ). map g (nodes_to n) ++ replicate k 0) (let none : n - n ≡ 0 = omega arith in none) ∙ append_none (map g (nodes_to n))
-
 -- Numbers of members
 
 filter_shorter : {X : Type 0} (t : X → Bool) (xs : List X) → length (filter t xs) ≤ length xs

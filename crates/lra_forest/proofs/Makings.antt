@@ -1,17 +1,15 @@
 -- the records of the begins so far
-use Rattle.std.proofs.Common.{◌≡◌, ◌&&◌, ◌||◌, ◌==◌, ◌∷◌, ◌++◌, ℕ, List, [], refl, sym, ap, subst, ◌∙◌, Bool, true, false, cond, arith, Option, Some, None, find}
-use mathlib.Core.Bool.{not}
+use Rattle.std.proofs.Common.{◌≡◌, ◌&&◌, ◌||◌, ◌==◌, ◌∷◌, ◌++◌, ℕ, List, [], refl, sym, ap, subst, ◌∙◌, Bool, true, false, cond, arith, Some, None, find}
 use Rattle.std.specs.List.{list_any}
 use Rattle.std.proofs.lemmas.Bool.Decides.{nat_tests}
 use Rattle.lra_id.specs.Ids.{Id, same_id}
 use Rattle.lra_facts.specs.declared.fact.Fact.{Fact}
-use Rattle.lra_facts.specs.Sets.{begins, begins_held, begun_by, chain, is_begin, is_begun, is_held, is_purged_root}
+use Rattle.lra_facts.specs.Sets.{begins, begins_held, begun_by, is_begin, is_begun, is_held}
 use Rattle.lra_forest.specs.declared.record.Record.{Record}
 use Rattle.lra_forest.specs.Forests.{AreOf, HomeRecords, is_of}
 use Rattle.lra_forest.specs.Gathering.{IsRecordable}
 use Rattle.lra_forest.specs.Places.{put_record}
 use Rattle.lra_forest.specs.Records.{record_of}
-use Rattle.lra_forest.specs.Standing.{Stands}
 use Rattle.lra_forest.proofs.Bools.{and_left, and_right}
 use Rattle.lra_forest.proofs.Puts.{put_are_of, put_find}
 use Rattle.lra_forest.proofs.Seats.{same_is}
@@ -105,23 +103,6 @@ stand_skip nodes home S done f records stand begun l at =
         only a b c e g = rw (e, g) refl
     by false t = as_before (is_held S l) (is_begun done l) (Some (record_of nodes S l)) None
 
--- none at the start
-pub stand_none : (nodes home : ℕ) (S : List Fact) → StandSoFar nodes home S [] []
-stand_none nodes home S l at = by (is_held S l)
-  where
-    by : (h : Bool) → ◌≡◌ {A = Option Record} None (cond (h && false) (Some (record_of nodes S l)) None)
-    by true = refl
-    by false = refl
-
--- and in the end all that are held
-pub stand_all : (nodes home : ℕ) (S : List Fact) (records : List Record) → StandSoFar nodes home S S records → Stands nodes home S records
-stand_all nodes home S records stand l at = stand l at ∙ ap (λ b. cond b (Some (record_of nodes S l)) None) (twice (is_begun S l) (not (list_any (is_purged_root S) (chain S l))))
-  where
-    twice : (a b : Bool) → ((a && b) && a) ≡ (a && b)
-    twice true true = refl
-    twice true false = refl
-    twice false b = refl
-
 -- what is made of the facts so far
 pub record IsMade (nodes home : ℕ) (S done : List Fact) (h : HomeRecords) : Type 0 where
   pub own : h.home ≡ home
@@ -162,7 +143,3 @@ made_skip nodes home S done f h made begun =
       order = made.order;
       so_far = λ kept. stand_skip nodes home S done f h.records (made.so_far kept) (begun_not (begins_held S home f) (begun_by f) begun);
     }
-
-pub made_none : (nodes home : ℕ) (S : List Fact) (h : HomeRecords) → h ≡ record { home = home; records = [] } → IsMade nodes home S [] h
-made_none nodes home S h e =
-    subst (IsMade nodes home S []) (sym e) (record { own = refl; order = record { homes = tt; ascending = tt }; so_far = λ _. stand_none nodes home S })

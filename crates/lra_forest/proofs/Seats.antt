@@ -21,11 +21,11 @@ use Rattle.lra_forest.specs.Standing.{IsSeated}
 use Rattle.lra_forest.specs.Statuses.{status_at, status_in}
 use Rattle.lra_forest.proofs.Giving.{get_in, in_get, giver_in, in_givers, givers_ascend, number_is, place_is}
 
+id_is : (g h m n : ℕ) → g ≡ h → m ≡ n → ◌≡◌ {A = Id} (record { home = g; num = m }) (record { home = h; num = n })
+id_is g h m n home num = ap (λ (k : ℕ). record { home = k; num = m }) home ∙ ap (λ (k : ℕ). record { home = h; num = k }) num
+
 pub same_is : (a b : Id) → same_id a b ≡ true → a ≡ b
-same_is a b e =
-    let home : a.home ≡ b.home = grind (arith, e) in
-    let num : a.num ≡ b.num = grind (arith, e) in
-    ap (λ (h : ℕ). record { home = h; num = a.num }) home ∙ ap (λ (n : ℕ). record { home = b.home; num = n }) num
+same_is a b e = id_is a.home b.home a.num b.num (grind (arith, e)) (grind (arith, e))
 
 pub same_self : (a : Id) → same_id a a ≡ true
 same_self a = grind (arith, nat_tests)

@@ -41,8 +41,8 @@ impl Model for Forest {
     ghost invariant = { λ f. AreOf f.home f.records.items };
 }
 
-#[tactic(auto, using(crate::proofs::Places::place_beyond, crate::proofs::Places::place_within, crate::proofs::Places::place_length))]
 /// Where the record with a number is, or would stand, among records in order of their numbers.
+#[tactic(auto, using(crate::proofs::Places::place_beyond, crate::proofs::Places::place_within, crate::proofs::Places::place_length))]
 fn seat(records: &[Record], num: u64) -> usize
     requires { IsAscending records.now }
     ensures { result ≡ count_below num records.now }
@@ -170,7 +170,7 @@ impl Forest {
         with_number(self.records(), num)
     }
 
-    /// The record of an LRA.
+    /// The record of an LRA. It halves the home's records at each step.
     pub fn record(&self, id: LraId) -> Option<&Record>
         ensures home { IfSome result (λ _. id.home ≡ self.now.home) }
         ensures found { option_copied result ≡ find (is_of id) self.now.records }
@@ -230,7 +230,7 @@ impl Forest {
     }
 
     /// What an LRA wants: to be cancelled if it or an LRA that it is nested in is, else to be closed if one of them is. It
-    /// reads the record of each of them.
+    /// looks up the record of each of them.
     pub fn want(&self, id: LraId) -> Result<Option<Verdict>, Refusal>
         ensures answer { (nodes : ℕ) (S : List Fact) → IsWhole S → Stands nodes id.home S self.now.records →
             result ≡ answered (is_held S id) (want S id) }
@@ -242,7 +242,8 @@ impl Forest {
         Ok(self.wanted(id.num()))
     }
 
-    /// The status of the participant of an LRA with this member number. One that left has none.
+    /// The status of the participant of an LRA with this member number. One that left has none. It looks up the records of
+    /// the LRA and of those that it is nested in.
     pub fn member_status(&self, id: LraId, member: u8) -> Result<MemberStatus, Refusal>
         ensures answer { (nodes : ℕ) (S : List Fact) → IsWhole S → IsSeated S → Stands nodes id.home S self.now.records →
             result ≡ (if is_held S id then known (member_status S id member) else Err NotHeld) }
@@ -288,7 +289,7 @@ impl Forest {
     }
 
     /// Whether an LRA is ended: it wants something, and no participant of it or of what is nested in it has anything left to
-    /// do. It reads the records of the LRAs that it is nested in, and of those that are nested in it.
+    /// do. It looks up the records of the LRAs that it is nested in, and of those that are nested in it, each once.
     pub fn ended(&self, id: LraId) -> Result<bool, Refusal>
         ensures answer { (nodes : ℕ) (S : List Fact) → IsWhole S → IsNested S → Stands nodes id.home S self.now.records →
             result ≡ answered (is_held S id) (is_ended S id) }
@@ -302,7 +303,8 @@ impl Forest {
         Ok(seen.is_ended(want))
     }
 
-    /// What an LRA shows. It reads the records of the LRAs that it is nested in, and of those that are nested in it.
+    /// What an LRA shows. It looks up the records of the LRAs that it is nested in, and of those that are nested in it, each
+    /// once.
     pub fn status(&self, id: LraId) -> Result<LraStatus, Refusal>
         ensures answer { (nodes : ℕ) (S : List Fact) → IsWhole S → IsNested S → Stands nodes id.home S self.now.records →
             result ≡ answered (is_held S id) (shows_now S id) }

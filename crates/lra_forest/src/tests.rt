@@ -1,8 +1,12 @@
 // What small trees show.
+ghost use Rattle.std.specs.Prelude.{IsTrue};
+ghost use Rattle.std.specs.List.{AllByRecursion};
+ghost use Rattle.lra_facts.specs.Sets.{IsNumbered, NamesEarlier};
+
 use crate::{Forest, MOST_DEPTH, Member, Members, Participant, Place, Record};
-use lra_facts::{Links, Refusal};
-use lra_id::{Front, LraId, NodeId};
-use lra_states::{LraStatus, MemberStatus, Outcome, Verdict};
+use lra_facts::{Body, Fact, Links, Refusal};
+use lra_id::{Front, LAST_NUMBER, LraId, NodeId};
+use lra_states::{Act, LraStatus, MemberStatus, Outcome, Verdict};
 use std::alloc::Global;
 use std::test::Fail;
 
@@ -156,5 +160,113 @@ fn eight_levels_are_looked_through(rt: HostRuntime) -> Result<(), Fail> {
         Member::Nested(2),
     )?;
     assert_eq!(rt; forest.status(lra(1)?), Ok(LraStatus::Cancelling));
+    Ok(())
+}
+
+/// Enters a fact of node 1.
+fn enter(facts: &mut Vec<Fact>, num: u64, body: Body) -> Result<(), Fail> {
+    facts.push(Fact {
+        origin: NodeId::new(1)?,
+        num,
+        body,
+    })?;
+    Ok(())
+}
+
+/// Whether facts have numbers, and a nested LRA is begun at its parent's home after it.
+fn are_in_order(facts: &[Fact]) -> bool
+    ensures earlier { IsTrue result → AllByRecursion NamesEarlier facts.now }
+    ensures numbered { IsTrue result → AllByRecursion IsNumbered facts.now }
+{
+    for fact in facts {
+        if !(is_numbered(fact) && names_earlier(fact)) {
+            return false;
+        }
+    }
+    true
+}
+
+fn is_numbered(fact: &Fact) -> bool
+    ensures { IsTrue result → IsNumbered fact.now }
+{
+    1 <= fact.num && fact.num <= LAST_NUMBER
+}
+
+fn names_earlier(fact: &Fact) -> bool
+    ensures { IsTrue result → NamesEarlier fact.now }
+{
+    match &fact.body {
+        Body::Begin {
+            parent: Some(parent),
+            ..
+        } => parent.home() == fact.origin && parent.num() < fact.num,
+        _ => true,
+    }
+}
+
+/// A participant failed to complete, and reported later that it was done. A nested LRA comes before it in the numbers.
+fn failed_then_done(alloc: Global) -> Result<Vec<Fact>, Fail> {
+    let id = lra(1)?;
+    let links = Links::read(alloc, Some("http://p/c"), Some("http://p/x"), None, None)?;
+    let (member, act) = (2, Act::Complete);
+    let mut facts = Vec::new(alloc);
+    let outcome = Outcome::Done;
+    enter(
+        &mut facts,
+        6,
+        Body::Report {
+            id,
+            member,
+            act,
+            outcome,
+        },
+    )?;
+    let outcome = Outcome::Failed;
+    enter(
+        &mut facts,
+        5,
+        Body::Report {
+            id,
+            member,
+            act,
+            outcome,
+        },
+    )?;
+    enter(&mut facts, 3, Body::Join { id, member, links })?;
+    let verdict = Verdict::Close;
+    enter(&mut facts, 4, Body::Decide { id, verdict })?;
+    let parent = Some(id);
+    enter(
+        &mut facts,
+        2,
+        Body::Begin {
+            parent,
+            deadline: 0,
+        },
+    )?;
+    enter(
+        &mut facts,
+        1,
+        Body::Begin {
+            parent: None,
+            deadline: 7,
+        },
+    )?;
+    Ok(facts)
+}
+
+#[test]
+fn a_failure_is_not_undone(rt: HostRuntime) -> Result<(), Fail> {
+    let alloc = rt.alloc();
+    let facts = failed_then_done(alloc)?;
+    assert!(rt; are_in_order(&facts));
+    let forest = Forest::of_facts(alloc, &facts, NodeId::new(1)?, 1)?;
+    assert_eq!(rt; forest.records().len(), 2);
+    assert_eq!(rt;
+        forest.member_status(lra(1)?, 2),
+        Ok(MemberStatus::FailedToComplete)
+    );
+    assert_eq!(rt; forest.status(lra(1)?), Ok(LraStatus::FailedToClose));
+    assert_eq!(rt; forest.status(lra(2)?), Ok(LraStatus::Closed));
     Ok(())
 }
