@@ -1,5 +1,5 @@
 //! Slow evaluators: what a list of facts says, read from every fact at each call. They take no memory.
-ghost use Rattle.std.specs.Prelude.{◌≡◌, ◌+◌, ◌&&◌, ◌≤◌, is_some};
+ghost use Rattle.std.specs.Prelude.{◌≡◌, ◌↔◌, IsTrue, ◌+◌, ◌&&◌, ◌≤◌, is_some};
 ghost use mathlib.Core.Bool.{not};
 ghost use Rattle.std.specs.List.{list_any, AllByRecursion};
 ghost use Rattle.std.specs.Option.{option_copied};
@@ -8,8 +8,37 @@ ghost use Rattle.lra_states.specs.States.{same_member_status, greater, completin
 ghost use Rattle.lra_id.specs.Ids.{same_id};
 
 use crate::{Body, Fact, Links};
-use lra_id::{LraId, NodeId};
+use lra_id::{LAST_NUMBER, LraId, NodeId};
 use lra_states::{Act, LraStatus, MemberStatus, Outcome, Verdict};
+
+/// Whether the evaluators may read a list: its facts have numbers, and a nested LRA is begun at its parent's home after it.
+pub fn are_in_order(facts: &[Fact]) -> bool
+    ensures { IsTrue result ↔ (AllByRecursion NamesEarlier facts.now × AllByRecursion IsNumbered facts.now) }
+{
+    for fact in facts {
+        if !(is_numbered(fact) && names_earlier(fact)) {
+            return false;
+        }
+    }
+    true
+}
+
+/// Whether a fact has a number that a node can give.
+fn is_numbered(fact: &Fact) -> bool
+    ensures { IsTrue result ↔ IsNumbered fact.now }
+{
+    1 <= fact.num && fact.num <= LAST_NUMBER
+}
+
+/// Whether a fact begins no LRA in one that is not of its origin, or that comes later.
+fn names_earlier(fact: &Fact) -> bool
+    ensures { IsTrue result ↔ NamesEarlier fact.now }
+{
+    match named_parent(fact) {
+        Some(parent) => parent.home() == fact.origin && parent.num() < fact.num,
+        None => true,
+    }
+}
 
 /// Whether a fact is the begin of an LRA.
 fn begins_lra(id: LraId, fact: &Fact) -> bool

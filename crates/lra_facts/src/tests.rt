@@ -1,10 +1,9 @@
 // Texts, links, and what small lists of facts say.
-ghost use Rattle.std.specs.Prelude.{IsTrue};
 ghost use Rattle.std.specs.List.{AllByRecursion};
 ghost use Rattle.lra_facts.specs.Sets.{IsNumbered, NamesEarlier};
 
 use crate::{Body, Fact, Link, Links, Refusal, plain};
-use lra_id::{Front, LAST_NUMBER, LraId, NodeId};
+use lra_id::{Front, LraId, NodeId};
 use lra_states::{Act, LraStatus, MemberStatus, Outcome, Verdict};
 use std::alloc::Global;
 use std::process::Abort;
@@ -311,43 +310,12 @@ fn play(rt: &impl Abort, alloc: Global, steps: &[Step]) -> Result<(), Fail> {
                 body,
             })?;
         }
-        assert!(rt; are_in_order(&facts));
+        assert!(rt; plain::are_in_order(&facts));
         assert!(rt; says(&facts, *step)?, "step {place}");
     }
-    assert!(rt; are_in_order(&facts));
+    assert!(rt; plain::are_in_order(&facts));
     assert_eq!(rt; plain::held_at(&facts, there), 1);
     Ok(())
-}
-
-/// Whether facts have numbers, and a nested LRA is begun at its parent's home after it: what the evaluators ask.
-fn are_in_order(facts: &[Fact]) -> bool
-    ensures earlier { IsTrue result → AllByRecursion NamesEarlier facts.now }
-    ensures numbered { IsTrue result → AllByRecursion IsNumbered facts.now }
-{
-    for fact in facts {
-        if !(is_numbered(fact) && names_earlier(fact)) {
-            return false;
-        }
-    }
-    true
-}
-
-fn is_numbered(fact: &Fact) -> bool
-    ensures { IsTrue result → IsNumbered fact.now }
-{
-    1 <= fact.num && fact.num <= LAST_NUMBER
-}
-
-fn names_earlier(fact: &Fact) -> bool
-    ensures { IsTrue result → NamesEarlier fact.now }
-{
-    match &fact.body {
-        Body::Begin {
-            parent: Some(parent),
-            ..
-        } => { parent.home() == fact.origin && parent.num() < fact.num }
-        _ => true,
-    }
 }
 
 #[test]

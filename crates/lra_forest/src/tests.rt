@@ -1,11 +1,7 @@
 // What small trees show.
-ghost use Rattle.std.specs.Prelude.{IsTrue};
-ghost use Rattle.std.specs.List.{AllByRecursion};
-ghost use Rattle.lra_facts.specs.Sets.{IsNumbered, NamesEarlier};
-
 use crate::{Forest, MOST_DEPTH, Member, Members, Participant, Place, Record};
-use lra_facts::{Body, Fact, Links, Refusal};
-use lra_id::{Front, LAST_NUMBER, LraId, NodeId};
+use lra_facts::{Body, Fact, Links, Refusal, plain};
+use lra_id::{Front, LraId, NodeId};
 use lra_states::{Act, LraStatus, MemberStatus, Outcome, Verdict};
 use std::alloc::Global;
 use std::test::Fail;
@@ -173,37 +169,6 @@ fn enter(facts: &mut Vec<Fact>, num: u64, body: Body) -> Result<(), Fail> {
     Ok(())
 }
 
-/// Whether facts have numbers, and a nested LRA is begun at its parent's home after it.
-fn are_in_order(facts: &[Fact]) -> bool
-    ensures earlier { IsTrue result → AllByRecursion NamesEarlier facts.now }
-    ensures numbered { IsTrue result → AllByRecursion IsNumbered facts.now }
-{
-    for fact in facts {
-        if !(is_numbered(fact) && names_earlier(fact)) {
-            return false;
-        }
-    }
-    true
-}
-
-fn is_numbered(fact: &Fact) -> bool
-    ensures { IsTrue result → IsNumbered fact.now }
-{
-    1 <= fact.num && fact.num <= LAST_NUMBER
-}
-
-fn names_earlier(fact: &Fact) -> bool
-    ensures { IsTrue result → NamesEarlier fact.now }
-{
-    match &fact.body {
-        Body::Begin {
-            parent: Some(parent),
-            ..
-        } => parent.home() == fact.origin && parent.num() < fact.num,
-        _ => true,
-    }
-}
-
 /// A participant failed to complete, and reported later that it was done. A nested LRA comes before it in the numbers.
 fn failed_then_done(alloc: Global) -> Result<Vec<Fact>, Fail> {
     let id = lra(1)?;
@@ -259,7 +224,7 @@ fn failed_then_done(alloc: Global) -> Result<Vec<Fact>, Fail> {
 fn a_failure_is_not_undone(rt: HostRuntime) -> Result<(), Fail> {
     let alloc = rt.alloc();
     let facts = failed_then_done(alloc)?;
-    assert!(rt; are_in_order(&facts));
+    assert!(rt; plain::are_in_order(&facts));
     let forest = Forest::of_facts(alloc, &facts, NodeId::new(1)?, 1)?;
     assert_eq!(rt; forest.records().len(), 2);
     assert_eq!(rt;
@@ -268,5 +233,93 @@ fn a_failure_is_not_undone(rt: HostRuntime) -> Result<(), Fail> {
     );
     assert_eq!(rt; forest.status(lra(1)?), Ok(LraStatus::FailedToClose));
     assert_eq!(rt; forest.status(lra(2)?), Ok(LraStatus::Closed));
+    Ok(())
+}
+
+/// A saga of three members that is cancelled, of which the second is nested and has two of its own.
+fn cancelled_saga(alloc: Global) -> Result<Vec<Fact>, Fail> {
+    let mut facts = Vec::new(alloc);
+    for (num, parent, deadline) in [(1, None, 0), (3, Some(lra(1)?), 0)] {
+        enter(&mut facts, num, Body::Begin { parent, deadline })?;
+    }
+    for (num, id, member) in [(2, 1, 1), (4, 3, 1), (5, 3, 2), (6, 1, 3)] {
+        let links = Links::read(alloc, None, Some("http://p/c"), None, None)?;
+        let id = lra(id)?;
+        enter(&mut facts, num, Body::Join { id, member, links })?;
+    }
+    let (id, verdict) = (lra(1)?, Verdict::Cancel);
+    enter(&mut facts, 7, Body::Decide { id, verdict })?;
+    Ok(facts)
+}
+
+#[test]
+fn a_cancelled_saga_compensates(rt: HostRuntime) -> Result<(), Fail> {
+    let alloc = rt.alloc();
+    let facts = cancelled_saga(alloc)?;
+    assert!(rt; plain::are_in_order(&facts));
+    let forest = Forest::of_facts(alloc, &facts, NodeId::new(1)?, 1)?;
+    assert_eq!(rt; forest.status(lra(1)?), Ok(LraStatus::Cancelling));
+    assert_eq!(rt; forest.status(lra(3)?), Ok(LraStatus::Cancelling));
+    assert_eq!(rt;
+        forest.member_status(lra(3)?, 2),
+        Ok(MemberStatus::Compensating)
+    );
+    assert_eq!(rt;
+        forest.member_status(lra(1)?, 2),
+        Err(Refusal::UnknownMember)
+    );
+    assert_eq!(rt; forest.ended(lra(1)?), Ok(false));
+    Ok(())
+}
+
+/// The members of one level of a full tree: 31 participants, and the next level or one participant more.
+fn full_level(alloc: Global, num: u64) -> Result<Members, Fail> {
+    let mut members = Members::new(alloc);
+    for _ in 0..31 {
+        members.push(participant(alloc, None, None, Some(Outcome::Done))?)?;
+    }
+    let last = if num < 8 {
+        Member::Nested(num + 1)
+    } else {
+        participant(alloc, None, None, Some(Outcome::Failed))?
+    };
+    members.push(last)?;
+    Ok(members)
+}
+
+#[test]
+fn a_full_tree_of_eight_levels(rt: HostRuntime) -> Result<(), Fail> {
+    let alloc = rt.alloc();
+    let mut forest = Forest::new(alloc, NodeId::new(1)?);
+    for num in 1..9 {
+        let parent = if num == 1 {
+            None
+        } else {
+            Some(Place {
+                number: num - 1,
+                slot: 32,
+            })
+        };
+        let decision = if num == 1 {
+            Some(Verdict::Cancel)
+        } else {
+            None
+        };
+        forest.put(Record {
+            home: forest.home(),
+            num,
+            parent,
+            deadline: 0,
+            decision,
+            stamps: Front::zero(1),
+            members: full_level(alloc, num)?,
+        })?;
+    }
+    assert_eq!(rt; forest.status(lra(1)?), Ok(LraStatus::FailedToCancel));
+    assert_eq!(rt;
+        forest.member_status(lra(8)?, 32),
+        Ok(MemberStatus::FailedToCompensate)
+    );
+    assert_eq!(rt; forest.want(lra(9)?), Err(Refusal::NotHeld));
     Ok(())
 }
