@@ -233,6 +233,11 @@ fn a_failure_is_not_undone(rt: HostRuntime) -> Result<(), Fail> {
     );
     assert_eq!(rt; forest.status(lra(1)?), Ok(LraStatus::FailedToClose));
     assert_eq!(rt; forest.status(lra(2)?), Ok(LraStatus::Closed));
+    for record in forest.records() {
+        let copy = record.clone()?;
+        assert_eq!(rt; copy.num, record.num);
+        assert_eq!(rt; copy.members.len(), record.members.len());
+    }
     Ok(())
 }
 
