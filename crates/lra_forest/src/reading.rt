@@ -3,8 +3,7 @@ ghost use Rattle.std.specs.Prelude.{◌≡◌, ◌+◌, ◌<◌, ◌≤◌, ◌&
 ghost use Rattle.std.specs.List.{list_any, AllByRecursion};
 ghost use Rattle.std.specs.Option.{option_copied};
 ghost use Rattle.lra_id.specs.Ids.{Id};
-ghost use Rattle.lra_states.specs.States.{greater};
-ghost use Rattle.lra_facts.specs.Sets.{begins, begins_held, begun_by, gives_number, has_left, heard, is_begin, is_decided, is_decision, is_leave, member_number, parent_named, parent_of, reported, IsNumbered, NamesEarlier};
+ghost use Rattle.lra_facts.specs.Sets.{begins, begins_held, begun_by, gives_number, has_left, is_begin, is_decided, is_decision, is_leave, member_number, parent_named, parent_of, IsNumbered, NamesEarlier};
 ghost use Rattle.lra_facts.specs.Duties.{has_forgot, is_forgot};
 ghost use Rattle.lra_forest.specs.Records.{deadline_given, deadline_of, decision_of, is_about, is_named, member_by, members_of, nodes_to, place_in, record_of, stamp};
 ghost use Rattle.lra_facts.specs.Lists.{most};
@@ -13,7 +12,7 @@ ghost use Rattle.lra_forest.specs.Gathering.{giver_at, least_above, lesser_numbe
 use crate::{MOST_MEMBERS, Member, Members, Participant, Place, Record};
 use lra_facts::{Body, Fact, plain};
 use lra_id::{Front, LraId, NodeId};
-use lra_states::{Act, Outcome, Verdict};
+use lra_states::{Act, Verdict};
 use std::alloc::{AllocError, Global};
 
 /// Whether a fact is the begin of an LRA.
@@ -197,49 +196,6 @@ fn stamp(facts: &[Fact], id: LraId, node: NodeId) -> u64
     greatest
 }
 
-/// The outcome that a fact reports of an act of a participant.
-fn reported(id: LraId, member: u8, act: Act, fact: &Fact) -> Option<Outcome>
-    ensures { result ≡ reported id member act fact.now.body }
-{
-    match &fact.body {
-        Body::Report {
-            id: of,
-            member: number,
-            act: done,
-            outcome,
-        } => {
-            if *of == id && *number == member && *done == act {
-                Some(*outcome)
-            } else {
-                None
-            }
-        }
-        _ => None,
-    }
-}
-
-/// The greater of two outcomes, where none is the least.
-fn greater(a: Option<Outcome>, b: Option<Outcome>) -> Option<Outcome>
-    ensures { result ≡ greater a b }
-{
-    match (a, b) {
-        (None, b) => b,
-        (a, None) => a,
-        (Some(a), Some(b)) => if a < b { Some(b) } else { Some(a) },
-    }
-}
-
-/// The greatest outcome that was reported of an act of a participant.
-fn heard(facts: &[Fact], id: LraId, member: u8, act: Act) -> Option<Outcome>
-    ensures { result ≡ heard facts.now id member act }
-{
-    let mut greatest = None;
-    for fact in facts {
-        greatest = greater(greatest, reported(id, member, act, fact));
-    }
-    greatest
-}
-
 /// Whether a fact is the leave of a participant.
 fn leaves(id: LraId, member: u8, fact: &Fact) -> bool
     ensures { result ≡ is_leave id member fact.now.body }
@@ -292,8 +248,8 @@ fn member(facts: &[Fact], id: LraId, fact: &Fact) -> Result<Member, AllocError>
     }
     Ok(Member::Participant(Participant {
         links: links.clone()?,
-        completed: heard(facts, id, *member, Act::Complete),
-        compensated: heard(facts, id, *member, Act::Compensate),
+        completed: plain::greatest_report(facts, id, *member, Act::Complete),
+        compensated: plain::greatest_report(facts, id, *member, Act::Compensate),
         forgotten: forgotten(facts, id, *member),
     }))
 }

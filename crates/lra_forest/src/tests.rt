@@ -1,5 +1,5 @@
 // What small trees show.
-use crate::{Forest, MOST_DEPTH, Member, Members, Participant, Place, Record};
+use crate::{Forest, MOST_DEPTH, MOST_MEMBERS, Member, Members, Participant, Place, Record};
 use lra_facts::{Body, Fact, Links, Refusal, plain};
 use lra_id::{Front, LraId, NodeId};
 use lra_states::{Act, LraStatus, MemberStatus, Outcome, Verdict};
@@ -277,18 +277,27 @@ fn a_cancelled_saga_compensates(rt: HostRuntime) -> Result<(), Fail> {
     Ok(())
 }
 
+/// Gives the next number, where one is left.
+fn add(members: &mut Members, member: Member) -> Result<(), Fail> {
+    if members.len() < MOST_MEMBERS {
+        members.push(member)?;
+    }
+    Ok(())
+}
+
 /// The members of one level of a full tree: 31 participants, and the next level or one participant more.
 fn full_level(alloc: Global, num: u64) -> Result<Members, Fail> {
     let mut members = Members::new(alloc);
     for _ in 0..31 {
-        members.push(participant(alloc, None, None, Some(Outcome::Done))?)?;
+        let done = participant(alloc, None, None, Some(Outcome::Done))?;
+        add(&mut members, done)?;
     }
     let last = if num < 8 {
         Member::Nested(num + 1)
     } else {
         participant(alloc, None, None, Some(Outcome::Failed))?
     };
-    members.push(last)?;
+    add(&mut members, last)?;
     Ok(members)
 }
 
