@@ -64,6 +64,20 @@ impl Link {
     }
 }
 
+impl PartialEq for Link {
+    ghost use Rattle.std.specs.Cmp.{partial_equiv_from_equiv};
+    ghost use Rattle.std.specs.Cmp.Lexicographic.{nat_list_eq_equiv};
+    ghost use Rattle.std.specs.Str.{bytes_eq};
+
+    ghost eq = { bytes_eq };
+
+    ghost laws = { partial_equiv_from_equiv nat_list_eq_equiv };
+
+    fn eq(&self, other: &Link) -> bool {
+        self.text == other.text
+    }
+}
+
 impl Clone for Link {
     ghost use Rattle.std.specs.Prelude.{◌≡◌};
 
@@ -77,7 +91,7 @@ impl Clone for Link {
 }
 
 /// The links of a participant: where it is asked to complete and to compensate, asked for its status, and told to forget.
-#[derive(Debug, Drop)]
+#[derive(Debug, PartialEq, Drop)]
 pub struct Links {
     pub complete: Option<Link>,
     pub compensate: Link,
