@@ -33,7 +33,7 @@ held_child S l c whole up held =
     let along : list_any (is_purged_root S) (chain S c) ≡ false = ap (list_any (is_purged_root S)) (chain_up S whole.nested c l up) ∙ rw no_root kept in
     rw (begun, along) refl
 
-depth_up : (S : List Fact) (l c : Id) → IsWhole S → parent_of S c ≡ Some l → depth S c ≡ suc (depth S l)
+pub depth_up : (S : List Fact) (l c : Id) → IsWhole S → parent_of S c ≡ Some l → depth S c ≡ suc (depth S l)
 depth_up S l c whole up = ap (λ (ids : List Id). length ids) (chain_up S whole.nested c l up)
 
 not_deeper : (S : List Fact) (l c : Id) → IsWhole S → IsNested S → parent_of S c ≡ Some l → depth S l < 8

@@ -89,7 +89,7 @@ least_says : (n : ℕ) (l : Id) (S : List Fact) → Says n l S (least_above n l 
 least_says n l [] = λ f i gives above. i
 least_says n l (g ∷ S) = says_more n l g S (number_above n l g) (least_above n l S) refl (least_says n l S)
 
-find_in : {X : Type 0} (p : X → Bool) (xs : List X) (x : X) → find p xs ≡ Some x → In x xs × (p x ≡ true)
+pub find_in : {X : Type 0} (p : X → Bool) (xs : List X) (x : X) → find p xs ≡ Some x → In x xs × (p x ≡ true)
 find_in p [] x e = absurd cc
 find_in p (y ∷ xs) x e = by (find_in p xs x) (p y) refl e
   where

@@ -18,7 +18,7 @@ use Rattle.lra_forest.proofs.Seats.{same_is}
 abbrev pub StandSoFar : ℕ → ℕ → List Fact → List Fact → List Record → Type 0
 StandSoFar nodes home S done records = (l : Id) → l.home ≡ home → find (is_of l) records ≡ cond (is_held S l && is_begun done l) (Some (record_of nodes S l)) None
 
-any_last : {X : Type 0} (t : X → Bool) (xs : List X) (x : X) → list_any t (xs ++ x ∷ []) ≡ (list_any t xs || t x)
+pub any_last : {X : Type 0} (t : X → Bool) (xs : List X) (x : X) → list_any t (xs ++ x ∷ []) ≡ (list_any t xs || t x)
 any_last t [] x = by (t x)
   where
     by : (b : Bool) → (b || false) ≡ b
@@ -109,7 +109,7 @@ pub record IsMade (nodes home : ℕ) (S done : List Fact) (h : HomeRecords) : Ty
   pub order : AreOf home h.records
   pub so_far : IsRecordable S → StandSoFar nodes home S done h.records
 
-own_home : (home : ℕ) (S : List Fact) (f : Fact) → begins_held S home f ≡ true → f.origin ≡ home
+pub own_home : (home : ℕ) (S : List Fact) (f : Fact) → begins_held S home f ≡ true → f.origin ≡ home
 own_home home S f e = equal_number f.origin home (and_left (f.origin == home) _ (and_right (is_begin f.body) _ e))
 
 -- the test and the id of a begin that is held
@@ -126,12 +126,11 @@ begun_home home S f id e =
     let known = begun_is (begins_held S home f) (begun_by f) id e in
     ap (λ (x : Id). x.home) known.1 ∙ own_home home S f known.0
 
-pub made_put : (nodes home : ℕ) (S done : List Fact) (f : Fact) (old new : HomeRecords) (r : Record) (id : Id) → IsMade nodes home S done old → Some id ≡ cond (begins_held S home f) (Some (begun_by f)) None → r.home ≡ id.home → (IsRecordable S → r ≡ record_of nodes S id) → new ≡ record { home = old.home; records = put_record r old.records } → IsMade nodes home S (done ++ f ∷ []) new
-made_put nodes home S done f old new r id made begun own is put =
+pub made_put : (nodes home : ℕ) (S done : List Fact) (f : Fact) (old new : HomeRecords) (r : Record) (id : Id) → IsMade nodes home S done old → Some id ≡ cond (begins_held S home f) (Some (begun_by f)) None → r.home ≡ id.home → (IsRecordable S → r ≡ record_of nodes S id) → new.home ≡ old.home → new.records ≡ put_record r old.records → IsMade nodes home S (done ++ f ∷ []) new
+made_put nodes home S done f old new r id made begun own is stays records =
     let known = begun_is (begins_held S home f) (begun_by f) id begun in
-    let records : new.records ≡ put_record r old.records = ap (λ (h : HomeRecords). h.records) put in
     record {
-      own = ap (λ (h : HomeRecords). h.home) put ∙ made.own;
+      own = stays ∙ made.own;
       order = subst (AreOf home) (sym records) (put_are_of home r old.records (own ∙ begun_home home S f id begun) made.order);
       so_far = λ kept. subst (StandSoFar nodes home S (done ++ f ∷ [])) (sym records) (stand_put nodes home S done f old.records r id made.order (made.so_far kept) known.0 known.1 (is kept));
     }

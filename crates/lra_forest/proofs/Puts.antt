@@ -1,5 +1,5 @@
 -- records with one more in its place
-use Rattle.std.proofs.Common.{◌≡◌, ◌≤◌, ◌<◌, ◌+◌, ◌==◌, ◌∷◌, ℕ, zero, suc, List, [], refl, sym, ap, subst, ◌∙◌, Bool, true, false, cond, arith, Some, None, find, length, nat_lt, add-one, slice_get, is_some, set, Result, Ok, Err, OnOk, OnErr}
+use Rattle.std.proofs.Common.{◌≡◌, ◌≤◌, ◌<◌, ◌+◌, ◌==◌, ◌∷◌, ℕ, zero, suc, List, [], refl, sym, ap, ◌∙◌, Bool, true, false, cond, arith, Some, None, find, length, nat_lt, add-one, slice_get, is_some, set}
 use Rattle.std.specs.List.{AllByRecursion, insert}
 use Rattle.std.proofs.lemmas.Bool.Decides.{nat_tests}
 use Rattle.lra_id.specs.Ids.{Id}
@@ -101,8 +101,3 @@ put_find home r (q ∷ qs) l at h =
         here : (c : Bool) → (q.num == r.num) ≡ c → find (is_of l) (cond c (r ∷ qs) (r ∷ q ∷ qs)) ≡ cond (is_of l r) (Some r) (cond (is_of l q) (Some q) (find (is_of l) qs))
         here true s = replaced (is_of l q) (is_of l r) (alike s)
         here false s = refl
-
--- also where memory was wanting, and they are as they were
-pub still_of : {T E : Type 0} (outcome : Result T E) (home : ℕ) (r : Record) (old new : List Record) → OnOk outcome (new ≡ put_record r old) → OnErr outcome (new ≡ old) → r.home ≡ home → AreOf home old → AreOf home new
-still_of (Ok v) home r old new ok err at h = subst (AreOf home) (sym ok) (put_are_of home r old at h)
-still_of (Err e) home r old new ok err at h = subst (AreOf home) (sym err) h

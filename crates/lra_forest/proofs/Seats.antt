@@ -71,7 +71,7 @@ join_links (g ∷ S) l m links f i e none = by (join_links S l m links f) (joine
         let here : joined_links l m g.body ≡ Some links = ap (λ (x : Fact). joined_links l m x.body) (sym same) ∙ ap (joined_links l m) e ∙ own in
         cc
 
-get_map : {X Y : Type 0} (g : X → Y) (xs : List X) (i : ℕ) (x : X) → slice_get xs i ≡ Some x → slice_get (map g xs) i ≡ Some (g x)
+pub get_map : {X Y : Type 0} (g : X → Y) (xs : List X) (i : ℕ) (x : X) → slice_get xs i ≡ Some x → slice_get (map g xs) i ≡ Some (g x)
 get_map g [] i x e = absurd cc
 get_map g (y ∷ xs) zero x e = let same : y ≡ x = cc in ap (λ z. Some (g z)) same
 get_map g (y ∷ xs) (suc i) x e = get_map g xs i x e
@@ -81,7 +81,7 @@ map_get g [] i y e = absurd cc
 map_get g (x ∷ xs) zero y e = (x, refl, cc)
 map_get g (x ∷ xs) (suc i) y e = map_get g xs i y e
 
-numbered_at : {X : Type 0} (xs : List X) (i m : ℕ) (x : X) → m ≡ i + 1 → slice_get xs i ≡ Some x → numbered xs m ≡ Some x
+pub numbered_at : {X : Type 0} (xs : List X) (i m : ℕ) (x : X) → m ≡ i + 1 → slice_get xs i ≡ Some x → numbered xs m ≡ Some x
 numbered_at xs i m x at e =
     let some : (m == 0) ≡ false = grind (arith, nat_tests, at) in
     let place : m - 1 ≡ i = omega (arith, at) in
@@ -104,7 +104,7 @@ participant_join S l n (Forgot id m) p gives e = absurd cc
 participant_join S l n (Purge root) p gives e = absurd cc
 
 -- a giver stands at the place of its number
-seat_of : (S : List Fact) (l : Id) (f : Fact) → IsSeated S → In f S → gives_number l f.body ≡ true → (i : ℕ) × (slice_get (givers S l) i ≡ Some f) × (member_number S l f.num ≡ i + 1)
+pub seat_of : (S : List Fact) (l : Id) (f : Fact) → IsSeated S → In f S → gives_number l f.body ≡ true → (i : ℕ) × (slice_get (givers S l) i ≡ Some f) × (member_number S l f.num ≡ i + 1)
 seat_of S l f seated i gives =
     let at = in_get (givers S l) f (in_givers S l f i gives) in
     let place = place_is (givers S l) at.0 f (givers_ascend S l seated) at.1 in
@@ -125,7 +125,7 @@ none_status S l m joined = rw joined (by (is_held S l && not (has_left S l m)))
     by false = refl
 
 -- a member that is a participant joined
-none_joined : (S : List Fact) (l : Id) (m : ℕ) (p : ParticipantRecord) → IsSeated S → links_of S l m ≡ None → numbered (members_of S l) m ≡ Some (Participant p) → ⊥
+pub none_joined : (S : List Fact) (l : Id) (m : ℕ) (p : ParticipantRecord) → IsSeated S → links_of S l m ≡ None → numbered (members_of S l) m ≡ Some (Participant p) → ⊥
 none_joined S l m p seated joined found =
     let place = numbered_from (members_of S l) m (Participant p) found in
     let giver = map_get (λ (g : Fact). member_by S l g.num g.body) (givers S l) place.0 (Participant p) place.2 in

@@ -4,10 +4,12 @@ use Rattle.std.specs.List.{AllByRecursion}
 use Rattle.lra_id.specs.Ids.{Id}
 use Rattle.lra_forest.specs.declared.record.Record.{Record}
 
--- a home and the records of its LRAs
+-- a home, the records of its LRAs, and how many more records fit without asking for memory. What records say of a set
+-- does not go by that
 pub record HomeRecords : Type 0 where
   pub home : ℕ
   pub records : List Record
+  pub spare : ℕ
 
 -- each comes before those with greater numbers
 abbrev pub IsAscending : List Record → Type 0
@@ -18,6 +20,10 @@ IsAscending (r ∷ rs) = AllByRecursion (λ q. r.num < q.num) rs × IsAscending 
 pub record AreOf (home : ℕ) (records : List Record) : Type 0 where
   pub homes : AllByRecursion (λ r. r.home ≡ home) records
   pub ascending : IsAscending records
+
+-- the LRA whose record it is
+abbrev pub id_of : Record → Id
+id_of r = record { home = r.home; num = r.num }
 
 -- it is the record of l
 abbrev pub is_of : Id → Record → Bool

@@ -1,5 +1,7 @@
 pub mod Gathering
 pub mod Numbers
+pub mod Overdue
+pub mod Participants
 pub mod Places
 pub mod Records
 pub mod Forests

@@ -1,6 +1,7 @@
 //! What a node knows of the LRAs of one home: a record of each, in order of their numbers.
 #![tactic(auto)]
 
+mod answers;
 mod forest;
 pub mod laws;
 mod reading;

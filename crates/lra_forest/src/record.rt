@@ -1,5 +1,5 @@
 // All that a node knows of one LRA.
-ghost use Rattle.std.specs.Prelude.{◌≡◌, ◌<◌, ◌++◌, ◌∷◌, [], length, OnOk, OnErr};
+ghost use Rattle.std.specs.Prelude.{◌≡◌, ◌<◌, ◌≤◌, ◌-◌, ◌++◌, ◌∷◌, [], length, slice_set, OnOk, OnErr};
 ghost use Rattle.std.specs.Option.{option_copied};
 ghost use Rattle.lra_forest.specs.Numbers.{numbered};
 
@@ -20,7 +20,7 @@ pub struct Place {
 }
 
 /// A participant: where it is called, the greatest outcome that was heard of each act, and whether it was told to forget.
-#[derive(Debug, Drop)]
+#[derive(Debug, PartialEq, Drop)]
 pub struct Participant {
     pub links: Links,
     pub completed: Option<Outcome>,
@@ -29,7 +29,7 @@ pub struct Participant {
 }
 
 /// What a member number was given to: an LRA that is nested here, by its number, or a participant, which may have left.
-#[derive(Debug, Drop)]
+#[derive(Debug, PartialEq, Drop)]
 pub enum Member {
     Nested(u64),
     Participant(Participant),
@@ -54,7 +54,7 @@ impl Model for Members {
 }
 
 /// All that is known of one LRA. Of each node the stamps count the facts that tell of it.
-#[derive(Debug, Drop)]
+#[derive(Debug, PartialEq, Drop)]
 pub struct Record {
     pub home: NodeId,
     pub num: u64,
@@ -99,6 +99,15 @@ impl Members {
         self.list.get(usize::from(number) - 1)
     }
 
+    /// Changes the member with this number.
+    pub fn set(&mut self, number: u8, member: Member)
+        requires some { 1 ≤ number }
+        requires given { number ≤ length self.old }
+        ensures { self.new ≡ slice_set self.old (number - 1) member }
+    {
+        self.list[usize::from(number) - 1] = member;
+    }
+
     /// Gives the next number.
     pub fn push(&mut self, member: Member) -> Result<(), AllocError>
         requires { length self.old < 32 }
@@ -109,6 +118,20 @@ impl Members {
             Ok(()) => Ok(()),
             Err(_) => Err(AllocError),
         }
+    }
+}
+
+impl PartialEq for Members {
+    ghost use Rattle.std.specs.Cmp.Lexicographic.{lists_per, pointwise};
+    ghost use Rattle.lra_forest.specs.contracts.record.MemberPartialEq.TheImpl as of_members;
+    ghost use Rattle.lra_forest.specs.contracts.record.MemberPartialEq.TheImpl.Laws.{laws-law};
+
+    ghost eq = { pointwise of_members.ghosts.eq };
+
+    ghost laws = { lists_per laws-law };
+
+    fn eq(&self, other: &Members) -> bool {
+        self.list == other.list
     }
 }
 

@@ -1,4 +1,6 @@
 // What small trees show.
+ghost use Rattle.std.specs.Prelude.{◌≡◌, IfOk};
+
 use crate::{Forest, MOST_DEPTH, MOST_MEMBERS, Member, Members, Participant, Place, Record};
 use lra_facts::{Body, Fact, Links, Refusal, plain};
 use lra_id::{Front, LraId, NodeId};
@@ -26,6 +28,30 @@ fn participant(
     }))
 }
 
+/// The record of an LRA with one member.
+fn sketch(
+    alloc: Global,
+    home: NodeId,
+    num: u64,
+    parent: Option<u64>,
+    decision: Option<Verdict>,
+    member: Member,
+) -> Result<Record, Fail>
+    ensures { IfOk result (λ made. made.home ≡ home) }
+{
+    let mut members = Members::new(alloc);
+    members.push(member)?;
+    Ok(Record {
+        home,
+        num,
+        parent: parent.map(|number| Place { number, slot: 1 }),
+        deadline: 0,
+        decision,
+        stamps: Front::zero(1),
+        members,
+    })
+}
+
 /// Puts the record of an LRA with one member.
 fn plant(
     forest: &mut Forest,
@@ -35,17 +61,10 @@ fn plant(
     decision: Option<Verdict>,
     member: Member,
 ) -> Result<(), Fail> {
-    let mut members = Members::new(alloc);
-    members.push(member)?;
-    Ok(forest.put(Record {
-        home: forest.home(),
-        num,
-        parent: parent.map(|number| Place { number, slot: 1 }),
-        deadline: 0,
-        decision,
-        stamps: Front::zero(1),
-        members,
-    })?)
+    let made = sketch(alloc, forest.home(), num, parent, decision, member)?;
+    forest.reserve(1)?;
+    forest.put(made);
+    Ok(())
 }
 
 #[test]
@@ -319,7 +338,7 @@ fn a_full_tree_of_eight_levels(rt: HostRuntime) -> Result<(), Fail> {
         } else {
             None
         };
-        forest.put(Record {
+        let record = Record {
             home: forest.home(),
             num,
             parent,
@@ -327,7 +346,9 @@ fn a_full_tree_of_eight_levels(rt: HostRuntime) -> Result<(), Fail> {
             decision,
             stamps: Front::zero(1),
             members: full_level(alloc, num)?,
-        })?;
+        };
+        forest.reserve(1)?;
+        forest.put(record);
     }
     assert_eq!(rt; forest.status(lra(1)?), Ok(LraStatus::FailedToCancel));
     assert_eq!(rt;
@@ -335,5 +356,103 @@ fn a_full_tree_of_eight_levels(rt: HostRuntime) -> Result<(), Fail> {
         Ok(MemberStatus::FailedToCompensate)
     );
     assert_eq!(rt; forest.want(lra(9)?), Err(Refusal::NotHeld));
+    Ok(())
+}
+
+#[test]
+fn a_record_is_taken_away_and_its_room_stays(rt: HostRuntime) -> Result<(), Fail> {
+    let alloc = rt.alloc();
+    let mut forest = Forest::new(alloc, NodeId::new(1)?);
+    for num in [3, 1, 2] {
+        plant(&mut forest, alloc, num, None, None, Member::Left)?;
+    }
+    forest.remove(LraId::new(NodeId::new(2)?, 2)?);
+    forest.remove(lra(4)?);
+    assert_eq!(rt; forest.records().len(), 3);
+    forest.remove(lra(2)?);
+    assert_eq!(rt; forest.records().len(), 2);
+    assert!(rt; forest.get(lra(2)?).is_none());
+    assert!(rt; forest.get(lra(1)?).is_some());
+    assert!(rt; forest.get(lra(3)?).is_some());
+    Ok(())
+}
+
+#[test]
+fn a_member_is_changed(rt: HostRuntime) -> Result<(), Fail> {
+    let alloc = rt.alloc();
+    let mut members = Members::new(alloc);
+    add(&mut members, Member::Left)?;
+    add(&mut members, Member::Nested(5))?;
+    if members.len() == 2 {
+        members.set(2, Member::Nested(7));
+    }
+    assert!(rt; matches!(members.get(1), Some(Member::Left)));
+    assert!(rt; matches!(members.get(2), Some(Member::Nested(7))));
+    Ok(())
+}
+
+#[test]
+fn participants_are_asked_and_heard(rt: HostRuntime) -> Result<(), Fail> {
+    let alloc = rt.alloc();
+    let facts = failed_then_done(alloc)?;
+    assert!(rt; plain::are_in_order(&facts));
+    let forest = Forest::of_facts(alloc, &facts, NodeId::new(1)?, 1)?;
+    assert_eq!(rt; forest.depth(lra(1)?), Ok(1));
+    assert_eq!(rt; forest.depth(lra(2)?), Ok(2));
+    assert_eq!(rt; forest.numbers_given(lra(1)?), Ok(2));
+    assert_eq!(rt; forest.demands(lra(1)?, 2, Act::Complete), Ok(true));
+    assert_eq!(rt; forest.demands(lra(1)?, 2, Act::Compensate), Ok(false));
+    assert_eq!(rt;
+        forest.demands(lra(1)?, 1, Act::Complete),
+        Err(Refusal::UnknownMember)
+    );
+    assert_eq!(rt;
+        forest.has_heard(lra(1)?, 2, Act::Complete, Outcome::Done),
+        Ok(true)
+    );
+    assert_eq!(rt;
+        forest.has_heard(lra(1)?, 2, Act::Compensate, Outcome::Busy),
+        Ok(false)
+    );
+    assert_eq!(rt; forest.depth(lra(3)?), Err(Refusal::NotHeld));
+    let copy = forest.clone()?;
+    assert!(rt; forest.same(&copy));
+    Ok(())
+}
+
+#[test]
+fn the_first_that_is_overdue(rt: HostRuntime) -> Result<(), Fail> {
+    let alloc = rt.alloc();
+    let mut facts = Vec::new(alloc);
+    for (num, deadline) in [(1, 0), (2, 9), (3, 5)] {
+        let parent = None;
+        enter(&mut facts, num, Body::Begin { parent, deadline })?;
+    }
+    assert!(rt; plain::are_in_order(&facts));
+    let forest = Forest::of_facts(alloc, &facts, NodeId::new(1)?, 1)?;
+    assert_eq!(rt; forest.len(), 3);
+    assert_eq!(rt; forest.after(1).len(), 2);
+    assert_eq!(rt; forest.overdue(4), None);
+    assert_eq!(rt; forest.overdue(5), Some(lra(3)?));
+    assert_eq!(rt; forest.overdue(9), Some(lra(2)?));
+    Ok(())
+}
+
+#[test]
+fn what_another_record_would_show(rt: HostRuntime) -> Result<(), Fail> {
+    let alloc = rt.alloc();
+    let home = NodeId::new(1)?;
+    let mut forest = Forest::new(alloc, home);
+    plant(&mut forest, alloc, 1, None, None, Member::Left)?;
+    let copy = forest.clone()?;
+    let close = Some(Verdict::Close);
+    let next = sketch(alloc, forest.home(), 1, None, close, Member::Left)?;
+    let (status, next) = forest.status_with(next);
+    assert_eq!(rt; status, Ok(LraStatus::Closed));
+    assert_eq!(rt; next.decision, close);
+    assert_eq!(rt; forest.status(lra(1)?), Ok(LraStatus::Active));
+    assert!(rt; forest.same(&copy));
+    plant(&mut forest, alloc, 1, None, close, Member::Left)?;
+    assert!(rt; !forest.same(&copy));
     Ok(())
 }

@@ -18,6 +18,6 @@ returns-clause-answer c nodes S whole seated stands =
     let kept = found_is nodes S c.args.self.now.records c.args.id c.in-Some.record.now stands held found in
     let wants = wanted_is nodes S c.args.self.now.records c.args.id c.args.self.now.home c.num.result c.wanted.result c.in-Some.ensures.home c.num.ensures.value c.wanted.ensures whole stands held in
     let law = member_law S c.args.id c.args.member seated held in
-    let read = ap (λ o. known (status_at c.wanted.result o)) (c.get.ensures ∙ ap (λ (r : Record). numbered r.members c.args.member) kept) in
+    let read = ap (λ o. known (status_at c.wanted.result o)) (c.get-2.ensures ∙ ap (λ (r : Record). numbered r.members c.args.member) kept) in
     on_true (is_held S c.args.id) c.participant_status.result (known (member_status S c.args.id c.args.member)) (Err NotHeld) held
     (c.participant_status.ensures ∙ read ∙ ap (λ w. known (status_at w (numbered (members_of S c.args.id) c.args.member))) wants ∙ ap known law)

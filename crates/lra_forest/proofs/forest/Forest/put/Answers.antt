@@ -1,9 +1,24 @@
-use Rattle.std.proofs.Common.{sym, ap, ◌∙◌}
-use Rattle.lra_forest.specs.Forests.{HomeRecords}
-use Rattle.lra_forest.proofs.Puts.{still_of}
+use Rattle.std.proofs.Common.{◌≡◌, ◌-◌, sym, ap, subst, ◌∙◌, true, is_some, slice_get, vec_capacity, vec_len}
+use Rattle.lra_forest.specs.Forests.{AreOf, HomeRecords}
+use Rattle.lra_forest.specs.Places.{count_below, with_number}
+use Rattle.lra_forest.proofs.Exchanges.{found_at}
+use Rattle.lra_forest.proofs.Puts.{put_are_of}
+use Rattle.lra_forest.proofs.Removals.{room_for}
 use Rattle.lra_forest.proofs.forest.Forest.put.Goals as goal
+
+pub put_among-requires-clause-room : goal.put_among-requires-clause-room
+put_among-requires-clause-room c =
+    room_for c.self.inside.home c.self.inside.records.items _ _ c.args.self.now c.args.added c.self.view_is c.self.invariant c.requires.home c.requires.room
 
 pub invariant_of-self : goal.invariant_of-self
 invariant_of-self c =
-    still_of c.put_among.result c.self.inside.home c.args.added c.self.inside.records.items c.put_among.new.records.items c.put_among.ensures.ok c.put_among.ensures.err
-    (c.requires ∙ sym (ap (λ (h : HomeRecords). h.home) c.self.view_is)) c.self.invariant
+    subst (AreOf c.self.inside.home) (sym c.put_among.ensures.items)
+    (put_are_of c.self.inside.home c.args.added c.self.inside.records.items (c.requires.home ∙ sym (ap (λ (h : HomeRecords). h.home) c.self.view_is)) c.self.invariant)
+
+pub returns-clause-replaced : goal.returns-clause-replaced
+returns-clause-replaced c there =
+    let found = found_at c.self.inside.home c.self.inside.records.items _ c.args.self.now c.args.added c.self.view_is c.self.invariant c.requires.home in
+    let place : is_some (with_number c.args.added.num (slice_get c.self.inside.records.items (count_below c.args.added.num c.self.inside.records.items))) ≡ true = sym (ap is_some found) ∙ there in
+    let len = c.put_among.ensures.replaced place in
+    let capacity = c.put_among.ensures.capacity in
+    ap (λ n. vec_capacity c.put_among.new.records - n) len ∙ ap (λ n. n - vec_len c.self.inside.records) capacity ∙ ap (λ (h : HomeRecords). h.spare) c.self.view_is

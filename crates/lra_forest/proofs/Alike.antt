@@ -1,0 +1,262 @@
+-- what `==` says of records: it is true of equal ones, and of no others
+use Rattle.std.proofs.Common.{◌≡◌, ◌&&◌, ◌==◌, ◌++◌, ◌-◌, ◌∷◌, [], ℕ, List, refl, sym, ap, subst, ◌∙◌, Bool, true, false, Option, Some, None, length, replicate}
+use Rattle.std.specs.Bool.{Decides, beq}
+use Rattle.std.specs.Option.{option_eq}
+use Rattle.std.specs.Cmp.Lexicographic.{pointwise, pointwise_decides, bytes_decides}
+use Rattle.std.specs.Str.{bytes_eq}
+use Rattle.std.proofs.lemmas.Bool.Decides.{Decides-eqb}
+use Rattle.lra_id.specs.contracts.front.FrontPartialEq.TheImpl as of_fronts
+use Rattle.lra_states.specs.declared.outcome.Outcome.{Outcome}
+use Rattle.lra_states.specs.declared.outcome.Outcome.TheVariants.{Busy, Done, Failed}
+use Rattle.lra_states.specs.declared.outcome.Verdict.{Verdict}
+use Rattle.lra_states.specs.declared.outcome.Verdict.TheVariants.{Close, Cancel}
+use Rattle.lra_states.specs.contracts.outcome.OutcomePartialEq.TheImpl as of_outcomes
+use Rattle.lra_states.specs.contracts.outcome.VerdictPartialEq.TheImpl as of_verdicts
+use Rattle.lra_facts.specs.declared.links.Links.{Links}
+use Rattle.lra_facts.specs.contracts.links.LinksPartialEq.TheImpl as of_links
+use Rattle.lra_forest.specs.declared.record.Place.{Place}
+use Rattle.lra_forest.specs.declared.record.Participant.{Participant as ParticipantRecord}
+use Rattle.lra_forest.specs.declared.record.Record.{Record}
+use Rattle.lra_forest.specs.declared.record.Member.{Member}
+use Rattle.lra_forest.specs.declared.record.Member.TheVariants.{Nested, Participant, Left}
+use Rattle.lra_forest.specs.contracts.record.PlacePartialEq.TheImpl as of_places
+use Rattle.lra_forest.specs.contracts.record.ParticipantPartialEq.TheImpl as of_participants
+use Rattle.lra_forest.specs.contracts.record.MemberPartialEq.TheImpl as of_members
+use Rattle.lra_forest.specs.contracts.record.RecordPartialEq.TheImpl as of_records
+use Rattle.lra_forest.specs.Forests.{HomeRecords}
+use Rattle.lra_forest.proofs.Bools.{and_left, and_right}
+use Rattle.lra_forest.proofs.Gatherings.{same_record}
+
+-- the test is true of equal ones alone
+abbrev Same : {X : Type 0} → (X → X → Bool) → Type 0
+Same {X} test = (a b : X) → test a b ≡ true → a ≡ b
+
+-- and of all of them
+abbrev Own : {X : Type 0} → (X → X → Bool) → Type 0
+Own {X} test = (a : X) → test a a ≡ true
+
+decided : {X : Type 0} (test : X → X → Bool) → Same test → Own test → (a b : X) → Decides (test a b) (a ≡ b)
+decided test same own a b = (same a b, λ e. subst (λ x. test a x ≡ true) e (own a))
+
+all_true : (a b : Bool) → a ≡ true → b ≡ true → (a && b) ≡ true
+all_true a b e f = rw (e, f) refl
+
+number_same : (a b : ℕ) → (a == b) ≡ true → a ≡ b
+number_same a b e = (Decides-eqb a b).0 e
+
+number_own : (a : ℕ) → (a == a) ≡ true
+number_own a = (Decides-eqb a a).1 refl
+
+text_same : (a b : List ℕ) → bytes_eq a b ≡ true → a ≡ b
+text_same a b e = (bytes_decides a b).0 e
+
+text_own : (a : List ℕ) → bytes_eq a a ≡ true
+text_own a = (bytes_decides a a).1 refl
+
+option_same : {X : Type 0} (test : X → X → Bool) → Same test → Same (option_eq test)
+option_same test same None None e = refl
+option_same test same None (Some b) e = absurd cc
+option_same test same (Some a) None e = absurd cc
+option_same test same (Some a) (Some b) e = ap (λ x. Some x) (same a b e)
+
+option_own : {X : Type 0} (test : X → X → Bool) → Own test → Own (option_eq test)
+option_own test own None = refl
+option_own test own (Some a) = own a
+
+bool_same : Same beq
+bool_same true true e = refl
+bool_same false false e = refl
+bool_same true false e = absurd cc
+bool_same false true e = absurd cc
+
+bool_own : Own beq
+bool_own true = refl
+bool_own false = refl
+
+verdict_same : Same of_verdicts.ghosts.eq
+verdict_same Close Close e = refl
+verdict_same Cancel Cancel e = refl
+verdict_same Close Cancel e = absurd cc
+verdict_same Cancel Close e = absurd cc
+
+verdict_own : Own of_verdicts.ghosts.eq
+verdict_own Close = refl
+verdict_own Cancel = refl
+
+outcome_same : Same of_outcomes.ghosts.eq
+outcome_same Busy Busy e = refl
+outcome_same Done Done e = refl
+outcome_same Failed Failed e = refl
+outcome_same Busy Done e = absurd cc
+outcome_same Busy Failed e = absurd cc
+outcome_same Done Busy e = absurd cc
+outcome_same Done Failed e = absurd cc
+outcome_same Failed Busy e = absurd cc
+outcome_same Failed Done e = absurd cc
+
+outcome_own : Own of_outcomes.ghosts.eq
+outcome_own Busy = refl
+outcome_own Done = refl
+outcome_own Failed = refl
+
+prefix_same : (xs ys zs ws : List ℕ) → length xs ≡ length ys → xs ++ zs ≡ ys ++ ws → xs ≡ ys
+prefix_same [] [] zs ws e s = refl
+prefix_same [] (y ∷ ys) zs ws e s = absurd cc
+prefix_same (x ∷ xs) [] zs ws e s = absurd cc
+prefix_same (x ∷ xs) (y ∷ ys) zs ws e s =
+    let first : x ≡ y = cc in
+    let rest : xs ++ zs ≡ ys ++ ws = cc in
+    let long : length xs ≡ length ys = cc in
+    ap (λ z. z ∷ xs) first ∙ ap (λ zs. y ∷ zs) (prefix_same xs ys zs ws long rest)
+
+-- a front is compared as it is kept
+front_is : (a b : List ℕ) → of_fronts.ghosts.eq a b ≡ ((length a == length b) && bytes_eq (a ++ replicate (8 - length a) 0) (b ++ replicate (8 - length b) 0))
+front_is a b = refl
+
+pub front_same : Same of_fronts.ghosts.eq
+front_same a b e =
+    let is = sym (front_is a b) ∙ e in
+    prefix_same a b (replicate (8 - length a) 0) (replicate (8 - length b) 0) (number_same (length a) (length b) (and_left (length a == length b) _ is))
+    (text_same _ _ (and_right (length a == length b) _ is))
+
+pub front_own : Own of_fronts.ghosts.eq
+front_own a = front_is a a ∙ all_true (length a == length a) _ (number_own (length a)) (text_own (a ++ replicate (8 - length a) 0))
+
+place_is : (a b : Place) → of_places.ghosts.eq a b ≡ ((a.number == b.number) && (a.slot == b.slot))
+place_is a b = refl
+
+place_same : Same of_places.ghosts.eq
+place_same a b e =
+    let is = sym (place_is a b) ∙ e in
+    let number = number_same a.number b.number (and_left (a.number == b.number) _ is) in
+    let slot = number_same a.slot b.slot (and_right (a.number == b.number) _ is) in
+    let first : ◌≡◌ {A = Place} (record { number = a.number; slot = a.slot }) (record { number = b.number; slot = a.slot }) = ap (λ (x : ℕ). record { number = x; slot = a.slot }) number in
+    first ∙ ap (λ (x : ℕ). record { number = b.number; slot = x }) slot
+
+place_own : Own of_places.ghosts.eq
+place_own a = place_is a a ∙ all_true (a.number == a.number) (a.slot == a.slot) (number_own a.number) (number_own a.slot)
+
+links_is : (a b : Links) → of_links.ghosts.eq a b ≡ (option_eq bytes_eq a.complete b.complete && (bytes_eq a.compensate b.compensate && (option_eq bytes_eq a.status b.status && option_eq bytes_eq a.forget b.forget)))
+links_is a b = refl
+
+links_same : Same of_links.ghosts.eq
+links_same a b e =
+    let is = sym (links_is a b) ∙ e in
+    let second = and_right (option_eq bytes_eq a.complete b.complete) _ is in
+    let third = and_right (bytes_eq a.compensate b.compensate) _ second in
+    let complete = option_same bytes_eq text_same a.complete b.complete (and_left (option_eq bytes_eq a.complete b.complete) _ is) in
+    let compensate = text_same a.compensate b.compensate (and_left (bytes_eq a.compensate b.compensate) _ second) in
+    let status = option_same bytes_eq text_same a.status b.status (and_left (option_eq bytes_eq a.status b.status) _ third) in
+    let forget = option_same bytes_eq text_same a.forget b.forget (and_right (option_eq bytes_eq a.status b.status) _ third) in
+    let first : ◌≡◌ {A = Links} (record { complete = a.complete; compensate = a.compensate; status = a.status; forget = a.forget }) (record { complete = b.complete; compensate = a.compensate; status = a.status; forget = a.forget }) = ap (λ (x : Option (List ℕ)). record { complete = x; compensate = a.compensate; status = a.status; forget = a.forget }) complete in
+    first
+    ∙ ap (λ (x : List ℕ). record { complete = b.complete; compensate = x; status = a.status; forget = a.forget }) compensate
+    ∙ ap (λ (x : Option (List ℕ)). record { complete = b.complete; compensate = b.compensate; status = x; forget = a.forget }) status
+    ∙ ap (λ (x : Option (List ℕ)). record { complete = b.complete; compensate = b.compensate; status = b.status; forget = x }) forget
+
+links_own : Own of_links.ghosts.eq
+links_own a =
+    let given = option_own bytes_eq text_own in
+    links_is a a
+    ∙ all_true (option_eq bytes_eq a.complete a.complete) _ (given a.complete)
+    (all_true (bytes_eq a.compensate a.compensate) _ (text_own a.compensate) (all_true (option_eq bytes_eq a.status a.status) _ (given a.status) (given a.forget)))
+
+abbrev same_heard : Option Outcome → Option Outcome → Bool
+same_heard = option_eq of_outcomes.ghosts.eq
+
+participant_is : (a b : ParticipantRecord) → of_participants.ghosts.eq a b ≡ (of_links.ghosts.eq a.links b.links && (same_heard a.completed b.completed && (same_heard a.compensated b.compensated && beq a.forgotten b.forgotten)))
+participant_is a b = refl
+
+participant_same : Same of_participants.ghosts.eq
+participant_same a b e =
+    let is = sym (participant_is a b) ∙ e in
+    let second = and_right (of_links.ghosts.eq a.links b.links) _ is in
+    let third = and_right (same_heard a.completed b.completed) _ second in
+    let links = links_same a.links b.links (and_left (of_links.ghosts.eq a.links b.links) _ is) in
+    let completed = option_same of_outcomes.ghosts.eq outcome_same a.completed b.completed (and_left (same_heard a.completed b.completed) _ second) in
+    let compensated = option_same of_outcomes.ghosts.eq outcome_same a.compensated b.compensated (and_left (same_heard a.compensated b.compensated) _ third) in
+    let forgotten = bool_same a.forgotten b.forgotten (and_right (same_heard a.compensated b.compensated) _ third) in
+    let first : ◌≡◌ {A = ParticipantRecord} (record { links = a.links; completed = a.completed; compensated = a.compensated; forgotten = a.forgotten }) (record { links = b.links; completed = a.completed; compensated = a.compensated; forgotten = a.forgotten }) = ap (λ (x : Links). record { links = x; completed = a.completed; compensated = a.compensated; forgotten = a.forgotten }) links in
+    first
+    ∙ ap (λ (x : Option Outcome). record { links = b.links; completed = x; compensated = a.compensated; forgotten = a.forgotten }) completed
+    ∙ ap (λ (x : Option Outcome). record { links = b.links; completed = b.completed; compensated = x; forgotten = a.forgotten }) compensated
+    ∙ ap (λ (x : Bool). record { links = b.links; completed = b.completed; compensated = b.compensated; forgotten = x }) forgotten
+
+participant_own : Own of_participants.ghosts.eq
+participant_own a =
+    let known = option_own of_outcomes.ghosts.eq outcome_own in
+    participant_is a a
+    ∙ all_true (of_links.ghosts.eq a.links a.links) _ (links_own a.links)
+    (all_true (same_heard a.completed a.completed) _ (known a.completed) (all_true (same_heard a.compensated a.compensated) _ (known a.compensated) (bool_own a.forgotten)))
+
+both_participants : (a b : ParticipantRecord) → of_members.ghosts.eq (Participant a) (Participant b) ≡ of_participants.ghosts.eq a b
+both_participants a b = refl
+
+member_same : Same of_members.ghosts.eq
+member_same (Nested m) (Nested n) e = ap (λ x. Nested x) (number_same m n e)
+member_same (Participant p) (Participant q) e = ap (λ x. Participant x) (participant_same p q (sym (both_participants p q) ∙ e))
+member_same Left Left e = refl
+member_same (Nested m) (Participant q) e = absurd cc
+member_same (Nested m) Left e = absurd cc
+member_same (Participant p) (Nested n) e = absurd cc
+member_same (Participant p) Left e = absurd cc
+member_same Left (Nested n) e = absurd cc
+member_same Left (Participant q) e = absurd cc
+
+member_own : Own of_members.ghosts.eq
+member_own (Nested m) = number_own m
+member_own (Participant p) = both_participants p p ∙ participant_own p
+member_own Left = refl
+
+members_decide : (a b : List Member) → Decides (pointwise of_members.ghosts.eq a b) (a ≡ b)
+members_decide a b = pointwise_decides (decided of_members.ghosts.eq member_same member_own) a b
+
+abbrev same_place : Option Place → Option Place → Bool
+same_place = option_eq of_places.ghosts.eq
+
+abbrev same_decision : Option Verdict → Option Verdict → Bool
+same_decision = option_eq of_verdicts.ghosts.eq
+
+record_is : (a b : Record) → of_records.ghosts.eq a b ≡ ((a.home == b.home) && ((a.num == b.num) && (same_place a.parent b.parent && ((a.deadline == b.deadline) && (same_decision a.decision b.decision && (of_fronts.ghosts.eq a.stamps b.stamps && pointwise of_members.ghosts.eq a.members b.members))))))
+record_is a b = refl
+
+record_same : Same of_records.ghosts.eq
+record_same a b e =
+    let is = sym (record_is a b) ∙ e in
+    let from_num = and_right (a.home == b.home) _ is in
+    let from_parent = and_right (a.num == b.num) _ from_num in
+    let from_deadline = and_right (same_place a.parent b.parent) _ from_parent in
+    let from_decision = and_right (a.deadline == b.deadline) _ from_deadline in
+    let from_stamps = and_right (same_decision a.decision b.decision) _ from_decision in
+    same_record a b (number_same a.home b.home (and_left (a.home == b.home) _ is)) (number_same a.num b.num (and_left (a.num == b.num) _ from_num))
+    (option_same of_places.ghosts.eq place_same a.parent b.parent (and_left (same_place a.parent b.parent) _ from_parent))
+    (number_same a.deadline b.deadline (and_left (a.deadline == b.deadline) _ from_deadline))
+    (option_same of_verdicts.ghosts.eq verdict_same a.decision b.decision (and_left (same_decision a.decision b.decision) _ from_decision))
+    (front_same a.stamps b.stamps (and_left (of_fronts.ghosts.eq a.stamps b.stamps) _ from_stamps))
+    ((members_decide a.members b.members).0 (and_right (of_fronts.ghosts.eq a.stamps b.stamps) _ from_stamps))
+
+record_own : Own of_records.ghosts.eq
+record_own a =
+    record_is a a
+    ∙ all_true (a.home == a.home) _ (number_own a.home)
+    (all_true (a.num == a.num) _ (number_own a.num)
+    (all_true (same_place a.parent a.parent) _ (option_own of_places.ghosts.eq place_own a.parent)
+    (all_true (a.deadline == a.deadline) _ (number_own a.deadline)
+    (all_true (same_decision a.decision a.decision) _ (option_own of_verdicts.ghosts.eq verdict_own a.decision)
+    (all_true (of_fronts.ghosts.eq a.stamps a.stamps) _ (front_own a.stamps) ((members_decide a.members a.members).1 refl))))))
+
+-- `==` of two lists of records says whether they are one
+pub records_decide : (a b : List Record) → Decides (pointwise of_records.ghosts.eq a b) (a ≡ b)
+records_decide a b = pointwise_decides (decided of_records.ghosts.eq record_same record_own) a b
+
+-- where the homes are one, two forests are the same just where that test is true
+pub same_answer : (g h x y : HomeRecords) → x ≡ g → y ≡ h → x.home ≡ y.home → (b : Bool) → b ≡ pointwise of_records.ghosts.eq x.records y.records → (b ≡ true → (g.home ≡ h.home) × (g.records ≡ h.records)) × ((g.home ≡ h.home) × (g.records ≡ h.records) → b ≡ true)
+same_answer g h x y s t home b e =
+    let one = λ (f : HomeRecords) (k : HomeRecords) (u : f ≡ k). ap (λ (z : HomeRecords). z.records) u in
+    let decides = records_decide x.records y.records in (
+      λ true_. (
+        ap (λ (z : HomeRecords). z.home) (sym s) ∙ home ∙ ap (λ (z : HomeRecords). z.home) t,
+        sym (one x g s) ∙ decides.0 (sym e ∙ true_) ∙ one y h t,
+      ),
+      λ same. e ∙ decides.1 (one x g s ∙ same.1 ∙ sym (one y h t)),
+    )
