@@ -1,0 +1,31 @@
+-- homes without a record
+use Rattle.std.proofs.Common.{◌≡◌, ◌+◌, ◌++◌, ℕ, zero, suc, List, [], ◌∷◌, refl, ap, ◌∙◌, arith, length, map, replicate, add-one}
+use Rattle.lra_forest.specs.declared.record.Record.{Record}
+use Rattle.lra_forest.specs.Forests.{HomeRecords}
+use Rattle.lra_replica.specs.Replicas.{AreEmptyHomes, AreHomesFrom}
+
+homes_and : (k : ℕ) (homes : List HomeRecords) (home : HomeRecords) → AreHomesFrom k homes → home.home ≡ k + length homes → AreHomesFrom k (homes ++ home ∷ [])
+homes_and k [] home are e = (omega (arith, e), tt)
+homes_and k (h ∷ homes) home are e = (are.0, homes_and (k + 1) homes home are.1 (omega (arith, e)))
+
+empty_and : (homes : List HomeRecords) (home : HomeRecords) (n : ℕ) → map (λ (h : HomeRecords). h.records) homes ≡ replicate n [] → home.records ≡ [] → map (λ (h : HomeRecords). h.records) (homes ++ home ∷ []) ≡ replicate (suc n) []
+empty_and [] home zero e none = ap (λ (rs : List Record). rs ∷ []) none
+empty_and [] home (suc n) e none = absurd cc
+empty_and (h ∷ homes) home zero e none = absurd cc
+empty_and (h ∷ homes) home (suc n) e none =
+    let first : h.records ≡ [] = cc in
+    let rest : map (λ (x : HomeRecords). x.records) homes ≡ replicate n [] = cc in
+    rw (first, empty_and homes home n rest none) refl
+
+length_and : (homes : List HomeRecords) (home : HomeRecords) → length (homes ++ home ∷ []) ≡ length homes + 1
+length_and [] home = refl
+length_and (h ∷ homes) home = omega (arith, length_and homes home)
+
+-- one more of them
+pub one_more_home : (n : ℕ) (homes : List HomeRecords) (home : HomeRecords) → AreEmptyHomes n homes → home.home ≡ n + 1 → home.records ≡ [] → AreEmptyHomes (n + 1) (homes ++ home ∷ [])
+one_more_home n homes home are at none =
+    record {
+      count = length_and homes home ∙ ap (λ k. k + 1) are.count;
+      numbered = homes_and 1 homes home are.numbered (omega (arith, at, are.count));
+      empty = rw add-one (empty_and homes home n are.empty none);
+    }

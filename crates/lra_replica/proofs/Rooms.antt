@@ -1,0 +1,131 @@
+-- One home of a replica changed: its records and its room.
+use Rattle.std.proofs.Common.{◌≡◌, ◌≤◌, ◌<◌, ◌+◌, ◌-◌, ◌==◌, ℕ, zero, suc, List, [], ◌∷◌, refl, ap, ◌∙◌, Bool, true, false, cond, arith, Some, length, map, get_or, slice_get, set, filter}
+use Rattle.std.proofs.lemmas.Bool.Decides.{nat_tests}
+use Rattle.std.proofs.lemmas.List.{map-set, length-set, get_or-map}
+use Rattle.std.proofs.lemmas.Option.{slice_get-get_or}
+use Rattle.std.proofs.Math.Seq.{map-set_same}
+use Rattle.lra_forest.specs.declared.record.Record.{Record}
+use Rattle.lra_forest.specs.Forests.{HomeRecords}
+use Rattle.lra_replica.specs.Replicas.{Change, Fits, Kept, IsKept, AreHomesFrom, count_of_home, spare_at}
+
+homes_with : (k : ℕ) (homes : List HomeRecords) (i : ℕ) (new d : HomeRecords) → i < length homes → new.home ≡ (get_or homes i d).home → AreHomesFrom k homes → AreHomesFrom k (set homes i new)
+homes_with k [] i new d e same are = tt
+homes_with k (h ∷ homes) zero new d e same are = (same ∙ are.0, are.1)
+homes_with k (h ∷ homes) (suc i) new d e same are = (are.0, homes_with (k + 1) homes i new d (omega (arith, e)) same are.1)
+
+-- they are still one home for each node
+pub kept_with : (front purges : List ℕ) (homes : List HomeRecords) (i : ℕ) (new d : HomeRecords) → i < length homes → new.home ≡ (get_or homes i d).home →
+    IsKept (record { front = front; purges = purges; homes = homes }) → IsKept (record { front = front; purges = purges; homes = set homes i new })
+kept_with front purges homes i new d e same is =
+    record { purges = is.purges; homes = length-set homes i new ∙ is.homes; numbered = homes_with 1 homes i new d e same is.numbered }
+
+-- the number of a home
+pub home_numbered : (k : ℕ) (homes : List HomeRecords) (i : ℕ) (d : HomeRecords) → i < length homes → AreHomesFrom k homes → (get_or homes i d).home ≡ k + i
+home_numbered k [] i d e are = absurd (omega (arith, e))
+home_numbered k (h ∷ homes) zero d e are = omega (arith, are.0)
+home_numbered k (h ∷ homes) (suc i) d e are = omega (arith, home_numbered (k + 1) homes i d (omega (arith, e)) are.1)
+
+-- the records of the homes
+pub records_with : (homes : List HomeRecords) (i : ℕ) (new : HomeRecords) → map (λ (h : HomeRecords). h.records) (set homes i new) ≡ set (map (λ (h : HomeRecords). h.records) homes) i new.records
+records_with homes i new = map-set (λ (h : HomeRecords). h.records) homes i new
+
+pub records_of : (homes : List HomeRecords) (i : ℕ) (d : HomeRecords) → i < length homes → get_or (map (λ (h : HomeRecords). h.records) homes) i [] ≡ (get_or homes i d).records
+records_of homes i d e = get_or-map (λ (h : HomeRecords). h.records) homes i d [] e
+
+set_here : (homes : List HomeRecords) (i : ℕ) (new : HomeRecords) → i < length homes → slice_get (set homes i new) i ≡ Some new
+set_here [] i new e = absurd (omega (arith, e))
+set_here (h ∷ homes) zero new e = refl
+set_here (h ∷ homes) (suc i) new e = set_here homes i new (omega (arith, e))
+
+set_there : (homes : List HomeRecords) (i j : ℕ) (new : HomeRecords) → (i ≡ j → ⊥) → slice_get (set homes i new) j ≡ slice_get homes j
+set_there [] i j new e = refl
+set_there (h ∷ homes) zero zero new e = absurd (e refl)
+set_there (h ∷ homes) zero (suc j) new e = refl
+set_there (h ∷ homes) (suc i) zero new e = refl
+set_there (h ∷ homes) (suc i) (suc j) new e = set_there homes i j new (λ same. e (ap suc same))
+
+-- what room a home has
+pub spare_is : (homes : List HomeRecords) (home : ℕ) (d : HomeRecords) → home - 1 < length homes → spare_at homes home ≡ (get_or homes (home - 1) d).spare
+spare_is homes home d e = let there = slice_get-get_or homes (home - 1) d e in rw there refl
+
+-- and each home's after one was changed
+pub spare_with : (homes : List HomeRecords) (i : ℕ) (new d : HomeRecords) (more : ℕ) → i < length homes → (get_or homes i d).spare ≤ new.spare + more →
+    (home : ℕ) → 1 ≤ home → spare_at homes home ≤ spare_at (set homes i new) home + cond ((i + 1) == home) more 0
+spare_with homes i new d more e room home some = by ((i + 1) == home) refl
+  where
+    by : (b : Bool) → ((i + 1) == home) ≡ b → spare_at homes home ≤ spare_at (set homes i new) home + cond b more 0
+    by true t =
+        let same : home - 1 ≡ i = grind (arith, nat_tests, t) in
+        let old : slice_get homes (home - 1) ≡ Some (get_or homes i d) = ap (slice_get homes) same ∙ slice_get-get_or homes i d e in
+        let here : slice_get (set homes i new) (home - 1) ≡ Some new = ap (slice_get (set homes i new)) same ∙ set_here homes i new e in
+        rw (old, here) room
+    by false t =
+        let other : i ≡ home - 1 → ⊥ = λ s. (let wrong : ⊥ = grind (arith, nat_tests, t, s, some) in wrong) in
+        let there = set_there homes i (home - 1) new other in
+        rw there (omega arith)
+
+-- Counting the records of a home
+
+pub count_here : (r : Record) (rs : List Record) → 1 ≤ count_of_home r.home (r ∷ rs)
+count_here r rs = by (r.home == r.home) refl
+  where
+    by : (b : Bool) → (r.home == r.home) ≡ b → 1 ≤ length (cond b (r ∷ filter (λ (q : Record). q.home == r.home) rs) (filter (λ (q : Record). q.home == r.home) rs))
+    by true t = omega arith
+    by false t = absurd (grind (arith, nat_tests, t))
+
+-- one of them is put, and there is room for the others
+pub count_first : (home : ℕ) (r : Record) (rs : List Record) (old new : ℕ) → count_of_home home (r ∷ rs) ≤ old → old ≤ new + cond (r.home == home) 1 0 → count_of_home home rs ≤ new
+count_first home r rs old new e room = by (r.home == home) e room
+  where
+    by : (b : Bool) → length (cond b (r ∷ filter (λ (q : Record). q.home == home) rs) (filter (λ (q : Record). q.home == home) rs)) ≤ old → old ≤ new + cond b 1 0 → count_of_home home rs ≤ new
+    by true e room = omega (arith, e, room)
+    by false e room = omega (arith, e, room)
+
+pub none_left : {X : Type 0} (xs : List X) → length xs ≡ 0 → xs ≡ []
+none_left [] e = refl
+none_left (x ∷ xs) e = absurd (omega (arith, e))
+
+home_count : (home : ℕ) (r : Record) (rs : List Record) → count_of_home home (r ∷ rs) ≡ cond (r.home == home) 1 0 + count_of_home home rs
+home_count home r rs = by (r.home == home)
+  where
+    by : (b : Bool) → length (cond b (r ∷ filter (λ (q : Record). q.home == home) rs) (filter (λ (q : Record). q.home == home) rs)) ≡ cond b 1 0 + count_of_home home rs
+    by true = omega arith
+    by false = omega arith
+
+at_home : (n : ℕ) (r : Record) (kept : Kept) (home : ℕ) → n ≤ spare_at kept.homes r.home → cond (r.home == home) n 0 ≤ spare_at kept.homes home
+at_home n r kept home room = by (r.home == home) refl
+  where
+    by : (b : Bool) → (r.home == home) ≡ b → cond b n 0 ≤ spare_at kept.homes home
+    by true t = let same : r.home ≡ home = grind (arith, nat_tests, t) in omega (arith, room, ap (spare_at kept.homes) same)
+    by false t = omega arith
+
+-- a patch of one record fits where there is room for one more at its home
+pub one_fits : (next : Record) (kept : Kept) (change : Change) → change.records ≡ next ∷ [] → length change.front ≡ length kept.front → length change.purges ≡ length kept.front → next.home ≤ length kept.front → 1 ≤ spare_at kept.homes next.home → Fits change kept
+one_fits next kept change e front purges there room =
+    record {
+      front = front;
+      purges = purges;
+      homes = rw e (there, tt);
+      room = λ home some. omega (arith, ap (count_of_home home) e, home_count home next [], at_home 1 next kept home room);
+    }
+
+-- and one of two records of a home where there is room for two
+pub two_fit : (first second : Record) (kept : Kept) (change : Change) → change.records ≡ first ∷ second ∷ [] → second.home ≡ first.home → length change.front ≡ length kept.front → length change.purges ≡ length kept.front → first.home ≤ length kept.front → 2 ≤ spare_at kept.homes first.home → Fits change kept
+two_fit first second kept change e same front purges there room =
+    record {
+      front = front;
+      purges = purges;
+      homes = rw e (there, (omega (arith, there, same), tt));
+      room = λ home some. omega (arith, ap (count_of_home home) e, home_count home first (second ∷ []), home_count home second [], ap {B = ℕ} (λ (n : ℕ). cond (n == home) 1 0) same, both home (first.home == home) refl);
+    }
+  where
+    both : (home : ℕ) (b : Bool) → (first.home == home) ≡ b → cond b 1 0 + cond b 1 0 ≤ spare_at kept.homes home
+    both home true t = let at : first.home ≡ home = grind (arith, nat_tests, t) in omega (arith, room, ap (spare_at kept.homes) at)
+    both home false t = omega arith
+
+-- a home of which only the room changed
+pub same_records : (homes : List HomeRecords) (i : ℕ) (new d : HomeRecords) → new.records ≡ (get_or homes i d).records → map (λ (h : HomeRecords). h.records) (set homes i new) ≡ map (λ (h : HomeRecords). h.records) homes
+same_records homes i new d e = map-set_same (λ (h : HomeRecords). h.records) homes i new d e
+
+pub spare_new : (homes : List HomeRecords) (home : ℕ) (new : HomeRecords) → home - 1 < length homes → spare_at (set homes (home - 1) new) home ≡ new.spare
+spare_new homes home new e = let there = set_here homes (home - 1) new e in rw there refl

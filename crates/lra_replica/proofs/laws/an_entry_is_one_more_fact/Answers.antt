@@ -1,0 +1,9 @@
+use Rattle.lra_replica.proofs.Entries.{one_more, unmoved}
+use Rattle.lra_replica.proofs.laws.an_entry_is_one_more_fact.Goals as goal
+
+pub returns : goal.returns
+returns c =
+    record {
+      fact = λ h node v e current. one_more h v node e current.some current.there current.closed current.own;
+      others = λ h node u v e current closed. unmoved h u node e current.some current.there closed;
+    }

@@ -1,0 +1,13 @@
+use Rattle.std.proofs.Common.{◌-◌, ◌∙◌, ℕ, sym, ap, slice_get}
+use Rattle.lra_replica.proofs.Homes.{stands_here, nowhere}
+use Rattle.lra_replica.proofs.replica.Replica.home_of.Goals as goal
+
+pub returns-in-Some-clause-stands : goal.returns-in-Some-clause-stands
+returns-in-Some-clause-stands c S stands =
+    (stands_here c.args.self.now S c.args.id.home c.in-Some.home.now c.home-2.ensures.kept stands c.home.ensures.range.home.0
+    (ap (λ (home : ℕ). slice_get c.args.self.now.homes (home - 1)) (sym c.home.ensures.value) ∙ sym c.in-Some.ensures.place)).stands
+
+pub returns-in-None-clause-nowhere : goal.returns-in-None-clause-nowhere
+returns-in-None-clause-nowhere c S stands =
+    nowhere c.args.self.now S c.args.id c.home-2.ensures.kept stands c.home.ensures.range.home.0
+    (ap (λ (home : ℕ). slice_get c.args.self.now.homes (home - 1)) (sym c.home.ensures.value) ∙ sym c.in-None.ensures.place)

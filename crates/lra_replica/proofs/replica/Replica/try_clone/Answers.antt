@@ -1,0 +1,14 @@
+use Rattle.std.proofs.Common.{◌∙◌, ap, List}
+use Rattle.lra_forest.specs.declared.record.Record.{Record}
+use Rattle.lra_replica.specs.Replicas.{view_of}
+use Rattle.lra_replica.specs.Views.{View}
+use Rattle.lra_replica.proofs.SameHomes.{copied_kept, copied_records}
+use Rattle.lra_replica.proofs.replica.Replica.try_clone.Goals as goal
+
+pub invariant_of-result : goal.invariant_of-result
+invariant_of-result c = copied_kept c.self.inside.front c.self.inside.purges c.self.inside.homes.items c.in_ok-clone.field-0.items c.in_ok-clone.ensures.cases.0 c.self.invariant
+
+pub returns : goal.returns
+returns c =
+    let with_records : List (List Record) → View = λ records. record { front = c.self.inside.front; purges = c.self.inside.purges; records = records } in
+    ap with_records (copied_records c.self.inside.homes.items c.in_ok-clone.field-0.items c.in_ok-clone.ensures.cases.0) ∙ ap view_of c.self.view_is

@@ -1,0 +1,50 @@
+// Laws of histories and views: each function does nothing, and its contract is the law.
+ghost use Rattle.std.specs.Prelude.{◌≡◌, ◌≤◌, ◌+◌, ℕ, List, [], Some, length, replicate};
+ghost use Rattle.lra_id.specs.Fronts.{count};
+ghost use Rattle.lra_facts.specs.declared.fact.Fact.{Fact};
+ghost use Rattle.lra_replica.specs.declared.command.Command.{Command};
+ghost use Rattle.lra_replica.specs.Growth.{IsMore, IsSettled};
+ghost use Rattle.lra_replica.specs.Histories.{Entry, History, IsClosed, IsLawful, facts, with_entry};
+ghost use Rattle.lra_replica.specs.Laws.{IsCurrent, IsViewIn, entry_for};
+ghost use Rattle.lra_replica.specs.Prepared.{AddsFact};
+ghost use Rattle.lra_replica.specs.Replicas.{Change, empty_view, patched, raised};
+ghost use Rattle.lra_replica.specs.Views.{IsCounted, StandsFor, View};
+
+/// What a closed front of a lawful history counts is settled, and the front counts just that.
+#[tactic(auto, using(crate::proofs::Histories::closed_settled, crate::proofs::Histories::closed_counted))]
+pub fn closed_sets_are_settled()
+    ensures settled { (h : History) (v : List ℕ) → IsLawful h → IsClosed h v → IsSettled (facts h v) }
+    ensures counted { (h : History) (v : List ℕ) → IsClosed h v → IsCounted (facts h v) v }
+{}
+
+/// What a node enters is one more fact of the set of its front, and of no set of a front that was closed before.
+pub fn an_entry_is_one_more_fact()
+    ensures fact { (h : History) (node : ℕ) (v : List ℕ) (e : Entry) → IsCurrent h node v →
+        IsMore (record { origin = node; num = count v node + 1; body = e.body })
+        (facts h v) (facts (with_entry h node e) (raised v node)) }
+    ensures others { (h : History) (node : ℕ) (u v : List ℕ) (e : Entry) → IsCurrent h node v → IsClosed h u →
+        facts (with_entry h node e) u ≡ facts h u }
+{}
+
+/// In the history without entries each node's view is that of no facts.
+pub fn no_entries_make_an_empty_view()
+    ensures { (nodes node : ℕ) → 1 ≤ node → node ≤ nodes →
+        IsViewIn (replicate nodes []) node (replicate nodes 0) (empty_view nodes) }
+{}
+
+/// A patch adds exactly its fact: where it is made for the view of a node in a lawful history, the history with the
+/// command's entry is lawful too, and the patched view is that of the node there. Its front is the node's front with one
+/// more of the node.
+pub fn a_patch_adds_exactly_its_fact()
+    ensures view { (h : History) (node : ℕ) (v : List ℕ) (view : View) (c : Command) (change : Change) →
+        IsViewIn h node v view → view.front ≡ v → AddsFact (facts h v) view node c (Some change) →
+        IsViewIn (with_entry h node (entry_for h v c)) node (raised v node) (patched change view) }
+    ensures front { (h : History) (node : ℕ) (v : List ℕ) (view : View) (c : Command) (change : Change) →
+        view.front ≡ v → AddsFact (facts h v) view node c (Some change) → change.front ≡ raised v node }
+{}
+
+/// A set of facts has one view of so many nodes.
+#[tactic(auto, using(crate::proofs::Uniqueness::one_view))]
+pub fn a_set_has_one_view()
+    ensures { (S : List Fact) (a b : View) → length a.front ≡ length b.front → StandsFor S a → StandsFor S b → a ≡ b }
+{}

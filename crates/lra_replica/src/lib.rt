@@ -1,0 +1,24 @@
+//! What a node holds, as one record for each LRA, and the commands that change it.
+#![tactic(auto)]
+
+mod applying;
+mod beginning;
+mod changing;
+mod command;
+mod copies;
+pub mod laws;
+mod page;
+mod patch;
+#[cfg(test)]
+mod played;
+mod preparing;
+mod refusing;
+mod replica;
+mod reporting;
+#[cfg(test)]
+mod tests;
+
+pub use command::{Command, CommandReply};
+pub use page::{MOST_ROWS, Page, Row};
+pub use patch::{Patch, Prepared};
+pub use replica::Replica;

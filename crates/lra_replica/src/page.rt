@@ -1,0 +1,151 @@
+// Pages of what a node holds.
+ghost use Rattle.std.specs.Prelude.{◌≡◌, ◌∷◌, [], List, None, Some, IfErr, IfOk};
+ghost use Rattle.lra_id.specs.Ids.{IsFactNumber};
+ghost use Rattle.lra_facts.specs.declared.fact.Fact.{Fact};
+ghost use Rattle.lra_facts.specs.declared.refusal.Refusal.TheVariants.{NoMemory};
+ghost use Rattle.lra_forest.specs.declared.record.Record.{Record};
+ghost use Rattle.lra_forest.specs.Forests.{id_of};
+ghost use Rattle.lra_replica.specs.Growth.{IsSettled};
+ghost use Rattle.lra_replica.specs.Pages.{IsFirstBeyond, IsNext, IsNextAt, IsNextRow, IsPage};
+ghost use Rattle.lra_replica.specs.Replicas.{view_of};
+ghost use Rattle.lra_replica.specs.Views.{StandsFor};
+
+use crate::Replica;
+use lra_facts::Refusal;
+use lra_forest::Record;
+use lra_id::{LraId, NodeId};
+use lra_states::LraStatus;
+use std::alloc::{AllocError, Global};
+use std::marker::Model;
+
+/// How many rows a page has at most.
+pub const MOST_ROWS: usize = 64;
+
+/// An LRA, and what it shows.
+#[derive(Clone, Copy, Debug, PartialEq, Eq)]
+pub struct Row {
+    pub id: LraId,
+    pub status: LraStatus,
+}
+
+/// The next LRAs that are held, and whether more follow.
+#[derive(Debug, Drop)]
+pub struct Page {
+    rows: Vec<Row>,
+    more: bool,
+}
+
+impl Model for Page {
+    ghost use Rattle.lra_replica.specs.Pages.{PageRows};
+
+    ghost Value = { PageRows };
+
+    ghost view = { λ p. record { rows = p.rows.items; more = p.more } };
+}
+
+impl Page {
+    /// Its rows, in order of their homes and numbers.
+    pub fn rows(&self) -> &[Row]
+        ensures { result.now ≡ self.now.rows }
+    {
+        &self.rows
+    }
+
+    /// Whether more follow.
+    pub fn more(&self) -> bool
+        ensures { result ≡ self.now.more }
+    {
+        self.more
+    }
+}
+
+/// The LRA of the first record.
+fn first_of(records: &[Record]) -> Option<LraId>
+    ensures none { records.now ≡ [] → result ≡ None }
+    ensures first { (r : Record) (rs : List Record) → records.now ≡ r ∷ rs → IsFactNumber r.num → result ≡ Some (id_of r) }
+{
+    match records.first() {
+        Some(record) => LraId::new(record.home, record.num).ok(),
+        None => None,
+    }
+}
+
+impl Replica {
+    /// The first LRA that is held of those that a home began with greater numbers than this.
+    fn next_at(&self, home: NodeId, num: u64) -> Option<LraId>
+        ensures { (S : List Fact) → IsSettled S → StandsFor S (view_of self.now) → IsNextAt S home num result }
+    {
+        match self.home(home) {
+            Some(records) => first_of(records.after(num)),
+            None => None,
+        }
+    }
+
+    /// The first LRA that is held of the homes after this, where 0 comes before all.
+    fn first_beyond(&self, home: usize) -> Option<LraId>
+        ensures { (S : List Fact) → IsSettled S → StandsFor S (view_of self.now) → IsFirstBeyond S home result }
+    {
+        for place in home..self.front().nodes() {
+            let Ok(node) = NodeId::new(place as u8 + 1) else {
+                unreachable!();
+            };
+            if let Some(next) = self.next_at(node, 0) {
+                return Some(next);
+            }
+        }
+        None
+    }
+
+    /// The first LRA that is held beyond this one, or the first of all.
+    fn next_after(&self, after: Option<LraId>) -> Option<LraId>
+        ensures { (S : List Fact) → IsSettled S → StandsFor S (view_of self.now) → IsNext S after result }
+    {
+        let Some(id) = after else {
+            return self.first_beyond(0);
+        };
+        match self.next_at(id.home(), id.num()) {
+            Some(next) => Some(next),
+            None => self.first_beyond(usize::from(id.home().number())),
+        }
+    }
+
+    /// The row of the first LRA that is held beyond this one, or of the first of all.
+    fn next_row(&self, after: Option<LraId>) -> Option<Row>
+        ensures { (S : List Fact) → IsSettled S → StandsFor S (view_of self.now) → IsNextRow S after result }
+    {
+        let Some(id) = self.next_after(after) else {
+            return None;
+        };
+        match self.shown(id) {
+            Ok(status) => Some(Row { id, status }),
+            Err(_) => None,
+        }
+    }
+
+    /// The next 64 LRAs that are held beyond this one, or the first of all, with their rows.
+    fn next_rows(&self, alloc: Global, after: Option<LraId>) -> Result<Page, AllocError>
+        ensures { (S : List Fact) → IsSettled S → StandsFor S (view_of self.now) → IfOk result (λ page. IsPage S after page) }
+    {
+        let mut rows = Vec::new(alloc);
+        let mut last = after;
+        for _ in 0..MOST_ROWS {
+            let Some(row) = self.next_row(last) else {
+                return Ok(Page { rows, more: false });
+            };
+            last = Some(row.id);
+            rows.push(row)?;
+        }
+        let more = self.next_after(last).is_some();
+        Ok(Page { rows, more })
+    }
+
+    /// The next 64 LRAs that are held beyond this one, or the first of all, in order of their homes and numbers, each with
+    /// what it shows. Only memory can be wanting. For each row it finds the LRA by halving its home's records, after a look
+    /// at each home between, and what it shows costs as much as `status`.
+    pub fn page(&self, alloc: Global, after: Option<LraId>) -> Result<Page, Refusal>
+        ensures page { (S : List Fact) → IsSettled S → StandsFor S (view_of self.now) → IfOk result (λ page. IsPage S after page) }
+        ensures cause { IfErr result (λ refusal. refusal ≡ NoMemory) }
+    {
+        Ok(self.next_rows(alloc, after)?)
+    }
+}
