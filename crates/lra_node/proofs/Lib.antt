@@ -1,9 +1,7 @@
 pub mod Answering
-pub mod Firsts
 pub mod Members
 pub mod Numbers
 pub mod Readings
 pub mod Runs
-pub mod Seats
 pub mod Splits
 pub mod Steps

@@ -7,7 +7,9 @@ use Rattle.lra_http.proofs.Known.{Appends-trans}
 use Rattle.lra_facts.specs.declared.fact.Fact.{Fact}
 use Rattle.lra_facts.specs.declared.refusal.Refusal.TheVariants.{NoMemory}
 use Rattle.lra_node.specs.Parts.{lines_of}
+use Rattle.lra_replica.specs.Replicas.{Kept}
 use Rattle.lra_node.specs.Scripts.{refused, Answers, Prints, ScriptText, WritesText, ReadsLine, ReadsToEnd}
+use Rattle.lra_node.specs.Worlds.{Holds}
 
 -- any lines have a text: each may meet want of memory
 pub some_text : (n : ℕ) (S : List Fact) (lines : List (List ℕ)) → (out : List ℕ) × ScriptText n S lines out
@@ -43,7 +45,7 @@ IsRunning n S (Some input) None old new = ⊥
 IsRunning n S (Some input) (Some left) old new =
     (out : List ℕ) × Appends old new out × ((tail : List ℕ) → ScriptText n S (lines_of left) tail → ScriptText n [] (lines_of input) (out ++ tail))
 
-pub running_start : (n : ℕ) (start old : Option (List ℕ)) → IsRunning n [] start start old old
+running_start : (n : ℕ) (start old : Option (List ℕ)) → IsRunning n [] start start old old
 running_start n None old = tt
 running_start n (Some input) old = ([], Appends-none old, λ tail h. h)
 
@@ -54,8 +56,12 @@ text_on n S T kept line left lines first tail is parted answers h =
     let P : List (List ℕ) → Type 0 = λ ls. ScriptText n S ls (first ++ tail) in
     subst P (sym parted) (first, tail, T, refl, kept_answers n S kept line first T is answers, h)
 
-pub running_line : (n : ℕ) (S T : List Fact) (kept : List ℕ) (start now next old mid new : Option (List ℕ)) → IsRunning n S start now old mid
-    → ReadsLine true kept now next → Prints n S kept T (Appends mid new) → IsRunning n T start next old new
+-- a line over the facts S leaves the facts T, and what it prints was written so
+abbrev Leaves : ℕ → List Fact → List ℕ → List Fact → (List ℕ → Type 0) → Type 0
+Leaves n S line T was_written = (out : List ℕ) × Answers n S line out T × was_written out
+
+running_line : (n : ℕ) (S T : List Fact) (kept : List ℕ) (start now next old mid new : Option (List ℕ)) → IsRunning n S start now old mid
+    → ReadsLine true kept now next → Leaves n S kept T (Appends mid new) → IsRunning n T start next old new
 running_line n S T kept None now next old mid new r read prints = tt
 running_line n S T kept (Some input) None next old mid new r read prints = absurd r
 running_line n S T kept (Some input) (Some left) None old mid new r read prints = absurd read
@@ -74,8 +80,8 @@ text_end n S T kept line left first is parted answers =
     let P : List ℕ → Type 0 = λ l. ScriptText n S (lines_of left) l in
     subst P (append-nil first) (text_on n S T kept line left [] first [] is parted answers refl)
 
-pub running_end : (n : ℕ) (S T : List Fact) (kept : List ℕ) (start now next old mid new : Option (List ℕ)) → IsRunning n S start now old mid
-    → ReadsLine false kept now next → Prints n S kept T (Appends mid new) → WritesText n (Appends old new) start
+running_end : (n : ℕ) (S T : List Fact) (kept : List ℕ) (start now next old mid new : Option (List ℕ)) → IsRunning n S start now old mid
+    → ReadsLine false kept now next → Leaves n S kept T (Appends mid new) → WritesText n (Appends old new) start
 running_end n S T kept None now next old mid new r read prints = tt
 running_end n S T kept (Some input) None next old mid new r read prints = absurd r
 running_end n S T kept (Some input) (Some left) None old mid new r read prints = absurd read
@@ -98,8 +104,8 @@ part_with n S T kept line left lines input old mid new out first is parted answe
     let more = some_text n T lines in
     (out ++ (first ++ more.0), goes (first ++ more.0) (text_on n S T kept line left lines first more.0 is parted answers more.1), part_on old mid new out first more.0 grew wrote)
 
-pub part_line : (n : ℕ) (S T : List Fact) (more : Bool) (kept : List ℕ) (start now next old mid new : Option (List ℕ)) → IsRunning n S start now old mid
-    → ReadsLine more kept now next → Prints n S kept T (AppendsPart mid new) → WritesText n (AppendsPart old new) start
+part_line : (n : ℕ) (S T : List Fact) (more : Bool) (kept : List ℕ) (start now next old mid new : Option (List ℕ)) → IsRunning n S start now old mid
+    → ReadsLine more kept now next → Leaves n S kept T (AppendsPart mid new) → WritesText n (AppendsPart old new) start
 part_line n S T more kept None now next old mid new r read prints = tt
 part_line n S T more kept (Some input) None next old mid new r read prints = absurd r
 part_line n S T more kept (Some input) (Some left) None old mid new r read prints = absurd read
@@ -108,15 +114,51 @@ part_line n S T true kept (Some input) (Some left) (Some next) old mid new (out,
 part_line n S T false kept (Some input) (Some left) (Some next) old mid new (out, grew, goes) (line, is, parted, none) (first, answers, wrote) =
     part_with n S T kept line left [] input old mid new out first is parted answers grew wrote goes
 
-pub part_fault : (n : ℕ) (S : List Fact) (start now old new : Option (List ℕ)) → IsRunning n S start now old new → WritesText n (AppendsPart old new) start
+part_fault : (n : ℕ) (S : List Fact) (start now old new : Option (List ℕ)) → IsRunning n S start now old new → WritesText n (AppendsPart old new) start
 part_fault n S None now old new r = tt
 part_fault n S (Some input) None old new r = absurd r
 part_fault n S (Some input) (Some left) old new (out, grew, goes) =
     let more = some_text n S (lines_of left) in
     (out ++ more.0, goes more.0 more.1, (out, more.0, refl, grew))
 
-pub running_ends : (n : ℕ) (S : List Fact) (kept : List ℕ) (start now next old mid : Option (List ℕ)) → IsRunning n S start now old mid → ReadsLine false kept now next → ReadsToEnd start next
+running_ends : (n : ℕ) (S : List Fact) (kept : List ℕ) (start now next old mid : Option (List ℕ)) → IsRunning n S start now old mid → ReadsLine false kept now next → ReadsToEnd start next
 running_ends n S kept None now next old mid r read = tt
 running_ends n S kept (Some input) None next old mid r read = absurd r
 running_ends n S kept (Some input) (Some left) None old mid r read = absurd read
 running_ends n S kept (Some input) (Some left) (Some next) old mid r read = read.3
+
+-- the facts that a world holds, over which a script has come so far
+abbrev pub Runs : ℕ → Kept → Option (List ℕ) → Option (List ℕ) → Option (List ℕ) → Option (List ℕ) → Type 0
+Runs n world start now old new = (S : List Fact) × Holds S world × IsRunning n S start now old new
+
+-- what a line prints in a world was written so, whatever facts the world holds
+abbrev pub PrintsIn : ℕ → (before after : Kept) → List ℕ → (List ℕ → Type 0) → Type 0
+PrintsIn n before after kept was_written = (S : List Fact) → Holds S before → Prints n S kept after was_written
+
+-- nothing was written yet
+pub part_none : (n : ℕ) (start written : Option (List ℕ)) → WritesText n (AppendsPart written written) start
+part_none n start written = part_fault n [] start start written written (running_start n start written)
+
+pub runs_line : (n : ℕ) (before after : Kept) (kept : List ℕ) (start now next old mid new : Option (List ℕ)) → Runs n before start now old mid
+    → ReadsLine true kept now next → PrintsIn n before after kept (Appends mid new) → Runs n after start next old new
+runs_line n before after kept start now next old mid new (S, h, r) read prints =
+    let p = prints S h in
+    (p.1.0, p.1.2, running_line n S p.1.0 kept start now next old mid new r read (p.0, p.1.1, p.2))
+
+pub runs_end : (n : ℕ) (before after : Kept) (kept : List ℕ) (start now next old mid new : Option (List ℕ)) → Runs n before start now old mid
+    → ReadsLine false kept now next → PrintsIn n before after kept (Appends mid new) → WritesText n (Appends old new) start
+runs_end n before after kept start now next old mid new (S, h, r) read prints =
+    let p = prints S h in
+    running_end n S p.1.0 kept start now next old mid new r read (p.0, p.1.1, p.2)
+
+pub runs_part : (n : ℕ) (before after : Kept) (more : Bool) (kept : List ℕ) (start now next old mid new : Option (List ℕ)) → Runs n before start now old mid
+    → ReadsLine more kept now next → PrintsIn n before after kept (AppendsPart mid new) → WritesText n (AppendsPart old new) start
+runs_part n before after more kept start now next old mid new (S, h, r) read prints =
+    let p = prints S h in
+    part_line n S p.1.0 more kept start now next old mid new r read (p.0, p.1.1, p.2)
+
+pub runs_fault : (n : ℕ) (world : Kept) (start now old new : Option (List ℕ)) → Runs n world start now old new → WritesText n (AppendsPart old new) start
+runs_fault n world start now old new (S, h, r) = part_fault n S start now old new r
+
+pub runs_ends : (n : ℕ) (world : Kept) (kept : List ℕ) (start now next old mid : Option (List ℕ)) → Runs n world start now old mid → ReadsLine false kept now next → ReadsToEnd start next
+runs_ends n world kept start now next old mid (S, h, r) read = running_ends n S kept start now next old mid r read

@@ -1,21 +1,27 @@
 -- The script: what its lines print, one after another, and what it says of a run that ends in a fault.
 use Rattle.std.specs.Prelude.{◌≡◌, ℕ, ◌+◌, ◌-◌, ◌^◌, ◌<◌, ◌≤◌, ◌⊎◌, List, [], ◌∷◌, ◌++◌, length, take, codes, zero, suc, Option, None, Some, Result, Ok, Err, Bool, true, false}
 use Rattle.std.specs.Fmt.{decimal}
+use Rattle.lra_id.specs.Fronts.{front_text}
 use Rattle.lra_id.specs.Ids.{Id, id_text, text_of}
 use Rattle.lra_states.specs.Names.{lra_name, member_name}
 use Rattle.lra_states.specs.declared.status.LraStatus.{LraStatus}
+use Rattle.lra_states.specs.declared.outcome.Verdict.TheVariants.{Cancel}
 use Rattle.lra_states.specs.declared.status.MemberStatus.{MemberStatus}
 use Rattle.lra_facts.specs.Texts.{refusal_text}
 use Rattle.lra_facts.specs.declared.fact.Fact.{Fact}
 use Rattle.lra_facts.specs.declared.refusal.Refusal.{Refusal}
 use Rattle.lra_facts.specs.declared.refusal.Refusal.TheVariants.{BadText, NoMemory}
+use Rattle.lra_forest.specs.Overdue.{IsLeastOverdue}
+use Rattle.lra_replica.specs.declared.command.Command.TheVariants.{Decide}
+use Rattle.lra_replica.specs.declared.command.CommandReply.{CommandReply}
+use Rattle.lra_replica.specs.declared.command.CommandReply.TheVariants.{Began, Joined, Left, Decided, Reported, Known, Forgotten, Purged, Refused}
+use Rattle.lra_replica.specs.Prepared.{member_shown, shown_of}
+use Rattle.lra_replica.specs.Replicas.{Kept}
 use Rattle.lra_node.specs.declared.ask.Ask.{Ask}
-use Rattle.lra_node.specs.declared.ask.Ask.TheVariants.{Enter, Show, Member, Text, Read}
-use Rattle.lra_node.specs.declared.command.CommandReply.{CommandReply}
-use Rattle.lra_node.specs.declared.command.CommandReply.TheVariants.{Began, Joined, Left, Decided, Reported, Known, Refused}
+use Rattle.lra_node.specs.declared.ask.Ask.TheVariants.{Enter, Tick, Show, Member, Front, Same, Text, Read}
 use Rattle.lra_node.specs.Asks.{Spells}
 use Rattle.lra_node.specs.Parts.{lines_of}
-use Rattle.lra_node.specs.Worlds.{reply_of, after, shown_of, member_shown}
+use Rattle.lra_node.specs.Worlds.{Holds, after_here, front_of, here, reply_here}
 
 -- a line of at most so many bytes is read
 abbrev pub most_in_line : ℕ
@@ -35,12 +41,18 @@ began_text id (suc m) = codes "began " ++ id_text id ++ codes " member " ++ deci
 -- the line that a reply prints
 abbrev pub reply_line : CommandReply → List ℕ
 reply_line (Began id member) = printed (began_text id member)
-reply_line (Joined member) = printed (codes "joined " ++ decimal member)
+reply_line (Joined id member) = printed (codes "joined " ++ decimal member)
 reply_line Left = printed (codes "left")
-reply_line (Decided status) = printed (lra_name status)
+reply_line (Decided id status) = printed (lra_name status)
 reply_line Reported = printed (codes "reported")
 reply_line Known = printed (codes "known")
+reply_line Forgotten = printed (codes "forgot")
+reply_line Purged = printed (codes "purged")
 reply_line (Refused r) = refused r
+
+-- nothing was entered
+abbrev pub IsRefusal : CommandReply → Type 0
+IsRefusal reply = (r : Refusal) × (reply ≡ Refused r)
 
 abbrev pub status_line : Result LraStatus Refusal → List ℕ
 status_line (Ok status) = printed (lra_name status)
@@ -50,18 +62,37 @@ abbrev pub member_line : Result MemberStatus Refusal → List ℕ
 member_line (Ok status) = printed (member_name status)
 member_line (Err r) = refused r
 
--- what is printed in a world of these facts for what a line asks
-abbrev pub line_for : List Fact → Ask → List ℕ
-line_for S (Enter node command) = reply_line (reply_of S command)
-line_for S (Show node id) = status_line (shown_of S id)
-line_for S (Member node id member) = member_line (member_shown S id member)
-line_for S (Text id) = printed (text_of id)
-line_for S (Read id) = printed (id_text id)
+-- the line that tells of an LRA that was cancelled since its deadline had passed, or of the refusal
+abbrev pub expired_line : Id → CommandReply → List ℕ
+expired_line id (Refused r) = refused r
+expired_line id _ = printed (codes "expired " ++ id_text id)
 
--- and the facts after it: questions change nothing
-abbrev pub facts_after : List Fact → Ask → List Fact
-facts_after S (Enter node command) = after S command
-facts_after S _ = S
+-- the line of a tick that found this LRA overdue, or none
+abbrev pub tick_line : List Fact → Option Id → List ℕ
+tick_line S None = printed (codes "quiet")
+tick_line S (Some id) = expired_line id (reply_here S (Decide id Cancel))
+
+-- and the facts after it: the LRA is cancelled by a decision
+abbrev pub after_tick : List Fact → Option Id → List Fact
+after_tick S None = S
+after_tick S (Some id) = after_here S (Decide id Cancel)
+
+-- Over the facts S this is printed for what a line asks, and the facts after it are T. A tick is for the overdue LRA with the
+-- least number. Two nodes hold the same, since there is one. Questions change nothing
+abbrev pub Does : List Fact → Ask → List ℕ → List Fact → Type 0
+Does S (Enter node command) out T = (out ≡ reply_line (reply_here S command)) × (T ≡ after_here S command)
+Does S (Tick node now) out T =
+    (found : Option Id) × IsLeastOverdue S here now found × (out ≡ tick_line S found) × (T ≡ after_tick S found)
+Does S (Show node id) out T = (out ≡ status_line (shown_of S (front_of S) id)) × (T ≡ S)
+Does S (Member node id member) out T = (out ≡ member_line (member_shown S (front_of S) id member)) × (T ≡ S)
+Does S (Front node) out T = (out ≡ printed (codes "front " ++ front_text (front_of S))) × (T ≡ S)
+Does S (Same node other) out T = (out ≡ printed (codes "same")) × (T ≡ S)
+Does S (Text id) out T = (out ≡ printed (text_of id)) × (T ≡ S)
+Does S (Read id) out T = (out ≡ printed (id_text id)) × (T ≡ S)
+
+-- what is asked was done in a world of the facts S: this is printed, and the world holds the facts after it
+abbrev pub WasDone : List Fact → Ask → List ℕ → Kept → Type 0
+WasDone S ask out world = (T : List Fact) × Does S ask out T × Holds T world
 
 -- a line that is too long, or fits no command
 abbrev pub IsBad : ℕ → List ℕ → Type 0
@@ -70,7 +101,7 @@ IsBad nodes line = (most_in_line < length line) ⊎ ((ask : Ask) → Spells node
 -- a line that asks something, which is done
 abbrev pub IsDone : ℕ → List Fact → List ℕ → List ℕ → List Fact → Type 0
 IsDone nodes S line out T =
-    (ask : Ask) × (length line ≤ most_in_line) × Spells nodes line ask × (out ≡ line_for S ask) × (T ≡ facts_after S ask)
+    (ask : Ask) × (length line ≤ most_in_line) × Spells nodes line ask × Does S ask out T
 
 -- Over the facts S a line prints this and leaves the facts T. An empty line prints nothing. Any other may meet want of
 -- memory, and then nothing happened.
@@ -79,15 +110,19 @@ Answers nodes S [] out T = (out ≡ []) × (T ≡ S)
 Answers nodes S (b ∷ bs) out T =
     ((out ≡ refused NoMemory) × (T ≡ S)) ⊎ (IsBad nodes (b ∷ bs) × (out ≡ refused BadText) × (T ≡ S)) ⊎ IsDone nodes S (b ∷ bs) out T
 
+-- what a line prints in a world of the facts S, and a world that holds the facts after it
+abbrev pub WasAnswered : ℕ → List Fact → List ℕ → List ℕ → Kept → Type 0
+WasAnswered nodes S line out world = (T : List Fact) × Answers nodes S line out T × Holds T world
+
 -- over the facts S these lines print this, one after another
 abbrev pub ScriptText : ℕ → List Fact → List (List ℕ) → List ℕ → Type 0
 ScriptText nodes S [] out = out ≡ []
 ScriptText nodes S (line ∷ lines) out =
     (first rest : List ℕ) × (T : List Fact) × (out ≡ first ++ rest) × Answers nodes S line first T × ScriptText nodes T lines rest
 
--- a line, and that what it prints was written so
-abbrev pub Prints : ℕ → List Fact → List ℕ → List Fact → (List ℕ → Type 0) → Type 0
-Prints nodes S line T was_written = (out : List ℕ) × Answers nodes S line out T × was_written out
+-- a line, and that what it prints was written so, in a world that holds the facts after it
+abbrev pub Prints : ℕ → List Fact → List ℕ → Kept → (List ℕ → Type 0) → Type 0
+Prints nodes S line world was_written = (out : List ℕ) × WasAnswered nodes S line out world × was_written out
 
 -- What a whole script has written, where the bytes of its input are known: the text of its lines over no facts, or, after
 -- a fault, a part of such a text from its front. `was_written` says which.

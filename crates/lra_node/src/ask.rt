@@ -1,6 +1,6 @@
 // What a line of the script asks.
-use crate::command::Command;
 use lra_id::{LraId, NodeId};
+use lra_replica::Command;
 
 /// What a line asks.
 #[derive(Debug, Drop)]
@@ -8,10 +8,16 @@ pub enum Ask {
     /// `begin NODE DEADLINE`, `begin NODE DEADLINE PARENT`, `join NODE ID WORD=LINK ..`, `leave NODE ID M`, `close NODE ID`, `cancel NODE ID`,
     /// `report NODE ID M ACT OUTCOME`: a node is asked to enter something.
     Enter { node: NodeId, command: Command },
+    /// `tick NODE NOW`: a node is told the time, and cancels an LRA whose deadline has passed.
+    Tick { node: NodeId, now: u64 },
     /// `show NODE ID`: what a node shows of an LRA.
     Show { node: NodeId, id: LraId },
     /// `member NODE ID M`: what a node shows of a participant.
     Member { node: NodeId, id: LraId, member: u8 },
+    /// `front NODE`: how many facts a node has.
+    Front { node: NodeId },
+    /// `same NODE NODE`: whether two nodes hold the same.
+    Same { node: NodeId, other: NodeId },
     /// `text ID`: the text of an id as a UUID.
     Text(LraId),
     /// `read TEXT`: the id that a text is read as.

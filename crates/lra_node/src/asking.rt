@@ -6,6 +6,7 @@ ghost use Rattle.lra_node.specs.Asks.{ReadsArguments, Spells};
 mod joins;
 mod lras;
 mod members;
+mod nodes;
 
 use crate::ask::Ask;
 use crate::words::Words;
@@ -13,6 +14,7 @@ use joins::join_of;
 use lra_states::Verdict;
 use lras::{begin_of, decide_of, read_of, show_of, text_of};
 use members::{leave_of, member_of, report_of};
+use nodes::{front_of, same_of, tick_of};
 use std::alloc::{AllocError, Global};
 
 /// What a line asks of a world of so many nodes. Only the links of a join take memory.
@@ -34,6 +36,27 @@ pub fn ask_of(alloc: Global, line: &[u8], nodes: u8) -> Result<Option<Ask>, Allo
 fn asked_without_links(verb: &[u8], words: Words<'_>, nodes: u8) -> Option<Ask>
     requires few { nodes ≤ 8 }
     requires other { verb.now ≡ codes "join" → ⊥ }
+    ensures { ReadsArguments nodes verb.now words.entry result }
+{
+    if verb == b"front".as_slice() {
+        return front_of(words, nodes);
+    }
+    if verb == b"same".as_slice() {
+        return same_of(words, nodes);
+    }
+    if verb == b"tick".as_slice() {
+        return tick_of(words, nodes);
+    }
+    asked_of_lras(verb, words, nodes)
+}
+
+/// What the words after a verb ask of LRAs and participants, where no links are read.
+fn asked_of_lras(verb: &[u8], words: Words<'_>, nodes: u8) -> Option<Ask>
+    requires few { nodes ≤ 8 }
+    requires no_join { verb.now ≡ codes "join" → ⊥ }
+    requires no_front { verb.now ≡ codes "front" → ⊥ }
+    requires no_same { verb.now ≡ codes "same" → ⊥ }
+    requires no_tick { verb.now ≡ codes "tick" → ⊥ }
     ensures { ReadsArguments nodes verb.now words.entry result }
 {
     if verb == b"begin".as_slice() {

@@ -4,10 +4,8 @@
 mod answer;
 mod ask;
 mod asking;
-mod command;
 mod line;
 mod number;
-mod refusing;
 mod room;
 mod script;
 #[cfg(test)]

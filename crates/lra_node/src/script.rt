@@ -1,8 +1,10 @@
 // The script, over any source and sink.
-ghost use Rattle.std.specs.Prelude.{◌≡◌, ◌≤◌, ◌<◌, ◌+◌, ◌⊎◌, [], OnOk, OnErr};
+ghost use Rattle.std.specs.Prelude.{◌≡◌, ◌≤◌, ◌<◌, ◌+◌, ◌⊎◌, List, OnOk, OnErr};
 ghost use Rattle.std.specs.Io.KnownBytes.{Appends};
 ghost use Rattle.lra_http.specs.Streams.{AppendsPart, most_interrupted};
+ghost use Rattle.lra_facts.specs.declared.fact.Fact.{Fact};
 ghost use Rattle.lra_node.specs.Scripts.{Prints, ReadsToEnd, WritesText, most_reads};
+ghost use Rattle.lra_node.specs.Worlds.{Holds};
 
 use crate::answer::answer;
 use crate::line::{KEPT_OF_LINE, read_line};
@@ -43,7 +45,9 @@ pub fn script<R: Source, W: Sink>(
     let Ok(mut line) = Vec::with_capacity(alloc, KEPT_OF_LINE) else {
         return Err(ScriptFault::NoMemory);
     };
-    let mut world = World::new(alloc);
+    let Ok(mut world) = World::new(alloc) else {
+        return Err(ScriptFault::NoMemory);
+    };
     let mut reads_left = u64::MAX;
     'lines: loop {
         let Ok(more) = read_line(reader, &mut line, &mut reads_left) else {
@@ -67,8 +71,8 @@ fn print_line<W: Sink>(
     writer: &mut W,
 ) -> Result<(), WriteFault>
     requires { nodes ≤ 8 }
-    ensures ok { OnOk result (Prints nodes world.old line.now world.new (Appends (W.written writer.old) (W.written writer.new))) }
-    ensures err { OnErr result (Prints nodes world.old line.now world.new (AppendsPart (W.written writer.old) (W.written writer.new))) }
+    ensures ok { (S : List Fact) → Holds S world.old → OnOk result (Prints nodes S line.now world.new (Appends (W.written writer.old) (W.written writer.new))) }
+    ensures err { (S : List Fact) → Holds S world.old → OnErr result (Prints nodes S line.now world.new (AppendsPart (W.written writer.old) (W.written writer.new))) }
     ensures none_failed { OnOk result (W.failed writer.new ≡ W.failed writer.old) }
     ensures counted { W.interrupted writer.old ≤ W.interrupted writer.new }
     ensures fault { OnErr result ((W.failed writer.old < W.failed writer.new) ⊎ (W.interrupted writer.new ≡ W.interrupted writer.old + most_interrupted)) }

@@ -2,12 +2,14 @@
 mod faults;
 mod members;
 mod nesting;
+mod nodes;
 
-use crate::command::{Command, CommandReply};
 use crate::script::{ScriptFault, script};
 use crate::world::World;
 use crate::{USAGE, is_script, status_of};
+use lra_facts::Refusal;
 use lra_http::{OverRead, OverWrite};
+use lra_replica::{Command, CommandReply};
 use lra_states::{LraStatus, Verdict};
 use std::alloc::{AllocError, Global};
 use std::test::Fail;
@@ -162,23 +164,44 @@ fn run_after(
 
 #[test]
 fn a_world_shows_what_it_decided(rt: HostRuntime) -> Result<(), Fail> {
-    let mut world = World::new(rt.alloc());
+    let mut world = World::new(rt.alloc())?;
     let begin = Command::Begin {
         parent: None,
         deadline: 7,
     };
-    let CommandReply::Began(id, member) = world.step(begin)? else {
+    let CommandReply::Began(id, member) = world.step(rt.alloc(), begin)? else {
         return Err(Fail::from("begun"));
     };
     assert_eq!(rt; member, 0);
     assert_eq!(rt; world.status(id), Ok(LraStatus::Active));
     let verdict = Verdict::Cancel;
     assert_eq!(rt;
-        world.step(Command::Decide { id, verdict })?,
-        CommandReply::Decided(LraStatus::Cancelled)
+        world.step(rt.alloc(), Command::Decide { id, verdict })?,
+        CommandReply::Decided(id, LraStatus::Cancelled)
     );
     assert_eq!(rt; world.status(id), Ok(LraStatus::Cancelled));
-    assert_eq!(rt; world.facts().len(), 2);
+    assert_eq!(rt; world.front().count(id.home()), 2);
+    Ok(())
+}
+
+#[test]
+fn a_world_refuses_what_no_line_spells(rt: HostRuntime) -> Result<(), Fail> {
+    let mut world = World::new(rt.alloc())?;
+    let begin = Command::Begin {
+        parent: None,
+        deadline: 0,
+    };
+    let CommandReply::Began(id, _) = world.step(rt.alloc(), begin)? else {
+        return Err(Fail::from("begun"));
+    };
+    let forgot = Command::Forgot { id, member: 1 };
+    let refused = CommandReply::Refused(Refusal::BadText);
+    assert_eq!(rt; world.step(rt.alloc(), forgot)?, refused);
+    assert_eq!(rt;
+        world.step(rt.alloc(), Command::Purge { root: id })?,
+        refused
+    );
+    assert_eq!(rt; world.front().count(id.home()), 1);
     Ok(())
 }
 

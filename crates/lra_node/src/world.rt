@@ -1,215 +1,145 @@
-// The world of one node: a list of facts. It stands in for the nodes and their frames until those are there.
-ghost use Rattle.std.specs.Prelude.{◌≡◌, ◌+◌, ◌<◌, None, Some, [], length, IfOk, OnOk, OnErr};
-ghost use Rattle.lra_facts.specs.Sets.{NamesEarlier, member_number, numbers_given};
-ghost use Rattle.lra_facts.specs.Refusals.{spent};
-ghost use Rattle.lra_node.specs.Worlds.{IsWorld, accepted, after, body_for, entered, front_of, here, member_shown, next_fact, refusal_of, reply_of, shown_of};
+// The world of one node: what it holds. It stands in for the nodes and their frames until those are there.
+ghost use Rattle.std.specs.Prelude.{◌≡◌, ◌≤◌, List, [], length, IfOk, IfSome, IsTrue, OnOk, OnErr};
+ghost use Rattle.lra_facts.specs.declared.fact.Fact.{Fact};
+ghost use Rattle.lra_forest.specs.Overdue.{IsLeastOverdue};
+ghost use Rattle.lra_replica.specs.Growth.{IsSettled};
+ghost use Rattle.lra_replica.specs.Prepared.{HasRoom, member_shown, shown_of};
+ghost use Rattle.lra_replica.specs.Replicas.{Fits, view_of};
+ghost use Rattle.lra_replica.specs.Views.{StandsFor};
+ghost use Rattle.lra_node.specs.Worlds.{Holds, IsPreparedHere, after_here, front_of, here, reply_here, with_patch};
 
-use crate::command::{Command, CommandReply};
-use crate::refusing::{first_node, is_known, refusal_to, refusal_to_number, refusal_to_show};
-use lra_facts::{Body, Fact, Links, Refusal, plain};
-use lra_id::LraId;
-use lra_states::{LraStatus, MemberStatus, Verdict};
+use lra_facts::Refusal;
+use lra_id::{Front, LraId, NodeId};
+use lra_replica::{Command, CommandReply, Prepared, Replica};
+use lra_states::{LraStatus, MemberStatus};
 use std::alloc::{AllocError, Global};
 use std::marker::Model;
 
-/// The facts that the node entered, in order.
+/// What the one node holds.
 #[derive(Drop)]
 pub struct World {
-    facts: Vec<Fact>,
+    replica: Replica,
 }
 
 impl Model for World {
-    ghost use Rattle.std.specs.Prelude.{List};
-    ghost use Rattle.lra_facts.specs.declared.fact.Fact.{Fact};
-    ghost use Rattle.lra_node.specs.Worlds.{IsWorld};
+    ghost use Rattle.std.specs.Prelude.{◌≡◌, length};
+    ghost use Rattle.lra_replica.specs.Replicas.{Kept};
 
-    ghost Value = { List Fact };
+    ghost Value = { Kept };
 
-    ghost view = { λ w. w.facts.items };
+    ghost view = { λ w. w.replica };
 
-    ghost invariant = { λ w. IsWorld w.facts.items };
+    ghost invariant = { λ w. length w.replica.front ≡ 1 };
 }
 
 impl World {
     /// A world without facts.
-    pub fn new(alloc: Global) -> World
-        ensures { result ≡ [] }
+    pub fn new(alloc: Global) -> Result<World, AllocError>
+        ensures { IfOk result (λ world. Holds [] world) }
     {
-        World {
-            facts: Vec::new(alloc),
+        match Replica::new(alloc, 1) {
+            Ok(replica) => Ok(World { replica }),
+            Err(_) => Err(AllocError),
         }
     }
 
-    /// The facts that were entered, in order.
-    pub fn facts(&self) -> &[Fact]
-        ensures facts { result.now ≡ self.now }
-        ensures kept { IsWorld self.now }
+    /// How many facts were entered.
+    pub fn front(&self) -> Front
+        ensures { (S : List Fact) → Holds S self.now → result ≡ front_of S }
     {
-        &self.facts
+        self.replica.front()
+    }
+
+    /// Whether two nodes hold the same: there is one.
+    pub fn is_same(&self) -> bool
+        ensures { IsTrue result }
+    {
+        self.replica.same(&self.replica)
     }
 
     /// What an LRA shows, or why there is nothing to show.
     pub fn status(&self, id: LraId) -> Result<LraStatus, Refusal>
-        ensures { result ≡ shown_of self.now id }
+        ensures { (S : List Fact) → Holds S self.now → result ≡ shown_of S (front_of S) id }
     {
-        match refusal_to_show(&self.facts, id) {
-            Some(refusal) => Err(refusal),
-            None => Ok(plain::shows_now(&self.facts, id)),
-        }
+        self.replica.status(id)
     }
 
     /// What a participant shows, or why there is nothing to show.
     pub fn member(&self, id: LraId, member: u8) -> Result<MemberStatus, Refusal>
-        ensures { result ≡ member_shown self.now id member }
+        ensures { (S : List Fact) → Holds S self.now → result ≡ member_shown S (front_of S) id member }
     {
-        if let Some(refusal) = refusal_to_show(&self.facts, id) {
-            return Err(refusal);
-        }
-        match plain::member_of(&self.facts, id, member) {
-            Some(status) => Ok(status),
-            None => Err(Refusal::UnknownMember),
-        }
+        self.replica.member(id, member)
     }
 
-    /// Enters what a command asks, or refuses it. Want of memory enters nothing.
-    pub fn step(&mut self, command: Command) -> Result<CommandReply, AllocError>
-        ensures reply { IfOk result (λ reply. reply ≡ reply_of self.old command) }
-        ensures after { OnOk result (self.new ≡ after self.old command) }
-        ensures err { OnErr result (self.new ≡ self.old) }
+    /// Of the LRAs that want nothing and whose deadline has passed, the one with the least number.
+    pub fn overdue(&self, now: u64) -> Option<LraId>
+        ensures { (S : List Fact) → Holds S self.now → IsLeastOverdue S here now result }
     {
-        if let Some(refusal) = refusal_to(&self.facts, &command) {
-            return Ok(CommandReply::Refused(refusal));
-        }
-        if is_known(&self.facts, &command) {
-            return Ok(CommandReply::Known);
-        }
-        if let Some(refusal) = refusal_to_number(&self.facts) {
-            return Ok(CommandReply::Refused(refusal));
-        }
-        self.accept(command)
+        self.replica.expire(first_node(), now)
     }
 
-    /// Enters what a command asks that is not refused.
-    fn accept(&mut self, command: Command) -> Result<CommandReply, AllocError>
-        requires allowed { refusal_of self.old command ≡ None }
-        requires number { spent (front_of self.old) here ≡ None }
-        ensures reply { IfOk result (λ reply. reply ≡ accepted self.old command) }
-        ensures after { OnOk result (self.new ≡ entered self.old (body_for self.old command)) }
-        ensures err { OnErr result (self.new ≡ self.old) }
+    /// Enters what a command asks, or refuses it: what is to be forgotten or purged is refused as E1. Want of memory enters
+    /// nothing.
+    pub fn step(&mut self, alloc: Global, command: Command) -> Result<CommandReply, AllocError>
+        ensures reply { (S : List Fact) → Holds S self.old → IfOk result (λ reply. reply ≡ reply_here S command) }
+        ensures after { (S : List Fact) → Holds S self.old → OnOk result (Holds (after_here S command) self.new) }
+        ensures err { (S : List Fact) → Holds S self.old → OnErr result (Holds S self.new) }
     {
-        match command {
-            Command::Begin { parent, deadline } => self.begin(parent, deadline),
-            Command::Join { id, links } => self.join(id, links),
-            Command::Leave { id, member } => {
-                self.enter(Body::Leave { id, member })?;
-                Ok(CommandReply::Left)
-            }
-            Command::Decide { id, verdict } => self.decide(id, verdict),
-            Command::Report {
-                id,
-                member,
-                act,
-                outcome,
-            } => {
-                self.enter(Body::Report {
-                    id,
-                    member,
-                    act,
-                    outcome,
-                })?;
-                Ok(CommandReply::Reported)
+        match prepare(alloc, &mut self.replica, command) {
+            Ok(prepared) => Ok(enter(&mut self.replica, prepared)),
+            Err(refusal) => {
+                if refusal == Refusal::NoMemory {
+                    return Err(AllocError);
+                }
+                Ok(CommandReply::Refused(refusal))
             }
         }
     }
+}
 
-    fn begin(&mut self, parent: Option<LraId>, deadline: u64) -> Result<CommandReply, AllocError>
-        requires allowed { refusal_of self.old (Command.Begin parent deadline) ≡ None }
-        requires number { spent (front_of self.old) here ≡ None }
-        ensures reply { IfOk result (λ reply. reply ≡ accepted self.old (Command.Begin parent deadline)) }
-        ensures after { OnOk result (self.new ≡ entered self.old (Body.Begin parent deadline)) }
-        ensures err { OnErr result (self.new ≡ self.old) }
-    {
-        match parent {
-            Some(parent) => self.nest(parent, deadline),
-            None => self.begin_root(deadline),
-        }
+/// The one node.
+fn first_node() -> NodeId
+    ensures { result ≡ here }
+{
+    match NodeId::new(1) {
+        Ok(node) => node,
+        Err(_) => unreachable!(),
     }
+}
 
-    fn begin_root(&mut self, deadline: u64) -> Result<CommandReply, AllocError>
-        requires number { spent (front_of self.old) here ≡ None }
-        ensures reply { IfOk result (λ reply. reply ≡ accepted self.old (Command.Begin None deadline)) }
-        ensures after { OnOk result (self.new ≡ entered self.old (Body.Begin None deadline)) }
-        ensures err { OnErr result (self.new ≡ self.old) }
-    {
-        let parent = None;
-        let id = self.enter(Body::Begin { parent, deadline })?;
-        Ok(CommandReply::Began(id, 0))
+/// Prepares what a command asks, which changes nothing yet.
+fn prepare(alloc: Global, replica: &mut Replica, command: Command) -> Result<Prepared, Refusal>
+    requires { 1 ≤ length replica.old.front }
+    ensures view { view_of replica.new ≡ view_of replica.old }
+    ensures room { HasRoom result replica.new }
+    ensures prepared { (S : List Fact) → IsSettled S → StandsFor S (view_of replica.old) → IsPreparedHere S (view_of replica.old) command result }
+{
+    let me = first_node();
+    match command {
+        Command::Begin { parent, deadline } => replica.begin(alloc, me, parent, deadline),
+        Command::Join { id, links } => replica.join(alloc, me, id, links),
+        Command::Leave { id, member } => replica.leave(alloc, me, id, member),
+        Command::Decide { id, verdict } => replica.decide(alloc, me, id, verdict),
+        Command::Report {
+            id,
+            member,
+            act,
+            outcome,
+        } => replica.report(alloc, me, id, member, act, outcome),
+        Command::Forgot { .. } | Command::Purge { .. } => Err(Refusal::BadText),
     }
+}
 
-    /// Begins an LRA in a parent.
-    fn nest(&mut self, parent: LraId, deadline: u64) -> Result<CommandReply, AllocError>
-        requires number { spent (front_of self.old) here ≡ None }
-        requires earlier { NamesEarlier (next_fact self.old (Body.Begin (Some parent) deadline)) }
-        requires few { numbers_given self.old parent < 32 }
-        ensures reply { IfOk result (λ reply. reply ≡ accepted self.old (Command.Begin (Some parent) deadline)) }
-        ensures after { OnOk result (self.new ≡ entered self.old (Body.Begin (Some parent) deadline)) }
-        ensures err { OnErr result (self.new ≡ self.old) }
-    {
-        let member = self.next_member(parent);
-        let parent = Some(parent);
-        let id = self.enter(Body::Begin { parent, deadline })?;
-        Ok(CommandReply::Began(id, member))
+/// Makes the changes of what was prepared, and answers its reply.
+fn enter(replica: &mut Replica, prepared: Prepared) -> CommandReply
+    requires { IfSome prepared.patch (λ change. Fits change replica.old) }
+    ensures reply { result ≡ prepared.reply }
+    ensures view { view_of replica.new ≡ with_patch prepared.patch (view_of replica.old) }
+    ensures nodes { length replica.new.front ≡ length replica.old.front }
+{
+    let Prepared { reply, patch } = prepared;
+    if let Some(patch) = patch {
+        replica.apply(patch);
     }
-
-    fn join(&mut self, id: LraId, links: Links) -> Result<CommandReply, AllocError>
-        requires number { spent (front_of self.old) here ≡ None }
-        requires few { numbers_given self.old id < 32 }
-        ensures reply { IfOk result (λ reply. reply ≡ accepted self.old (Command.Join id links)) }
-        ensures after { OnOk result (self.new ≡ entered self.old (body_for self.old (Command.Join id links))) }
-        ensures err { OnErr result (self.new ≡ self.old) }
-    {
-        let member = self.next_member(id);
-        self.enter(Body::Join { id, member, links })?;
-        Ok(CommandReply::Joined(member))
-    }
-
-    fn decide(&mut self, id: LraId, verdict: Verdict) -> Result<CommandReply, AllocError>
-        requires number { spent (front_of self.old) here ≡ None }
-        ensures reply { IfOk result (λ reply. reply ≡ accepted self.old (Command.Decide id verdict)) }
-        ensures after { OnOk result (self.new ≡ entered self.old (Body.Decide id verdict)) }
-        ensures err { OnErr result (self.new ≡ self.old) }
-    {
-        self.enter(Body::Decide { id, verdict })?;
-        Ok(CommandReply::Decided(plain::shows_now(&self.facts, id)))
-    }
-
-    /// The member number that the next fact gives, if it gives one in this LRA.
-    #[tactic(auto, using(crate::proofs::Seats::next_number))]
-    fn next_member(&self, id: LraId) -> u8
-        requires { numbers_given self.now id < 32 }
-        ensures value { result ≡ numbers_given self.now id + 1 }
-        ensures numbered { result ≡ member_number self.now id (length self.now + 1) }
-    {
-        plain::numbers_given(&self.facts, id) as u8 + 1
-    }
-
-    /// Enters a fact with the next number, and answers the id that it would begin.
-    fn enter(&mut self, body: Body) -> Result<LraId, AllocError>
-        requires number { spent (front_of self.old) here ≡ None }
-        requires earlier { NamesEarlier (next_fact self.old body) }
-        ensures id { IfOk result (λ id. id ≡ record { home = here; num = length self.old + 1 }) }
-        ensures ok { OnOk result (self.new ≡ entered self.old body) }
-        ensures err { OnErr result (self.new ≡ self.old) }
-    {
-        let num = self.facts.len() as u64 + 1;
-        let Ok(id) = LraId::new(first_node(), num) else {
-            unreachable!();
-        };
-        self.facts.push(Fact {
-            origin: first_node(),
-            num,
-            body,
-        })?;
-        Ok(id)
-    }
+    reply
 }

@@ -9,9 +9,9 @@ ghost use Rattle.lra_node.specs.Joins.{GivesLinks, IsTextUnder, are_link_words, 
 
 use super::lras::next_node_and_id;
 use crate::ask::Ask;
-use crate::command::Command;
 use crate::words::Words;
 use lra_facts::{Links, Refusal};
+use lra_replica::Command;
 use std::alloc::{AllocError, Global};
 use std::str;
 

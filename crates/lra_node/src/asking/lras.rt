@@ -6,10 +6,10 @@ ghost use Rattle.lra_states.specs.Names.{verdict_name};
 ghost use Rattle.lra_node.specs.Asks.{IsNodeOf, ReadsArguments, parent_words};
 
 use crate::ask::Ask;
-use crate::command::Command;
 use crate::number::{id_of, node_of, number_of};
 use crate::words::Words;
 use lra_id::{LraId, NodeId};
+use lra_replica::Command;
 use lra_states::Verdict;
 
 pub fn begin_of(mut words: Words<'_>, nodes: u8) -> Option<Ask>

@@ -9,10 +9,10 @@ ghost use Rattle.lra_node.specs.Asks.{IsMemberNumber, IsNodeOf, ReadsArguments};
 
 use super::lras::next_node_and_id;
 use crate::ask::Ask;
-use crate::command::Command;
 use crate::number::member_number_of;
 use crate::words::Words;
 use lra_id::{LraId, NodeId};
+use lra_replica::Command;
 use lra_states::{Act, Outcome};
 
 pub fn leave_of(words: Words<'_>, nodes: u8) -> Option<Ask>

@@ -1,35 +1,30 @@
-use Rattle.std.proofs.Common.{[], ◌∙◌, arith}
-use Rattle.lra_node.proofs.Runs.{running_start, running_line, running_end, running_ends, part_line, part_fault}
+use Rattle.std.proofs.Common.{◌∙◌, arith}
+use Rattle.lra_node.proofs.Runs.{part_none, runs_end, runs_fault, runs_line, runs_part}
 use Rattle.lra_node.proofs.script.script.Goals as goal
 
 pub returns-in_default-clause-part : goal.returns-in_default-clause-part
-returns-in_default-clause-part g c =
-    let left = g.R.Source.left c.args.reader.now in
-    let written = g.W.Sink.written c.args.writer.now in
-    part_fault c.args.nodes [] left left written written (running_start c.args.nodes left written)
+returns-in_default-clause-part g c = part_none c.args.nodes (g.R.Source.left c.args.reader.now) (g.W.Sink.written c.args.writer.now)
+
+pub returns-in_default-new-clause-part : goal.returns-in_default-new-clause-part
+returns-in_default-new-clause-part g c = part_none c.args.nodes (g.R.Source.left c.args.reader.now) (g.W.Sink.written c.args.writer.now)
 
 pub returns-in_default-read_line-clause-part : goal.returns-in_default-read_line-clause-part
-returns-in_default-read_line-clause-part g c = part_fault _ _ _ _ _ _ c.lines.invariant.running
+returns-in_default-read_line-clause-part g c = runs_fault _ _ _ _ _ _ c.lines.invariant.running
 
 pub returns-in_default-print_line-clause-part : goal.returns-in_default-print_line-clause-part
 returns-in_default-print_line-clause-part g c =
-    part_line _ _ _ _ _ _ _ _ _ _ _ c.lines.invariant.running c.in-Ok-read_line.ensures.read (rw c.deref.ensures.value at c.in_default-print_line.ensures.err)
+    runs_part _ _ _ _ _ _ _ _ _ _ _ c.lines.invariant.running c.in-Ok-read_line.ensures.read (rw c.deref.ensures.value at c.in_default-print_line.ensures.err)
 
 pub returns-then-not-more-clause-text : goal.returns-then-not-more-clause-text
 returns-then-not-more-clause-text g c =
     let read = rw c.if-not-more.true at c.in-Ok-read_line.ensures.read in
-    running_end _ _ _ _ _ _ _ _ _ _ c.lines.invariant.running read (rw c.deref.ensures.value at c.in-Ok-print_line.ensures.ok)
-
-pub returns-then-not-more-clause-end : goal.returns-then-not-more-clause-end
-returns-then-not-more-clause-end g c =
-    let read = rw c.if-not-more.true at c.in-Ok-read_line.ensures.read in
-    running_ends _ _ _ _ _ _ _ _ c.lines.invariant.running read
+    runs_end _ _ _ _ _ _ _ _ _ _ c.lines.invariant.running read (rw c.deref.ensures.value at c.in-Ok-print_line.ensures.ok)
 
 pub lines-preserved : goal.lines-preserved
 lines-preserved g c =
     let read = rw c.if-not-more.false at c.in-Ok-read_line.ensures.read in
     record {
-      running = running_line _ _ _ _ _ _ _ _ _ _ c.lines.invariant.running read (rw c.deref.ensures.value at c.in-Ok-print_line.ensures.ok);
+      running = runs_line _ _ _ _ _ _ _ _ _ _ c.lines.invariant.running read (rw c.deref.ensures.value at c.in-Ok-print_line.ensures.ok);
       room = c.read_line.ensures.room;
       none_unread = c.in-Ok-read_line.ensures.none_failed ∙ c.lines.invariant.none_unread;
       reads_counted = omega (arith, c.read_line.ensures.counted, c.lines.invariant.reads_counted);

@@ -1,5 +1,5 @@
 use Rattle.std.proofs.Common.{rules}
-use Rattle.lra_node.proofs.asking.asked_without_links.Goals as goal
+use Rattle.lra_node.proofs.asking.asked_of_lras.Goals as goal
 
 pub returns-then-eq-8 : goal.returns-then-eq-8
 returns-then-eq-8 c = let h = c.text_of.ensures c.args.nodes in search rules
