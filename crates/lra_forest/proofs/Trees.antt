@@ -74,13 +74,14 @@ child_under S nested l c up (suc n) d e under = by (child_under S nested l c up 
     by rest None at = here (under_root S nested c d at under)
     by rest (Some p) at = elim (or_cases (same_id c d) (is_under S c p) (sym (under_up S nested c d p at) ∙ under)) [ inl same ↦ here (same_is c d same) | inr above ↦ under_up S nested l d p at ∙ or_right (same_id l d) _ (rest p (omega (arith, e, parent_lesser S d p nested at)) above) ]
 
--- a fact that shows something is the join of a participant that did not leave
+-- the participant m of d is under l, did not leave, and passes the test
 pub record IsShown (test : MemberStatus → Bool) (S : List Fact) (l d : Id) (m : ℕ) (links : Links) : Type 0 where
   pub under : is_under S l d ≡ true
   pub stayed : has_left S d m ≡ false
   pub passes : test (joined_status S d m links) ≡ true
 
-shown_join : (test : MemberStatus → Bool) (S : List Fact) (l : Id) (body : Body) → shows test S l body ≡ true → (d : Id) × (m : ℕ) × (links : Links) × (body ≡ Join d m links) × IsShown test S l d m links
+-- a fact that shows something is the join of such a participant
+pub shown_join : (test : MemberStatus → Bool) (S : List Fact) (l : Id) (body : Body) → shows test S l body ≡ true → (d : Id) × (m : ℕ) × (links : Links) × (body ≡ Join d m links) × IsShown test S l d m links
 shown_join test S l (Join d m links) e =
     let rest = and_right (is_under S l d) _ e in (
       d,
@@ -100,7 +101,8 @@ shown_join test S l (Report id m act outcome) e = absurd cc
 shown_join test S l (Forgot id m) e = absurd cc
 shown_join test S l (Purge root) e = absurd cc
 
-join_shows : (test : MemberStatus → Bool) (S : List Fact) (l d : Id) (m : ℕ) (links : Links) (f : Fact) → In f S → f.body ≡ Join d m links → IsShown test S l d m links → some_shows test S l ≡ true
+-- and where there is one, something is shown
+pub join_shows : (test : MemberStatus → Bool) (S : List Fact) (l d : Id) (m : ℕ) (links : Links) (f : Fact) → In f S → f.body ≡ Join d m links → IsShown test S l d m links → some_shows test S l ≡ true
 join_shows test S l d m links f i e shown =
     any_from (λ g. shows test S l g.body) S f i (ap (shows test S l) e ∙ rw (shown.under, shown.stayed) shown.passes)
 

@@ -45,7 +45,8 @@ made_by_at node num [] e m = absurd m
 made_by_at node num (x ∷ es) e (inl s) = (ap (λ (y : Made). y.fact.origin) s, omega (arith, ap (λ (y : Made). y.fact.num) s))
 made_by_at node num (x ∷ es) e (inr m) = let rest = made_by_at node (num + 1) es e m in (rest.0, omega (arith, rest.1))
 
-made_from_at : (node : ℕ) (h : History) (e : Made) → In e (made_from node h) → (node ≤ e.fact.origin) × (1 ≤ e.fact.num)
+-- and of all nodes from this one on
+pub made_from_at : (node : ℕ) (h : History) (e : Made) → In e (made_from node h) → (node ≤ e.fact.origin) × (1 ≤ e.fact.num)
 made_from_at node [] e m = absurd m
 made_from_at node (es ∷ h) e m = elim (in_append (made_by node 1 es) (made_from (node + 1) h) e m) [
   | inl own ↦ (omega (arith, (made_by_at node 1 es e own).0), (made_by_at node 1 es e own).1)

@@ -59,7 +59,7 @@ same_number a b e = grind (arith, nat_tests)
 less_by : (a b : ℕ) → nat_lt a b ≡ true → a < b
 less_by a b e = grind (arith, nat_tests)
 
-none_is : {X : Type 0} (o : Option X) → is_none o ≡ true → o ≡ None
+pub none_is : {X : Type 0} (o : Option X) → is_none o ≡ true → o ≡ None
 none_is None e = refl
 none_is (Some x) e = absurd cc
 

@@ -1,7 +1,9 @@
 pub mod Adding
 pub mod Begun
 pub mod Changed
+pub mod Climbing
 pub mod Counting
+pub mod Decided
 pub mod Empties
 pub mod Entries
 pub mod Examples
@@ -17,10 +19,13 @@ pub mod Members
 pub mod More
 pub mod Nesting
 pub mod Paging
+pub mod Parted
 pub mod Placed
 pub mod Purged
+pub mod Ranked
 pub mod Readying
 pub mod Replied
+pub mod Risen
 pub mod Rooms
 pub mod SameHomes
 pub mod Settling

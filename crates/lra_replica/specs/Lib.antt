@@ -5,4 +5,5 @@ pub mod Pages
 pub mod Prepared
 pub mod Replicas
 pub mod Replies
+pub mod Rising
 pub mod Views

@@ -252,8 +252,8 @@ impl Replica {
         ensures judged { (S : List Fact) → IsSettled S → StandsFor S (view_of self.now) → (verdict : Verdict) → judge S self.now.front me (Decide id verdict) ≡ judged_by result }
         ensures left { result ≡ None → count self.now.front me < 281474976710655 }
     {
-        if let Some(refusal) = self.refusal_to_change(me, id) {
-            return Some(refusal);
+        if let Some(denied) = self.refusal_to_change(me, id) {
+            return Some(denied);
         }
         self.refusal_to_number(me)
     }
