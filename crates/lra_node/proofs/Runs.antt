@@ -8,7 +8,7 @@ use Rattle.lra_facts.specs.declared.fact.Fact.{Fact}
 use Rattle.lra_facts.specs.declared.refusal.Refusal.TheVariants.{NoMemory}
 use Rattle.lra_node.specs.Parts.{lines_of}
 use Rattle.lra_replica.specs.Replicas.{Kept}
-use Rattle.lra_node.specs.Scripts.{refused, Answers, Prints, ScriptText, WritesText, ReadsLine, ReadsToEnd}
+use Rattle.lra_node.specs.Scripts.{refused, Answers, Prints, ScriptText, WritesText, ReadsLine}
 use Rattle.lra_node.specs.Worlds.{Holds}
 
 -- any lines have a text: each may meet want of memory
@@ -121,12 +121,6 @@ part_fault n S (Some input) (Some left) old new (out, grew, goes) =
     let more = some_text n S (lines_of left) in
     (out ++ more.0, goes more.0 more.1, (out, more.0, refl, grew))
 
-running_ends : (n : ℕ) (S : List Fact) (kept : List ℕ) (start now next old mid : Option (List ℕ)) → IsRunning n S start now old mid → ReadsLine false kept now next → ReadsToEnd start next
-running_ends n S kept None now next old mid r read = tt
-running_ends n S kept (Some input) None next old mid r read = absurd r
-running_ends n S kept (Some input) (Some left) None old mid r read = absurd read
-running_ends n S kept (Some input) (Some left) (Some next) old mid r read = read.3
-
 -- the facts that a world holds, over which a script has come so far
 abbrev pub Runs : ℕ → Kept → Option (List ℕ) → Option (List ℕ) → Option (List ℕ) → Option (List ℕ) → Type 0
 Runs n world start now old new = (S : List Fact) × Holds S world × IsRunning n S start now old new
@@ -159,6 +153,3 @@ runs_part n before after more kept start now next old mid new (S, h, r) read pri
 
 pub runs_fault : (n : ℕ) (world : Kept) (start now old new : Option (List ℕ)) → Runs n world start now old new → WritesText n (AppendsPart old new) start
 runs_fault n world start now old new (S, h, r) = part_fault n S start now old new r
-
-pub runs_ends : (n : ℕ) (world : Kept) (kept : List ℕ) (start now next old mid : Option (List ℕ)) → Runs n world start now old mid → ReadsLine false kept now next → ReadsToEnd start next
-runs_ends n world kept start now next old mid (S, h, r) read = running_ends n S kept start now next old mid r read
