@@ -1,6 +1,7 @@
 pub mod Growth
 pub mod Histories
 pub mod Laws
+pub mod Merging
 pub mod Pages
 pub mod Prepared
 pub mod Replicas

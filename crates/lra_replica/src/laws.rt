@@ -1,4 +1,6 @@
 // Laws of histories and views: each function does nothing, and its contract is the law.
+pub mod merging;
+
 ghost use Rattle.std.specs.Prelude.{◌≡◌, ◌≤◌, ◌+◌, ℕ, List, [], Some, length, replicate};
 ghost use Rattle.lra_id.specs.Fronts.{count};
 ghost use Rattle.lra_facts.specs.declared.fact.Fact.{Fact};
