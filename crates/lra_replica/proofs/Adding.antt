@@ -1,6 +1,5 @@
 -- a prepared patch adds exactly its fact to what a view stands for
-use Rattle.std.proofs.Common.{◌≡◌, ◌⊎◌, inl, inr, ◌≤◌, ◌<◌, ◌+◌, ◌-◌, ◌==◌, ◌&&◌, ◌||◌, ℕ, List, [], ◌∷◌, refl, sym, ap, subst, ◌∙◌, Bool, true, false, cond, arith, Some, None, length, replicate, map, filter, find, nat_le, slice_set, get_or-set_other, get_or-set_same}
-use Rattle.std.proofs.lemmas.Bool.Decides.{nat_tests}
+use Rattle.std.proofs.Common.{◌≡◌, inl, inr, ◌≤◌, ◌+◌, ◌-◌, ◌&&◌, ◌||◌, ℕ, List, [], ◌∷◌, refl, sym, ap, subst, ◌∙◌, Bool, true, false, cond, arith, Some, None, length, replicate, map, filter, find, slice_set, get_or-set_other, get_or-set_same}
 use Rattle.std.proofs.lemmas.List.{get_or_past, length-map, length-set}
 use mathlib.Core.Bool.{not}
 use Rattle.std.specs.List.{list_any}
@@ -31,15 +30,15 @@ use Rattle.lra_replica.specs.Views.{AreRecords, StandsFor, View, is_purge_fact, 
 use Rattle.lra_replica.specs.declared.command.Command.{Command}
 use Rattle.lra_replica.specs.declared.command.Command.TheVariants.{Begin as BeginAsked, Join as JoinAsked, Leave as LeaveAsked, Decide as DecideAsked, Report as ReportAsked, Forgot as ForgotAsked, Purge as PurgeAsked}
 use Rattle.lra_replica.proofs.Lawfulness.{lawful_gives}
-use Rattle.lra_replica.proofs.Begun.{held_begun}
 use Rattle.lra_replica.proofs.Counting.{counted_with, more_entered}
 use Rattle.lra_replica.proofs.Fitting.{body_gives, filter_agree, givers_length}
-use Rattle.lra_replica.proofs.Kept.{equal_from, equal_itself, held_stays}
+use Rattle.lra_replica.proofs.Kept.{held_stays}
 use Rattle.lra_replica.proofs.More.{filter_all}
 use Rattle.lra_replica.proofs.Placed.{decide_stands, forgot_stands, join_stands, leave_stands, nested_stands, other_home_stands, report_stands, root_stands, touched_home}
 use Rattle.lra_replica.proofs.Purged.{purge_elsewhere_stands, purge_stands, purges_gained, purges_kept, without}
 use Rattle.lra_replica.proofs.Settling.{settled_with}
 use Rattle.lra_replica.proofs.Told.{participant_given}
+use Rattle.lra_replica.proofs.Basics.{at_most, held_begun, same_or_not}
 
 -- Homes of which one changes
 
@@ -75,26 +74,6 @@ put_two_changes r q homes home at_r at_q some there =
     }
 
 -- What a view has of an LRA
-
-same_or_not : (a b : ℕ) → (a ≡ b) ⊎ (a ≡ b → ⊥)
-same_or_not a b = by (a == b) refl
-  where
-    by : (t : Bool) → (a == b) ≡ t → (a ≡ b) ⊎ (a ≡ b → ⊥)
-    by true e = inl (equal_from a b e)
-    by false e = inr (λ s. let yes_same : (a == b) ≡ true = ap (λ (x : ℕ). x == b) s ∙ equal_itself b in cc)
-
-at_most : (a b : ℕ) → (a ≤ b) ⊎ (b < a)
-at_most a b = by (nat_le a b) refl
-  where
-    less : (a b : ℕ) → nat_le a b ≡ true → a ≤ b
-    less a b e = grind (arith, nat_tests)
-
-    more : (a b : ℕ) → nat_le a b ≡ false → b < a
-    more a b e = grind (arith, nat_tests)
-
-    by : (t : Bool) → nat_le a b ≡ t → (a ≤ b) ⊎ (b < a)
-    by true e = inl (less a b e)
-    by false e = inr (more a b e)
 
 -- what is held has a home from 1 on
 pub held_home : (S : List Fact) (view : View) (l : Id) → StandsFor S view → is_held S l ≡ true → 1 ≤ l.home

@@ -7,8 +7,7 @@ use Rattle.std.specs.Option.{option_map_or}
 use Rattle.lra_id.specs.Ids.{Id, same_id}
 use Rattle.lra_states.specs.declared.outcome.Verdict.{Verdict}
 use Rattle.lra_states.specs.declared.outcome.Verdict.TheVariants.{Close, Cancel}
-use Rattle.lra_facts.specs.declared.fact.Body.{Body}
-use Rattle.lra_facts.specs.declared.fact.Body.TheVariants.{Begin, Join, Leave, Decide, Report, Forgot, Purge}
+use Rattle.lra_facts.specs.declared.fact.Body.TheVariants.{Begin}
 use Rattle.lra_facts.specs.declared.fact.Fact.{Fact}
 use Rattle.lra_facts.specs.Lists.{In}
 use Rattle.lra_facts.specs.Sets.{begins, begun_by, is_begun, parent_of, chain, is_decision, is_decided, is_purge, is_purged_root, is_root, is_held, gives_number, member_number, numbers_given, NamesEarlier}
@@ -20,13 +19,14 @@ use Rattle.lra_forest.specs.declared.record.Record.{Record}
 use Rattle.lra_forest.specs.Records.{is_about, is_named, stamp, nodes_to, by_number, givers, member_by, members_of, deadline_of, place_in, decision_of, record_of}
 use Rattle.lra_forest.specs.Standing.{IsWhole}
 use Rattle.lra_forest.proofs.Begun.{begins_own}
-use Rattle.lra_forest.proofs.Bools.{and_left, and_right, not_false}
+use Rattle.lra_forest.proofs.Bools.{and_right, not_false}
 use Rattle.lra_forest.proofs.Chained.{begins_at}
 use Rattle.lra_forest.proofs.Giving.{filter_both}
 use Rattle.lra_forest.proofs.Seats.{same_is}
 use Rattle.lra_replica.specs.Growth.{IsMore, IsSettled, new_record, next_place}
-use Rattle.lra_replica.proofs.More.{false_from, none_found, filter_none, filter_all, in_first, parent_first, deadline_first, zero_at_nodes}
+use Rattle.lra_replica.proofs.More.{none_found, filter_none, filter_all, parent_first, deadline_first, zero_at_nodes}
 use Rattle.lra_replica.proofs.Kept.{any_kept, any_gained, filter_kept, begun_lesser, held_kept, members_kept, decision_kept, stamps_gained}
+use Rattle.lra_replica.proofs.Basics.{decision_names, false_from, giver_names, held_begun, in_left}
 
 -- what a begin names: a parent that is begun at its home
 abbrev pub IsAbove : Fact → List Fact → Option Id → Type 0
@@ -51,24 +51,6 @@ new_unbegun f S T more = none_found (begins (begun_by f)) S (λ g k. not_begun_y
 pub new_unnamed : (f : Fact) (S T : List Fact) → IsMore f S T → IsSettled S → (g : Fact) → In g S → is_named (begun_by f) g.body ≡ false
 new_unnamed f S T more settled g k = false_from (is_named (begun_by f) g.body) (λ e.
     let wrong : true ≡ false = sym (settled.named g (begun_by f) k e) ∙ new_unbegun f S T more in cc)
-
-decision_names : (l : Id) (v : Verdict) (body : Body) → is_decision l v body ≡ true → is_named l body ≡ true
-decision_names l v (Decide q w) e = and_left (same_id q l) _ e
-decision_names l v (Begin p d) e = absurd cc
-decision_names l v (Join q n links) e = absurd cc
-decision_names l v (Report q n act o) e = absurd cc
-decision_names l v (Forgot q n) e = absurd cc
-decision_names l v (Leave q n) e = absurd cc
-decision_names l v (Purge q) e = absurd cc
-
-giver_names : (l : Id) (body : Body) → gives_number l body ≡ true → is_named l body ≡ true
-giver_names l (Begin p d) e = e
-giver_names l (Join q n links) e = e
-giver_names l (Decide q w) e = absurd cc
-giver_names l (Report q n act o) e = absurd cc
-giver_names l (Forgot q n) e = absurd cc
-giver_names l (Leave q n) e = absurd cc
-giver_names l (Purge q) e = absurd cc
 
 new_undecided : (f : Fact) (S T : List Fact) → IsMore f S T → IsSettled S → (v : Verdict) → is_decided S v (begun_by f) ≡ false
 new_undecided f S T more settled v = none_found (λ g. is_decision (begun_by f) v g.body) S (λ g k. false_from (is_decision (begun_by f) v g.body) (λ e.
@@ -98,7 +80,7 @@ no_stamp f S T more settled node =
 -- What the set with the new fact says of it
 
 begun_earlier : (f : Fact) (S T : List Fact) (more : IsMore f S T) (g : Fact) → In g more.before → begins (begun_by f) g ≡ false
-begun_earlier f S T more g k = not_begun_yet f S T more g (subst (λ (xs : List Fact). In g xs) (sym more.was) (in_first more.before more.after g k))
+begun_earlier f S T more g k = not_begun_yet f S T more g (subst (λ (xs : List Fact). In g xs) (sym more.was) (in_left more.before more.after g k))
 
 pub new_parent : (f : Fact) (S T : List Fact) → IsMore f S T → (parent : Option Id) (deadline : ℕ) → f.body ≡ Begin parent deadline → parent_of T (begun_by f) ≡ parent
 new_parent f S T more parent deadline body =
@@ -197,9 +179,6 @@ nested_more f S T more whole parent deadline body up =
 
 none_along : (S : List Fact) (l : Id) → is_held S l ≡ true → list_any (is_purged_root S) (chain S l) ≡ false
 none_along S l e = not_false _ (and_right (is_begun S l) _ e)
-
-pub held_begun : (S : List Fact) (l : Id) → is_held S l ≡ true → is_begun S l ≡ true
-held_begun S l e = and_left (is_begun S l) _ e
 
 -- what a begin names: a parent that is held at its home
 abbrev pub IsHeldAbove : Fact → List Fact → Option Id → Type 0

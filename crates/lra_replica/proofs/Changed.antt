@@ -1,5 +1,5 @@
 -- the record that one more fact names: a decision, a join, or a begin under it
-use Rattle.std.proofs.Common.{◌≡◌, inl, inr, ◌<◌, ◌+◌, ◌==◌, ◌||◌, ◌&&◌, ℕ, zero, suc, List, [], ◌∷◌, ◌++◌, refl, sym, ap, subst, ◌∙◌, Bool, true, false, cond, arith, Some, None}
+use Rattle.std.proofs.Common.{◌≡◌, inl, inr, ◌<◌, ◌+◌, ◌==◌, ◌||◌, ◌&&◌, ℕ, List, [], ◌∷◌, ◌++◌, refl, sym, ap, subst, ◌∙◌, Bool, true, false, cond, arith, Some, None}
 use Rattle.std.specs.List.{list_any}
 use Rattle.lra_id.specs.Ids.{Id, same_id}
 use Rattle.lra_states.specs.States.{same_act, same_verdict}
@@ -13,22 +13,15 @@ use Rattle.lra_facts.specs.declared.fact.Fact.{Fact}
 use Rattle.lra_facts.specs.declared.links.Links.{Links}
 use Rattle.lra_facts.specs.Duties.{is_forgot, has_forgot}
 use Rattle.lra_facts.specs.Lists.{In}
-use Rattle.lra_facts.specs.Sets.{begins, is_begun, chain_within, chain, heard, reported, is_decision, is_decided, is_leave, has_left, want, gives_number, numbers_given}
+use Rattle.lra_facts.specs.Sets.{is_begun, chain, heard, reported, is_decision, is_decided, is_leave, has_left, want, gives_number, numbers_given}
 use Rattle.lra_facts.proofs.Membership.{any_from}
 use Rattle.lra_forest.specs.declared.record.Member.{Member}
-use Rattle.lra_forest.specs.Records.{is_about, is_named, member_by, members_of, deadline_of, decision_of, record_of}
+use Rattle.lra_forest.specs.Records.{is_named, member_by, members_of, deadline_of, decision_of, record_of}
 use Rattle.lra_forest.proofs.Seats.{same_is, same_self}
 use Rattle.lra_replica.specs.Growth.{IsMore, IsSettled, joined, members_after, decision_after, record_after, names_member}
-use Rattle.lra_replica.proofs.More.{false_from, none_found}
+use Rattle.lra_replica.proofs.More.{none_found}
 use Rattle.lra_replica.proofs.Kept.{any_gained, in_more, begun_before, deadline_kept, parent_part, stamps_gained, members_kept, members_gained, decision_kept, record_is}
-
--- a fact that names an LRA is about it
-pub about_named : (l : Id) (f : Fact) → is_named l f.body ≡ true → is_about l f ≡ true
-about_named l f e = by (begins l f)
-  where
-    by : (b : Bool) → (b || is_named l f.body) ≡ true
-    by true = refl
-    by false = e
+use Rattle.lra_replica.proofs.Basics.{about_named, false_from, own_in_chain}
 
 -- what the record of an LRA that was begun before becomes, by its decision and its members
 pub record_gained : (f : Fact) (S T : List Fact) → IsMore f S T → IsSettled S → ((p : Id) → gives_number p f.body ≡ true → f.origin ≡ p.home) → (nodes : ℕ) (l : Id) → is_begun S l ≡ true → is_named l f.body ≡ true
@@ -43,10 +36,6 @@ record_gained f S T more settled home nodes l b named decision members =
     members)
 
 -- A decision
-
-own_in_chain : (S : List Fact) (n : ℕ) (l : Id) → In l (chain_within n S l)
-own_in_chain S zero l = inl refl
-own_in_chain S (suc n) l = inl refl
 
 none_wanted : (a b : Bool) → cond a (Some Cancel) (cond b (Some Close) None) ≡ None → (a ≡ false) × (b ≡ false)
 none_wanted true b e = absurd cc

@@ -8,11 +8,7 @@ use Rattle.lra_facts.specs.Lists.{In}
 use Rattle.lra_facts.specs.Sets.{NamesEarlier, chain, chain_within, parent_of}
 use Rattle.lra_facts.proofs.Chains.{chain_enough, parent_lesser, same_rest}
 use Rattle.lra_forest.proofs.Chained.{parent_home}
-
--- an LRA is in its own chain
-pub in_own_chain : (S : List Fact) (n : ℕ) (l : Id) → In l (chain_within n S l)
-in_own_chain S zero l = inl refl
-in_own_chain S (suc n) l = inl refl
+use Rattle.lra_replica.proofs.Basics.{own_in_chain}
 
 rest_goes : (f : Id → List Id) (a b : Id) (above : Option Id) → ((p : Id) → above ≡ Some p → In a (f p) → In b (f p)) → In a (option_map_or f above []) → In b (option_map_or f above [])
 rest_goes f a b None h m = absurd m
@@ -36,7 +32,7 @@ order_rest f G a l None h m k = absurd m
 order_rest f G a l (Some p) h m k = h p refl m k
 
 chain_order_within : (S : List Fact) → AllByRecursion NamesEarlier S → (n : ℕ) (d a l : Id) → d.num ≤ n → In a (chain_within n S d) → In l (chain_within n S d) → In a (chain S l) ⊎ In l (chain S a)
-chain_order_within S nested zero d a l b (inl s) (inl t) = inl (subst (λ x. In a (chain S x)) (s ∙ sym t) (in_own_chain S a.num a))
+chain_order_within S nested zero d a l b (inl s) (inl t) = inl (subst (λ x. In a (chain S x)) (s ∙ sym t) (own_in_chain S a.num a))
 chain_order_within S nested zero d a l b (inl s) (inr k) = absurd k
 chain_order_within S nested zero d a l b (inr m) k = absurd m
 chain_order_within S nested (suc n) d a l b m (inl t) = inl (subst (λ c. In a c) (chain_enough S nested (suc n) d.num d b (omega arith) ∙ ap (chain S) (sym t)) m)

@@ -1,7 +1,6 @@
 -- fronts that count sets, with one more fact and of nothing
-use Rattle.std.proofs.Common.{◌≡◌, ◌≢◌, ◌⊎◌, inl, inr, ◌≤◌, ◌<◌, ◌+◌, ◌-◌, ◌==◌, ℕ, zero, suc, List, [], ◌∷◌, ◌++◌, refl, sym, ap, subst, ◌∙◌, Bool, true, false, arith, length, replicate, map, get_or, get_or-set_other, get_or-set_same}
-use Rattle.std.proofs.lemmas.Bool.Decides.{nat_tests}
-use Rattle.std.proofs.lemmas.List.{get_or-replicate, length-append, length-replicate}
+use Rattle.std.proofs.Common.{◌≡◌, ◌≢◌, ◌⊎◌, inl, inr, ◌≤◌, ◌<◌, ◌+◌, ◌-◌, ℕ, zero, suc, List, [], ◌∷◌, ◌++◌, refl, sym, ap, subst, ◌∙◌, arith, length, replicate, map, get_or, get_or-set_other, get_or-set_same}
+use Rattle.std.proofs.lemmas.List.{get_or-replicate, length-replicate}
 use Rattle.lra_id.specs.Fronts.{count}
 use Rattle.lra_facts.specs.declared.fact.Fact.{Fact}
 use Rattle.lra_forest.specs.Records.{nodes_to}
@@ -12,6 +11,7 @@ use Rattle.lra_replica.specs.Views.{AreRecords, IsCounted, StandsFor, purge_numb
 use Rattle.lra_replica.specs.Replies.{entered, next_fact}
 use Rattle.lra_replica.specs.declared.command.Command.{Command}
 use Rattle.lra_replica.proofs.Settling.{either_more, in_more, new_more}
+use Rattle.lra_replica.proofs.Basics.{length_nodes, same_or_not}
 
 -- A front that counts one more of a node
 
@@ -22,20 +22,6 @@ raised_here v node a b = let lt : node - 1 < length v = omega arith in rw get_or
 -- and no more of the others
 pub raised_else : (v : List ℕ) (node k : ℕ) → 1 ≤ node → 1 ≤ k → (k ≡ node → ⊥) → count (raised v node) k ≡ count v k
 raised_else v node k a b n = let ne : k - 1 ≢ node - 1 = (λ s. n (omega (arith, s))) in rw get_or-set_other refl
-
--- two numbers are the same or not
-pub same_or_not : (a b : ℕ) → (a ≡ b) ⊎ (a ≡ b → ⊥)
-same_or_not a b = by (a == b) refl
-  where
-    same : (a b : ℕ) → (a == b) ≡ true → a ≡ b
-    same a b e = grind (arith, nat_tests)
-
-    other : (a b : ℕ) → a ≡ b → (a == b) ≡ true
-    other a b e = grind (arith, nat_tests)
-
-    by : (t : Bool) → (a == b) ≡ t → (a ≡ b) ⊎ (a ≡ b → ⊥)
-    by true e = inl (same a b e)
-    by false e = inr (λ s. let yes : (a == b) ≡ true = other a b s in cc)
 
 at_most_raised : (v : List ℕ) (node k : ℕ) → 1 ≤ node → node ≤ length v → 1 ≤ k → count v k ≤ count (raised v node) k
 at_most_raised v node k some there one = elim (same_or_not k node) [
@@ -130,10 +116,6 @@ empty_counted n =
 no_purges : (xs : List ℕ) → map (purge_number []) xs ≡ replicate (length xs) 0
 no_purges [] = refl
 no_purges (x ∷ xs) = ap (λ (ys : List ℕ). 0 ∷ ys) (no_purges xs)
-
-length_nodes : (n : ℕ) → length (nodes_to n) ≡ n
-length_nodes zero = refl
-length_nodes (suc n) = omega (arith, length-append (nodes_to n) (suc n ∷ []), length_nodes n)
 
 no_records : (nodes home : ℕ) → AreRecords nodes [] home []
 no_records nodes home = record { order = record { homes = tt; ascending = tt }; stands = λ l e. refl }

@@ -20,9 +20,10 @@ use Rattle.lra_facts.proofs.Orders.{parent_missing}
 use Rattle.lra_replica.specs.Histories.{Entry, History, IsClosed, IsLawful, Made, facts, made, made_by, made_from}
 use Rattle.lra_replica.specs.Replies.{command_of}
 use Rattle.lra_replica.specs.Rising.{IsDecision}
-use Rattle.lra_replica.proofs.Climbing.{chain_goes, chain_home, in_own_chain, same_chain_on}
+use Rattle.lra_replica.proofs.Climbing.{chain_goes, chain_home, same_chain_on}
 use Rattle.lra_replica.proofs.Histories.{closed_settled, entry_of, facts_inside, in_facts, made_by_at, made_from_at}
 use Rattle.lra_replica.proofs.Lawfulness.{IsActiveHere, IsGiven, lawful_gives}
+use Rattle.lra_replica.proofs.Basics.{at_most, own_in_chain}
 
 -- One entry for an origin and a number
 
@@ -225,9 +226,6 @@ later_wants h lawful v closed l verdict wanted e m home late d under none =
     let chained : In by.0 (chain J l) = subst (λ (c : List Id). In by.0 c) (same_chain h lawful v e.front closed there l begun still) by.1 in
     undecided J d none verdict by.0 (chain_goes J (closed_settled h lawful e.front there).whole.nested d l by.0 under chained) decided
 
-pub at_most_or_more : (a b : ℕ) → (a ≤ b) ⊎ (b < a)
-at_most_or_more a b = grind arith
-
 -- So where l wants something in a closed set, that has all joins, leaves and decisions of LRAs under l
 pub entered_before : (h : History) → IsLawful h → (v w : List ℕ) → IsClosed h v → IsClosed h w → (l : Id) (verdict : Verdict) → want (facts h v) l ≡ Some verdict → (f : Fact) → In f (facts h w) → (d : Id) → asks_active d f.body ≡ true → In l (chain (facts h w) d) → In f (facts h v)
 entered_before h lawful v w cv cw l verdict wanted f k d asks under =
@@ -237,7 +235,7 @@ entered_before h lawful v w cv cw l verdict wanted f k d asks under =
     let active = entered_active h lawful e.0 e.1 d (subst (λ (x : Fact). asks_active d x.body ≡ true) e.2 asks) in
     let home : l.home ≡ d.home = chain_home T (closed_settled h lawful w cw).whole.nested d l under in
     let node : e.0.fact.origin ≡ l.home = sym (home ∙ active.home) in
-    elim (at_most_or_more e.0.fact.num (count v e.0.fact.origin)) [
+    elim (at_most e.0.fact.num (count v e.0.fact.origin)) [
       | inl counted ↦ subst (λ (x : Fact). In x (facts h v)) (sym e.2) (in_facts h v e.0 e.1 counted)
       | inr more ↦
           let there = (lawful.each e.0 e.1).closed in
@@ -266,7 +264,7 @@ no_later h lawful l v w d e is too late =
     let counted : d.fact.num ≤ count e.front d.fact.origin = omega (arith, late, (lawful.each e too.there).own, ap (count e.front) node) in
     let test : is_decision l v d.fact.body ≡ true = ap (is_decision l v) is.decides ∙ own l v in
     let decided : is_decided J v l ≡ true = any_from (λ (f : Fact). is_decision l v f.body) J d.fact (in_facts h e.front d is.there counted) test in
-    undecided J l active.active v l (in_own_chain J l.num l) decided
+    undecided J l active.active v l (own_in_chain J l.num l) decided
   where
     own : (l : Id) (v : Verdict) → is_decision l v (Decide l v) ≡ true
     own l Close = rw (same_self l) refl
@@ -276,8 +274,8 @@ no_later h lawful l v w d e is too late =
 pub decided_once : (h : History) → IsLawful h → (l : Id) (v w : Verdict) (d e : Made) → IsDecision h l v d → IsDecision h l w e → d ≡ e
 decided_once h lawful l v w d e is too =
     let node : d.fact.origin ≡ e.fact.origin = decided_home h lawful l v d is ∙ sym (decided_home h lawful l w e too) in
-    elim (at_most_or_more d.fact.num e.fact.num) [
-      | inl most ↦ elim (at_most_or_more e.fact.num d.fact.num) [
+    elim (at_most d.fact.num e.fact.num) [
+      | inl most ↦ elim (at_most e.fact.num d.fact.num) [
         | inl least ↦ made_once h d e is.there too.there node (omega (arith, most, least))
         | inr less ↦ absurd (no_later h lawful l v w d e is too less)
       ]

@@ -13,9 +13,10 @@ use Rattle.lra_replica.specs.Growth.{IsMore}
 use Rattle.lra_replica.specs.Histories.{Entry, History, IsClosed, IsLawful, IsLawfulEntry, Made, entries_of, facts, is_counted, made, made_by, made_from, with_entry}
 use Rattle.lra_replica.specs.Replicas.{raised}
 use Rattle.lra_replica.specs.Replies.{IsLawfulBody, Taken, body_for, command_of, judge}
-use Rattle.lra_replica.proofs.Counting.{raised_else, raised_here, same_or_not}
+use Rattle.lra_replica.proofs.Counting.{raised_else, raised_here}
 use Rattle.lra_replica.proofs.Fitting.{filter_agree}
-use Rattle.lra_replica.proofs.Histories.{counted_le, fact_of, in_left, in_right, le_counted, made_by_at}
+use Rattle.lra_replica.proofs.Histories.{counted_le, fact_of, le_counted, made_by_at}
+use Rattle.lra_replica.proofs.Basics.{in_left, in_right, same_or_not}
 
 -- Where the new entry stands
 

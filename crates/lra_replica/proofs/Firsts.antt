@@ -1,10 +1,11 @@
 -- The first of some refusals: what the first ones say of all.
-use Rattle.std.proofs.Common.{◌≡◌, ℕ, Bool, true, false, Option, Some, None, List, [], ◌∷◌, refl}
+use Rattle.std.proofs.Common.{◌≡◌, ℕ, true, Option, Some, None, List, [], ◌∷◌, refl}
 use Rattle.lra_id.specs.Ids.{Id}
 use Rattle.lra_facts.specs.declared.fact.Fact.{Fact}
 use Rattle.lra_facts.specs.Sets.{is_held}
 use Rattle.lra_facts.specs.declared.refusal.Refusal.{Refusal}
-use Rattle.lra_facts.specs.Refusals.{first, gone, unknown, unless}
+use Rattle.lra_facts.specs.Refusals.{first, gone, unknown}
+use Rattle.lra_replica.proofs.Basics.{open_first, passed}
 
 -- one of the first ones comes before all others
 pub first_some_2 : (a b : Option Refusal) (rest : List (Option Refusal)) (r : Refusal) → first (a ∷ b ∷ []) ≡ Some r → first (a ∷ b ∷ rest) ≡ Some r
@@ -42,14 +43,6 @@ first_none_5 (Some a) b c d k rest e = absurd cc
 first_none_5 None b c d k rest e = first_none_4 b c d k rest e
 
 -- Over what is refused first
-
-open_first : (o : Option Refusal) (rest : List (Option Refusal)) → first (o ∷ rest) ≡ None → (o ≡ None) × (first rest ≡ None)
-open_first None rest e = (refl, e)
-open_first (Some r) rest e = absurd cc
-
-passed : (b : Bool) (r : Refusal) → unless b r ≡ None → b ≡ true
-passed true r e = refl
-passed false r e = absurd cc
 
 -- where neither unknown nor gone is met, it is held
 pub none_held : (S : List Fact) (v : List ℕ) (l : Id) (rest : List (Option Refusal)) → first (unknown v l ∷ gone S l ∷ rest) ≡ None → is_held S l ≡ true

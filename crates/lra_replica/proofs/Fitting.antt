@@ -25,6 +25,7 @@ use Rattle.lra_replica.specs.Replies.{Taken, body_for, judge, next_fact}
 use Rattle.lra_replica.specs.declared.command.Command.{Command}
 use Rattle.lra_replica.specs.declared.command.Command.TheVariants.{Begin as BeginAsked, Join as JoinAsked, Leave as LeaveAsked, Decide as DecideAsked, Report as ReportAsked, Forgot as ForgotAsked, Purge as PurgeAsked}
 use Rattle.lra_replica.proofs.Lawfulness.{IsGiven, lawful_gives, number_left}
+use Rattle.lra_replica.proofs.Basics.{held_begun}
 
 -- what is asked of each fact of a settled set
 pub record IsFit (T : List Fact) (f : Fact) : Type 0 where
@@ -191,9 +192,6 @@ settled_from T whole once fit =
     }
 
 -- What the body says that is entered for a command
-
-held_begun : (S : List Fact) (l : Id) → is_held S l ≡ true → is_begun S l ≡ true
-held_begun S l held = and_left (is_begun S l) _ held
 
 -- what it names is held
 body_named : (S : List Fact) (v : List ℕ) (node : ℕ) (c : Command) (l : Id) → IsGiven S v node c → is_named l (body_for S c) ≡ true → is_held S l ≡ true

@@ -22,22 +22,12 @@ use Rattle.lra_replica.specs.Replies.{body_for, command_of, next_fact}
 use Rattle.lra_replica.specs.declared.command.Command.{Command}
 use Rattle.lra_replica.proofs.Lawfulness.{lawful_gives}
 use Rattle.lra_replica.proofs.Fitting.{IsEntered, IsFit, begun_inside, body_gives, earlier_new, filter_agree, fit_new, join_gives, joined_as, named_new, settled_from, whole_from}
+use Rattle.lra_replica.proofs.Basics.{in_left, in_right}
 
 -- Entries as facts
 
 abbrev pub fact_of : Made → Fact
 fact_of e = e.fact
-
--- the elements of two lists put together are those of the first
-pub in_left : {X : Type 0} (xs ys : List X) (x : X) → In x xs → In x (xs ++ ys)
-in_left [] ys x m = absurd m
-in_left (y ∷ xs) ys x (inl s) = inl s
-in_left (y ∷ xs) ys x (inr m) = inr (in_left xs ys x m)
-
--- and those of the second
-pub in_right : {X : Type 0} (xs ys : List X) (x : X) → In x ys → In x (xs ++ ys)
-in_right [] ys x m = m
-in_right (y ∷ xs) ys x m = inr (in_right xs ys x m)
 
 -- the entries of a node are its facts, with numbers from this one on
 pub made_by_at : (node num : ℕ) (es : List Entry) (e : Made) → In e (made_by node num es) → (e.fact.origin ≡ node) × (num ≤ e.fact.num)

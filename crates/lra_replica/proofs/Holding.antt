@@ -1,5 +1,5 @@
 -- what is held in a union, and that the merge of two views stands for it
-use Rattle.std.proofs.Common.{◌≡◌, inl, inr, ◌≤◌, ◌<◌, ◌==◌, ◌&&◌, ℕ, List, refl, sym, ap, subst, ◌∙◌, Bool, true, false, cond, arith, Option, Some, None, map, length, is_none, find}
+use Rattle.std.proofs.Common.{◌≡◌, inl, inr, ◌≤◌, ◌<◌, ◌==◌, ◌||◌, ◌&&◌, ℕ, List, refl, sym, ap, subst, ◌∙◌, Bool, true, false, cond, arith, Option, Some, None, map, length, is_none, find}
 use Rattle.std.proofs.lemmas.Bool.Decides.{nat_tests}
 use mathlib.Core.Bool.{not}
 use Rattle.std.specs.List.{list_any}
@@ -22,15 +22,12 @@ use Rattle.lra_replica.specs.Views.{IsCounted, StandsFor, View, is_purge_fact, p
 use Rattle.lra_replica.proofs.Fitting.{begun_inside, chain_inside}
 use Rattle.lra_replica.proofs.Homes.{begun_covered}
 use Rattle.lra_replica.proofs.Kept.{along_chain, chain_begun}
-use Rattle.lra_replica.proofs.More.{false_from}
 use Rattle.lra_replica.proofs.Together.{AreTogether, known, swapped}
-use Rattle.lra_replica.proofs.MergedRecords.{joined_maps, record_alone, record_union}
+use Rattle.lra_replica.proofs.MergedRecords.{joined_maps, record_known, record_union}
 use Rattle.lra_replica.proofs.Unions.{at_most_one, count_join, counted_join, length_join}
+use Rattle.lra_replica.proofs.Basics.{both_true, covered_le, false_from, held_begun}
 
 -- What is held
-
-both_true : (a b : Bool) → a ≡ true → b ≡ true → (a && b) ≡ true
-both_true a b e f = rw (e, f) refl
 
 -- no purge of a root is in the set
 abbrev NoPurge : List Fact → Id → Type 0
@@ -43,9 +40,6 @@ held_from S l begun none =
     let f = any_gives (λ (g : Fact). is_purge a.0 g.body) S (and_right (is_root S a.0) (list_any (λ g. is_purge a.0 g.body) S) a.2) in
     none a.0 f.0 a.1 (and_left (is_root S a.0) (list_any (λ g. is_purge a.0 g.body) S) a.2) f.1 f.2) in
     both_true (is_begun S l) (not (list_any (is_purged_root S) (chain S l))) begun (ap not off)
-
-held_begun : (S : List Fact) (l : Id) → is_held S l ≡ true → is_begun S l ≡ true
-held_begun S l held = and_left (is_begun S l) (not (list_any (is_purged_root S) (chain S l))) held
 
 held_none : (S : List Fact) (l : Id) → is_held S l ≡ true → NoPurge S l
 held_none S l held a f m root k purge =
@@ -82,9 +76,6 @@ held_outside J X sj sx inside l held none =
 -- one home's LRAs have chains of that home
 chain_home : (S : List Fact) → IsWhole S → (l a : Id) → In a (chain S l) → a.home ≡ l.home
 chain_home S whole l a m = along_chain (λ d. d.home ≡ l.home) S (λ d p at above. parent_home S d p whole.nested above ∙ at) l.num l a refl m
-
-covered_le : (v : List ℕ) (l : Id) → is_covered v l ≡ true → l.num ≤ count v l.home
-covered_le v l e = grind (arith, nat_tests)
 
 uncovered_lt : (v : List ℕ) (l : Id) → is_covered v l ≡ false → count v l.home < l.num
 uncovered_lt v l e = grind (arith, nat_tests)
@@ -156,14 +147,14 @@ module _ (S T U : List Fact) (v w : List ℕ) (t : AreTogether S T U v w) (l : I
   in_first a b true e = union_no (λ held. let there = held_first T S U w v (swapped S T U v w t) l held (covered_le w l e) in let clash : true ≡ false = sym there ∙ b in absurd cc)
   in_first a b false e =
       let beyond = uncovered_lt w l e in
-      union_yes (held_alone S T U v w t l a beyond) ∙ ap (λ r. Some r) (record_alone S T U v w t l (held_begun S l a) nodes (silent_beyond S T U v w t l beyond))
+      union_yes (held_alone S T U v w t l a beyond) ∙ ap (λ r. Some r) (record_known S T U v w t l (held_begun S l a) nodes (λ f m about. absurd (silent_beyond S T U v w t l beyond f m about)))
 
   in_second : is_held S l ≡ false → is_held T l ≡ true → (c : Bool) → is_covered v l ≡ c → at_union ≡ cond c None (Some (record_of nodes T l))
   in_second a b true e = union_no (λ held. let there = held_first S T U v w t l held (covered_le v l e) in let clash : true ≡ false = sym there ∙ a in absurd cc)
   in_second a b false e =
       let beyond = uncovered_lt v l e in
       let back = swapped S T U v w t in
-      union_yes (held_alone T S U w v back l b beyond) ∙ ap (λ r. Some r) (record_alone T S U w v back l (held_begun T l b) nodes (silent_beyond T S U w v back l beyond))
+      union_yes (held_alone T S U w v back l b beyond) ∙ ap (λ r. Some r) (record_known T S U w v back l (held_begun T l b) nodes (λ f m about. absurd (silent_beyond T S U w v back l beyond f m about)))
 
   in_none : is_held S l ≡ false → is_held T l ≡ false → at_union ≡ None
   in_none a b = union_no (λ held.
@@ -182,6 +173,74 @@ module _ (S T U : List Fact) (v w : List ℕ) (t : AreTogether S T U v w) (l : I
   -- of each LRA what is taken is what the union has
   pub taken_union : at_union ≡ taken (is_covered v l) (is_covered w l) (cond (is_held S l) (Some (record_of nodes S l)) None) (cond (is_held T l) (Some (record_of nodes T l)) None)
   taken_union = by_held (is_held S l) (is_held T l) refl refl
+
+-- What is taken of a part that is sent. Listed: it is told which LRAs of the home are held. Sent: the record is told, if there
+-- is one
+
+module _ (S T U : List Fact) (v w : List ℕ) (t : AreTogether S T U v w) (l : Id) (nodes : ℕ) (low : 1 ≤ l.home) (high : l.home ≤ nodes) (listed sent : Bool)
+    (purges : listed ≡ false → (f : Fact) (a : Id) → In f T → is_purge a f.body ≡ true → a.home ≡ l.home → In f S)
+    (facts : sent ≡ false → (f : Fact) → In f T → is_about l f ≡ true → In f S) where
+  -- held in the first and begun in the second, whose purges of the home the first has: held in the second
+  held_known : listed ≡ false → is_held S l ≡ true → is_begun T l ≡ true → is_held T l ≡ true
+  held_known off held begun =
+      let chained_left = chain_inside S U t.first.whole t.first.seated.once t.both.seated.once t.union.left l (held_begun S l held) in
+      let chained_right = chain_inside T U t.second.whole t.second.seated.once t.both.seated.once t.union.right l begun in
+      held_from T l begun (λ a f m root k purge.
+      let here : In a (chain S l) = subst (λ (c : List Id). In a c) (chained_right ∙ sym chained_left) m in
+      let left = root_inside S U t.first.seated.once t.both.seated.once t.union.left a (chain_begun S t.first.whole l (held_begun S l held) a here) in
+      let right = root_inside T U t.second.seated.once t.both.seated.once t.union.right a (chain_begun T t.second.whole l begun a m) in
+      held_none S l held a f here (left ∙ sym right ∙ root) (purges off f a k purge (chain_home T t.second.whole l a m)) purge)
+
+  none_sent : (b : Bool) (o : Option Record) → o ≡ None → cond b o None ≡ None
+  none_sent true o e = e
+  none_sent false o e = refl
+
+  never_gone : (a b : Bool) → (a && (b && false)) ≡ false
+  never_gone true true = refl
+  never_gone true false = refl
+  never_gone false b = refl
+
+  part_both : is_held S l ≡ true → is_held T l ≡ true → (b : Bool) → sent ≡ b → cond (is_held U l) (Some (record_of nodes U l)) None ≡ taken (is_covered v l) (listed && (is_covered w l && false)) (Some (record_of nodes S l)) (cond b (Some (record_of nodes T l)) None)
+  part_both a c true e = in_both S T U v w t l nodes low high a c
+  part_both a c false e =
+      let stays = never_gone listed (is_covered w l) in
+      union_yes S T U v w t l nodes low high (held_both S T U v w t l a c) ∙ ap (λ r. Some r) (record_known S T U v w t l (held_begun S l a) nodes (facts e)) ∙ rw stays refl
+
+  part_first : is_held S l ≡ true → is_held T l ≡ false → (b c : Bool) → listed ≡ b → is_covered w l ≡ c → cond (is_held U l) (Some (record_of nodes U l)) None ≡ cond (b && (c && true)) None (Some (record_of nodes S l))
+  part_first a d true true e f = in_first S T U v w t l nodes low high a d true f
+  part_first a d true false e f = in_first S T U v w t l nodes low high a d false f
+  part_first a d false false e f = in_first S T U v w t l nodes low high a d false f
+  part_first a d false true e f =
+      let begun = begun_first T S U w v (swapped S T U v w t) l (begun_inside S U t.union.left l (held_begun S l a)) (covered_le w l f) in
+      let clash : true ≡ false = sym (held_known e a begun) ∙ d in
+      absurd cc
+
+  part_second : is_held S l ≡ false → is_held T l ≡ true → (b : Bool) → sent ≡ b → cond (is_held U l) (Some (record_of nodes U l)) None ≡ taken (is_covered v l) (listed && (is_covered w l && false)) None (cond b (Some (record_of nodes T l)) None)
+  part_second a d true e = in_second S T U v w t l nodes low high a d (is_covered v l) refl
+  part_second a d false e = union_no S T U v w t l nodes low high (λ held.
+      let f = any_gives (begins l) T (held_begun T l d) in
+      let here = facts e f.0 f.1 (about_begun l f.0 f.2) in
+      let covered = begun_covered S v l t.counted_first (any_from (begins l) S f.0 here f.2) in
+      let clash : true ≡ false = sym (held_first S T U v w t l held covered.1) ∙ a in
+      absurd cc)
+    where
+      about_begun : (l : Id) (f : Fact) → begins l f ≡ true → is_about l f ≡ true
+      about_begun l f e = ap (λ b. b || is_named l f.body) e
+
+  part_by : (x y : Bool) → is_held S l ≡ x → is_held T l ≡ y → cond (is_held U l) (Some (record_of nodes U l)) None ≡ taken (is_covered v l) (listed && (is_covered w l && not y)) (cond x (Some (record_of nodes S l)) None) (cond sent (cond y (Some (record_of nodes T l)) None) None)
+  part_by true true a b = part_both a b sent refl
+  part_by true false a b =
+      let nothing = none_sent sent None refl in
+      part_first a b listed (is_covered w l) refl refl ∙ ap (λ o. taken (is_covered v l) (listed && (is_covered w l && true)) (Some (record_of nodes S l)) o) (sym nothing)
+  part_by false true a b = part_second a b sent refl
+  part_by false false a b =
+      let nothing = none_sent sent None refl in
+      in_none S T U v w t l nodes low high a b ∙ ap (λ o. taken (is_covered v l) (listed && (is_covered w l && true)) None o) (sym nothing)
+
+  -- what is taken is what the union has, where the first set has those of the second's purges that are not told, and all that
+  -- the second has about an LRA whose record is not sent
+  pub taken_part : cond (is_held U l) (Some (record_of nodes U l)) None ≡ taken (is_covered v l) (listed && (is_covered w l && not (is_held T l))) (cond (is_held S l) (Some (record_of nodes S l)) None) (cond sent (cond (is_held T l) (Some (record_of nodes T l)) None) None)
+  taken_part = part_by (is_held S l) (is_held T l) refl refl
 
 -- what a view that stands for a set has of an LRA
 pub record_standing : (S : List Fact) (a : View) (l : Id) → StandsFor S a → 1 ≤ l.home → l.home ≤ length a.front → record_at a l ≡ cond (is_held S l) (Some (record_of (length a.front) S l)) None

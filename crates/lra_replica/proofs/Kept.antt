@@ -26,7 +26,8 @@ use Rattle.lra_forest.proofs.Bools.{all_from}
 use Rattle.lra_forest.proofs.Chained.{begins_at, parent_home}
 use Rattle.lra_replica.specs.Growth.{IsMore, IsSettled}
 use Rattle.lra_replica.specs.Views.{is_purge_fact, purge_number}
-use Rattle.lra_replica.proofs.More.{false_from, any_more, most_more, filter_same, filter_more, filter_append, map_last, map_agree, in_first, in_second, by_number_last, parent_same, deadline_same, heard_same, set_at_node}
+use Rattle.lra_replica.proofs.More.{any_more, most_more, filter_same, filter_more, filter_append, map_last, map_agree, by_number_last, parent_same, deadline_same, heard_same, set_at_node}
+use Rattle.lra_replica.proofs.Basics.{equal_from, equal_itself, false_from, in_left, in_right}
 
 -- The same of a set with one more fact
 
@@ -56,24 +57,24 @@ heard_kept f S T more l m a e = ap (λ xs. heard xs l m a) more.is ∙ heard_sam
 pub in_more : (f : Fact) (S T : List Fact) (more : IsMore f S T) (g : Fact) → In g T → (g ≡ f) ⊎ In g S
 in_more f S T more g m =
     elim (in_append more.before (f ∷ more.after) g (subst (λ (xs : List Fact). In g xs) more.is m)) [
-      | inl a ↦ inr (subst (λ (xs : List Fact). In g xs) (sym more.was) (in_first more.before more.after g a))
+      | inl a ↦ inr (subst (λ (xs : List Fact). In g xs) (sym more.was) (in_left more.before more.after g a))
       | inr b ↦ by b
     ]
   where
     by : In g (f ∷ more.after) → (g ≡ f) ⊎ In g S
     by (inl s) = inl s
-    by (inr b) = inr (subst (λ (xs : List Fact). In g xs) (sym more.was) (in_second more.before more.after g b))
+    by (inr b) = inr (subst (λ (xs : List Fact). In g xs) (sym more.was) (in_right more.before more.after g b))
 
 pub in_more_old : (f : Fact) (S T : List Fact) (more : IsMore f S T) (g : Fact) → In g S → In g T
 in_more_old f S T more g k =
     subst (λ (xs : List Fact). In g xs) (sym more.is)
     (elim (in_append more.before more.after g (subst (λ (xs : List Fact). In g xs) more.was k)) [
-      | inl a ↦ in_first more.before (f ∷ more.after) g a
-      | inr b ↦ in_second more.before (f ∷ more.after) g (inr b)
+      | inl a ↦ in_left more.before (f ∷ more.after) g a
+      | inr b ↦ in_right more.before (f ∷ more.after) g (inr b)
     ])
 
 pub in_more_new : (f : Fact) (S T : List Fact) (more : IsMore f S T) → In f T
-in_more_new f S T more = subst (λ (xs : List Fact). In f xs) (sym more.is) (in_second more.before (f ∷ more.after) f (inl refl))
+in_more_new f S T more = subst (λ (xs : List Fact). In f xs) (sym more.is) (in_right more.before (f ∷ more.after) f (inl refl))
 
 -- What was begun before
 
@@ -289,13 +290,6 @@ stamp_kept f S T more l e node =
 stamp_elsewhere : (f : Fact) (S T : List Fact) → IsMore f S T → (l : Id) (node : ℕ) → (f.origin == node) ≡ false → stamp T l node ≡ stamp S l node
 stamp_elsewhere f S T more l node e =
     most_gained f S T more (λ g. cond ((g.origin == node) && is_about l g) g.num 0) ∙ rw e (omega arith)
-
--- what a test of two numbers says
-pub equal_from : (a b : ℕ) → (a == b) ≡ true → a ≡ b
-equal_from a b e = grind (arith, nat_tests)
-
-pub equal_itself : (a : ℕ) → (a == a) ≡ true
-equal_itself a = grind (arith, nat_tests)
 
 pub equal_not : (a b : ℕ) → (a ≡ b → ⊥) → (a == b) ≡ false
 equal_not a b n = grind (arith, nat_tests)

@@ -1,6 +1,5 @@
 -- what a node knows of a command that it takes
-use Rattle.std.proofs.Common.{◌≡◌, ◌<◌, ◌==◌, ◌||◌, ℕ, List, ◌∷◌, refl, Bool, true, false, arith, Option, Some, None, is_none, nat_lt}
-use Rattle.std.proofs.lemmas.Bool.Decides.{nat_tests}
+use Rattle.std.proofs.Common.{◌≡◌, ◌<◌, ◌==◌, ◌||◌, ℕ, List, refl, Bool, true, false, Option, Some, None, is_none, nat_lt}
 use Rattle.std.specs.Option.{option_map_or}
 use Rattle.lra_id.specs.Ids.{Id}
 use Rattle.lra_id.specs.Fronts.{count, is_covered}
@@ -9,10 +8,11 @@ use Rattle.lra_facts.specs.declared.refusal.Refusal.{Refusal}
 use Rattle.lra_facts.specs.declared.refusal.Refusal.TheVariants.{StillToForget}
 use Rattle.lra_facts.specs.Sets.{depth, held_at, is_demanded, is_ended, is_heard, is_held, is_participant, is_root, numbers_given, want}
 use Rattle.lra_facts.specs.Duties.{has_forgot, is_forget_duty}
-use Rattle.lra_facts.specs.Refusals.{unless, first, unknown, gone, away, stranger, settled, unasked, full, deep, crowded, spent}
+use Rattle.lra_facts.specs.Refusals.{unknown, gone, away, stranger, settled, unasked, full, deep, crowded, spent}
 use Rattle.lra_replica.specs.declared.command.Command.{Command}
 use Rattle.lra_replica.specs.declared.command.Command.TheVariants.{Begin as BeginAsked, Join as JoinAsked, Leave as LeaveAsked, Decide as DecideAsked, Report as ReportAsked, Forgot as ForgotAsked, Purge as PurgeAsked}
 use Rattle.lra_replica.specs.Replies.{Duty, Taken, is_known, judge, judged, least_duty, nested, refusal_of, running, unforgotten, unowed}
+use Rattle.lra_replica.proofs.Basics.{equal_from, less_by, open_first, passed}
 
 -- the front counts l, and the set holds it
 pub record IsHere (S : List Fact) (v : List ℕ) (l : Id) : Type 0 where
@@ -37,27 +37,12 @@ IsGiven S v node (ReportAsked l m act outcome) = IsHere S v l × (is_participant
 IsGiven S v node (ForgotAsked l m) = IsHere S v l × (is_participant S l m ≡ true) × (is_forget_duty S l m ≡ true) × (has_forgot S l m ≡ false)
 IsGiven S v node (PurgeAsked l) = IsHere S v l × (l.home ≡ node) × (is_root S l ≡ true) × (is_ended S l ≡ true) × (least_duty S S l ≡ None)
 
--- a test that refuses nothing passed
-passed : (b : Bool) (r : Refusal) → unless b r ≡ None → b ≡ true
-passed true r e = refl
-passed false r e = absurd cc
-
-first_is : (o : Option Refusal) (rest : List (Option Refusal)) → first (o ∷ rest) ≡ None → (o ≡ None) × (first rest ≡ None)
-first_is None rest e = (refl, e)
-first_is (Some r) rest e = absurd cc
-
 -- a command that is taken meets no refusal, is not known, and finds a number left
 taken_by : (o : Option Refusal) (known : Bool) (limit : Option Refusal) → judged o known limit ≡ Taken → (o ≡ None) × (known ≡ false) × (limit ≡ None)
 taken_by (Some r) known limit e = absurd cc
 taken_by None true limit e = absurd cc
 taken_by None false (Some r) e = absurd cc
 taken_by None false None e = (refl, refl, refl)
-
-same_number : (a b : ℕ) → (a == b) ≡ true → a ≡ b
-same_number a b e = grind (arith, nat_tests)
-
-less_by : (a b : ℕ) → nat_lt a b ≡ true → a < b
-less_by a b e = grind (arith, nat_tests)
 
 pub none_is : {X : Type 0} (o : Option X) → is_none o ≡ true → o ≡ None
 none_is None e = refl
@@ -70,7 +55,7 @@ held_by : (S : List Fact) (l : Id) → gone S l ≡ None → is_held S l ≡ tru
 held_by S l e = passed (is_held S l) _ e
 
 home_by : (node : ℕ) (l : Id) → away node l ≡ None → l.home ≡ node
-home_by node l e = same_number l.home node (passed (l.home == node) _ e)
+home_by node l e = equal_from l.home node (passed (l.home == node) _ e)
 
 active_by : (S : List Fact) (l : Id) → settled S l ≡ None → want S l ≡ None
 active_by S l e = none_is (want S l) (passed (is_none (want S l)) _ e)
@@ -110,50 +95,50 @@ is_here : (S : List Fact) (v : List ℕ) (l : Id) → unknown v l ≡ None → g
 is_here S v l a b = record { covered = covered_by v l a; held = held_by S l b }
 
 given : (S : List Fact) (v : List ℕ) (node : ℕ) (c : Command) → refusal_of S v node c ≡ None → is_known S c ≡ false → IsGiven S v node c
-given S v node (BeginAsked None deadline) e new = few_by S node (first_is (crowded S node) _ e).0
+given S v node (BeginAsked None deadline) e new = few_by S node (open_first (crowded S node) _ e).0
 given S v node (BeginAsked (Some p) deadline) e new =
-    let a = first_is (unknown v p) _ e in
-    let b = first_is (gone S p) _ a.1 in
-    let c = first_is (away node p) _ b.1 in
-    let d = first_is (settled S p) _ c.1 in
-    let f = first_is (full S p) _ d.1 in
-    let g = first_is (deep S p) _ f.1 in
-    (active_here S v node p a.0 b.0 c.0 d.0, room_by S p f.0, depth_by S p g.0, few_by S node (first_is (crowded S node) _ g.1).0)
+    let a = open_first (unknown v p) _ e in
+    let b = open_first (gone S p) _ a.1 in
+    let c = open_first (away node p) _ b.1 in
+    let d = open_first (settled S p) _ c.1 in
+    let f = open_first (full S p) _ d.1 in
+    let g = open_first (deep S p) _ f.1 in
+    (active_here S v node p a.0 b.0 c.0 d.0, room_by S p f.0, depth_by S p g.0, few_by S node (open_first (crowded S node) _ g.1).0)
 given S v node (JoinAsked l links) e new =
-    let a = first_is (unknown v l) _ e in
-    let b = first_is (gone S l) _ a.1 in
-    let c = first_is (away node l) _ b.1 in
-    let d = first_is (settled S l) _ c.1 in
-    (active_here S v node l a.0 b.0 c.0 d.0, room_by S l (first_is (full S l) _ d.1).0)
+    let a = open_first (unknown v l) _ e in
+    let b = open_first (gone S l) _ a.1 in
+    let c = open_first (away node l) _ b.1 in
+    let d = open_first (settled S l) _ c.1 in
+    (active_here S v node l a.0 b.0 c.0 d.0, room_by S l (open_first (full S l) _ d.1).0)
 given S v node (LeaveAsked l m) e new =
-    let a = first_is (unknown v l) _ e in
-    let b = first_is (gone S l) _ a.1 in
-    let c = first_is (away node l) _ b.1 in
-    let s = first_is (stranger S l m) _ c.1 in
-    (active_here S v node l a.0 b.0 c.0 (first_is (settled S l) _ s.1).0, participant_by S l m s.0)
+    let a = open_first (unknown v l) _ e in
+    let b = open_first (gone S l) _ a.1 in
+    let c = open_first (away node l) _ b.1 in
+    let s = open_first (stranger S l m) _ c.1 in
+    (active_here S v node l a.0 b.0 c.0 (open_first (settled S l) _ s.1).0, participant_by S l m s.0)
 given S v node (DecideAsked l verdict) e new =
-    let a = first_is (unknown v l) _ e in
-    let b = first_is (gone S l) _ a.1 in
-    let c = first_is (away node l) _ b.1 in
-    active_here S v node l a.0 b.0 c.0 (first_is (settled S l) _ c.1).0
+    let a = open_first (unknown v l) _ e in
+    let b = open_first (gone S l) _ a.1 in
+    let c = open_first (away node l) _ b.1 in
+    active_here S v node l a.0 b.0 c.0 (open_first (settled S l) _ c.1).0
 given S v node (ReportAsked l m act outcome) e new =
-    let a = first_is (unknown v l) _ e in
-    let b = first_is (gone S l) _ a.1 in
-    let s = first_is (stranger S l m) _ b.1 in
-    let u = first_is (unasked S l m act) _ s.1 in
+    let a = open_first (unknown v l) _ e in
+    let b = open_first (gone S l) _ a.1 in
+    let s = open_first (stranger S l m) _ b.1 in
+    let u = open_first (unasked S l m act) _ s.1 in
     (is_here S v l a.0 b.0, participant_by S l m s.0, passed (is_demanded S l m act) _ u.0, new)
 given S v node (ForgotAsked l m) e new =
-    let a = first_is (unknown v l) _ e in
-    let b = first_is (gone S l) _ a.1 in
-    let s = first_is (stranger S l m) _ b.1 in
-    (is_here S v l a.0 b.0, participant_by S l m s.0, owed_by S l m (first_is (unowed S l m) _ s.1).0 new, new)
+    let a = open_first (unknown v l) _ e in
+    let b = open_first (gone S l) _ a.1 in
+    let s = open_first (stranger S l m) _ b.1 in
+    (is_here S v l a.0 b.0, participant_by S l m s.0, owed_by S l m (open_first (unowed S l m) _ s.1).0 new, new)
 given S v node (PurgeAsked l) e new =
-    let a = first_is (unknown v l) _ e in
-    let b = first_is (gone S l) _ a.1 in
-    let c = first_is (away node l) _ b.1 in
-    let n = first_is (nested S l) _ c.1 in
-    let r = first_is (running S l) _ n.1 in
-    (is_here S v l a.0 b.0, home_by node l c.0, passed (is_root S l) _ n.0, passed (is_ended S l) _ r.0, told_by S l (first_is (unforgotten S l) _ r.1).0)
+    let a = open_first (unknown v l) _ e in
+    let b = open_first (gone S l) _ a.1 in
+    let c = open_first (away node l) _ b.1 in
+    let n = open_first (nested S l) _ c.1 in
+    let r = open_first (running S l) _ n.1 in
+    (is_here S v l a.0 b.0, home_by node l c.0, passed (is_root S l) _ n.0, passed (is_ended S l) _ r.0, told_by S l (open_first (unforgotten S l) _ r.1).0)
 
 -- what a node knows of a command that it takes
 pub lawful_gives : (S : List Fact) (v : List ℕ) (node : ℕ) (c : Command) → judge S v node c ≡ Taken → IsGiven S v node c

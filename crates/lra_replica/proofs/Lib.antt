@@ -1,4 +1,5 @@
 pub mod Adding
+pub mod Basics
 pub mod Begun
 pub mod Changed
 pub mod Climbing

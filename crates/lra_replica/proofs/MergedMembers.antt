@@ -7,7 +7,6 @@ use Rattle.lra_states.specs.States.{greater, same_act}
 use Rattle.lra_states.specs.declared.outcome.Act.{Act}
 use Rattle.lra_states.specs.declared.outcome.Act.TheVariants.{Complete, Compensate}
 use Rattle.lra_states.specs.declared.outcome.Outcome.{Outcome}
-use Rattle.lra_states.specs.declared.outcome.Outcome.TheVariants.{Busy, Done, Failed}
 use Rattle.lra_facts.specs.declared.fact.Body.{Body}
 use Rattle.lra_facts.specs.declared.fact.Body.TheVariants.{Begin, Join, Leave, Decide, Report, Forgot, Purge}
 use Rattle.lra_facts.specs.declared.fact.Fact.{Fact}
@@ -26,9 +25,10 @@ use Rattle.lra_forest.proofs.Seats.{same_is}
 use Rattle.lra_replica.specs.Growth.{names_member}
 use Rattle.lra_replica.specs.Merging.{merged_member, merged_members}
 use Rattle.lra_replica.proofs.Fitting.{givers_length}
-use Rattle.lra_replica.proofs.More.{false_from, filter_all, filter_append, map_agree, none_found}
+use Rattle.lra_replica.proofs.More.{filter_all, filter_append, map_agree, none_found}
 use Rattle.lra_replica.proofs.Prefixes.{IsLonger}
 use Rattle.lra_replica.proofs.Together.{AreTogether, givers_longer, givers_union, left_union}
+use Rattle.lra_replica.proofs.Basics.{false_from, greater_none}
 
 -- Facts that say nothing of a participant
 
@@ -62,15 +62,6 @@ heard_none (f ∷ S) l m a none =
     let here = none f (inl refl) in
     let rest = heard_none S l m a (λ g k. none g (inr k)) in
     rw (here, rest) refl
-
-none_greater : (o : Option Outcome) → greater o None ≡ o
-none_greater None = refl
-none_greater (Some o) = some o
-  where
-    some : (o : Outcome) → greater (Some o) None ≡ Some o
-    some Busy = refl
-    some Done = refl
-    some Failed = refl
 
 none_or : (b : Bool) → (b || false) ≡ b
 none_or true = refl
@@ -137,8 +128,8 @@ module _ (S T U : List Fact) (v w : List ℕ) (t : AreTogether S T U v w) (l : I
       let no_complete = heard_none T l m Complete (λ g k. unnamed_report l m Complete g.body (silent g k)) in
       let no_compensate = heard_none T l m Compensate (λ g k. unnamed_report l m Compensate g.body (silent g k)) in
       let no_mark : has_forgot T l m ≡ false = none_found (λ g. is_forgot l m g.body) T (λ g k. unnamed_forgot l m g.body (silent g k)) in
-      let complete : heard U l m Complete ≡ heard S l m Complete = heard_union S T U t.union l m Complete ∙ ap (greater (heard S l m Complete)) no_complete ∙ none_greater (heard S l m Complete) in
-      let compensate : heard U l m Compensate ≡ heard S l m Compensate = heard_union S T U t.union l m Compensate ∙ ap (greater (heard S l m Compensate)) no_compensate ∙ none_greater (heard S l m Compensate) in
+      let complete : heard U l m Complete ≡ heard S l m Complete = heard_union S T U t.union l m Complete ∙ ap (greater (heard S l m Complete)) no_complete ∙ greater_none (heard S l m Complete) in
+      let compensate : heard U l m Compensate ≡ heard S l m Compensate = heard_union S T U t.union l m Compensate ∙ ap (greater (heard S l m Compensate)) no_compensate ∙ greater_none (heard S l m Compensate) in
       let mark : has_forgot U l m ≡ has_forgot S l m = any_union (λ g. is_forgot l m g.body) S T U t.union ∙ ap (λ b. has_forgot S l m || b) no_mark ∙ none_or (has_forgot S l m) in
       let gone : has_left U l m ≡ has_left S l m = left_union S T U v w t l le m in
       rw (gone, complete, compensate, mark) refl

@@ -3,36 +3,36 @@ use Rattle.std.proofs.Common.{◌≡◌, inl, inr, ◌≤◌, ◌<◌, ◌+◌, 
 use Rattle.std.proofs.lemmas.Bool.Decides.{nat_tests}
 use Rattle.std.proofs.lemmas.List.{get_or_append_left, length-map, map-append}
 use Rattle.std.proofs.Math.Seq.{get_or-append_seam}
-use Rattle.lra_id.specs.Ids.{Id}
+use Rattle.std.specs.List.{list_any}
+use Rattle.lra_id.specs.Ids.{Id, same_id}
 use Rattle.lra_id.specs.Fronts.{count, join_fronts}
+use Rattle.lra_states.specs.States.{level, same_act}
+use Rattle.lra_states.specs.declared.outcome.Act.{Act}
+use Rattle.lra_states.specs.declared.outcome.Act.TheVariants.{Complete, Compensate}
+use Rattle.lra_states.specs.declared.outcome.Outcome.{Outcome}
+use Rattle.lra_facts.specs.declared.fact.Body.{Body}
+use Rattle.lra_facts.specs.declared.fact.Body.TheVariants.{Begin, Join, Leave, Decide, Report, Forgot, Purge}
 use Rattle.lra_facts.specs.declared.fact.Fact.{Fact}
+use Rattle.lra_facts.specs.Duties.{has_forgot, is_forgot}
 use Rattle.lra_facts.specs.Lists.{In}
-use Rattle.lra_facts.specs.Sets.{begins, is_begun, member_number, parent_of}
-use Rattle.lra_facts.proofs.Membership.{any_gives, filter_in, in_filter, most_least, most_union}
-use Rattle.lra_forest.specs.declared.record.Member.{Member}
+use Rattle.lra_facts.specs.Sets.{begins, has_left, heard, is_begun, is_leave, member_number, parent_of, reported}
+use Rattle.lra_facts.proofs.Heard.{heard_inside, level_heard, same_level}
+use Rattle.lra_facts.proofs.Membership.{any_from, any_gives, filter_in, in_filter, most_bounds, most_least, most_union, same_bools}
 use Rattle.lra_forest.specs.declared.record.Record.{Record}
-use Rattle.lra_forest.specs.Records.{deadline_given, deadline_of, givers, is_about, member_by, members_of, nodes_to, place_in, record_of, stamp}
+use Rattle.lra_forest.specs.Records.{deadline_given, deadline_of, givers, is_about, is_named, member_by, members_of, nodes_to, place_in, record_of, stamp}
 use Rattle.lra_forest.specs.Standing.{AreOnce}
 use Rattle.lra_forest.proofs.Begun.{once_in, parent_found}
-use Rattle.lra_forest.proofs.Bools.{all_from, all_in}
+use Rattle.lra_forest.proofs.Bools.{all_from, all_in, and_left}
 use Rattle.lra_forest.proofs.Chained.{begins_at, parent_home}
 use Rattle.lra_forest.proofs.Giving.{Ascend, giver_in, givers_ascend, in_givers, number_is}
 use Rattle.lra_replica.specs.Merging.{home_stamp, merged_members, merged_record}
 use Rattle.lra_replica.proofs.More.{map_agree}
 use Rattle.lra_replica.proofs.Prefixes.{same_ascending}
-use Rattle.lra_replica.proofs.Together.{AreTogether, about_named, decision_union, known, le_or_lt, named_giver, swapped}
+use Rattle.lra_replica.proofs.Together.{AreTogether, decision_union, givers_union, known, named_leave, stamp_reaches, swapped}
 use Rattle.lra_replica.proofs.MergedMembers.{members_union}
+use Rattle.lra_replica.proofs.Basics.{about_named, at_most, length_nodes}
 
 -- Lists of what each node has
-
--- as many as there are nodes
-pub length_nodes : (n : ℕ) → length (nodes_to n) ≡ n
-length_nodes zero = refl
-length_nodes (suc n) = appended (nodes_to n) (suc n) ∙ ap suc (length_nodes n)
-  where
-    appended : (xs : List ℕ) (x : ℕ) → length (xs ++ x ∷ []) ≡ suc (length xs)
-    appended [] x = refl
-    appended (y ∷ xs) x = ap suc (appended xs x)
 
 -- the element of a node
 pub nth_of : {X : Type 0} (g : ℕ → X) (d : X) (n k : ℕ) → k < n → get_or (map g (nodes_to n)) k d ≡ g (suc k)
@@ -40,7 +40,7 @@ nth_of g d zero k l = absurd (omega (arith, l))
 nth_of g d (suc n) k l =
     let size : length (map g (nodes_to n)) ≡ n = length-map (nodes_to n) g ∙ length_nodes n in
     ap (λ xs. get_or xs k d) (map-append g (nodes_to n) (suc n ∷ []))
-    ∙ (elim (le_or_lt n k) [
+    ∙ (elim (at_most n k) [
       | inl ge ↦
           let at : k ≡ length (map g (nodes_to n)) = omega (arith, ge, l, size) in
           let same : k ≡ n = omega (arith, ge, l) in
@@ -123,6 +123,28 @@ first_wins r t le = let test = le_test (home_stamp t) (home_stamp r) le in rw te
 second_wins : (r t : Record) → home_stamp r < home_stamp t → merged_record r t ≡ second_kept r t
 second_wins r t lt = let test = lt_test (home_stamp t) (home_stamp r) lt in rw test refl
 
+named_report : (l : Id) (m : ℕ) (a : Act) (body : Body) (o : Outcome) → reported l m a body ≡ Some o → is_named l body ≡ true
+named_report l m a (Report id n act outcome) o e = by (same_id id l) (n == m) (same_act act a) e
+  where
+    by : (b c d : Bool) → cond (b && (c && d)) (Some outcome) None ≡ Some o → b ≡ true
+    by true c d e = refl
+    by false c d e = absurd cc
+named_report l m a (Begin parent deadline) o e = absurd cc
+named_report l m a (Join id n links) o e = absurd cc
+named_report l m a (Leave id n) o e = absurd cc
+named_report l m a (Decide id u) o e = absurd cc
+named_report l m a (Forgot id n) o e = absurd cc
+named_report l m a (Purge root) o e = absurd cc
+
+named_forgot : (l : Id) (m : ℕ) (body : Body) → is_forgot l m body ≡ true → is_named l body ≡ true
+named_forgot l m (Forgot id n) e = and_left (same_id id l) (n == m) e
+named_forgot l m (Begin parent deadline) e = absurd cc
+named_forgot l m (Join id n links) e = absurd cc
+named_forgot l m (Leave id n) e = absurd cc
+named_forgot l m (Decide id u) e = absurd cc
+named_forgot l m (Report id n act outcome) e = absurd cc
+named_forgot l m (Purge root) e = absurd cc
+
 module _ (S T U : List Fact) (v w : List ℕ) (t : AreTogether S T U v w) (l : Id) (begun : is_begun S l ≡ true) where
   -- the member number of a nested LRA goes by what its home did before
   number_stays : (p : Id) → p.home ≡ l.home → member_number U p l.num ≡ member_number S p l.num
@@ -172,7 +194,7 @@ module _ (S T U : List Fact) (v w : List ℕ) (t : AreTogether S T U v w) (l : I
       let stamps = stamps_union nodes in
       let hs : home_stamp (record_of nodes S l) ≡ stamp S l l.home = count_nodes (stamp S l) nodes l.home low high in
       let ht : home_stamp (record_of nodes T l) ≡ stamp T l l.home = count_nodes (stamp T l) nodes l.home low high in
-      elim (le_or_lt (stamp T l l.home) (stamp S l l.home)) [
+      elim (at_most (stamp T l l.home) (stamp S l l.home)) [
         | inl le ↦
             let members = members_union S T U v w t l le in
             let decision = decision_union S T U v w t l le in
@@ -186,38 +208,65 @@ module _ (S T U : List Fact) (v w : List ℕ) (t : AreTogether S T U v w) (l : I
             step ∙ sym (second_wins (record_of nodes S l) (record_of nodes T l) (omega (arith, lt, hs, ht)))
       ]
 
-  -- where the second set says nothing of it, its record is the first's
-  pub record_alone : (nodes : ℕ) → ((f : Fact) → In f T → is_about l f ≡ true → ⊥) → record_of nodes U l ≡ record_of nodes S l
-  record_alone nodes silent =
+  -- where the first set has all that the second has about it, its record is the first's
+  pub record_known : (nodes : ℕ) → ((f : Fact) → In f T → is_about l f ≡ true → In f S) → record_of nodes U l ≡ record_of nodes S l
+  record_known nodes has =
       let begin = begin_stays in
       let deadline = begin.0 in
       let place = begin.1 in
-      let none : (node : ℕ) → stamp T l node ≡ 0 = λ node. no_stamp node in
-      let le : stamp T l l.home ≤ stamp S l l.home = omega (arith, none l.home) in
-      let members : members_of U l ≡ members_of S l = members_union S T U v w t l le ∙ ap (merged_members (members_of S l)) no_members ∙ with_none (members_of S l) in
-      let decision = decision_union S T U v w t l le in
+      let decision = decision_union S T U v w t l (lesser l.home) in
+      let members : members_of U l ≡ members_of S l = ap (map (λ f. member_by U l f.num f.body)) (givers_union S T U v w t l (lesser l.home)) ∙ map_agree (λ f. member_by U l f.num f.body) (λ f. member_by S l f.num f.body) (givers S l) (λ f m. member_known f.num f.body) in
       let stamps : map (stamp U l) (nodes_to nodes) ≡ map (stamp S l) (nodes_to nodes) =
-      map_agree (stamp U l) (stamp S l) (nodes_to nodes) (λ node m. most_union (λ f. cond ((f.origin == node) && is_about l f) f.num 0) S T U t.union ∙ ap (max (stamp S l node)) (none node) ∙ nothing_more (stamp S l node)) in
+      map_agree (stamp U l) (stamp S l) (nodes_to nodes) (λ node m. most_union (λ f. cond ((f.origin == node) && is_about l f) f.num 0) S T U t.union ∙ greater_first (stamp S l node) (stamp T l node) (lesser node)) in
       rw (place, deadline, stamps, members, decision) refl
     where
-      nothing_more : (n : ℕ) → max n 0 ≡ n
-      nothing_more n = omega arith
+      greater_first : (m n : ℕ) → n ≤ m → max m n ≡ m
+      greater_first m n h = omega (arith, h)
 
-      off : (b c : Bool) (n : ℕ) → (c ≡ true → ⊥) → cond (b && c) n 0 ≤ 0
-      off true true n never = absurd (never refl)
-      off true false n never = omega arith
-      off false c n never = omega arith
+      bounded : (b c : Bool) (n k : ℕ) → (b ≡ true → c ≡ true → n ≤ k) → cond (b && c) n 0 ≤ k
+      bounded true true n k h = h refl refl
+      bounded true false n k h = omega arith
+      bounded false c n k h = omega arith
 
-      no_stamp : (node : ℕ) → stamp T l node ≡ 0
-      no_stamp node = omega (arith, most_least (λ f. cond ((f.origin == node) && is_about l f) f.num 0) T 0 (λ f m. off (f.origin == node) (is_about l f) f.num (silent f m)))
+      origin_is : (a b : ℕ) → (a == b) ≡ true → a ≡ b
+      origin_is a b e = grind (arith, nat_tests)
 
-      none_given : (fs : List Fact) → ((f : Fact) → In f fs → ⊥) → map (λ f. member_by T l f.num f.body) fs ≡ []
-      none_given [] never = refl
-      none_given (f ∷ fs) never = absurd (never f (inl refl))
+      lesser : (node : ℕ) → stamp T l node ≤ stamp S l node
+      lesser node =
+          most_least (λ f. cond ((f.origin == node) && is_about l f) f.num 0) T (stamp S l node) (λ f m.
+          bounded (f.origin == node) (is_about l f) f.num (stamp S l node) (λ at about. stamp_reaches S l f node (has f m about) (origin_is f.origin node at) about))
 
-      no_members : members_of T l ≡ []
-      no_members = none_given (givers T l) (λ f m. let g = giver_in T l f m in silent f g.0 (about_named l f (named_giver l f.body g.1)))
+      -- what only facts about the LRA tell is told by the first set
+      told : (test : Fact → Bool) → ((f : Fact) → test f ≡ true → is_named l f.body ≡ true) → list_any test U ≡ list_any test S
+      told test named =
+          same_bools (list_any test U) (list_any test S)
+          (λ e. let f = any_gives test U e in elim (t.union.only f.0 f.1) [
+            | inl s ↦ any_from test S f.0 s f.2
+            | inr k ↦ any_from test S f.0 (has f.0 k (about_named l f.0 (named f.0 f.2))) f.2
+          ])
+          (λ e. let f = any_gives test S e in any_from test U f.0 (t.union.left f.0 f.1) f.2)
 
-      with_none : (ms : List Member) → merged_members ms [] ≡ ms
-      with_none [] = refl
-      with_none (m ∷ ms) = refl
+      heard_known : (m : ℕ) (a : Act) → heard U l m a ≡ heard S l m a
+      heard_known m a =
+          same_level (heard U l m a) (heard S l m a)
+          (omega (arith, heard_inside S U t.union.left l m a, level_heard U l m a, most_least (λ f. level (reported l m a f.body)) U (level (heard S l m a)) (λ f k. one f k (reported l m a f.body) refl)))
+        where
+          one : (f : Fact) → In f U → (o : Option Outcome) → reported l m a f.body ≡ o → level o ≤ level (heard S l m a)
+          one f k None e = omega arith
+          one f k (Some o) e =
+              let here : In f S = elim (t.union.only f k) [ inl s ↦ s | inr n ↦ has f n (about_named l f (named_report l m a f.body o e)) ] in
+              omega (arith, level_heard S l m a, most_bounds (λ g. level (reported l m a g.body)) S f here, ap level e)
+
+      member_known : (num : ℕ) (body : Body) → member_by U l num body ≡ member_by S l num body
+      member_known num (Join id m links) =
+          let complete = heard_known m Complete in
+          let compensate = heard_known m Compensate in
+          let mark : has_forgot U l m ≡ has_forgot S l m = told (λ f. is_forgot l m f.body) (λ f e. named_forgot l m f.body e) in
+          let gone : has_left U l m ≡ has_left S l m = told (λ f. is_leave l m f.body) (λ f e. named_leave l m f.body e) in
+          rw (gone, complete, compensate, mark) refl
+      member_known num (Begin parent deadline) = refl
+      member_known num (Leave id m) = refl
+      member_known num (Decide id u) = refl
+      member_known num (Report id m act outcome) = refl
+      member_known num (Forgot id m) = refl
+      member_known num (Purge root) = refl

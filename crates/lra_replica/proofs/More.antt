@@ -12,11 +12,6 @@ use Rattle.lra_facts.specs.Lists.{In, most}
 use Rattle.lra_facts.specs.Sets.{begins, parent_of, parent_named, heard, reported}
 use Rattle.lra_forest.specs.Records.{deadline_of, deadline_given, nodes_to, put_by_number, by_number}
 
--- a test that fails wherever it would give a contradiction
-pub false_from : (b : Bool) → (b ≡ true → ⊥) → b ≡ false
-false_from true h = absurd (h refl)
-false_from false h = refl
-
 pub none_found : {X : Type 0} (t : X → Bool) (xs : List X) → ((x : X) → In x xs → t x ≡ false) → list_any t xs ≡ false
 none_found t [] h = refl
 none_found t (x ∷ xs) h = let at = h x (inl refl) in rw at (none_found t xs (λ y m. h y (inr m)))
@@ -70,16 +65,6 @@ map_last g xs x = map-append g xs (x ∷ [])
 pub map_agree : {X Y : Type 0} (g h : X → Y) (xs : List X) → ((x : X) → In x xs → g x ≡ h x) → map g xs ≡ map h xs
 map_agree g h [] e = refl
 map_agree g h (x ∷ xs) e = let at = e x (inl refl) in let rest = map_agree g h xs (λ y m. e y (inr m)) in cc
-
--- what is in the first list, or in the second, is in both put together
-pub in_first : {X : Type 0} (xs ys : List X) (x : X) → In x xs → In x (xs ++ ys)
-in_first [] ys x m = absurd m
-in_first (y ∷ xs) ys x (inl s) = inl s
-in_first (y ∷ xs) ys x (inr m) = inr (in_first xs ys x m)
-
-pub in_second : {X : Type 0} (xs ys : List X) (x : X) → In x ys → In x (xs ++ ys)
-in_second [] ys x m = m
-in_second (y ∷ xs) ys x m = inr (in_second xs ys x m)
 
 -- Facts in order of their numbers
 

@@ -22,28 +22,15 @@ use Rattle.lra_replica.specs.Pages.{AreAscending, AreBefore, HasRow, IsBefore, I
 use Rattle.lra_replica.specs.Replicas.{Kept, IsKept, view_of}
 use Rattle.lra_replica.specs.Views.{AreRecords, IsCounted, StandsFor}
 use Rattle.lra_replica.proofs.Homes.{begun_here, begun_covered, beyond_front, nowhere}
-
-not_true : (b : Bool) → (b ≡ true → ⊥) → b ≡ false
-not_true true h = absurd (h refl)
-not_true false h = refl
+use Rattle.lra_replica.proofs.Basics.{at_most, false_from, less_by}
 
 less_true : (a b : ℕ) → a < b → nat_lt a b ≡ true
 less_true a b e = grind (arith, nat_tests, e)
 
-true_less : (a b : ℕ) → nat_lt a b ≡ true → a < b
-true_less a b e = grind (arith, nat_tests, e)
-
-le_cases : (a b : ℕ) → (a ≤ b) ⊎ (b < a)
-le_cases a b = by (nat_lt b a) refl
-  where
-    by : (t : Bool) → nat_lt b a ≡ t → (a ≤ b) ⊎ (b < a)
-    by true e = inr (true_less b a e)
-    by false e = inl (grind (arith, nat_tests, e))
-
 three : (a b : ℕ) → (a < b) ⊎ ((a ≡ b) ⊎ (b < a))
-three a b = elim (le_cases b a) [
+three a b = elim (at_most b a) [
   | inr less ↦ inl less
-  | inl most ↦ elim (le_cases a b) [ inr more ↦ inr (inr more) | inl least ↦ inr (inl (omega (arith, most, least))) ]
+  | inl most ↦ elim (at_most a b) [ inr more ↦ inr (inr more) | inl least ↦ inr (inl (omega (arith, most, least))) ]
 ]
 
 same_ids : (a b : Id) → a.home ≡ b.home → a.num ≡ b.num → a ≡ b
@@ -109,8 +96,8 @@ next_some : (nodes home num : ℕ) (S : List Fact) (rs qs : List Record) (q : Re
 next_some nodes home num S rs qs q settled are e = (
   record_held nodes home S rs q are.order are.stands inside.0,
   all_in (λ (x : Record). x.home ≡ home) rs are.order.homes q inside.0,
-  true_less num q.num inside.1,
-  λ l own above lesser. not_true (is_held S l) (λ held. between l own above lesser held),
+  less_by num q.num inside.1,
+  λ l own above lesser. false_from (is_held S l) (λ held. between l own above lesser held),
 )
   where
     inside : In q rs × (nat_lt num q.num ≡ true)
@@ -129,7 +116,7 @@ next_some nodes home num S rs qs q settled are e = (
         first r number (inr later) = absurd (omega (arith, lesser, number, all_in (λ (x : Record). q.num < x.num) qs ordered.ascending.0 r later))
 
 next_none : (nodes home num : ℕ) (S : List Fact) (rs : List Record) → AreRecords nodes S home rs → filter (λ (r : Record). nat_lt num r.num) rs ≡ [] → IsNextAt S home num None
-next_none nodes home num S rs are e l own more = not_true (is_held S l) (λ held.
+next_none nodes home num S rs are e l own more = false_from (is_held S l) (λ held.
     let found = held_later nodes home num S rs l are own more held in
     subst (λ (xs : List Record). In found.0 xs) e found.1)
 
@@ -156,8 +143,8 @@ some_num S l settled held = omega (arith, (held_num S l settled held).0)
 
 -- one home more
 pub bare_more : (S : List Fact) (home last next : ℕ) → IsSettled S → next ≡ last + 1 → AreBare S home last → IsNextAt S next 0 None → AreBare S home (last + 1)
-bare_more S home last next settled is bare none l after within = not_true (is_held S l) (λ held.
-    elim (le_cases l.home last) [
+bare_more S home last next settled is bare none l after within = false_from (is_held S l) (λ held.
+    elim (at_most l.home last) [
       | inl before ↦ absurd (let wrong = bare l after before in let both : true ≡ false = sym held ∙ wrong in cc)
       | inr beyond ↦ absurd (let wrong = none l (omega (arith, is, beyond, within)) (some_num S l settled held) in let both : true ≡ false = sym held ∙ wrong in cc)
     ])
@@ -168,21 +155,21 @@ first_found S home last next n settled from is bare found = (found.0, omega (ari
   where
     before : (l : Id) → home < l.home → IsBefore l n → is_held S l ≡ false
     before l after (inl lesser) = bare l after (omega (arith, is, found.1, lesser))
-    before l after (inr lesser) = not_true (is_held S l) (λ held.
+    before l after (inr lesser) = false_from (is_held S l) (λ held.
         let wrong = found.3 l (lesser.0 ∙ found.1) (some_num S l settled held) lesser.1 in let both : true ≡ false = sym held ∙ wrong in absurd cc)
 
 pub first_none : (S : List Fact) (front : List ℕ) (home last : ℕ) → IsCounted S front → length front ≤ last → AreBare S home last → IsFirstBeyond S home None
-first_none S front home last counted all bare l after = not_true (is_held S l) (λ held.
+first_none S front home last counted all bare l after = false_from (is_held S l) (λ held.
     let wrong = bare l after (omega (arith, all, (held_home S front l counted held).1)) in let both : true ≡ false = sym held ∙ wrong in absurd cc)
 
 -- the first of all
 pub first_of_all : (S : List Fact) (front : List ℕ) (o : Option Id) → IsCounted S front → IsFirstBeyond S 0 o → IsNext S None o
-first_of_all S front None counted first = λ l beyond. not_true (is_held S l) (λ held.
+first_of_all S front None counted first = λ l beyond. false_from (is_held S l) (λ held.
     let wrong = first l (omega (arith, (held_home S front l counted held).0)) in let both : true ≡ false = sym held ∙ wrong in absurd cc)
 first_of_all S front (Some n) counted first = (
   first.0,
   tt,
-  λ l beyond before. not_true (is_held S l) (λ held.
+  λ l beyond before. false_from (is_held S l) (λ held.
       let wrong = first.2 l (omega (arith, (held_home S front l counted held).0)) before in let both : true ≡ false = sym held ∙ wrong in absurd cc),
 )
 

@@ -16,11 +16,11 @@ use Rattle.lra_forest.proofs.Chained.{chain_root}
 use Rattle.lra_forest.proofs.Seats.{same_is}
 use Rattle.lra_replica.specs.Histories.{History, IsClosed, IsLawful, facts}
 use Rattle.lra_replica.specs.Rising.{IsCancelledAbove}
-use Rattle.lra_replica.proofs.Climbing.{in_own_chain}
 use Rattle.lra_replica.proofs.Decided.{counted_entry, decided_by, decision_asks, entered_before, same_chain, wanted_begun}
 use Rattle.lra_replica.proofs.Histories.{closed_settled}
 use Rattle.lra_replica.proofs.Lawfulness.{none_is}
 use Rattle.lra_replica.proofs.Risen.{cancel_wanted}
+use Rattle.lra_replica.proofs.Basics.{own_in_chain}
 
 verdict_is : (x y : Verdict) → same_verdict x y ≡ true → x ≡ y
 verdict_is Close Close e = refl
@@ -45,9 +45,9 @@ not_itself h lawful v w cv cw l close d =
     let S = facts h v in
     let T = facts h w in
     let found = any_gives (λ (f : Fact). is_decision l Cancel f.body) T d in
-    let had : In found.0 S = entered_before h lawful v w cv cw l Close close found.0 found.1 l (decision_asks l Cancel found.0.body found.2) (in_own_chain T l.num l) in
+    let had : In found.0 S = entered_before h lawful v w cv cw l Close close found.0 found.1 l (decision_asks l Cancel found.0.body found.2) (own_in_chain T l.num l) in
     let decided : is_decided S Cancel l ≡ true = any_from (λ (f : Fact). is_decision l Cancel f.body) S found.0 had found.2 in
-    let cancels : Close ≡ Cancel = cancel_wanted S l Close (any_from (is_decided S Cancel) (chain S l) l (in_own_chain S l.num l) decided) close in
+    let cancels : Close ≡ Cancel = cancel_wanted S l Close (any_from (is_decided S Cancel) (chain S l) l (own_in_chain S l.num l) decided) close in
     cc
 
 -- where an LRA wants Close in one closed set and Cancel in another, one further up was cancelled

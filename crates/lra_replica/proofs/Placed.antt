@@ -19,11 +19,11 @@ use Rattle.lra_forest.proofs.Puts.{put_find, put_are_of}
 use Rattle.lra_forest.proofs.Seats.{same_is, same_self}
 use Rattle.lra_replica.specs.Growth.{IsMore, IsSettled, record_after, new_record}
 use Rattle.lra_replica.specs.Views.{AreRecords, is_purge_fact}
-use Rattle.lra_replica.proofs.More.{false_from}
 use Rattle.lra_replica.proofs.Kept.{held_kept, held_stays, record_kept}
 use Rattle.lra_replica.proofs.Changed.{decide_record, join_record, parent_record}
 use Rattle.lra_replica.proofs.Told.{leave_record, report_record, forgot_record}
-use Rattle.lra_replica.proofs.Begun.{IsHeldAbove, above_begun, held_begun, begin_record, new_held}
+use Rattle.lra_replica.proofs.Begun.{IsHeldAbove, above_begun, begin_record, new_held}
+use Rattle.lra_replica.proofs.Basics.{false_from, held_begun}
 
 -- a record of l is of no other LRA
 of_is_same : (x l : Id) (r : Record) → r.home ≡ l.home → r.num ≡ l.num → is_of x r ≡ same_id l x

@@ -17,9 +17,9 @@ use Rattle.lra_forest.proofs.Chained.{parent_home}
 use Rattle.lra_forest.proofs.Seats.{same_is}
 use Rattle.lra_replica.specs.Growth.{IsMore, IsSettled}
 use Rattle.lra_replica.specs.Views.{AreRecords, is_purge_fact, purge_number}
-use Rattle.lra_replica.proofs.More.{false_from, map_agree, set_at_node}
-use Rattle.lra_replica.proofs.Kept.{along_chain, any_gained, any_kept, most_gained, parent_kept, begun_before, chain_begun, chain_kept, equal_from, equal_itself, equal_not, purge_kept, record_kept}
-use Rattle.lra_replica.proofs.Begun.{held_begun}
+use Rattle.lra_replica.proofs.More.{map_agree, set_at_node}
+use Rattle.lra_replica.proofs.Kept.{along_chain, any_gained, any_kept, most_gained, parent_kept, begun_before, chain_begun, chain_kept, equal_not, purge_kept, record_kept}
+use Rattle.lra_replica.proofs.Basics.{equal_from, equal_itself, false_from, held_begun}
 
 -- Who is held
 

@@ -23,11 +23,11 @@ use Rattle.lra_replica.specs.Replicas.{Change, one_change}
 use Rattle.lra_replica.specs.Replies.{Denied, Judgement, Taken, accepted, entered, judge, next_fact, reply_by, reply_of}
 use Rattle.lra_replica.specs.Views.{StandsFor, View, record_at, records_at}
 use Rattle.lra_replica.proofs.Adding.{after_decide, decide_adds, found_record, given_members, held_home, join_adds, leave_adds}
-use Rattle.lra_replica.proofs.Begun.{held_begun}
 use Rattle.lra_replica.proofs.Homes.{begun_within}
 use Rattle.lra_replica.proofs.Lawfulness.{lawful_gives}
 use Rattle.lra_replica.proofs.Replied.{reply_decided, reply_joined, reply_left}
 use Rattle.lra_replica.proofs.Told.{participant_given}
+use Rattle.lra_replica.proofs.Basics.{held_begun}
 
 -- a command that is denied has the refusal as its reply
 pub reply_denied : (S : List Fact) (v : List ℕ) (node : ℕ) (c : Command) (refusal : Refusal) → judge S v node c ≡ Denied refusal → reply_of S v node c ≡ Refused refusal

@@ -1,6 +1,5 @@
 -- the rank of what an LRA shows rises with the facts
-use Rattle.std.proofs.Common.{◌≡◌, ◌⊎◌, inl, inr, ◌≤◌, ◌&&◌, ℕ, List, refl, sym, ap, subst, ◌∙◌, Bool, true, false, arith, Option, Some, None, is_none}
-use Rattle.std.proofs.lemmas.Bool.Decides.{nat_tests}
+use Rattle.std.proofs.Common.{◌≡◌, ◌⊎◌, inl, inr, ◌≤◌, ℕ, List, refl, sym, ap, subst, ◌∙◌, Bool, true, false, arith, Option, Some, None, is_none}
 use mathlib.Core.Bool.{not}
 use Rattle.std.specs.List.{list_any}
 use Rattle.lra_id.specs.Ids.{Id, same_id}
@@ -30,14 +29,10 @@ use Rattle.lra_replica.proofs.Climbing.{along_chain, chain_goes, chain_order}
 use Rattle.lra_replica.proofs.Decided.{active_begun, asks_active, counted_entry, decided_by, decision_asks, entered_before, parent_both, same_chain}
 use Rattle.lra_replica.proofs.Fitting.{begun_inside}
 use Rattle.lra_replica.proofs.Histories.{closed_settled, facts_inside, in_facts}
-use Rattle.lra_replica.proofs.More.{false_from}
 use Rattle.lra_replica.proofs.Ranked.{force, force_more, rank_held, rank_raised, rank_same, stays_final, stays_incomplete, stays_uncompensated, wants_alike}
+use Rattle.lra_replica.proofs.Basics.{both_true, covered_le, false_from}
 
 -- Tests
-
-true_and : (a b : Bool) → a ≡ true → b ≡ true → (a && b) ≡ true
-true_and true b x y = y
-true_and false b x y = absurd cc
 
 true_not : (b : Bool) → (b ≡ true → ⊥) → not b ≡ true
 true_not true never = absurd (never refl)
@@ -199,9 +194,6 @@ kept_failed h v w g test stays l x wanted later e =
 
 -- Which LRAs are held
 
-covered_number : (v : List ℕ) (l : Id) → is_covered v l ≡ true → l.num ≤ count v l.home
-covered_number v l e = grind (arith, nat_tests)
-
 -- what the lesser set covers and the greater has begun, the lesser has begun
 begun_before : (h : History) (v w : List ℕ) (l : Id) → is_covered v l ≡ true → is_begun (facts h w) l ≡ true → is_begun (facts h v) l ≡ true
 begun_before h v w l covered e =
@@ -210,7 +202,7 @@ begun_before h v w l covered e =
     let entry = counted_entry h w found.0 found.1 in
     let here : count v entry.0.fact.origin ≡ count v l.home = ap (λ (f : Fact). count v f.origin) (sym entry.2) ∙ ap (count v) at.0 in
     let number : entry.0.fact.num ≡ l.num = ap (λ (f : Fact). f.num) (sym entry.2) ∙ at.1 in
-    let counted : entry.0.fact.num ≤ count v entry.0.fact.origin = omega (arith, covered_number v l covered, here, number) in
+    let counted : entry.0.fact.num ≤ count v entry.0.fact.origin = omega (arith, covered_le v l covered, here, number) in
     any_from (begins l) (facts h v) found.0 (subst (λ (f : Fact). In f (facts h v)) (sym entry.2) (in_facts h v entry.0 entry.1 counted)) found.2
 
 -- what is purged stays purged
@@ -224,14 +216,14 @@ purged_later h v w g l b e =
     let same = parent_both h g.lawful v w g.before g.after a begun (begun_later h v w g a begun) in
     let root : is_root T a ≡ true = ap is_none (sym same) ∙ and_left (is_root S a) _ found.2 in
     let gone : list_any (λ (f : Fact). is_purge a f.body) T ≡ true = any_inside (λ (f : Fact). is_purge a f.body) S T (grown_inside h v w g) (and_right (is_root S a) _ found.2) in
-    any_from (is_purged_root T) (chain T l) a (subst (λ (c : List Id). In a c) (kept_chain h v w g l b) found.1) (true_and (is_root T a) _ root gone)
+    any_from (is_purged_root T) (chain T l) a (subst (λ (c : List Id). In a c) (kept_chain h v w g l b) found.1) (both_true (is_root T a) _ root gone)
 
 -- what the lesser set covers and the greater holds, the lesser holds
 held_before : (h : History) (v w : List ℕ) → IsGrown h v w → (l : Id) → is_covered v l ≡ true → is_held (facts h w) l ≡ true → is_held (facts h v) l ≡ true
 held_before h v w g l covered e =
     let T = facts h w in
     let begun = begun_before h v w l covered (and_left (is_begun T l) _ e) in
-    true_and (is_begun (facts h v) l) _ begun (true_not _ (λ purged.
+    both_true (is_begun (facts h v) l) _ begun (true_not _ (λ purged.
     clash (list_any (is_purged_root T) (chain T l)) (purged_later h v w g l begun purged) (not_false _ (and_right (is_begun T l) _ e))))
 
 -- Ranks

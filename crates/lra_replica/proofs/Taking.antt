@@ -16,9 +16,9 @@ use Rattle.lra_forest.proofs.Gatherings.{find_in}
 use Rattle.lra_forest.proofs.Puts.{put_are_of, put_find}
 use Rattle.lra_replica.specs.Merging.{IsMerged, all_taken, home_stamp, merged, merged_record, put_some, taken, taken_of}
 use Rattle.lra_replica.specs.Views.{StandsFor, View, record_at, records_at}
-use Rattle.lra_replica.proofs.More.{in_first, in_second}
-use Rattle.lra_replica.proofs.MergedRecords.{length_nodes, nth_of}
+use Rattle.lra_replica.proofs.MergedRecords.{nth_of}
 use Rattle.lra_replica.proofs.Unions.{length_join}
+use Rattle.lra_replica.proofs.Basics.{in_left, in_right, length_nodes}
 
 -- Names of records
 
@@ -144,8 +144,8 @@ module _ (S T : List Fact) (a b : View) (nodes : length a.front ≡ length b.fro
       by : (c : Bool) → list_any (is_of l) (of_home l.home) ≡ c → cond c (taken_of a b l) None ≡ taken_of a b l
       by true e = refl
       by false e =
-          let left : record_at a l ≡ None = none_of_part l (records_at a.records l.home) (of_home l.home) (λ r m. in_first (records_at a.records l.home) (records_at b.records l.home) r m) e in
-          let right : record_at b l ≡ None = none_of_part l (records_at b.records l.home) (of_home l.home) (λ r m. in_second (records_at a.records l.home) (records_at b.records l.home) r m) e in
+          let left : record_at a l ≡ None = none_of_part l (records_at a.records l.home) (of_home l.home) (λ r m. in_left (records_at a.records l.home) (records_at b.records l.home) r m) e in
+          let right : record_at b l ≡ None = none_of_part l (records_at b.records l.home) (of_home l.home) (λ r m. in_right (records_at a.records l.home) (records_at b.records l.home) r m) e in
           sym (ap (λ o. taken (is_covered a.front l) (is_covered b.front l) o (record_at b l)) left ∙ ap (taken (is_covered a.front l) (is_covered b.front l) None) right)
 
   -- the merge of two views that count the same nodes is one

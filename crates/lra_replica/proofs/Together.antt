@@ -1,5 +1,5 @@
 -- two closed sets of one history, their fronts, and the union
-use Rattle.std.proofs.Common.{◌≡◌, ◌⊎◌, inl, inr, ◌≤◌, ◌<◌, ◌==◌, ◌||◌, ◌&&◌, ℕ, List, refl, sym, ap, subst, ◌∙◌, Bool, true, false, cond, arith, Some, is_some}
+use Rattle.std.proofs.Common.{◌≡◌, inl, inr, ◌≤◌, ◌==◌, ◌&&◌, ℕ, List, refl, sym, ap, subst, ◌∙◌, Bool, true, false, cond, arith, Some, is_some}
 use Rattle.std.proofs.lemmas.Bool.Decides.{nat_tests}
 use Rattle.std.specs.List.{list_any}
 use Rattle.lra_id.specs.Ids.{Id}
@@ -14,7 +14,7 @@ use Rattle.lra_facts.specs.declared.fact.Fact.{Fact}
 use Rattle.lra_facts.specs.declared.links.Links.{Links}
 use Rattle.lra_facts.specs.Duties.{is_forgot}
 use Rattle.lra_facts.specs.Lists.{In, IsInside, IsUnion}
-use Rattle.lra_facts.specs.Sets.{begins, reported, is_decision, is_decided, is_leave, is_purge, gives_number}
+use Rattle.lra_facts.specs.Sets.{reported, is_decision, is_decided, is_leave, is_purge}
 use Rattle.lra_facts.proofs.Membership.{any_from, any_gives, most_bounds, most_least, same_bools}
 use Rattle.lra_forest.specs.Records.{is_about, is_named, stamp, givers, decision_of}
 use Rattle.lra_forest.proofs.Begun.{once_in}
@@ -22,6 +22,7 @@ use Rattle.lra_forest.proofs.Giving.{giver_in, givers_ascend, in_givers}
 use Rattle.lra_replica.specs.Growth.{IsSettled}
 use Rattle.lra_replica.specs.Views.{IsCounted}
 use Rattle.lra_replica.proofs.Prefixes.{IsLonger, longer, same_ascending}
+use Rattle.lra_replica.proofs.Basics.{about_named, at_most, decision_names, giver_names}
 
 -- what the facts of closed sets keep besides: decisions, leaves and purges are their home's, and what is reported or marked
 -- of a participant was asked by a link of its
@@ -55,19 +56,7 @@ swapped S T U v w t =
       proper = t.proper;
     }
 
-pub le_or_lt : (a b : ℕ) → (a ≤ b) ⊎ (b < a)
-le_or_lt a b = grind arith
-
 -- What is named
-
-pub named_giver : (l : Id) (body : Body) → gives_number l body ≡ true → is_named l body ≡ true
-named_giver l (Begin parent deadline) e = e
-named_giver l (Join id m links) e = e
-named_giver l (Leave id m) e = absurd cc
-named_giver l (Decide id v) e = absurd cc
-named_giver l (Report id m act outcome) e = absurd cc
-named_giver l (Forgot id m) e = absurd cc
-named_giver l (Purge root) e = absurd cc
 
 pub named_leave : (l : Id) (m : ℕ) (body : Body) → is_leave l m body ≡ true → is_named l body ≡ true
 named_leave l m (Begin parent deadline) e = absurd cc
@@ -77,23 +66,6 @@ named_leave l m (Decide id v) e = absurd cc
 named_leave l m (Report id n act outcome) e = absurd cc
 named_leave l m (Forgot id n) e = absurd cc
 named_leave l m (Purge root) e = absurd cc
-
-named_decision : (l : Id) (v : Verdict) (body : Body) → is_decision l v body ≡ true → is_named l body ≡ true
-named_decision l v (Begin parent deadline) e = absurd cc
-named_decision l v (Join id n links) e = absurd cc
-named_decision l v (Leave id n) e = absurd cc
-named_decision l v (Decide id u) e = grind (arith, e)
-named_decision l v (Report id n act outcome) e = absurd cc
-named_decision l v (Forgot id n) e = absurd cc
-named_decision l v (Purge root) e = absurd cc
-
--- what names an LRA is about it
-pub about_named : (l : Id) (f : Fact) → is_named l f.body ≡ true → is_about l f ≡ true
-about_named l f e = by (begins l f) (is_named l f.body) e
-  where
-    by : (b c : Bool) → c ≡ true → (b || c) ≡ true
-    by true c e = refl
-    by false c e = e
 
 -- Stamps
 
@@ -143,7 +115,7 @@ module _ (S T U : List Fact) (v w : List ℕ) (t : AreTogether S T U v w) where
   pub givers_known : (l : Id) → stamp T l l.home ≤ stamp S l l.home → IsInside (givers T l) (givers S l)
   givers_known l le f m =
       let g = giver_in T l f m in
-      in_givers S l f (home_known l le f g.0 (t.second.seated.givers f l g.0 g.1) (named_giver l f.body g.1)) g.1
+      in_givers S l f (home_known l le f g.0 (t.second.seated.givers f l g.0 g.1) (giver_names l f.body g.1)) g.1
 
   -- the union's are the first's
   pub givers_union : (l : Id) → stamp T l l.home ≤ stamp S l l.home → givers U l ≡ givers S l
@@ -160,7 +132,7 @@ module _ (S T U : List Fact) (v w : List ℕ) (t : AreTogether S T U v w) where
   givers_longer l le =
       longer (givers S l) (givers T l) (givers_ascend S l t.first.seated) (givers_ascend T l t.second.seated) (givers_known l le) (λ f m.
       let g = giver_in S l f m in
-      elim (le_or_lt f.num (count w f.origin)) [
+      elim (at_most f.num (count w f.origin)) [
         | inl near ↦ inl (in_givers T l f (back f g.0 near) g.1)
         | inr far ↦ inr (λ k n.
             let x = giver_in T l k n in
@@ -192,6 +164,6 @@ module _ (S T U : List Fact) (v w : List ℕ) (t : AreTogether S T U v w) where
   -- its decision
   pub decision_union : (l : Id) → stamp T l l.home ≤ stamp S l l.home → decision_of U l ≡ decision_of S l
   decision_union l le =
-      let close : is_decided U Close l ≡ is_decided S Close l = test_union l le (λ f. is_decision l Close f.body) (λ f k e. (t.proper.decisions f l Close k e, named_decision l Close f.body e)) in
-      let cancel : is_decided U Cancel l ≡ is_decided S Cancel l = test_union l le (λ f. is_decision l Cancel f.body) (λ f k e. (t.proper.decisions f l Cancel k e, named_decision l Cancel f.body e)) in
+      let close : is_decided U Close l ≡ is_decided S Close l = test_union l le (λ f. is_decision l Close f.body) (λ f k e. (t.proper.decisions f l Close k e, decision_names l Close f.body e)) in
+      let cancel : is_decided U Cancel l ≡ is_decided S Cancel l = test_union l le (λ f. is_decision l Cancel f.body) (λ f k e. (t.proper.decisions f l Cancel k e, decision_names l Cancel f.body e)) in
       rw (close, cancel) refl

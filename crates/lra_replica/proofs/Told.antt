@@ -6,7 +6,6 @@ use Rattle.lra_states.specs.States.{greater}
 use Rattle.lra_states.specs.declared.outcome.Act.{Act}
 use Rattle.lra_states.specs.declared.outcome.Act.TheVariants.{Complete, Compensate}
 use Rattle.lra_states.specs.declared.outcome.Outcome.{Outcome}
-use Rattle.lra_states.specs.declared.outcome.Outcome.TheVariants.{Busy, Done, Failed}
 use Rattle.lra_facts.specs.declared.fact.Body.{Body}
 use Rattle.lra_facts.specs.declared.fact.Body.TheVariants.{Begin, Join, Leave, Decide, Report, Forgot, Purge}
 use Rattle.lra_facts.specs.declared.fact.Fact.{Fact}
@@ -25,6 +24,7 @@ use Rattle.lra_forest.proofs.Seats.{same_is, same_self, join_found}
 use Rattle.lra_replica.specs.Growth.{IsMore, IsSettled, reporting, leaving, forgetting, change_at, record_after}
 use Rattle.lra_replica.proofs.Kept.{any_kept, any_gained, givers_kept, heard_kept, decision_kept, in_more, in_more_new, in_more_old}
 use Rattle.lra_replica.proofs.Changed.{record_gained}
+use Rattle.lra_replica.proofs.Basics.{greater_none}
 
 -- The numbers with which the participants of an LRA joined
 
@@ -118,12 +118,6 @@ members_changed f S T more seated l m g none some changed =
     ∙ walk S T l m g changed (m - 1) 1 (givers S l) (omega (arith, some)) (givers_numbered S l seated)
 
 -- Outcomes
-
-greater_none : (o : Option Outcome) → greater o None ≡ o
-greater_none None = refl
-greater_none (Some Busy) = refl
-greater_none (Some Done) = refl
-greater_none (Some Failed) = refl
 
 -- with one more fact the greater outcome is heard
 pub heard_gained : (f : Fact) (S T : List Fact) → IsMore f S T → (l : Id) (m : ℕ) (a : Act) → heard T l m a ≡ greater (heard S l m a) (reported l m a f.body)
