@@ -1,0 +1,15 @@
+#!/bin/sh
+# Runs a benchmark: `benches/run.sh status` or `benches/run.sh prepare`. It copies the repository to a folder of its own, adds
+# the program of that name there, proves it and runs it.
+#   status   what an LRA shows, by the records of its home and by the slow evaluators over the same facts
+#   prepare  a join that is prepared and applied, at homes of 16, 64 and 256 LRAs
+set -eu
+name=$1
+top=$(cd "$(dirname "$0")/.." && pwd)
+copy=$(mktemp -d)
+trap 'rm -rf "$copy"' EXIT
+cp -r "$top/crates" "$top/crates.txt" "$top/HANDLES" "$copy/"
+mkdir -p "$copy/crates/bench_$name/src"
+cp "$top/benches/$name/main.rt.txt" "$copy/crates/bench_$name/src/main.rt"
+echo "bench_$name: lra_id lra_facts lra_forest lra_replica anyhow" >> "$copy/crates.txt"
+cd "$copy" && git init -q . && cd "crates/bench_$name" && rt run
