@@ -4,6 +4,7 @@ pub mod Begun
 pub mod Changed
 pub mod Climbing
 pub mod Counting
+pub mod Crowding
 pub mod Decided
 pub mod Empties
 pub mod Entries
@@ -37,6 +38,8 @@ pub mod Risen
 pub mod Rooms
 pub mod SameHomes
 pub mod Settling
+pub mod ShapeExamples
+pub mod Shaped
 pub mod Taking
 pub mod Together
 pub mod Told

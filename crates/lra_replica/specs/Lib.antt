@@ -7,4 +7,5 @@ pub mod Prepared
 pub mod Replicas
 pub mod Replies
 pub mod Rising
+pub mod Shape
 pub mod Views

@@ -13,6 +13,7 @@ ghost use Rattle.lra_replica.specs.Replicas.{Change, empty_view, patched, raised
 ghost use Rattle.lra_replica.specs.Views.{IsCounted, StandsFor, View};
 
 pub mod rising;
+pub mod shape;
 
 /// What a closed front of a lawful history counts is settled, and the front counts just that.
 #[tactic(auto, using(crate::proofs::Histories::closed_settled, crate::proofs::Histories::closed_counted))]
