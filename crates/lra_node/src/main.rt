@@ -22,10 +22,13 @@ use std::{env, io};
 
 const USAGE: &str = "usage: lra_node script N | serve N PORT DIR";
 
-/// Runs the script over standard input. It ends with 0 at the end of the input, with 1 after a fault, and with 2, and
-/// the usage, where the arguments ask for something else.
+/// Runs the script over standard input. It ends with 0 at the end of the input, with 1 after a fault or where memory was
+/// wanting at the start, and with 2, and the usage, where the arguments ask for something else.
 fn main(rt: HostRuntime) -> ExitCode {
-    if !asks_for_script(&rt) {
+    let Ok(asked) = asks_for_script(&rt) else {
+        return ExitCode::from(1);
+    };
+    if !asked {
         let _ = eprintln!(rt; "{USAGE}");
         return ExitCode::from(2);
     }
@@ -36,14 +39,12 @@ fn main(rt: HostRuntime) -> ExitCode {
 }
 
 /// Whether there are two arguments, which ask for a script of one node.
-fn asks_for_script(rt: &HostRuntime) -> bool {
-    let Ok(mut words) = env::args(rt) else {
-        return false;
-    };
+fn asks_for_script(rt: &HostRuntime) -> io::Result<bool> {
+    let mut words = env::args(rt)?;
     let _program = words.next();
     match (words.next(), words.next(), words.next()) {
-        (Some(command), Some(nodes), None) => is_script(command.as_str(), nodes.as_str()),
-        _ => false,
+        (Some(command), Some(nodes), None) => Ok(is_script(command.as_str(), nodes.as_str())),
+        _ => Ok(false),
     }
 }
 
