@@ -1,9 +1,10 @@
 -- two fronts, node by node
-use Rattle.std.proofs.Common.{◌≡◌, ◌≤◌, ◌<◌, ◌+◌, ◌-◌, ℕ, zero, suc, List, [], ◌∷◌, ◌++◌, refl, sym, ap, ◌∙◌, arith, length, take, get_or, max, min, replicate, set}
+use Rattle.std.proofs.Common.{◌≡◌, ◌<◌, ◌+◌, ◌-◌, ℕ, zero, suc, List, [], ◌∷◌, ◌++◌, refl, sym, ap, ◌∙◌, arith, length, take, get_or, max, min, replicate, set}
+use Rattle.std.proofs.Math.Seq.{take-append_seam}
 use Rattle.std.proofs.lemmas.List.{length-take-le}
 use Rattle.lra_id.specs.declared.front.Front.TheInside.{Inside}
 use Rattle.lra_id.specs.FrontParts.{IsKept, counts_of}
-use Rattle.lra_id.specs.Fronts.{count, pairwise, join_fronts, meet_fronts, IsBelow}
+use Rattle.lra_id.specs.Fronts.{pairwise, join_fronts, meet_fronts, IsBelow}
 
 -- the first i nodes are paired
 abbrev pub paired_to : (ℕ → ℕ → ℕ) → ℕ → List ℕ → List ℕ → List ℕ
@@ -113,20 +114,80 @@ pair_count f none (a ∷ v) [] e k = absurd cc
 pair_count f none (a ∷ v) (b ∷ w) e zero = refl
 pair_count f none (a ∷ v) (b ∷ w) e (suc k) = pair_count f none v w (omega (arith, e)) k
 
-pub join_count : (v w : List ℕ) → length v ≡ length w → (k : ℕ) → get_or (join_fronts v w) k 0 ≡ max (get_or v k 0) (get_or w k 0)
-join_count v w e k = pair_count max refl v w e k
+pub join_count : (v w : List ℕ) (k : ℕ) → get_or (join_fronts v w) k 0 ≡ max (get_or v k 0) (get_or w k 0)
+join_count [] w k = omega arith
+join_count (a ∷ v) [] k = omega arith
+join_count (a ∷ v) (b ∷ w) zero = refl
+join_count (a ∷ v) (b ∷ w) (suc k) = join_count v w k
 
 pub meet_count : (v w : List ℕ) → length v ≡ length w → (k : ℕ) → get_or (meet_fronts v w) k 0 ≡ min (get_or v k 0) (get_or w k 0)
 meet_count v w e k = pair_count min refl v w e k
 
-pub join_above : (v w : List ℕ) → length v ≡ length w → IsBelow v (join_fronts v w) × IsBelow w (join_fronts v w)
-join_above v w e = (λ node. omega (arith, join_count v w e (node - 1)), λ node. omega (arith, join_count v w e (node - 1)))
+pub join_above : (v w : List ℕ) → IsBelow v (join_fronts v w) × IsBelow w (join_fronts v w)
+join_above v w = (λ node. omega (arith, join_count v w (node - 1)), λ node. omega (arith, join_count v w (node - 1)))
 
-pub join_least : (v w u : List ℕ) → length v ≡ length w → IsBelow v u → IsBelow w u → IsBelow (join_fronts v w) u
-join_least v w u e a b = λ node. omega (arith, join_count v w e (node - 1), a node, b node)
+pub join_least : (v w u : List ℕ) → IsBelow v u → IsBelow w u → IsBelow (join_fronts v w) u
+join_least v w u a b = λ node. omega (arith, join_count v w (node - 1), a node, b node)
 
 pub meet_below : (v w : List ℕ) → length v ≡ length w → IsBelow (meet_fronts v w) v × IsBelow (meet_fronts v w) w
 meet_below v w e = (λ node. omega (arith, meet_count v w e (node - 1)), λ node. omega (arith, meet_count v w e (node - 1)))
 
 pub meet_greatest : (v w u : List ℕ) → length v ≡ length w → IsBelow u v → IsBelow u w → IsBelow u (meet_fronts v w)
 meet_greatest v w u e a b = λ node. omega (arith, meet_count v w e (node - 1), a node, b node)
+
+-- The join of two fronts, of which either may have more nodes
+
+length_join : (v w : List ℕ) → length (join_fronts v w) ≡ max (length v) (length w)
+length_join [] w = omega arith
+length_join (a ∷ v) [] = omega arith
+length_join (a ∷ v) (b ∷ w) = omega (arith, length_join v w)
+
+join_none : (v : List ℕ) → join_fronts v [] ≡ v
+join_none [] = refl
+join_none (a ∷ v) = refl
+
+-- beyond the nodes there are zeros
+join_filled : (v w : List ℕ) (m n k : ℕ) → length v + m ≡ length w + n → k + max (length v) (length w) ≡ length v + m
+    → join_fronts (v ++ replicate m 0) (w ++ replicate n 0) ≡ join_fronts v w ++ replicate k 0
+join_filled [] [] zero zero zero e l = refl
+join_filled [] [] zero zero (suc k) e l = absurd (omega (arith, l))
+join_filled [] [] zero (suc n) k e l = absurd (omega (arith, e))
+join_filled [] [] (suc m) zero k e l = absurd (omega (arith, e))
+join_filled [] [] (suc m) (suc n) zero e l = absurd (omega (arith, l))
+join_filled [] [] (suc m) (suc n) (suc k) e l = ap (λ r. 0 ∷ r) (join_filled [] [] m n k (omega (arith, e)) (omega (arith, l)))
+join_filled [] (b ∷ w) zero n k e l = absurd (omega (arith, e))
+join_filled [] (b ∷ w) (suc m) n k e l =
+    let greater : max 0 b ≡ b = omega arith in
+    ap (λ x. x ∷ join_fronts (replicate m 0) (w ++ replicate n 0)) greater
+    ∙ ap (λ r. b ∷ r) (join_filled [] w m n k (omega (arith, e)) (omega (arith, l)))
+join_filled (a ∷ v) [] m zero k e l = absurd (omega (arith, e))
+join_filled (a ∷ v) [] m (suc n) k e l =
+    let greater : max a 0 ≡ a = omega arith in
+    ap (λ x. x ∷ join_fronts (v ++ replicate m 0) (replicate n 0)) greater
+    ∙ ap (λ r. a ∷ r) (join_filled v [] m n k (omega (arith, e)) (omega (arith, l)) ∙ ap (λ r. r ++ replicate k 0) (join_none v))
+join_filled (a ∷ v) (b ∷ w) m n k e l = ap (λ r. max a b ∷ r) (join_filled v w m n k (omega (arith, e)) (omega (arith, l)))
+
+pub joined_counts : (a b : Inside) → IsKept a → IsKept b → join_fronts a.counts b.counts ≡ join_fronts (counts_of a) (counts_of b) ++ replicate (8 - max a.nodes b.nodes) 0
+joined_counts a b ha hb =
+    let la : length (take a.nodes a.counts) ≡ a.nodes = length-take-le a.nodes a.counts (omega (arith, ha.few, ha.size)) in
+    let lb : length (take b.nodes b.counts) ≡ b.nodes = length-take-le b.nodes b.counts (omega (arith, hb.few, hb.size)) in
+    ap (λ r. join_fronts r b.counts) ha.rest ∙ ap (join_fronts (take a.nodes a.counts ++ replicate (8 - a.nodes) 0)) hb.rest
+    ∙ join_filled (take a.nodes a.counts) (take b.nodes b.counts) (8 - a.nodes) (8 - b.nodes) (8 - max a.nodes b.nodes)
+    (omega (arith, la, lb, ha.few, hb.few)) (omega (arith, la, lb, ha.few, hb.few))
+
+pub join_seen : (a b : Inside) → IsKept a → IsKept b → take (max a.nodes b.nodes) (join_fronts a.counts b.counts) ≡ join_fronts (counts_of a) (counts_of b)
+join_seen a b ha hb =
+    let la : length (take a.nodes a.counts) ≡ a.nodes = length-take-le a.nodes a.counts (omega (arith, ha.few, ha.size)) in
+    let lb : length (take b.nodes b.counts) ≡ b.nodes = length-take-le b.nodes b.counts (omega (arith, hb.few, hb.size)) in
+    let same : max a.nodes b.nodes ≡ length (join_fronts (counts_of a) (counts_of b)) = omega (arith, la, lb, length_join (counts_of a) (counts_of b)) in
+    ap (take (max a.nodes b.nodes)) (joined_counts a b ha hb)
+    ∙ ap (λ k. take k (join_fronts (counts_of a) (counts_of b) ++ replicate (8 - max a.nodes b.nodes) 0)) same
+    ∙ take-append_seam (join_fronts (counts_of a) (counts_of b)) (replicate (8 - max a.nodes b.nodes) 0)
+
+pub join_kept : (a b : Inside) → IsKept a → IsKept b → IsKept (record { nodes = max a.nodes b.nodes; counts = join_fronts a.counts b.counts })
+join_kept a b ha hb = record {
+  some = omega (arith, ha.some);
+  few = omega (arith, ha.few, hb.few);
+  size = omega (arith, length_join a.counts b.counts, ha.size, hb.size);
+  rest = joined_counts a b ha hb ∙ ap (λ r. r ++ replicate (8 - max a.nodes b.nodes) 0) (sym (join_seen a b ha hb));
+}

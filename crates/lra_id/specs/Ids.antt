@@ -1,5 +1,5 @@
 -- The names of nodes and of LRAs, the sixteen bytes of an id, and its texts.
-use Rattle.std.specs.Prelude.{◌≡◌, ◌≤◌, ◌<◌, ◌+◌, ◌*◌, ◌^◌, ℕ, Bool, ◌==◌, ◌&&◌, List, ◌++◌, Some, length, take, replicate, codes}
+use Rattle.std.specs.Prelude.{◌≡◌, ◌≤◌, ◌<◌, ◌+◌, ◌*◌, ◌^◌, ℕ, Bool, ◌==◌, ◌&&◌, nat_le, nat_lt, List, ◌++◌, Some, length, take, replicate, codes}
 use Rattle.std.specs.Int.{to_be_bytes, w16, w64}
 use Rattle.std.specs.Fmt.{decimal}
 use Rattle.uuid.specs.Text.{parsed, hyphenated_text, lower}
@@ -16,6 +16,9 @@ IsNodeNumber n = (1 ≤ n) × (n ≤ 8)
 -- a node numbers its facts from 1, and a number fits 48 bits
 abbrev pub IsFactNumber : ℕ → Type 0
 IsFactNumber n = (1 ≤ n) × (n < 2 ^ 48)
+
+abbrev pub is_fact_number : ℕ → Bool
+is_fact_number n = nat_le 1 n && nat_lt n (2 ^ 48)
 
 pub record IsId (id : Id) : Type 0 where
   pub home : IsNodeNumber id.home

@@ -83,21 +83,19 @@ impl Front {
 
     /// Whether each of its counts is at most the other's.
     pub fn below(&self, other: &Front) -> bool
-        requires { length self.now ≡ length other.now }
         ensures { IsTrue result ↔ IsBelow self.now other.now }
     {
         are_below(&self.counts, &other.counts)
     }
 
-    /// The least front above both: of each node the greater count.
+    /// The least front above both: of each node the greater count. It has the nodes of the one that has more.
     pub fn join(&self, other: &Front) -> Front
-        requires { length self.now ≡ length other.now }
         ensures value { result ≡ join_fronts self.now other.now }
         ensures upper { IsBelow self.now result × IsBelow other.now result }
         ensures least { (w : List ℕ) → IsBelow self.now w → IsBelow other.now w → IsBelow result w }
     {
         Front {
-            nodes: self.nodes,
+            nodes: self.nodes.max(other.nodes),
             counts: greater(&self.counts, &other.counts),
         }
     }

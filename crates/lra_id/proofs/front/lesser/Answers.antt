@@ -1,4 +1,4 @@
-use Rattle.std.proofs.Common.{◌≡◌, ◌+◌, ◌<◌, ℕ, suc, ap, ◌∙◌, arith, set, get_or, min}
+use Rattle.std.proofs.Common.{◌≡◌, ◌+◌, suc, ap, ◌∙◌, arith, set, get_or, min}
 use Rattle.lra_id.proofs.Pairs.{paired_to, paired_at, paired_more}
 use Rattle.lra_id.proofs.front.lesser.Goals as goal
 

@@ -1,4 +1,4 @@
-use Rattle.std.proofs.Common.{◌≡◌, ◌≤◌, ◌+◌, ◌-◌, ℕ, ap, ◌∙◌, sym, get_or, arith}
+use Rattle.std.proofs.Common.{◌≡◌, ◌+◌, ◌-◌, ℕ, ap, ◌∙◌, sym, get_or, arith}
 use Rattle.lra_id.proofs.Pairs.{kept_count}
 use Rattle.lra_id.proofs.front.Front.below.Goals as goal
 

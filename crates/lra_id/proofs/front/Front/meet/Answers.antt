@@ -1,5 +1,5 @@
-use Rattle.std.proofs.Common.{◌≡◌, ◌≤◌, ℕ, List, length, take, ap, ◌∙◌, sym, subst, arith, min}
-use Rattle.lra_id.specs.Fronts.{IsBelow, meet_fronts, pairwise}
+use Rattle.std.proofs.Common.{◌≡◌, ℕ, List, length, take, ap, ◌∙◌, sym, subst, arith, min}
+use Rattle.lra_id.specs.Fronts.{IsBelow, pairwise}
 use Rattle.lra_id.proofs.Pairs.{pairs_kept, pairs_seen, meet_below, meet_greatest}
 use Rattle.lra_id.proofs.front.Front.meet.Goals as goal
 
