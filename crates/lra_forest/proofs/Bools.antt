@@ -1,5 +1,5 @@
 -- tests, and what holds of each element
-use Rattle.std.proofs.Common.{◌≡◌, ◌⊎◌, inl, inr, ◌||◌, ◌&&◌, List, [], ◌∷◌, Bool, true, false, refl, sym, subst, cond}
+use Rattle.std.proofs.Common.{◌≡◌, ◌⊎◌, inl, inr, ◌||◌, ◌&&◌, ◌<◌, ℕ, zero, suc, List, [], ◌∷◌, ◌++◌, Bool, true, false, refl, sym, subst, arith, cond, get_or, length}
 use mathlib.Core.Bool.{not}
 use Rattle.std.specs.List.{AllByRecursion}
 use Rattle.lra_facts.specs.Lists.{In}
@@ -33,6 +33,17 @@ all_in P (y ∷ ys) h x (inr m) = all_in P ys h.1 x m
 pub all_from : {X : Type 0} (P : X → Type 0) (xs : List X) → ((x : X) → In x xs → P x) → AllByRecursion P xs
 all_from P [] h = tt
 all_from P (x ∷ xs) h = (h x (inl refl), all_from P xs (λ y m. h y (inr m)))
+
+-- one more
+pub all_more : {X : Type 0} (P : X → Type 0) (xs : List X) (x : X) → AllByRecursion P xs → P x → AllByRecursion P (xs ++ x ∷ [])
+all_more P [] x h at = (at, tt)
+all_more P (y ∷ xs) x h at = (h.0, all_more P xs x h.1 at)
+
+-- what holds of each holds at each place
+pub all_at : {X : Type 0} (P : X → Type 0) (xs : List X) (i : ℕ) (d : X) → AllByRecursion P xs → i < length xs → P (get_or xs i d)
+all_at P [] i d h less = absurd (omega (arith, less))
+all_at P (x ∷ xs) zero d h less = h.0
+all_at P (x ∷ xs) (suc i) d h less = all_at P xs i d h.1 (omega (arith, less))
 
 -- the first of two where the test holds
 pub on_true : {X : Type 0} (b : Bool) (x y z : X) → b ≡ true → x ≡ y → x ≡ cond b y z

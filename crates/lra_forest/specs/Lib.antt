@@ -1,4 +1,5 @@
 pub mod Gathering
+pub mod Merging
 pub mod Numbers
 pub mod Overdue
 pub mod Participants
@@ -6,5 +7,6 @@ pub mod Places
 pub mod Records
 pub mod Forests
 pub mod Standing
+pub mod Shape
 pub mod Statuses
 pub mod Wants

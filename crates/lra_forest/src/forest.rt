@@ -209,6 +209,13 @@ impl Forest {
         &self.records
     }
 
+    /// The records in order of their numbers, without the forest.
+    pub fn into_records(self) -> Vec<Record>
+        ensures { result.items ≡ self.records }
+    {
+        self.records
+    }
+
     /// Whether another forest has the same home and the same records.
     pub fn same(&self, other: &Forest) -> bool
         ensures { IsTrue result ↔ ((self.now.home ≡ other.now.home) × (self.now.records ≡ other.now.records)) }

@@ -1,5 +1,5 @@
 // All that a node knows of one LRA.
-ghost use Rattle.std.specs.Prelude.{◌≡◌, ◌<◌, ◌≤◌, ◌-◌, ◌++◌, ◌∷◌, [], length, slice_set, OnOk, OnErr};
+ghost use Rattle.std.specs.Prelude.{◌≡◌, ◌<◌, ◌≤◌, ◌-◌, ◌++◌, ◌∷◌, [], Some, length, slice_get, slice_set, OnOk, OnErr};
 ghost use Rattle.std.specs.Option.{option_copied};
 ghost use Rattle.lra_forest.specs.Numbers.{numbered};
 
@@ -8,6 +8,7 @@ use lra_id::{Front, NodeId};
 use lra_states::{Outcome, Verdict};
 use std::alloc::{AllocError, Global};
 use std::marker::Model;
+use std::mem;
 
 /// The most members of an LRA.
 pub const MOST_MEMBERS: usize = 32;
@@ -84,7 +85,8 @@ impl Members {
 
     /// The members in order of their numbers.
     pub fn as_slice(&self) -> &[Member]
-        ensures { result.now ≡ self.now }
+        ensures members { result.now ≡ self.now }
+        ensures few { length result.now ≤ 32 }
     {
         &self.list
     }
@@ -106,6 +108,16 @@ impl Members {
         ensures { self.new ≡ slice_set self.old (number - 1) member }
     {
         self.list[usize::from(number) - 1] = member;
+    }
+
+    /// Changes the member with this number, and gives back what it was.
+    pub fn exchange(&mut self, number: u8, member: Member) -> Member
+        requires some { 1 ≤ number }
+        requires given { number ≤ length self.old }
+        ensures changed { self.new ≡ slice_set self.old (number - 1) member }
+        ensures back { slice_get self.old (number - 1) ≡ Some result }
+    {
+        mem::replace(&mut self.list[usize::from(number) - 1], member)
     }
 
     /// Gives the next number.

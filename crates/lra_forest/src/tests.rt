@@ -1,7 +1,7 @@
 // What small trees show.
 ghost use Rattle.std.specs.Prelude.{◌≡◌, IfOk};
 
-use crate::{Forest, MOST_DEPTH, MOST_MEMBERS, Member, Members, Participant, Place, Record};
+use crate::{Forest, MOST_DEPTH, MOST_MEMBERS, Member, Members, Participant, Place, Record, Told};
 use lra_facts::{Body, Fact, Links, Refusal, plain};
 use lra_id::{Front, LraId, NodeId};
 use lra_states::{Act, LraStatus, MemberStatus, Outcome, Verdict};
@@ -60,7 +60,9 @@ fn plant(
     parent: Option<u64>,
     decision: Option<Verdict>,
     member: Member,
-) -> Result<(), Fail> {
+) -> Result<(), Fail>
+    ensures { forest.new.home ≡ forest.old.home }
+{
     let made = sketch(alloc, forest.home(), num, parent, decision, member)?;
     forest.reserve(1)?;
     forest.put(made);
@@ -454,5 +456,41 @@ fn what_another_record_would_show(rt: HostRuntime) -> Result<(), Fail> {
     assert!(rt; forest.same(&copy));
     plant(&mut forest, alloc, 1, None, close, Member::Left)?;
     assert!(rt; !forest.same(&copy));
+    Ok(())
+}
+
+/// What node 1's records of LRAs 1 and 3 tell, of which the first has a participant that completed.
+fn told(alloc: Global, held: Option<Vec<u64>>) -> Result<Told, Fail>
+    ensures { IfOk result (λ told. told.records.home ≡ 1) }
+{
+    let mut records = Forest::new(alloc, NodeId::new(1)?);
+    let done = participant(alloc, Some("http://p/complete"), Some(Outcome::Done), None)?;
+    plant(&mut records, alloc, 1, None, None, done)?;
+    plant(&mut records, alloc, 3, None, None, Member::Left)?;
+    Ok(Told { records, held })
+}
+
+#[test]
+fn another_nodes_records_are_taken(rt: HostRuntime) -> Result<(), Fail> {
+    let alloc = rt.alloc();
+    let mut own = Forest::new(alloc, NodeId::new(1)?);
+    let silent = participant(alloc, Some("http://p/complete"), None, None)?;
+    plant(&mut own, alloc, 1, None, None, silent)?;
+    plant(&mut own, alloc, 2, None, None, Member::Left)?;
+    let held = vec![in alloc; 1, 3]?;
+    let changes = own.taking(alloc, 2, 3, told(alloc, Some(held))?)?;
+    assert_eq!(rt; changes.removed.as_slice(), [lra(2)?].as_slice());
+    assert_eq!(rt; changes.records.len(), 2);
+    assert_eq!(rt;
+        changes
+            .records
+            .has_heard(lra(1)?, 1, Act::Complete, Outcome::Done),
+        Ok(true)
+    );
+    assert!(rt; changes.records.get(lra(3)?).is_some());
+    // Not told all that is held there, and 3 was purged here.
+    let changes = own.taking(alloc, 3, 3, told(alloc, None)?)?;
+    assert_eq!(rt; changes.removed.len(), 0);
+    assert_eq!(rt; changes.records.len(), 1);
     Ok(())
 }

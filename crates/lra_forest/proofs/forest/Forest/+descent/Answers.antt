@@ -22,7 +22,7 @@ seen_in-returns-else-levels-eq0 t c =
     let some : 0 < c.args.levels = omega (arith, c.if-levels-eq0.false) in
     c.seen.ensures
     ∙ ap (λ (w : Option Verdict). seen_by (λ test. list_any (shows_within (c.args.levels - 1) test c.args.self.now w) c.as_slice-members.result.now)) c.over.ensures
-    ∙ ap (λ (ms : List Member). seen_by (λ test. list_any (shows_within (c.args.levels - 1) test c.args.self.now (over c.in-Some.record.now.decision c.args.want)) ms)) c.as_slice-members.ensures
+    ∙ ap (λ (ms : List Member). seen_by (λ test. list_any (shows_within (c.args.levels - 1) test c.args.self.now (over c.in-Some.record.now.decision c.args.want)) ms)) c.as_slice-members.ensures.members
     ∙ within_nested c.args.levels c.args.self.now c.args.want c.in-Nested.num c.in-Some.record.now some (sym c.in-Some.ensures)
     ∙ ap (λ (m : Member). seen_by (λ test. shows_within c.args.levels test c.args.self.now c.args.want m)) (sym c.in-Nested.is)
 

@@ -15,6 +15,6 @@ returns-clause-answer c nodes S whole nest stands =
     let held = held_if_found nodes S c.args.self.now.records c.args.id c.in-Some.record.now stands found in
     let kept = found_is nodes S c.args.self.now.records c.args.id c.in-Some.record.now stands held found in
     let wants = wanted_is nodes S c.args.self.now.records c.args.id c.args.self.now.home c.num.result c.wanted-want.result c.in-Some.ensures.home c.num.ensures.value c.wanted-want.ensures whole stands held in
-    let seen = c.seen-seen.ensures ∙ seen_is nodes S c.args.self.now c.args.id c.in-Some.record.now c.wanted-want.result c.as_slice.result.now whole nest stands c.in-Some.ensures.home held kept wants c.as_slice.ensures in
+    let seen = c.seen-seen.ensures ∙ seen_is nodes S c.args.self.now c.args.id c.in-Some.record.now c.wanted-want.result c.as_slice.result.now whole nest stands c.in-Some.ensures.home held kept wants c.as_slice.ensures.members in
     on_true (is_held S c.args.id) (Ok c.is_ended.result) (Ok (is_ended S c.args.id)) (Err NotHeld) held
     (ap Ok (c.is_ended.ensures ∙ ended_alike c.wanted-want.result (want S c.args.id) c.seen-seen.result (seen_by (λ test. some_shows test S c.args.id)) wants seen))

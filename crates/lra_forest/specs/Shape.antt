@@ -1,0 +1,50 @@
+-- The shape of a home's records: what those of a lawful history keep, whatever they say of their LRAs.
+use Rattle.std.specs.Prelude.{◌≡◌, ◌≤◌, ℕ, zero, suc, Bool, true, false, Option, Some, List, find, is_some, length}
+use Rattle.std.specs.Option.{option_map_or}
+use Rattle.lra_id.specs.Fronts.{IsBelow}
+use Rattle.lra_facts.specs.Lists.{In}
+use Rattle.lra_forest.specs.declared.record.Member.TheVariants.{Nested}
+use Rattle.lra_forest.specs.declared.record.Place.{Place}
+use Rattle.lra_forest.specs.declared.record.Record.{Record}
+use Rattle.lra_forest.specs.declared.merging.Changes.{Changes}
+use Rattle.lra_forest.specs.Forests.{HomeRecords, is_of}
+use Rattle.lra_forest.specs.Merging.{changed_by}
+use Rattle.lra_forest.specs.Numbers.{numbered}
+
+-- the record of the LRA that the home began with its fact of this number
+abbrev pub found_at : (home : ℕ) → List Record → (num : ℕ) → Option Record
+found_at home records num = find (is_of (record { home = home; num = num })) records
+
+-- up from an LRA by the parents that the records name, a root is met within this many LRAs, that one itself the first
+abbrev pub is_shallow : (levels home : ℕ) → List Record → (num : ℕ) → Bool
+is_shallow zero home records num = false
+is_shallow (suc levels) home records num =
+    option_map_or (λ (r : Record). option_map_or (λ (p : Place). is_shallow levels home records p.number) r.parent true)
+    (found_at home records num) false
+
+-- there is a record of the parent, and its member at the place is the LRA with this number
+pub record IsNestedAt (home : ℕ) (records : List Record) (num : ℕ) (place : Place) : Type 0 where
+  pub parent : Record
+  pub found : found_at home records place.number ≡ Some parent
+  pub member : numbered parent.members place.slot ≡ Some (Nested num)
+
+-- The record r of the LRA with this number has its place among the records. They have its parent, if it names one, with the
+-- LRA as the member there, and each LRA that is nested in it. It is no deeper than 8, and no stamp is beyond the front
+pub record IsFitted (front : List ℕ) (home : ℕ) (records : List Record) (num : ℕ) (r : Record) : Type 0 where
+  pub parent : (place : Place) → r.parent ≡ Some place → IsNestedAt home records num place
+  pub nested : (child : ℕ) → In (Nested child) r.members → is_some (found_at home records child) ≡ true
+  pub shallow : is_shallow 8 home records num ≡ true
+  pub stamps : IsBelow r.stamps front
+
+-- there are no more than 256, and each has its place
+pub record AreInShape (front : List ℕ) (home : ℕ) (records : List Record) : Type 0 where
+  pub few : length records ≤ 256
+  pub fitted : (num : ℕ) (r : Record) → found_at home records num ≡ Some r → IsFitted front home records num r
+
+-- of the LRA with this number the record has its place, if there is one
+abbrev pub FitsAt : (front : List ℕ) (home : ℕ) (records : List Record) (num : ℕ) → Type 0
+FitsAt front home records num = (r : Record) → found_at home records num ≡ Some r → IsFitted front home records num r
+
+-- the records of a home once they are changed
+abbrev pub records_after : Changes → HomeRecords → List Record
+records_after changes own = changed_by changes.removed.items changes.records.records own.records

@@ -1,0 +1,248 @@
+// What a home's records become when another node's are taken.
+ghost use Rattle.std.specs.Prelude.{◌≡◌, ◌==◌, ◌&&◌, ℕ, Some, None, IfOk, OnOk, if◌then◌else◌, is_none, is_some, nat_le};
+ghost use Rattle.std.specs.List.{AllByRecursion, list_any};
+ghost use Rattle.lra_id.specs.Ids.{Id};
+ghost use Rattle.lra_states.specs.States.{greater};
+ghost use Rattle.lra_forest.specs.Forests.{AreOf};
+ghost use Rattle.lra_forest.specs.Merging.{brought, changed_by, held_numbers, home_stamp, is_gone, is_unlisted, merged_member, merged_members, merged_participant, merged_record, taken};
+ghost use Rattle.lra_forest.specs.Shape.{found_at};
+
+use crate::{Forest, Member, Members, Participant, Record};
+use lra_id::LraId;
+use lra_states::Outcome;
+use std::alloc::{AllocError, Global};
+
+/// What another node tells of a home.
+#[derive(Debug, Drop)]
+pub struct Told {
+    /// Records of LRAs of the home.
+    pub records: Forest,
+    /// The numbers of all LRAs of the home that the other holds, where it tells them.
+    pub held: Option<Vec<u64>>,
+}
+
+/// What is to be changed in the records of a home: LRAs whose records are taken out, and records that are then put in their
+/// places.
+#[derive(Debug, Drop)]
+pub struct Changes {
+    pub removed: Vec<LraId>,
+    pub records: Forest,
+}
+
+/// The greater of two outcomes, where none is the least.
+fn greater(own: Option<Outcome>, heard: Option<Outcome>) -> Option<Outcome>
+    ensures { result ≡ greater own heard }
+{
+    match (own, heard) {
+        (own, None) => own,
+        (Some(Outcome::Failed), _) => own,
+        (Some(Outcome::Done), Some(Outcome::Busy | Outcome::Done)) => own,
+        (_, heard) => heard,
+    }
+}
+
+/// A participant, with what another record heard of it.
+fn merged_participant(kept: Participant, other: &Participant) -> Participant
+    ensures { result ≡ merged_participant kept other.now }
+{
+    let completed = if kept.links.complete.is_some() {
+        greater(kept.completed, other.completed)
+    } else {
+        None
+    };
+    let forgotten = kept.links.forget.is_some() && (kept.forgotten || other.forgotten);
+    Participant {
+        links: kept.links,
+        completed,
+        compensated: greater(kept.compensated, other.compensated),
+        forgotten,
+    }
+}
+
+/// A member, with what another record heard of the participant.
+fn merged_member(kept: Member, other: &Member) -> Member
+    ensures { result ≡ merged_member kept other.now }
+{
+    match kept {
+        Member::Participant(kept) => match other {
+            Member::Participant(other) => Member::Participant(merged_participant(kept, other)),
+            _ => Member::Participant(kept),
+        },
+        kept => kept,
+    }
+}
+
+/// Adds to members what another record heard of them. It takes no memory.
+fn merge_members(kept: &mut Members, other: &Members)
+    ensures { kept.new ≡ merged_members kept.old other.now }
+{
+    let heard = other.as_slice();
+    for place in 0..heard.len().min(kept.len()) {
+        let number = place as u8 + 1;
+        let member = kept.exchange(number, Member::Left);
+        kept.set(number, merged_member(member, &heard[place]));
+    }
+}
+
+/// The greatest number of the home's own facts about the LRA of a record.
+fn home_stamp(kept: &Record) -> u64
+    ensures { result ≡ home_stamp kept.now }
+{
+    kept.stamps.count(kept.home)
+}
+
+/// Two records of one LRA, made into one. Members, links and the decision are those of the record that heard more of the
+/// home's own facts, and of these the own is copied, while the other's are moved.
+pub(crate) fn merged(own: &Record, other: Record) -> Result<Record, AllocError>
+    ensures { IfOk result (λ r. r ≡ merged_record own.now other) }
+{
+    let stamps = own.stamps.join(&other.stamps);
+    let is_own_kept = home_stamp(&other) <= home_stamp(own);
+    let (decision, members) = if is_own_kept {
+        let mut members = own.members.clone()?;
+        merge_members(&mut members, &other.members);
+        (own.decision, members)
+    } else {
+        let mut members = other.members;
+        merge_members(&mut members, &own.members);
+        (other.decision, members)
+    };
+    Ok(Record {
+        home: own.home,
+        num: own.num,
+        parent: own.parent,
+        deadline: own.deadline,
+        decision,
+        stamps,
+        members,
+    })
+}
+
+impl Told {
+    /// Whether all LRAs of the home that the other holds are told, and none of them has this number.
+    fn is_unlisted(&self, num: u64) -> bool
+        ensures { result ≡ is_unlisted (held_numbers self.now.held) num }
+    {
+        match &self.held {
+            Some(nums) => !nums.contains(&num),
+            None => false,
+        }
+    }
+
+    /// The LRA of the home with this number, if it has no record here and was purged at the other, which has this many of
+    /// the home's facts.
+    fn gone(&self, told: u64, num: u64) -> Option<LraId>
+        ensures { result ≡ (if is_none (found_at self.now.records.home self.now.records.records num) && is_gone told (held_numbers self.now.held) num
+            then Some (record { home = self.now.records.home; num = num }) else None) }
+    {
+        if num > told || self.records.numbered(num).is_some() || !self.is_unlisted(num) {
+            return None;
+        }
+        LraId::new(self.records.home(), num).ok()
+    }
+}
+
+/// The LRAs of these records that were purged at the other, which has so many of the home's facts.
+fn all_gone(
+    alloc: Global,
+    own: &[Record],
+    told: u64,
+    other: &Told,
+) -> Result<Vec<LraId>, AllocError>
+    requires { AreOf other.now.records.home own.now }
+    ensures homes { IfOk result (λ removed. AllByRecursion (λ l. l.home ≡ other.now.records.home) removed.items) }
+    ensures gone { IfOk result (λ removed. (num : ℕ) → let home = other.now.records.home in
+        list_any (λ l. l.num == num) removed.items
+        ≡ (is_some (found_at home own.now num)
+        && (is_none (found_at home other.now.records.records num) && is_gone told (held_numbers other.now.held) num))) }
+{
+    let mut removed = Vec::new(alloc);
+    for record in own {
+        if let Some(id) = other.gone(told, record.num) {
+            removed.push(id)?;
+        }
+    }
+    Ok(removed)
+}
+
+impl Forest {
+    /// What is kept of an LRA of which the other has this record: both records merged, or where it is missing here the
+    /// other's, unless the begin is counted here. Then it was purged here.
+    fn kept(&self, mine: u64, heard: Record) -> Result<Option<Record>, AllocError>
+        ensures { IfOk result (λ kept. kept
+            ≡ brought (nat_le heard.num mine) (found_at self.now.home self.now.records heard.num) (Some heard)) }
+    {
+        match self.numbered(heard.num) {
+            Some(own) => Ok(Some(merged(own, heard)?)),
+            None if heard.num <= mine => Ok(None),
+            None => Ok(Some(heard)),
+        }
+    }
+
+    /// Puts what is kept of an LRA of which the other has this record among records that are to be changed.
+    fn bring(&self, mine: u64, heard: Record, records: &mut Forest) -> Result<(), AllocError>
+        requires heard { heard.home ≡ self.now.home }
+        requires home { records.old.home ≡ self.now.home }
+        requires own { AreOf self.now.home self.now.records }
+        requires order { AreOf self.now.home records.old.records }
+        requires missing { found_at self.now.home records.old.records heard.num ≡ None }
+        ensures home { OnOk result (records.new.home ≡ self.now.home) }
+        ensures order { OnOk result (AreOf self.now.home records.new.records) }
+        ensures found { OnOk result ((num : ℕ) → found_at self.now.home records.new.records num
+            ≡ (if heard.num == num then brought (nat_le num mine) (found_at self.now.home self.now.records num) (Some heard)
+            else found_at self.now.home records.old.records num)) }
+    {
+        if let Some(next) = self.kept(mine, heard)? {
+            records.reserve(1)?;
+            records.put(next);
+        }
+        Ok(())
+    }
+
+    /// The records that are to be put, where the other has these.
+    fn all_brought(&self, alloc: Global, mine: u64, other: Forest) -> Result<Forest, AllocError>
+        requires home { other.home ≡ self.now.home }
+        requires own { AreOf self.now.home self.now.records }
+        requires order { AreOf self.now.home other.records }
+        ensures home { IfOk result (λ records. records.home ≡ self.now.home) }
+        ensures order { IfOk result (λ records. AreOf self.now.home records.records) }
+        ensures found { IfOk result (λ records. (num : ℕ) → found_at self.now.home records.records num
+            ≡ brought (nat_le num mine) (found_at self.now.home self.now.records num) (found_at self.now.home other.records num)) }
+    {
+        let mut records = Forest::new(alloc, self.home());
+        for heard in other.into_records() {
+            self.bring(mine, heard, &mut records)?;
+        }
+        Ok(records)
+    }
+
+    /// What is to be changed in these records when another node's are taken. Mine is how many of the home's facts their node
+    /// has, told how many the other has. An LRA of which both have a record gets the two merged. One of which the other alone
+    /// has a record gets that, unless mine counts its begin: since then it was purged here. One of which these alone have a
+    /// record is taken out if the other tells all LRAs of the home that it holds and this is none of them, though told counts
+    /// its begin: since then it was purged there. Else it stays. It looks up each record among the other's by halving, goes
+    /// over the numbers that are told for each one that the other lacks, and takes memory for what is to be changed.
+    pub fn taking(
+        &self,
+        alloc: Global,
+        mine: u64,
+        told: u64,
+        other: Told,
+    ) -> Result<Changes, AllocError>
+        requires { other.records.home ≡ self.now.home }
+        ensures home { IfOk result (λ changes. changes.records.home ≡ self.now.home) }
+        ensures removed { IfOk result (λ changes. AllByRecursion (λ l. l.home ≡ self.now.home) changes.removed.items) }
+        ensures order { IfOk result (λ changes.
+            AreOf self.now.home (changed_by changes.removed.items changes.records.records self.now.records)) }
+        ensures taken { IfOk result (λ changes. (num : ℕ) →
+            found_at self.now.home (changed_by changes.removed.items changes.records.records self.now.records) num
+            ≡ taken (nat_le num mine) (is_gone told (held_numbers other.held) num)
+            (found_at self.now.home self.now.records num) (found_at self.now.home other.records.records num)) }
+    {
+        let own = self.records();
+        let _heard = other.records.records();
+        let removed = all_gone(alloc, own, told, &other)?;
+        let records = self.all_brought(alloc, mine, other.records)?;
+        Ok(Changes { removed, records })
+    }
+}

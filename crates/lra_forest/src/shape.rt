@@ -1,0 +1,219 @@
+// Whether the records of a home have their shape.
+ghost use Rattle.std.specs.Prelude.{◌≡◌, ◌↔◌, ◌≤◌, ℕ, Some, IsTrue, filter, is_none, is_some, length, true};
+ghost use Rattle.std.specs.List.{list_any, AllByRecursion};
+ghost use Rattle.std.specs.Option.{option_copied};
+ghost use Rattle.lra_facts.specs.Lists.{In};
+ghost use Rattle.lra_forest.specs.declared.record.Member.TheVariants.{Nested};
+ghost use Rattle.lra_forest.specs.declared.record.Place.{Place as PlaceRecord};
+ghost use Rattle.lra_forest.specs.Forests.{is_of};
+ghost use Rattle.lra_forest.specs.Merging.{changed_by, without};
+ghost use Rattle.lra_forest.specs.Shape.{found_at, is_shallow, records_after, AreInShape, FitsAt, IsFitted, IsNestedAt};
+
+use crate::{Changes, Forest, MOST_DEPTH, Member, Place, Record};
+use lra_id::{Front, LraId};
+
+/// The most LRAs of one home that are held.
+pub const MOST_HELD: usize = 256;
+
+/// Whether the LRA of this record is one of these.
+fn is_among(ids: &[LraId], kept: &Record) -> bool
+    ensures { result ≡ list_any (λ l. is_of l kept.now) ids.now }
+{
+    for id in ids {
+        if kept.home == id.home() && kept.num == id.num() {
+            return true;
+        }
+    }
+    false
+}
+
+impl Forest {
+    /// The record of the LRA with this number, if it is none of those that are removed. It is looked up by halving, and then
+    /// among those that are removed.
+    fn kept_at(&self, removed: &[LraId], num: u64) -> Option<&Record>
+        ensures { option_copied result ≡ found_at self.now.home (without removed.now self.now.records) num }
+    {
+        // What this ensures is needed here: they are in order.
+        let _ = self.records();
+        let Some(record) = self.numbered(num) else {
+            return None;
+        };
+        if is_among(removed, record) {
+            None
+        } else {
+            Some(record)
+        }
+    }
+
+    /// The record of the LRA with this number once the records are changed: one of the changes, else one that stays.
+    fn changed_at<'a>(&'a self, changes: &'a Changes, num: u64) -> Option<&'a Record>
+        requires { changes.now.records.home ≡ self.now.home }
+        ensures { option_copied result ≡ found_at self.now.home (records_after changes.now self.now) num }
+    {
+        // Both are in order.
+        let _ = self.records();
+        let _ = changes.records.records();
+        if let Some(record) = changes.records.numbered(num) {
+            return Some(record);
+        }
+        self.kept_at(&changes.removed, num)
+    }
+
+    /// Whether an LRA is no deeper than 8 once the records are changed: a root is met so soon on the way up.
+    fn is_shallow(&self, changes: &Changes, num: u64) -> bool
+        requires { changes.now.records.home ≡ self.now.home }
+        ensures { result ≡ is_shallow 8 self.now.home (records_after changes.now self.now) num }
+    {
+        let mut at = num;
+        for _ in 0..MOST_DEPTH {
+            let Some(record) = self.changed_at(changes, at) else {
+                return false;
+            };
+            let Some(place) = record.parent else {
+                return true;
+            };
+            at = place.number;
+        }
+        false
+    }
+
+    /// Whether the record of the parent is there once the records are changed, and has the LRA with this number as the
+    /// member at its place.
+    fn is_nested_at(&self, changes: &Changes, num: u64, place: Place) -> bool
+        requires { changes.now.records.home ≡ self.now.home }
+        ensures { IsTrue result ↔ IsNestedAt self.now.home (records_after changes.now self.now) num place }
+    {
+        let Some(parent) = self.changed_at(changes, place.number) else {
+            return false;
+        };
+        match parent.members.get(place.slot) {
+            Some(Member::Nested(child)) => *child == num,
+            _ => false,
+        }
+    }
+
+    /// Whether the LRA with this number is a root, or nested in this place.
+    fn has_parent(&self, changes: &Changes, num: u64, parent: Option<Place>) -> bool
+        requires { changes.now.records.home ≡ self.now.home }
+        ensures { IsTrue result ↔
+            ((place : PlaceRecord) → parent ≡ Some place → IsNestedAt self.now.home (records_after changes.now self.now) num place) }
+    {
+        match parent {
+            Some(place) => self.is_nested_at(changes, num, place),
+            None => true,
+        }
+    }
+
+    /// Whether the record of each LRA that is nested here is there once the records are changed.
+    fn has_nested(&self, changes: &Changes, members: &[Member]) -> bool
+        requires { changes.now.records.home ≡ self.now.home }
+        ensures { IsTrue result ↔
+            ((child : ℕ) → In (Nested child) members.now →
+            is_some (found_at self.now.home (records_after changes.now self.now) child) ≡ true) }
+    {
+        for member in members {
+            if let Member::Nested(child) = member {
+                if self.changed_at(changes, *child).is_none() {
+                    return false;
+                }
+            }
+        }
+        true
+    }
+
+    /// Whether a record has its place among the records once they are changed, under a front.
+    fn is_fitted(&self, changes: &Changes, front: &Front, num: u64, kept: &Record) -> bool
+        requires { changes.now.records.home ≡ self.now.home }
+        ensures { IsTrue result ↔ IsFitted front.now self.now.home (records_after changes.now self.now) num kept.now }
+    {
+        self.has_parent(changes, num, kept.parent)
+            && self.has_nested(changes, kept.members.as_slice())
+            && self.is_shallow(changes, num)
+            && kept.stamps.below(front)
+    }
+
+    /// Whether the record of the LRA with this number has its place once the records are changed, if there is one.
+    fn fits_at(&self, changes: &Changes, front: &Front, num: u64) -> bool
+        requires { changes.now.records.home ≡ self.now.home }
+        ensures { IsTrue result ↔ FitsAt front.now self.now.home (records_after changes.now self.now) num }
+    {
+        match self.changed_at(changes, num) {
+            Some(record) => self.is_fitted(changes, front, num, record),
+            None => true,
+        }
+    }
+
+    /// Whether of each of these LRAs the record has its place once the records are changed.
+    fn fit(&self, changes: &Changes, front: &Front, records: &[Record]) -> bool
+        requires { changes.now.records.home ≡ self.now.home }
+        ensures { IsTrue result ↔
+            AllByRecursion (λ r. FitsAt front.now self.now.home (records_after changes.now self.now) r.num) records.now }
+    {
+        for record in records {
+            if !self.fits_at(changes, front, record.num) {
+                return false;
+            }
+        }
+        true
+    }
+
+    /// How many records stay where these are removed.
+    fn count_kept(&self, removed: &[LraId]) -> usize
+        ensures { result ≡ length (without removed.now self.now.records) }
+    {
+        let records = self.records();
+        let mut count = 0;
+        for record in records {
+            if !is_among(removed, record) {
+                count += 1;
+            }
+        }
+        count
+    }
+
+    /// How many of these records replace none of those that stay where some are removed.
+    fn count_added(&self, removed: &[LraId], added: &[Record]) -> usize
+        ensures { result ≡
+            length (filter (λ r. is_none (found_at self.now.home (without removed.now self.now.records) r.num)) added.now) }
+    {
+        let mut count = 0;
+        for record in added {
+            if self.kept_at(removed, record.num).is_none() {
+                count += 1;
+            }
+        }
+        count
+    }
+
+    /// Whether there are at most 256 once the records are changed: those that stay, and those that are added.
+    fn is_few(&self, changes: &Changes) -> bool
+        requires { changes.now.records.home ≡ self.now.home }
+        ensures { IsTrue result ↔ length (records_after changes.now self.now) ≤ 256 }
+    {
+        // They are in order.
+        let _ = self.records();
+        let removed = changes.removed.as_slice();
+        let put = changes.records.records();
+        let kept = self.count_kept(removed);
+        if kept > MOST_HELD {
+            return false;
+        }
+        self.count_added(removed, put) <= MOST_HELD - kept
+    }
+
+    /// Whether these records have their shape once they are changed, under a front: they are at most 256, the parent that a
+    /// record names is there and has it as the member at its place, each nested LRA is there, none is deeper than 8, and no
+    /// stamp is beyond the front. The records stay as they are. For each record it looks up its parents and its nested LRAs:
+    /// by halving, and each time among those that are removed.
+    pub fn fits_with(&self, changes: &Changes, front: &Front) -> bool
+        requires { changes.now.records.home ≡ self.now.home }
+        ensures { IsTrue result ↔
+            AreInShape front.now self.now.home (changed_by changes.now.removed.items changes.now.records.records self.now.records) }
+    {
+        if !self.is_few(changes) {
+            return false;
+        }
+        self.fit(changes, front, self.records())
+            && self.fit(changes, front, changes.records.records())
+    }
+}
