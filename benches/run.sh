@@ -1,8 +1,9 @@
 #!/bin/sh
-# Runs a benchmark: `benches/run.sh status` or `benches/run.sh prepare`. It copies the repository to a folder of its own, adds
-# the program of that name there, proves it and runs it.
+# Runs a benchmark: `benches/run.sh status`, `prepare` or `merge`. It copies the repository to a folder of its own, adds the
+# program of that name there, proves it and runs it.
 #   status   what an LRA shows, by the records of its home and by the slow evaluators over the same facts
 #   prepare  a join that is prepared and applied, at homes of 16, 64 and 256 LRAs
+#   merge    the merge of two replicas of a home, each with news of the other, and the union of the lists of their facts
 set -eu
 name=$1
 top=$(cd "$(dirname "$0")/.." && pwd)
@@ -11,5 +12,5 @@ trap 'rm -rf "$copy"' EXIT
 cp -r "$top/crates" "$top/crates.txt" "$top/HANDLES" "$copy/"
 mkdir -p "$copy/crates/bench_$name/src"
 cp "$top/benches/$name/main.rt.txt" "$copy/crates/bench_$name/src/main.rt"
-echo "bench_$name: lra_id lra_facts lra_forest lra_replica anyhow" >> "$copy/crates.txt"
+echo "bench_$name: lra_id lra_states lra_facts lra_forest lra_replica anyhow" >> "$copy/crates.txt"
 cd "$copy" && git init -q . && cd "crates/bench_$name" && rt run

@@ -1,9 +1,9 @@
 -- what is held in a union, and that the merge of two views stands for it
-use Rattle.std.proofs.Common.{◌≡◌, inl, inr, ◌≤◌, ◌<◌, ◌==◌, ◌||◌, ◌&&◌, ℕ, List, refl, sym, ap, subst, ◌∙◌, Bool, true, false, cond, arith, Option, Some, None, map, length, is_none, find}
+use Rattle.std.proofs.Common.{◌≡◌, inl, inr, ◌≤◌, ◌<◌, ◌^◌, ◌==◌, ◌||◌, ◌&&◌, ℕ, List, refl, sym, ap, subst, ◌∙◌, Bool, true, false, cond, arith, Option, Some, None, map, length, is_none, find}
 use Rattle.std.proofs.lemmas.Bool.Decides.{nat_tests}
 use mathlib.Core.Bool.{not}
 use Rattle.std.specs.List.{list_any}
-use Rattle.lra_id.specs.Ids.{Id}
+use Rattle.lra_id.specs.Ids.{Id, is_fact_number}
 use Rattle.lra_id.specs.Fronts.{count, is_covered, join_fronts}
 use Rattle.lra_facts.specs.declared.fact.Fact.{Fact}
 use Rattle.lra_facts.specs.Lists.{In, IsInside}
@@ -17,7 +17,8 @@ use Rattle.lra_forest.proofs.Begun.{parent_found}
 use Rattle.lra_forest.proofs.Bools.{and_left, and_right, not_false, or_cases}
 use Rattle.lra_forest.proofs.Chained.{begins_at, parent_home}
 use Rattle.lra_replica.specs.Growth.{IsSettled}
-use Rattle.lra_replica.specs.Merging.{IsMerged, merged_record, taken}
+use Rattle.lra_forest.specs.Merging.{merged_record, taken}
+use Rattle.lra_replica.specs.Merging.{IsMerged}
 use Rattle.lra_replica.specs.Views.{IsCounted, StandsFor, View, is_purge_fact, purge_number, record_at, records_at}
 use Rattle.lra_replica.proofs.Fitting.{begun_inside, chain_inside}
 use Rattle.lra_replica.proofs.Homes.{begun_covered}
@@ -242,6 +243,23 @@ module _ (S T U : List Fact) (v w : List ℕ) (t : AreTogether S T U v w) (l : I
   pub taken_part : cond (is_held U l) (Some (record_of nodes U l)) None ≡ taken (is_covered v l) (listed && (is_covered w l && not (is_held T l))) (cond (is_held S l) (Some (record_of nodes S l)) None) (cond sent (cond (is_held T l) (Some (record_of nodes T l)) None) None)
   taken_part = part_by (is_held S l) (is_held T l) refl refl
 
+-- what is held has a number that a fact can have
+fact_number : (S : List Fact) (l : Id) → IsSettled S → is_held S l ≡ true → is_fact_number l.num ≡ true
+fact_number S l settled held =
+    let begin = any_gives (begins l) S (held_begun S l held) in
+    let at = begins_at l begin.0 begin.2 in
+    let number = settled.numbered begin.0 begin.1 in
+    by l.num (omega (arith, number.0, at.1)) (omega (arith, number.1, at.1))
+  where
+    by : (n : ℕ) → 1 ≤ n → n < 2 ^ 48 → is_fact_number n ≡ true
+    by n some few = grind (arith, nat_tests)
+
+-- so that what is taken doesn't go by its number
+guarded : (c g b held : Bool) (r : Record) (p : Option Record) → (held ≡ true → b ≡ true) → taken c (b && g) (cond held (Some r) None) p ≡ taken c g (cond held (Some r) None) p
+guarded c g b true r p e = ap (λ (x : Bool). taken c (x && g) (Some r) p) (e refl)
+guarded c g b false r None e = refl
+guarded c g b false r (Some t) e = refl
+
 -- what a view that stands for a set has of an LRA
 pub record_standing : (S : List Fact) (a : View) (l : Id) → StandsFor S a → 1 ≤ l.home → l.home ≤ length a.front → record_at a l ≡ cond (is_held S l) (Some (record_of (length a.front) S l)) None
 record_standing S a l stands low high = (stands.records l.home low high).stands l refl
@@ -271,7 +289,8 @@ merged_stands S T U a b c t sa sb m =
         let near : l.home ≤ length a.front = omega (arith, high, size) in
         let far : l.home ≤ length b.front = omega (arith, near, m.nodes) in
         m.records l low high
-        ∙ ap (λ o. taken (is_covered a.front l) (is_covered b.front l) o (record_at b l)) (record_standing S a l sa low near)
+        ∙ ap (λ o. taken (is_covered a.front l) (is_fact_number l.num && is_covered b.front l) o (record_at b l)) (record_standing S a l sa low near)
+        ∙ guarded (is_covered a.front l) (is_covered b.front l) (is_fact_number l.num) (is_held S l) (record_of (length a.front) S l) (record_at b l) (fact_number S l t.first)
         ∙ ap (taken (is_covered a.front l) (is_covered b.front l) (cond (is_held S l) (Some (record_of (length a.front) S l)) None)) (record_standing T b l sb low far ∙ ap (λ n. cond (is_held T l) (Some (record_of n T l)) None) (sym m.nodes))
         ∙ sym (taken_union S T U a.front b.front t l (length a.front) low near)
         ∙ ap (λ n. cond (is_held U l) (Some (record_of n U l)) None) (sym size)

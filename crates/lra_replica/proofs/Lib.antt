@@ -1,3 +1,4 @@
+pub mod Absorbed
 pub mod Adding
 pub mod Basics
 pub mod Begun
@@ -41,6 +42,7 @@ pub mod Settling
 pub mod ShapeExamples
 pub mod Shaped
 pub mod Taking
+pub mod Tellings
 pub mod Together
 pub mod Told
 pub mod Unions

@@ -23,7 +23,7 @@ use Rattle.lra_forest.specs.Records.{givers, member_by, members_of, stamp}
 use Rattle.lra_forest.proofs.Giving.{giver_in, number_is}
 use Rattle.lra_forest.proofs.Seats.{same_is}
 use Rattle.lra_replica.specs.Growth.{names_member}
-use Rattle.lra_replica.specs.Merging.{merged_member, merged_members}
+use Rattle.lra_forest.specs.Merging.{merged_member, merged_members}
 use Rattle.lra_replica.proofs.Fitting.{givers_length}
 use Rattle.lra_replica.proofs.More.{filter_all, filter_append, map_agree, none_found}
 use Rattle.lra_replica.proofs.Prefixes.{IsLonger}

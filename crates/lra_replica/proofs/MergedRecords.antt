@@ -25,7 +25,7 @@ use Rattle.lra_forest.proofs.Begun.{once_in, parent_found}
 use Rattle.lra_forest.proofs.Bools.{all_from, all_in, and_left}
 use Rattle.lra_forest.proofs.Chained.{begins_at, parent_home}
 use Rattle.lra_forest.proofs.Giving.{Ascend, giver_in, givers_ascend, in_givers, number_is}
-use Rattle.lra_replica.specs.Merging.{home_stamp, merged_members, merged_record}
+use Rattle.lra_forest.specs.Merging.{home_stamp, merged_members, merged_record}
 use Rattle.lra_replica.proofs.More.{map_agree}
 use Rattle.lra_replica.proofs.Prefixes.{same_ascending}
 use Rattle.lra_replica.proofs.Together.{AreTogether, decision_union, givers_union, known, named_leave, stamp_reaches, swapped}

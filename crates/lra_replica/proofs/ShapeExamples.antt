@@ -1,5 +1,5 @@
 -- the shape of views, computed: two views whose merge has lost it, since no one history has both
-use Rattle.std.proofs.Common.{◌≡◌, inl, inr, ◌≤◌, ◌-◌, ◌∙◌, ℕ, zero, suc, List, [], ◌∷◌, ap, refl, subst, sym, arith, Some, None, true, false, find, get_or, is_some, length, slice_index}
+use Rattle.std.proofs.Common.{◌≡◌, inl, inr, ◌≤◌, ◌-◌, ◌∙◌, ℕ, zero, suc, List, [], ◌∷◌, ap, refl, subst, sym, arith, Some, None, true, false, get_or, is_some, length, slice_index}
 use Rattle.lra_id.specs.Ids.{Id}
 use Rattle.lra_id.specs.Fronts.{IsBelow}
 use Rattle.lra_facts.specs.Lists.{In}
@@ -12,8 +12,9 @@ use Rattle.lra_forest.specs.declared.record.Member.TheVariants.{Left, Nested}
 use Rattle.lra_forest.specs.declared.record.Place.{Place}
 use Rattle.lra_forest.specs.declared.record.Record.{Record}
 use Rattle.lra_replica.specs.Merging.{merged}
-use Rattle.lra_replica.specs.Shape.{HasShape, IsFitted, IsNestedAt, beside, is_shallow}
-use Rattle.lra_replica.specs.Views.{View, record_at}
+use Rattle.lra_forest.specs.Shape.{IsFitted, IsNestedAt, found_at, is_shallow}
+use Rattle.lra_replica.specs.Shape.{HasShape}
+use Rattle.lra_replica.specs.Views.{View, record_at, records_at}
 
 abbrev outer : Id
 outer = record { home = 1; num = 1 }
@@ -52,24 +53,27 @@ roots =
       records = (outer_record 4 Left ∷ second_root ∷ []) ∷ [];
     }
 
-nested_there : IsNestedAt nesting inner place
+-- the records of the first home
+abbrev firsts : View → List Record
+firsts view = records_at view.records 1
+
+nested_there : IsNestedAt 1 (firsts nesting) 2 place
 nested_there = record { parent = outer_record 2 (Nested 2); found = refl; member = refl }
 
-two_levels : is_shallow 2 nesting inner ≡ true
+two_levels : is_shallow 2 1 (firsts nesting) 2 ≡ true
 two_levels = refl
 
-not_one_level : is_shallow 1 nesting inner ≡ false
+not_one_level : is_shallow 1 1 (firsts nesting) 2 ≡ false
 not_one_level = refl
 
 -- Each of the two has the shape
 
 -- a view of one home has it where each of its records has its place
-one_home : (front purges : List ℕ) (rs : List Record) → length rs ≤ 256 → IsBelow purges front → ((r : Record) → In r rs → IsFitted (record { front = front; purges = purges; records = rs ∷ [] }) (id_of r) r)
+one_home : (front purges : List ℕ) (rs : List Record) → length rs ≤ 256 → IsBelow purges front → ((r : Record) → In r rs → IsFitted front r.home rs r.num r)
     → HasShape (record { front = front; purges = purges; records = rs ∷ [] })
 one_home front purges rs few below each =
     record {
-      few = λ home some. number (home - 1);
-      fitted = λ l r some at. found l r (l.home - 1) at;
+      homes = λ home some. record { few = number (home - 1); fitted = λ num r at. found home num r (home - 1) refl some at };
       purges = below;
     }
   where
@@ -77,11 +81,12 @@ one_home front purges rs few below each =
     number zero = few
     number (suc i) = omega arith
 
-    found : (l : Id) (r : Record) (i : ℕ) → find (is_of l) (get_or (rs ∷ []) i []) ≡ Some r → IsFitted (record { front = front; purges = purges; records = rs ∷ [] }) l r
-    found l r zero at =
-        let there = find_in (is_of l) rs r at in
-        subst (λ (x : Id). IsFitted (record { front = front; purges = purges; records = rs ∷ [] }) x r) (same_is (id_of r) l there.1) (each r there.0)
-    found l r (suc i) at = absurd cc
+    found : (home num : ℕ) (r : Record) (i : ℕ) → home - 1 ≡ i → 1 ≤ home → found_at home (get_or (rs ∷ []) i []) num ≡ Some r → IsFitted front home (get_or (rs ∷ []) i []) num r
+    found home num r zero first some at =
+        let there = find_in (is_of (record { home = home; num = num })) rs r at in
+        let same = same_is (id_of r) (record { home = home; num = num }) there.1 in
+        subst (λ (x : Id). IsFitted front x.home rs x.num r) same (each r there.0)
+    found home num r (suc i) later some at = absurd cc
 
 one_count : (a b : ℕ) → a ≤ b → IsBelow (a ∷ []) (b ∷ [])
 one_count a b le node = by (node - 1)
@@ -96,18 +101,18 @@ no_place place e = cc
 nesting_has_it : HasShape nesting
 nesting_has_it = one_home (2 ∷ []) (0 ∷ []) (outer_record 2 (Nested 2) ∷ inner_record ∷ []) (omega arith) (one_count 0 2 (omega arith)) each
   where
-    each : (r : Record) → In r (outer_record 2 (Nested 2) ∷ inner_record ∷ []) → IsFitted nesting (id_of r) r
-    each r (inl s) = subst (λ (x : Record). IsFitted nesting (id_of x) x) (sym s) (record {
+    each : (r : Record) → In r (outer_record 2 (Nested 2) ∷ inner_record ∷ []) → IsFitted (2 ∷ []) r.home (firsts nesting) r.num r
+    each r (inl s) = subst (λ (x : Record). IsFitted (2 ∷ []) x.home (firsts nesting) x.num x) (sym s) (record {
       parent = λ place e. absurd (no_place place e);
       nested = λ num m. elim m [
-        | inl same ↦ let two : num ≡ 2 = cc in ap (λ (n : ℕ). is_some (record_at nesting (beside outer n))) two
+        | inl same ↦ let two : num ≡ 2 = cc in ap (λ (n : ℕ). is_some (found_at 1 (firsts nesting) n)) two
         | inr none ↦ absurd none
       ];
       shallow = refl;
       stamps = one_count 2 2 (omega arith);
     })
-    each r (inr (inl s)) = subst (λ (x : Record). IsFitted nesting (id_of x) x) (sym s) (record {
-      parent = λ named e. let same : place ≡ named = cc in subst (IsNestedAt nesting inner) same nested_there;
+    each r (inr (inl s)) = subst (λ (x : Record). IsFitted (2 ∷ []) x.home (firsts nesting) x.num x) (sym s) (record {
+      parent = λ named e. let same : place ≡ named = cc in subst (IsNestedAt 1 (firsts nesting) 2) same nested_there;
       nested = λ num m. absurd m;
       shallow = refl;
       stamps = one_count 2 2 (omega arith);
@@ -117,8 +122,8 @@ nesting_has_it = one_home (2 ∷ []) (0 ∷ []) (outer_record 2 (Nested 2) ∷ i
 roots_have_it : HasShape roots
 roots_have_it = one_home (4 ∷ []) (0 ∷ []) (outer_record 4 Left ∷ second_root ∷ []) (omega arith) (one_count 0 4 (omega arith)) each
   where
-    each : (r : Record) → In r (outer_record 4 Left ∷ second_root ∷ []) → IsFitted roots (id_of r) r
-    each r (inl s) = subst (λ (x : Record). IsFitted roots (id_of x) x) (sym s) (record {
+    each : (r : Record) → In r (outer_record 4 Left ∷ second_root ∷ []) → IsFitted (4 ∷ []) r.home (firsts roots) r.num r
+    each r (inl s) = subst (λ (x : Record). IsFitted (4 ∷ []) x.home (firsts roots) x.num x) (sym s) (record {
       parent = λ place e. absurd (no_place place e);
       nested = λ num m. elim m [
         | inl same ↦ absurd cc
@@ -127,7 +132,7 @@ roots_have_it = one_home (4 ∷ []) (0 ∷ []) (outer_record 4 Left ∷ second_r
       shallow = refl;
       stamps = one_count 4 4 (omega arith);
     })
-    each r (inr (inl s)) = subst (λ (x : Record). IsFitted roots (id_of x) x) (sym s) (record {
+    each r (inr (inl s)) = subst (λ (x : Record). IsFitted (4 ∷ []) x.home (firsts roots) x.num x) (sym s) (record {
       parent = λ place e. absurd (no_place place e);
       nested = λ num m. absurd m;
       shallow = refl;
@@ -141,7 +146,7 @@ roots_have_it = one_home (4 ∷ []) (0 ∷ []) (outer_record 4 Left ∷ second_r
 still_nested : record_at (merged nesting roots) inner ≡ Some inner_record
 still_nested = refl
 
-no_member : IsNestedAt (merged nesting roots) inner place → ⊥
+no_member : IsNestedAt 1 (firsts (merged nesting roots)) 2 place → ⊥
 no_member at =
     let parent : Some (outer_record 4 Left) ≡ Some at.parent = at.found in
     let same : outer_record 4 Left ≡ at.parent = cc in
@@ -149,4 +154,4 @@ no_member at =
     cc
 
 merge_has_it_not : HasShape (merged nesting roots) → ⊥
-merge_has_it_not shape = no_member ((shape.fitted inner inner_record (omega arith) still_nested).parent place refl)
+merge_has_it_not shape = no_member (((shape.homes 1 (omega arith)).fitted 2 inner_record still_nested).parent place refl)

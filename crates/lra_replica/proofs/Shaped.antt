@@ -29,7 +29,8 @@ use Rattle.lra_forest.proofs.Trees.{nested_child}
 use Rattle.lra_replica.specs.Growth.{IsSettled}
 use Rattle.lra_replica.specs.Histories.{History, IsClosed, IsLawful, facts}
 use Rattle.lra_replica.specs.Merging.{IsMerged}
-use Rattle.lra_replica.specs.Shape.{HasShape, IsFitted, IsNestedAt, beside, is_shallow}
+use Rattle.lra_forest.specs.Shape.{IsFitted, IsNestedAt, found_at, is_shallow}
+use Rattle.lra_replica.specs.Shape.{HasShape}
 use Rattle.lra_replica.specs.Views.{IsCounted, StandsFor, View, is_purge_fact, purge_number, record_at, records_at}
 use Rattle.lra_replica.proofs.Adding.{FoundRecord, found_record, held_home}
 use Rattle.lra_replica.proofs.Crowding.{few_held}
@@ -94,12 +95,16 @@ placed_at S l p place up e =
     let same : record { number = p.num; slot = member_number S p l.num } ≡ place = cc in
     ap (λ (x : Place). x.slot) (sym same)
 
+-- an LRA of the same home
+abbrev beside : Id → ℕ → Id
+beside l num = record { home = l.home; num = num }
+
 module _ (S : List Fact) (view : View) (settled : IsSettled S) (stands : StandsFor S view) where
   -- the view has the record of what is held
   held_found : (l : Id) → is_held S l ≡ true → record_at view l ≡ Some (record_of (length view.front) S l)
   held_found l held = stands_at (length view.front) l.home S (records_at view.records l.home) l (stands.records l.home (held_home S view l stands held) (held_within S view l stands held)).stands refl held
 
-  parent_there : (l : Id) (r : Record) → FoundRecord S view l r → (place : Place) → r.parent ≡ Some place → IsNestedAt view l place
+  parent_there : (l : Id) (r : Record) → FoundRecord S view l r → (place : Place) → r.parent ≡ Some place → IsNestedAt l.home (records_at view.records l.home) l.num place
   parent_there l r found place named =
       let own : place_in S l.num (parent_of S l) ≡ Some place = sym (ap (λ (x : Record). x.parent) found.is) ∙ named in
       let above = beside l place.number in
@@ -117,30 +122,29 @@ module _ (S : List Fact) (view : View) (settled : IsSettled S) (stands : StandsF
             (get_map (λ f. member_by S above f.num f.body) (givers S above) seat.0 begin.0 seat.1 ∙ ap (λ (m : Member). Some m) nested);
       }
 
-  nested_there : (l : Id) (r : Record) → FoundRecord S view l r → (num : ℕ) → In (Nested num) r.members → is_some (record_at view (beside l num)) ≡ true
+  nested_there : (l : Id) (r : Record) → FoundRecord S view l r → (num : ℕ) → In (Nested num) r.members → is_some (found_at l.home (records_at view.records l.home) num) ≡ true
   nested_there l r found num m =
       let inside : In (Nested num) (members_of S l) = subst (λ (x : Record). In (Nested num) x.members) found.is m in
       let up = nested_child S l num settled.whole settled.seated.once inside in
       ap (λ (o : Option Record). is_some o) (held_found (beside l num) (held_child S l (beside l num) settled.whole up found.held))
 
   -- an LRA is as deep by the records as by the set
-  shallow_by : (levels : ℕ) (l : Id) → is_held S l ≡ true → depth S l ≤ levels → is_shallow levels view l ≡ true
+  shallow_by : (levels : ℕ) (l : Id) → is_held S l ≡ true → depth S l ≤ levels → is_shallow levels l.home (records_at view.records l.home) l.num ≡ true
   shallow_by zero l held deep = let some = depth_is S settled.whole.nested l in absurd (omega (arith, some, deep))
   shallow_by (suc levels) l held deep =
-      ap (λ (o : Option Record). option_map_or (λ (r : Record). option_map_or (λ (p : Place). is_shallow levels view (beside l p.number)) r.parent true) o false) (held_found l held)
+      ap (λ (o : Option Record). option_map_or (λ (r : Record). option_map_or (λ (p : Place). is_shallow levels l.home (records_at view.records l.home) p.number) r.parent true) o false) (held_found l held)
       ∙ by (λ p kept above. shallow_by levels p kept above) (parent_of S l) refl
     where
-      by : ((p : Id) → is_held S p ≡ true → depth S p ≤ levels → is_shallow levels view p ≡ true) → (parent : Option Id) → parent_of S l ≡ parent
-          → option_map_or (λ (p : Place). is_shallow levels view (beside l p.number)) (place_in S l.num parent) true ≡ true
+      by : ((p : Id) → is_held S p ≡ true → depth S p ≤ levels → is_shallow levels p.home (records_at view.records p.home) p.num ≡ true) → (parent : Option Id) → parent_of S l ≡ parent
+          → option_map_or (λ (p : Place). is_shallow levels l.home (records_at view.records l.home) p.number) (place_in S l.num parent) true ≡ true
       by rest None up = refl
       by rest (Some p) up =
           let home = parent_home S l p settled.whole.nested up in
-          let same : beside l p.num ≡ p = ap (λ (k : ℕ). record { home = k; num = p.num }) (sym home) in
           let above = depth_up S p l settled.whole up in
-          ap (is_shallow levels view) same ∙ rest p (held_parent S l p settled.whole held up) (omega (arith, deep, above))
+          ap (λ (k : ℕ). is_shallow levels k (records_at view.records k) p.num) (sym home) ∙ rest p (held_parent S l p settled.whole held up) (omega (arith, deep, above))
 
   -- a record of the view has its place in it
-  fitted : (l : Id) (r : Record) → 1 ≤ l.home → record_at view l ≡ Some r → IsFitted view l r
+  fitted : (l : Id) (r : Record) → 1 ≤ l.home → record_at view l ≡ Some r → IsFitted view.front l.home (records_at view.records l.home) l.num r
   fitted l r some at =
       let found = found_record S view l r stands some at in
       let stamps : r.stamps ≡ map (stamp S l) (nodes_to (length view.front)) = ap (λ (x : Record). x.stamps) found.is in
@@ -162,20 +166,26 @@ closed_shape h v view law closed stands =
     let S = facts h v in
     let settled = closed_settled h law v closed in
     record {
-      few = λ home some. elim (at_most home (length view.front)) [
-        | inl there ↦
-            let are = stands.records home some there in
-            let many = held_count (length view.front) home S (records_at view.records home) are.order are.stands settled.seated.once in
-            let few = few_held h law v closed home some in
-            omega (arith, many, few)
-        | inr past ↦
-            let none : records_at view.records home ≡ [] = get_or_past view.records (home - 1) [] (omega (arith, past, stands.homes)) in
-            let empty : length (records_at view.records home) ≡ 0 = ap (λ (rs : List Record). length rs) none in
-            omega (arith, empty)
-      ];
-      fitted = fitted S view settled stands;
+      homes = λ home some.
+          record {
+            few = few home some settled;
+            fitted = λ num r at. fitted S view settled stands (record { home = home; num = num }) r some at;
+          };
       purges = purges_below S view settled stands;
     }
+  where
+    few : (home : ℕ) → 1 ≤ home → IsSettled (facts h v) → length (records_at view.records home) ≤ 256
+    few home some settled = elim (at_most home (length view.front)) [
+      | inl there ↦
+          let are = stands.records home some there in
+          let many = held_count (length view.front) home (facts h v) (records_at view.records home) are.order are.stands settled.seated.once in
+          let few = few_held h law v closed home some in
+          omega (arith, many, few)
+      | inr past ↦
+          let none : records_at view.records home ≡ [] = get_or_past view.records (home - 1) [] (omega (arith, past, stands.homes)) in
+          let empty : length (records_at view.records home) ≡ 0 = ap (λ (rs : List Record). length rs) none in
+          omega (arith, empty)
+    ]
 
 -- and so has the merge of two
 pub merged_shape : (h : History) (v w : List ℕ) (a b c : View) → IsLawful h → IsClosed h v → IsClosed h w → StandsFor (facts h v) a → StandsFor (facts h w) b → IsMerged a b c → HasShape c

@@ -3,7 +3,7 @@ use Rattle.std.proofs.Common.{◌≡◌, inl, inr, ◌≤◌, ◌-◌, ◌==◌,
 use Rattle.std.proofs.lemmas.Bool.Decides.{nat_tests}
 use Rattle.std.proofs.lemmas.List.{length-map}
 use Rattle.std.specs.List.{list_any, AllByRecursion}
-use Rattle.lra_id.specs.Ids.{Id}
+use Rattle.lra_id.specs.Ids.{Id, is_fact_number}
 use Rattle.lra_id.specs.Fronts.{is_covered}
 use Rattle.lra_facts.specs.declared.fact.Fact.{Fact}
 use Rattle.lra_facts.specs.Lists.{In}
@@ -14,7 +14,8 @@ use Rattle.lra_forest.specs.Records.{nodes_to}
 use Rattle.lra_forest.proofs.Bools.{all_from, all_in}
 use Rattle.lra_forest.proofs.Gatherings.{find_in}
 use Rattle.lra_forest.proofs.Puts.{put_are_of, put_find}
-use Rattle.lra_replica.specs.Merging.{IsMerged, all_taken, home_stamp, merged, merged_record, put_some, taken, taken_of}
+use Rattle.lra_forest.specs.Merging.{home_stamp, merged_record, taken}
+use Rattle.lra_replica.specs.Merging.{IsMerged, all_taken, merged, put_some, taken_of}
 use Rattle.lra_replica.specs.Views.{StandsFor, View, record_at, records_at}
 use Rattle.lra_replica.proofs.MergedRecords.{nth_of}
 use Rattle.lra_replica.proofs.Unions.{length_join}
@@ -69,7 +70,7 @@ taken_named l c g (Some r) (Some t) s left right e =
 
 taken_is : (a b : View) (l : Id) (s : Record) → taken_of a b l ≡ Some s → is_of l s ≡ true
 taken_is a b l s e =
-    taken_named l (is_covered a.front l) (is_covered b.front l) (record_at a l) (record_at b l) s
+    taken_named l (is_covered a.front l) (is_fact_number l.num && is_covered b.front l) (record_at a l) (record_at b l) s
     (λ r k. (find_in (is_of l) (records_at a.records l.home) r k).1)
     (λ r k. (find_in (is_of l) (records_at b.records l.home) r k).1) e
 
@@ -146,7 +147,8 @@ module _ (S T : List Fact) (a b : View) (nodes : length a.front ≡ length b.fro
       by false e =
           let left : record_at a l ≡ None = none_of_part l (records_at a.records l.home) (of_home l.home) (λ r m. in_left (records_at a.records l.home) (records_at b.records l.home) r m) e in
           let right : record_at b l ≡ None = none_of_part l (records_at b.records l.home) (of_home l.home) (λ r m. in_right (records_at a.records l.home) (records_at b.records l.home) r m) e in
-          sym (ap (λ o. taken (is_covered a.front l) (is_covered b.front l) o (record_at b l)) left ∙ ap (taken (is_covered a.front l) (is_covered b.front l) None) right)
+          let gone = is_fact_number l.num && is_covered b.front l in
+          sym (ap (λ o. taken (is_covered a.front l) gone o (record_at b l)) left ∙ ap (taken (is_covered a.front l) gone None) right)
 
   -- the merge of two views that count the same nodes is one
   pub merge_is : IsMerged a b (merged a b)

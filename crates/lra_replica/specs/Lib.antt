@@ -1,3 +1,4 @@
+pub mod Absorbing
 pub mod Growth
 pub mod Histories
 pub mod Laws

@@ -1,89 +1,22 @@
--- The merge of two views: of each LRA one record, from what the two have of it.
-use Rattle.std.specs.Prelude.{◌≡◌, ◌≤◌, ◌&&◌, ◌||◌, ℕ, Bool, Option, Some, None, List, [], ◌∷◌, ◌++◌, if◌then◌else◌, is_some, length, map, nat_le}
-use Rattle.lra_id.specs.Ids.{Id}
+-- The merge of two views, and what a view becomes when what another node tells is taken.
+use Rattle.std.specs.Prelude.{◌≡◌, ◌≤◌, ◌+◌, ◌-◌, ◌&&◌, ℕ, Option, Some, None, List, [], ◌∷◌, ◌++◌, find, length, map, slice_get}
+use Rattle.std.specs.Option.{option_map_or}
+use Rattle.lra_id.specs.Ids.{Id, is_fact_number}
 use Rattle.lra_id.specs.Fronts.{IsBelow, count, is_covered, join_fronts}
-use Rattle.lra_states.specs.States.{greater}
-use Rattle.lra_forest.specs.declared.record.Participant.{Participant as ParticipantRecord}
-use Rattle.lra_forest.specs.declared.record.Member.{Member}
-use Rattle.lra_forest.specs.declared.record.Member.TheVariants.{Nested, Participant, Left}
+use Rattle.lra_forest.specs.declared.merging.Told.{Told}
 use Rattle.lra_forest.specs.declared.record.Record.{Record}
-use Rattle.lra_forest.specs.Forests.{AreOf, id_of}
+use Rattle.lra_forest.specs.Forests.{AreOf, id_of, is_of}
+use Rattle.lra_forest.specs.Merging.{held_numbers, is_gone, taken}
 use Rattle.lra_forest.specs.Places.{put_record}
 use Rattle.lra_forest.specs.Records.{nodes_to}
 use Rattle.lra_replica.specs.Histories.{History, IsClosed, facts}
 use Rattle.lra_replica.specs.Views.{StandsFor, View, record_at, records_at}
 
--- Two records of one LRA
-
--- Of a participant the greater outcomes are kept, and that it was told to forget if either has it. What it has no link for
--- is dropped
-abbrev pub merged_participant : ParticipantRecord → ParticipantRecord → ParticipantRecord
-merged_participant p q =
-    record {
-      links = p.links;
-      completed = if is_some p.links.complete then greater p.completed q.completed else None;
-      compensated = greater p.compensated q.compensated;
-      forgotten = is_some p.links.forget && (p.forgotten || q.forgotten);
-    }
-
--- A member is what the kept one says. What the other heard of a participant counts only where the kept one has a participant
-abbrev pub merged_member : Member → Member → Member
-merged_member (Participant p) (Participant q) = Participant (merged_participant p q)
-merged_member (Participant p) (Nested num) = Participant p
-merged_member (Participant p) Left = Participant p
-merged_member (Nested num) other = Nested num
-merged_member Left other = Left
-
--- the members that are kept, each with what the other list has at its place
-abbrev pub merged_members : (kept other : List Member) → List Member
-merged_members [] others = []
-merged_members (m ∷ kept) [] = m ∷ kept
-merged_members (m ∷ kept) (n ∷ others) = merged_member m n ∷ merged_members kept others
-
--- the greatest number of the home's own facts about the LRA
-abbrev pub home_stamp : Record → ℕ
-home_stamp r = count r.stamps r.home
-
--- Only the home decides and numbers members, so that part is kept whole from the one with the greater home stamp, the first
--- where they are equal. Of each node the greater stamp is kept. What the begin says is the same in both
-abbrev pub merged_record : Record → Record → Record
-merged_record r t =
-    if nat_le (home_stamp t) (home_stamp r)
-    then record {
-      home = r.home;
-      num = r.num;
-      parent = r.parent;
-      deadline = r.deadline;
-      decision = r.decision;
-      stamps = join_fronts r.stamps t.stamps;
-      members = merged_members r.members t.members;
-    }
-    else record {
-      home = r.home;
-      num = r.num;
-      parent = r.parent;
-      deadline = r.deadline;
-      decision = t.decision;
-      stamps = join_fronts r.stamps t.stamps;
-      members = merged_members t.members r.members;
-    }
-
--- What is had of one LRA
-
--- What a receiver keeps of an LRA, by what it has of it and what the other has. Covered: its own front counts the LRA's
--- begin, so that it purged an LRA that it lacks. Gone: the other's front counts the begin, so that the other purged one that
--- it lacks
-abbrev pub taken : (covered gone : Bool) → Option Record → Option Record → Option Record
-taken covered gone None None = None
-taken covered gone None (Some t) = if covered then None else Some t
-taken covered gone (Some r) None = if gone then None else Some r
-taken covered gone (Some r) (Some t) = Some (merged_record r t)
-
 -- Two views
 
--- what is taken of an LRA, of two views
+-- What is taken of an LRA, of two views: the other counts its begin, and holds it or has it no more
 abbrev pub taken_of : View → View → Id → Option Record
-taken_of a b l = taken (is_covered a.front l) (is_covered b.front l) (record_at a l) (record_at b l)
+taken_of a b l = taken (is_covered a.front l) (is_fact_number l.num && is_covered b.front l) (record_at a l) (record_at b l)
 
 -- c is made of a and b, which count the same nodes: the greater counts and purges, and of each LRA what is taken
 pub record IsMerged (a b c : View) : Type 0 where
@@ -112,6 +45,56 @@ merged a b =
       purges = join_fronts a.purges b.purges;
       records = map (λ home. all_taken a b (records_at a.records home ++ records_at b.records home)) (nodes_to (length a.front));
     }
+
+-- What another node tells
+
+-- the homes are numbered from k
+abbrev pub AreToldFrom : ℕ → List Told → Type 0
+AreToldFrom k [] = Unit {0}
+AreToldFrom k (told ∷ homes) = (told.records.home ≡ k) × AreToldFrom (k + 1) homes
+
+-- its front, its last purges, and what it tells of each home
+pub record Telling : Type 0 where
+  pub front : List ℕ
+  pub purges : List ℕ
+  pub homes : List Told
+
+-- it tells of one home for each node that its front counts
+pub record IsTelling (telling : Telling) : Type 0 where
+  pub purges : length telling.purges ≡ length telling.front
+  pub homes : length telling.homes ≡ length telling.front
+  pub numbered : AreToldFrom 1 telling.homes
+
+-- the records that it tells of a home
+abbrev pub told_records : Telling → ℕ → List Record
+told_records telling home = option_map_or (λ (told : Told). told.records.records) (slice_get telling.homes (home - 1)) []
+
+-- the numbers of all LRAs of a home that the other holds, where it tells them
+abbrev pub told_held : Telling → ℕ → Option (List ℕ)
+told_held telling home = option_map_or (λ (told : Told). held_numbers told.held) (slice_get telling.homes (home - 1)) None
+
+-- what is taken of an LRA, of a view and what another node tells
+abbrev pub absorbed_of : View → Telling → Id → Option Record
+absorbed_of a telling l =
+    taken (is_covered a.front l) (is_gone (count telling.front l.home) (told_held telling l.home) l.num)
+    (record_at a l) (find (is_of l) (told_records telling l.home))
+
+-- c is a with what is told, by a node that counts the same nodes: the greater counts and purges, and of each LRA what is taken
+pub record IsAbsorbed (a : View) (telling : Telling) (c : View) : Type 0 where
+  pub nodes : length a.front ≡ length telling.front
+  pub front : c.front ≡ join_fronts a.front telling.front
+  pub purges : c.purges ≡ join_fronts a.purges telling.purges
+  pub homes : length c.records ≡ length c.front
+  pub order : (home : ℕ) → 1 ≤ home → home ≤ length c.front → AreOf home (records_at c.records home)
+  pub records : (l : Id) → 1 ≤ l.home → l.home ≤ length c.front → record_at c l ≡ absorbed_of a telling l
+
+-- All that a view has is told: its front and purges, each home's records, which are in order, and which LRAs it holds
+pub record TellsAll (telling : Telling) (b : View) : Type 0 where
+  pub front : telling.front ≡ b.front
+  pub purges : telling.purges ≡ b.purges
+  pub records : (home : ℕ) → 1 ≤ home → home ≤ length b.front → told_records telling home ≡ records_at b.records home
+  pub order : (home : ℕ) → 1 ≤ home → home ≤ length b.front → AreOf home (records_at b.records home)
+  pub held : (home : ℕ) → 1 ≤ home → home ≤ length b.front → told_held telling home ≡ Some (map (λ (r : Record). r.num) (records_at b.records home))
 
 -- Views in a history
 

@@ -104,7 +104,7 @@ fn body(command: Command, given: u8) -> Body {
 }
 
 /// Has a node that there is prepare a command.
-fn prepared(
+pub(crate) fn prepared(
     replica: &mut Replica,
     alloc: Global,
     me: NodeId,

@@ -1,5 +1,5 @@
 // Commands as prepared patches.
-ghost use Rattle.std.specs.Prelude.{◌≡◌, ◌≤◌, ◌<◌, ◌+◌, ◌⊎◌, List, Some, None, IfOk, IfErr, IfSome, OnOk, length};
+ghost use Rattle.std.specs.Prelude.{◌≡◌, ◌≤◌, ◌<◌, ◌+◌, ◌⊎◌, ℕ, List, Some, None, IfOk, IfErr, IfSome, OnOk, length};
 ghost use Rattle.lra_id.specs.Fronts.{count};
 ghost use Rattle.lra_facts.specs.declared.fact.Fact.{Fact};
 ghost use Rattle.lra_facts.specs.declared.refusal.Refusal.TheVariants.{NoMemory};
@@ -38,9 +38,10 @@ impl Replica {
     }
 
     /// Takes the memory that so many more records of a home need.
-    fn make_room(&mut self, home: NodeId, more: usize) -> Result<(), AllocError>
+    pub(crate) fn make_room(&mut self, home: NodeId, more: usize) -> Result<(), AllocError>
         requires { home ≤ length self.old.front }
         ensures view { view_of self.new ≡ view_of self.old }
+        ensures kept { (home : ℕ) → 1 ≤ home → spare_at self.old.homes home ≤ spare_at self.new.homes home }
         ensures ok { OnOk result (more ≤ spare_at self.new.homes home) }
     {
         let place = usize::from(home.number()) - 1;

@@ -1,9 +1,9 @@
-use Rattle.std.proofs.Common.{◌≡◌, ◌≤◌, ◌<◌, ◌-◌, ◌∙◌, ℕ, List, length, ap, arith, get_or, map, set}
+use Rattle.std.proofs.Common.{◌≡◌, ◌≤◌, ◌<◌, ◌+◌, ◌-◌, ◌==◌, ◌∙◌, ℕ, Bool, true, false, List, cond, refl, length, ap, arith, get_or, map, set}
 use Rattle.lra_forest.specs.declared.record.Record.{Record}
 use Rattle.lra_forest.specs.Forests.{HomeRecords}
-use Rattle.lra_replica.specs.Replicas.{Kept, view_of}
+use Rattle.lra_replica.specs.Replicas.{Kept, spare_at, view_of}
 use Rattle.lra_replica.specs.Views.{View}
-use Rattle.lra_replica.proofs.Rooms.{kept_with, same_records, spare_new}
+use Rattle.lra_replica.proofs.Rooms.{kept_with, same_records, spare_new, spare_with}
 use Rattle.lra_replica.proofs.replica.Replica.make_room.Goals as goal
 
 place_is : (c : goal.After-self-1) → c.from-place.result - 1 ≡ c.args.home - 1
@@ -37,3 +37,14 @@ pub returns-clause-ok : goal.returns-clause-ok
 returns-clause-ok c =
     let room = spare_new c.self.inside.homes.items c.args.home c.reserve.new.self (within c) in
     rw (place_is c, room) c.reserve.ensures.ok
+
+pub returns-clause-kept : goal.returns-clause-kept
+returns-clause-kept c home some =
+    let homes : spare_at c.self.inside.homes.items home ≡ spare_at c.args.self.now.homes home = ap (λ (k : Kept). spare_at k.homes home) c.self.view_is in
+    let room = spare_with c.self.inside.homes.items (c.args.home - 1) c.reserve.new.self c.index_mut.result.now 0 (within c)
+    (omega (arith, c.reserve.ensures.kept, ap (λ (h : HomeRecords). h.spare) (is_home c))) home some in
+    rw (place_is c) (omega (arith, homes, room, none ((c.args.home - 1 + 1) == home)))
+  where
+    none : (b : Bool) → cond {A = ℕ} b 0 0 ≡ 0
+    none true = refl
+    none false = refl

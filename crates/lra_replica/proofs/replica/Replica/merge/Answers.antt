@@ -1,0 +1,42 @@
+use Rattle.std.proofs.Common.{◌≡◌, ◌∙◌, inl, inr, ap, sym, subst}
+use Rattle.lra_replica.specs.Histories.{facts}
+use Rattle.lra_replica.specs.Merging.{IsMerged, merged}
+use Rattle.lra_replica.specs.Replicas.{patched, view_of}
+use Rattle.lra_replica.specs.Views.{View}
+use Rattle.lra_replica.proofs.Lattice.{merge_law}
+use Rattle.lra_replica.proofs.Shaped.{merged_shape}
+use Rattle.lra_replica.proofs.Taking.{merge_is}
+use Rattle.lra_replica.proofs.Tellings.{absorbed_from, merged_from}
+use Rattle.lra_replica.proofs.replica.Replica.merge.Goals as goal
+
+new_view : (c : goal.After-apply) → patched c.in-Ok.patch (view_of c.args.self.now) ≡ view_of c.apply.new.self
+new_view c = sym (c.apply.ensures ∙ ap (patched c.in-Ok.patch) c.in-Ok.ensures.view)
+
+made : (c : goal.After-apply) → IsMerged (view_of c.args.self.now) (view_of c.args.other.now) (view_of c.apply.new.self)
+made c =
+    subst (λ (v : View). IsMerged (view_of c.args.self.now) (view_of c.args.other.now) v) (new_view c)
+    (merged_from (view_of c.args.self.now) (view_of c.args.other.now) (patched c.in-Ok.patch (view_of c.args.self.now)) c.in_ok-taken.taken c.in_ok-taken.ensures c.in-Ok.ensures.absorbed)
+
+pub returns-in-Ok-clause-merged : goal.returns-in-Ok-clause-merged
+returns-in-Ok-clause-merged c = made c
+
+pub returns-in-Ok-clause-union : goal.returns-in-Ok-clause-union
+returns-in-Ok-clause-union c h v w law left right own others =
+    merge_law h v w (view_of c.args.self.now) (view_of c.args.other.now) (view_of c.apply.new.self) law left right own others (made c)
+
+pub returns-in-Err-clause-refused : goal.returns-in-Err-clause-refused
+returns-in-Err-clause-refused c = elim c.in-Err.ensures.refused [
+  | inl memory ↦ inl memory
+  | inr broken ↦ inr (broken.0, λ v is shape. broken.1 v (absorbed_from (view_of c.args.self.now) (view_of c.args.other.now) v c.in_ok-taken.taken c.in_ok-taken.ensures is) shape)
+]
+
+-- the merge of two views of one history has the shape
+pub returns-in-Err-clause-union : goal.returns-in-Err-clause-union
+returns-in-Err-clause-union c h v w law left right own others = elim c.in-Err.ensures.refused [
+  | inl memory ↦ memory
+  | inr broken ↦
+      let a = view_of c.args.self.now in
+      let b = view_of c.args.other.now in
+      let is = merge_is (facts h v) (facts h w) a b c.requires own others in
+      absurd (broken.1 (merged a b) (absorbed_from a b (merged a b) c.in_ok-taken.taken c.in_ok-taken.ensures is) (merged_shape h v w a b (merged a b) law left right own others is))
+]
