@@ -16,30 +16,39 @@ use Rattle.lra_forest.specs.Places.{put_record}
 
 -- Two records of one LRA
 
--- Of a participant the greater outcomes are kept, and that it was told to forget if either has it. What it has no link for
--- is dropped
-abbrev pub merged_participant : ParticipantRecord → ParticipantRecord → ParticipantRecord
-merged_participant p q =
+-- A participant without what it has no link for: what was heard of its completing, and the mark that it was told to forget
+abbrev pub linked : ParticipantRecord → ParticipantRecord
+linked p =
     record {
       links = p.links;
-      completed = if is_some p.links.complete then greater p.completed q.completed else None;
-      compensated = greater p.compensated q.compensated;
-      forgotten = is_some p.links.forget && (p.forgotten || q.forgotten);
+      completed = if is_some p.links.complete then p.completed else None;
+      compensated = p.compensated;
+      forgotten = is_some p.links.forget && p.forgotten;
     }
 
--- A member is what the kept one says. What the other heard of a participant counts only where the kept one has a participant
-abbrev pub merged_member : Member → Member → Member
-merged_member (Participant p) (Participant q) = Participant (merged_participant p q)
-merged_member (Participant p) (Nested num) = Participant p
-merged_member (Participant p) Left = Participant p
-merged_member (Nested num) other = Nested num
-merged_member Left other = Left
+-- Of a participant the greater outcomes are kept, and that it was told to forget if either has it. What the kept one has no
+-- link for is dropped
+abbrev pub merged_participant : (kept other : ParticipantRecord) → ParticipantRecord
+merged_participant p q =
+    linked (record {
+      links = p.links;
+      completed = greater p.completed q.completed;
+      compensated = greater p.compensated q.compensated;
+      forgotten = p.forgotten || q.forgotten;
+    })
 
--- the members that are kept, each with what the other list has at its place
+-- A member is what the kept one says. Of a participant the other counts where it has a participant at the place too
+abbrev pub merged_member : (kept : Member) (other : Option Member) → Member
+merged_member (Participant p) (Some (Participant q)) = Participant (merged_participant p q)
+merged_member (Participant p) _ = Participant (linked p)
+merged_member (Nested num) _ = Nested num
+merged_member Left _ = Left
+
+-- the members that are kept, each with what the other list has at its place, if anything
 abbrev pub merged_members : (kept other : List Member) → List Member
 merged_members [] others = []
-merged_members (m ∷ kept) [] = m ∷ kept
-merged_members (m ∷ kept) (n ∷ others) = merged_member m n ∷ merged_members kept others
+merged_members (m ∷ kept) [] = merged_member m None ∷ merged_members kept []
+merged_members (m ∷ kept) (n ∷ others) = merged_member m (Some n) ∷ merged_members kept others
 
 -- the greatest number of the home's own facts about the LRA
 abbrev pub home_stamp : Record → ℕ
@@ -71,9 +80,8 @@ merged_record r t =
 
 -- What is had of one LRA
 
--- What a receiver keeps of an LRA, by what it has of it and what the other has. Covered: its own front counts the LRA's
--- begin, so that it purged an LRA that it lacks. Gone: the other's front counts the begin, so that the other purged one that
--- it lacks
+-- What a receiver keeps of an LRA, by what it has of it and what the other has. Covered: the receiver's front counts the
+-- LRA's begin, so that it purged one that it lacks. Gone: the other had the LRA, and is known to hold it no more
 abbrev pub taken : (covered gone : Bool) → Option Record → Option Record → Option Record
 taken covered gone None None = None
 taken covered gone None (Some t) = if covered then None else Some t

@@ -15,7 +15,7 @@ use Rattle.lra_forest.specs.Numbers.{numbered}
 abbrev pub found_at : (home : ℕ) → List Record → (num : ℕ) → Option Record
 found_at home records num = find (is_of (record { home = home; num = num })) records
 
--- up from an LRA by the parents that the records name, a root is met within this many LRAs, that one itself the first
+-- following the parents that the records name from an LRA up, a root is met among the first so many LRAs, itself counted
 abbrev pub is_shallow : (levels home : ℕ) → List Record → (num : ℕ) → Bool
 is_shallow zero home records num = false
 is_shallow (suc levels) home records num =
@@ -36,14 +36,14 @@ pub record IsFitted (front : List ℕ) (home : ℕ) (records : List Record) (num
   pub shallow : is_shallow 8 home records num ≡ true
   pub stamps : IsBelow r.stamps front
 
--- there are no more than 256, and each has its place
-pub record AreInShape (front : List ℕ) (home : ℕ) (records : List Record) : Type 0 where
-  pub few : length records ≤ 256
-  pub fitted : (num : ℕ) (r : Record) → found_at home records num ≡ Some r → IsFitted front home records num r
-
 -- of the LRA with this number the record has its place, if there is one
 abbrev pub FitsAt : (front : List ℕ) (home : ℕ) (records : List Record) (num : ℕ) → Type 0
 FitsAt front home records num = (r : Record) → found_at home records num ≡ Some r → IsFitted front home records num r
+
+-- there are no more than 256, and each has its place
+pub record AreInShape (front : List ℕ) (home : ℕ) (records : List Record) : Type 0 where
+  pub few : length records ≤ 256
+  pub fitted : (num : ℕ) → FitsAt front home records num
 
 -- the records of a home once they are changed
 abbrev pub records_after : Changes → HomeRecords → List Record

@@ -1,10 +1,11 @@
 // What a home's records become when another node's are taken.
 ghost use Rattle.std.specs.Prelude.{◌≡◌, ◌==◌, ◌&&◌, ℕ, Some, None, IfOk, OnOk, if◌then◌else◌, is_none, is_some, nat_le};
 ghost use Rattle.std.specs.List.{AllByRecursion, list_any};
+ghost use Rattle.std.specs.Option.{option_copied};
 ghost use Rattle.lra_id.specs.Ids.{Id};
 ghost use Rattle.lra_states.specs.States.{greater};
 ghost use Rattle.lra_forest.specs.Forests.{AreOf};
-ghost use Rattle.lra_forest.specs.Merging.{brought, changed_by, held_numbers, home_stamp, is_gone, is_unlisted, merged_member, merged_members, merged_participant, merged_record, taken};
+ghost use Rattle.lra_forest.specs.Merging.{brought, changed_by, held_numbers, home_stamp, is_gone, is_unlisted, linked, merged_member, merged_members, merged_participant, merged_record, taken};
 ghost use Rattle.lra_forest.specs.Shape.{found_at};
 
 use crate::{Forest, Member, Members, Participant, Record};
@@ -41,46 +42,60 @@ fn greater(own: Option<Outcome>, heard: Option<Outcome>) -> Option<Outcome>
     }
 }
 
-/// A participant, with what another record heard of it.
-fn merged_participant(kept: Participant, other: &Participant) -> Participant
-    ensures { result ≡ merged_participant kept other.now }
+/// A participant without what it has no link for.
+fn linked(kept: Participant) -> Participant
+    ensures { result ≡ linked kept }
 {
     let completed = if kept.links.complete.is_some() {
-        greater(kept.completed, other.completed)
+        kept.completed
     } else {
         None
     };
-    let forgotten = kept.links.forget.is_some() && (kept.forgotten || other.forgotten);
+    let forgotten = kept.links.forget.is_some() && kept.forgotten;
     Participant {
         links: kept.links,
         completed,
-        compensated: greater(kept.compensated, other.compensated),
+        compensated: kept.compensated,
         forgotten,
     }
 }
 
-/// A member, with what another record heard of the participant.
-fn merged_member(kept: Member, other: &Member) -> Member
-    ensures { result ≡ merged_member kept other.now }
+/// A participant, with what another record heard of it, and without what it has no link for.
+fn merged_participant(kept: Participant, other: &Participant) -> Participant
+    ensures { result ≡ merged_participant kept other.now }
+{
+    let forgotten = kept.forgotten || other.forgotten;
+    linked(Participant {
+        links: kept.links,
+        completed: greater(kept.completed, other.completed),
+        compensated: greater(kept.compensated, other.compensated),
+        forgotten,
+    })
+}
+
+/// A member, with what another record heard of the participant, where it has one at the place.
+fn merged_member(kept: Member, other: Option<&Member>) -> Member
+    ensures { result ≡ merged_member kept (option_copied other.entry) }
 {
     match kept {
         Member::Participant(kept) => match other {
-            Member::Participant(other) => Member::Participant(merged_participant(kept, other)),
-            _ => Member::Participant(kept),
+            Some(Member::Participant(other)) => {
+                Member::Participant(merged_participant(kept, other))
+            }
+            _ => Member::Participant(linked(kept)),
         },
         kept => kept,
     }
 }
 
-/// Adds to members what another record heard of them. It takes no memory.
+/// Adds to members what another record heard of them, and drops what they have no link for. It takes no memory.
 fn merge_members(kept: &mut Members, other: &Members)
     ensures { kept.new ≡ merged_members kept.old other.now }
 {
-    let heard = other.as_slice();
-    for place in 0..heard.len().min(kept.len()) {
+    for place in 0..kept.as_slice().len() {
         let number = place as u8 + 1;
         let member = kept.exchange(number, Member::Left);
-        kept.set(number, merged_member(member, &heard[place]));
+        kept.set(number, merged_member(member, other.get(number)));
     }
 }
 
