@@ -1,7 +1,8 @@
 -- homes without a record
-use Rattle.std.proofs.Common.{◌≡◌, ◌+◌, ◌++◌, ℕ, zero, suc, List, [], ◌∷◌, refl, ap, ◌∙◌, arith, length, map, replicate, add-one}
+use Rattle.std.proofs.Common.{◌≡◌, ◌+◌, ◌++◌, ℕ, zero, suc, List, [], ◌∷◌, refl, sym, ap, subst, ◌∙◌, arith, length, map, replicate, add-one}
+use Rattle.std.specs.List.{AllByRecursion}
 use Rattle.lra_forest.specs.declared.record.Record.{Record}
-use Rattle.lra_forest.specs.Forests.{HomeRecords}
+use Rattle.lra_forest.specs.Forests.{AreOf, HomeRecords}
 use Rattle.lra_replica.specs.Replicas.{AreEmptyHomes, AreHomesFrom}
 
 homes_and : (k : ℕ) (homes : List HomeRecords) (home : HomeRecords) → AreHomesFrom k homes → home.home ≡ k + length homes → AreHomesFrom k (homes ++ home ∷ [])
@@ -20,6 +21,15 @@ empty_and (h ∷ homes) home (suc n) e none =
 length_and : (homes : List HomeRecords) (home : HomeRecords) → length (homes ++ home ∷ []) ≡ length homes + 1
 length_and [] home = refl
 length_and (h ∷ homes) home = omega (arith, length_and homes home)
+
+-- their records, of which there are none, are in order
+pub empty_ordered : (n : ℕ) (homes : List HomeRecords) → map (λ (h : HomeRecords). h.records) homes ≡ replicate n [] → AllByRecursion (λ (h : HomeRecords). AreOf h.home h.records) homes
+empty_ordered n [] e = tt
+empty_ordered zero (h ∷ homes) e = absurd cc
+empty_ordered (suc n) (h ∷ homes) e =
+    let first : h.records ≡ [] = cc in
+    let rest : map (λ (x : HomeRecords). x.records) homes ≡ replicate n [] = cc in
+    (subst (λ (rs : List Record). AreOf h.home rs) (sym first) (record { homes = tt; ascending = tt }), empty_ordered n homes rest)
 
 -- one more of them
 pub one_more_home : (n : ℕ) (homes : List HomeRecords) (home : HomeRecords) → AreEmptyHomes n homes → home.home ≡ n + 1 → home.records ≡ [] → AreEmptyHomes (n + 1) (homes ++ home ∷ [])

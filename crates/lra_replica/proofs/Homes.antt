@@ -10,11 +10,25 @@ use Rattle.lra_facts.specs.Lists.{In}
 use Rattle.lra_facts.specs.Sets.{begins, is_begin, is_begun, is_held}
 use Rattle.lra_facts.proofs.Membership.{any_gives}
 use Rattle.lra_forest.specs.declared.record.Record.{Record}
-use Rattle.lra_forest.specs.Forests.{HomeRecords, is_of}
+use Rattle.lra_forest.specs.Forests.{AreOf, HomeRecords, is_of}
 use Rattle.lra_replica.specs.Replicas.{Kept, IsKept, AreHomesFrom, view_of}
 use Rattle.lra_forest.specs.Standing.{IsNested, Stands}
 use Rattle.lra_replica.specs.Growth.{IsSettled}
-use Rattle.lra_replica.specs.Views.{AreRecords, IsCounted, StandsFor, record_at, records_at}
+use Rattle.lra_replica.specs.Views.{AreRecords, IsCounted, IsInOrder, StandsFor, record_at, records_at}
+use Rattle.lra_replica.proofs.Rooms.{home_numbered, ordered_at, records_of}
+
+-- the records of a replica's view are in order
+pub kept_in_order : (kept : Kept) → IsKept kept → IsInOrder (view_of kept)
+kept_in_order kept is home low high =
+    let none : HomeRecords = record { home = home; records = []; spare = 0 } in
+    let within : home - 1 < length kept.homes = omega (arith, low, high, is.homes) in
+    let number : (get_or kept.homes (home - 1) none).home ≡ home = omega (arith, low, home_numbered 1 kept.homes (home - 1) none within is.numbered) in
+    subst (λ (rs : List Record). AreOf home rs) (sym (records_of kept.homes (home - 1) none within))
+    (subst (λ (n : ℕ). AreOf n (get_or kept.homes (home - 1) none).records) number (ordered_at kept.homes (home - 1) none within is.ordered))
+
+-- also where the replica was opened
+pub opened_in_order : (inside kept : Kept) → inside ≡ kept → IsKept inside → IsInOrder (view_of kept)
+opened_in_order inside kept same is = kept_in_order kept (subst IsKept same is)
 
 -- a home that is there is one of the nodes
 pub home_within : (kept : Kept) (home : ℕ) (f : HomeRecords) → IsKept kept → 1 ≤ home → slice_get kept.homes (home - 1) ≡ Some f → home ≤ length kept.front

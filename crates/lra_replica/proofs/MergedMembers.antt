@@ -25,7 +25,7 @@ use Rattle.lra_forest.proofs.Seats.{same_is}
 use Rattle.lra_replica.specs.Growth.{names_member}
 use Rattle.lra_forest.specs.Merging.{merged_member, merged_members}
 use Rattle.lra_replica.proofs.Fitting.{givers_length}
-use Rattle.lra_replica.proofs.More.{filter_all, filter_append, map_agree, none_found}
+use Rattle.lra_replica.proofs.More.{filter_all, filter_append, none_found}
 use Rattle.lra_replica.proofs.Prefixes.{IsLonger}
 use Rattle.lra_replica.proofs.Together.{AreTogether, givers_longer, givers_union, left_union}
 use Rattle.lra_replica.proofs.Basics.{false_from, greater_none}
@@ -69,12 +69,18 @@ none_or false = refl
 
 -- Members one by one
 
-same_left : (u s t : Bool) (r p q : ParticipantRecord) → u ≡ s → (t ≡ true → s ≡ true) → Participant r ≡ merged_member (Participant p) (Participant q) → cond u Left (Participant r) ≡ merged_member (cond s Left (Participant p)) (cond t Left (Participant q))
+same_left : (u s t : Bool) (r p q : ParticipantRecord) → u ≡ s → (t ≡ true → s ≡ true) → Participant r ≡ merged_member (Participant p) (Some (Participant q)) → cond u Left (Participant r) ≡ merged_member (cond s Left (Participant p)) (Some (cond t Left (Participant q)))
 same_left true true t r p q e f g = refl
 same_left true false t r p q e f g = absurd cc
 same_left false true t r p q e f g = absurd cc
 same_left false false true r p q e f g = absurd (let clash : false ≡ true = f refl in cc)
 same_left false false false r p q e f g = g
+
+same_alone : (u s : Bool) (r p : ParticipantRecord) → u ≡ s → Participant r ≡ merged_member (Participant p) None → cond u Left (Participant r) ≡ merged_member (cond s Left (Participant p)) None
+same_alone true true r p e g = refl
+same_alone true false r p e g = absurd cc
+same_alone false true r p e g = absurd cc
+same_alone false false r p e g = g
 
 masked : (b : Bool) (o : Option Outcome) → (b ≡ false → o ≡ None) → cond b o None ≡ o
 masked true o h = refl
@@ -84,12 +90,13 @@ masked_and : (b c : Bool) → (b ≡ false → c ≡ false) → (b && c) ≡ c
 masked_and true c h = refl
 masked_and false c h = sym (h refl)
 
--- each of the first list's members, merged where the other has one at its place
-merge_maps : (f g k : Fact → Member) (xs rest : List Fact) → ((x : Fact) → In x xs → k x ≡ merged_member (f x) (g x)) → ((x : Fact) → In x rest → k x ≡ f x) → map k (xs ++ rest) ≡ merged_members (map f (xs ++ rest)) (map g xs)
+-- each of the first list's members, merged with what the other has at its place
+merge_maps : (f g k : Fact → Member) (xs rest : List Fact) → ((x : Fact) → In x xs → k x ≡ merged_member (f x) (Some (g x))) → ((x : Fact) → In x rest → k x ≡ merged_member (f x) None) → map k (xs ++ rest) ≡ merged_members (map f (xs ++ rest)) (map g xs)
 merge_maps f g k [] [] a b = refl
-merge_maps f g k [] (x ∷ rest) a b = map_agree k f (x ∷ rest) b
+merge_maps f g k [] (x ∷ rest) a b =
+    ap (λ y. y ∷ map k rest) (b x (inl refl)) ∙ ap (λ ys. merged_member (f x) None ∷ ys) (merge_maps f g k [] rest a (λ y m. b y (inr m)))
 merge_maps f g k (x ∷ xs) rest a b =
-    ap (λ y. y ∷ map k (xs ++ rest)) (a x (inl refl)) ∙ ap (λ ys. merged_member (f x) (g x) ∷ ys) (merge_maps f g k xs rest (λ y m. a y (inr m)) b)
+    ap (λ y. y ∷ map k (xs ++ rest)) (a x (inl refl)) ∙ ap (λ ys. merged_member (f x) (Some (g x)) ∷ ys) (merge_maps f g k xs rest (λ y m. a y (inr m)) b)
 
 module _ (S T U : List Fact) (v w : List ℕ) (t : AreTogether S T U v w) (l : Id) (le : stamp T l l.home ≤ stamp S l l.home) where
   -- what has no link was not heard or marked
@@ -107,7 +114,7 @@ module _ (S T U : List Fact) (v w : List ℕ) (t : AreTogether S T U v w) (l : I
   left_there m e = sym (left_union S T U v w t l le m) ∙ any_inside (λ f. is_leave l m f.body) T U t.union.right e
 
   -- a participant in both
-  participant_both : (f : Fact) (m : ℕ) (links : Links) → In f U → f.body ≡ Join l m links → member_by U l f.num (Join l m links) ≡ merged_member (member_by S l f.num (Join l m links)) (member_by T l f.num (Join l m links))
+  participant_both : (f : Fact) (m : ℕ) (links : Links) → In f U → f.body ≡ Join l m links → member_by U l f.num (Join l m links) ≡ merged_member (member_by S l f.num (Join l m links)) (Some (member_by T l f.num (Join l m links)))
   participant_both f m links k joins =
       let complete = heard_union S T U t.union l m Complete in
       let compensate = heard_union S T U t.union l m Compensate in
@@ -123,16 +130,22 @@ module _ (S T U : List Fact) (v w : List ℕ) (t : AreTogether S T U v w) (l : I
       (left_union S T U v w t l le m) (left_there m) (rw (complete, compensate, forgotten, kept, marked) refl)
 
   -- a participant of which the second set says nothing
-  participant_alone : (num m : ℕ) (links : Links) → ((g : Fact) → In g T → names_member l m g.body ≡ false) → member_by U l num (Join l m links) ≡ member_by S l num (Join l m links)
-  participant_alone num m links silent =
+  participant_alone : (f : Fact) (m : ℕ) (links : Links) → In f U → f.body ≡ Join l m links → ((g : Fact) → In g T → names_member l m g.body ≡ false) → member_by U l f.num (Join l m links) ≡ merged_member (member_by S l f.num (Join l m links)) None
+  participant_alone f m links k joins silent =
       let no_complete = heard_none T l m Complete (λ g k. unnamed_report l m Complete g.body (silent g k)) in
       let no_compensate = heard_none T l m Compensate (λ g k. unnamed_report l m Compensate g.body (silent g k)) in
       let no_mark : has_forgot T l m ≡ false = none_found (λ g. is_forgot l m g.body) T (λ g k. unnamed_forgot l m g.body (silent g k)) in
       let complete : heard U l m Complete ≡ heard S l m Complete = heard_union S T U t.union l m Complete ∙ ap (greater (heard S l m Complete)) no_complete ∙ greater_none (heard S l m Complete) in
       let compensate : heard U l m Compensate ≡ heard S l m Compensate = heard_union S T U t.union l m Compensate ∙ ap (greater (heard S l m Compensate)) no_compensate ∙ greater_none (heard S l m Compensate) in
       let mark : has_forgot U l m ≡ has_forgot S l m = any_union (λ g. is_forgot l m g.body) S T U t.union ∙ ap (λ b. has_forgot S l m || b) no_mark ∙ none_or (has_forgot S l m) in
-      let gone : has_left U l m ≡ has_left S l m = left_union S T U v w t l le m in
-      rw (gone, complete, compensate, mark) refl
+      let kept : cond (is_some links.complete) (heard S l m Complete) None ≡ heard S l m Complete =
+      masked (is_some links.complete) (heard S l m Complete) (λ none. sym complete ∙ unheard f m links k joins none) in
+      let marked : (is_some links.forget && has_forgot S l m) ≡ has_forgot S l m =
+      masked_and (is_some links.forget) (has_forgot S l m) (λ none. sym mark ∙ unmarked f m links k joins none) in
+      same_alone (has_left U l m) (has_left S l m)
+      (record { links = links; completed = heard U l m Complete; compensated = heard U l m Compensate; forgotten = has_forgot U l m })
+      (record { links = links; completed = heard S l m Complete; compensated = heard S l m Compensate; forgotten = has_forgot S l m })
+      (left_union S T U v w t l le m) (rw (complete, compensate, mark, kept, marked) refl)
 
   -- what a set gave numbers to before a fact has lesser numbers than that fact's
   beyond_number : (longer : IsLonger (givers S l) (givers T l)) (f : Fact) → In f longer.rest → numbers_given T l < member_number S l f.num
@@ -173,12 +186,12 @@ module _ (S T U : List Fact) (v w : List ℕ) (t : AreTogether S T U v w) (l : I
       ∙ merge_maps (by_set S) (by_set T) (by_set U) (givers T l) longer.rest
       (λ f m.
       let there = giver_in T l f m in
-      by_giver (λ body. member_by U l f.num body ≡ merged_member (member_by S l f.num body) (member_by T l f.num body)) f.body there.1
+      by_giver (λ body. member_by U l f.num body ≡ merged_member (member_by S l f.num body) (Some (member_by T l f.num body))) f.body there.1
       (λ p d. refl)
       (λ n links joins. participant_both f n links (t.union.right f there.0) joins))
       (λ f m.
       let there = giver_in S l f (longer.others f m).0 in
-      by_giver (λ body. member_by U l f.num body ≡ member_by S l f.num body) f.body there.1
+      by_giver (λ body. member_by U l f.num body ≡ merged_member (member_by S l f.num body) None) f.body there.1
       (λ p d. refl)
-      (λ n links joins. participant_alone f.num n links (silent longer f n links m joins)))
+      (λ n links joins. participant_alone f n links (t.union.left f there.0) joins (silent longer f n links m joins)))
       ∙ ap (λ xs. merged_members (map (by_set S) xs) (map (by_set T) (givers T l))) (sym longer.is)

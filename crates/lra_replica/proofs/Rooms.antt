@@ -1,11 +1,12 @@
 -- One home of a replica changed: its records and its room.
-use Rattle.std.proofs.Common.{◌≡◌, ◌≤◌, ◌<◌, ◌+◌, ◌-◌, ◌==◌, ℕ, zero, suc, List, [], ◌∷◌, refl, ap, ◌∙◌, Bool, true, false, cond, arith, Some, length, map, get_or, slice_get, set, filter}
+use Rattle.std.proofs.Common.{◌≡◌, ◌≤◌, ◌<◌, ◌+◌, ◌-◌, ◌==◌, ℕ, zero, suc, List, [], ◌∷◌, refl, sym, ap, subst, ◌∙◌, Bool, true, false, cond, arith, Some, length, map, get_or, slice_get, set, filter}
 use Rattle.std.proofs.lemmas.Bool.Decides.{nat_tests}
 use Rattle.std.proofs.lemmas.List.{map-set, length-set, get_or-map}
 use Rattle.std.proofs.lemmas.Option.{slice_get-get_or}
 use Rattle.std.proofs.Math.Seq.{map-set_same}
+use Rattle.std.specs.List.{AllByRecursion}
 use Rattle.lra_forest.specs.declared.record.Record.{Record}
-use Rattle.lra_forest.specs.Forests.{HomeRecords}
+use Rattle.lra_forest.specs.Forests.{AreOf, HomeRecords}
 use Rattle.lra_replica.specs.Replicas.{Change, Fits, Kept, IsKept, AreHomesFrom, count_of_home, spare_at}
 
 homes_with : (k : ℕ) (homes : List HomeRecords) (i : ℕ) (new d : HomeRecords) → i < length homes → new.home ≡ (get_or homes i d).home → AreHomesFrom k homes → AreHomesFrom k (set homes i new)
@@ -13,11 +14,35 @@ homes_with k [] i new d e same are = tt
 homes_with k (h ∷ homes) zero new d e same are = (same ∙ are.0, are.1)
 homes_with k (h ∷ homes) (suc i) new d e same are = (are.0, homes_with (k + 1) homes i new d (omega (arith, e)) same are.1)
 
--- they are still one home for each node
-pub kept_with : (front purges : List ℕ) (homes : List HomeRecords) (i : ℕ) (new d : HomeRecords) → i < length homes → new.home ≡ (get_or homes i d).home →
+-- a home's records are of it and in order
+abbrev IsOrdered : HomeRecords → Type 0
+IsOrdered home = AreOf home.home home.records
+
+-- those of each home are
+pub ordered_at : (homes : List HomeRecords) (i : ℕ) (d : HomeRecords) → i < length homes → AllByRecursion (λ (h : HomeRecords). AreOf h.home h.records) homes → AreOf (get_or homes i d).home (get_or homes i d).records
+ordered_at [] i d e each = absurd (omega (arith, e))
+ordered_at (h ∷ homes) zero d e each = each.0
+ordered_at (h ∷ homes) (suc i) d e each = ordered_at homes i d (omega (arith, e)) each.1
+
+-- also of one that is named by what stands there
+pub ordered_here : (homes : List HomeRecords) (i : ℕ) (h : HomeRecords) → i < length homes → h ≡ get_or homes i h → AllByRecursion (λ (x : HomeRecords). AreOf x.home x.records) homes → AreOf h.home h.records
+ordered_here homes i h e is each = subst IsOrdered (sym is) (ordered_at homes i h e each)
+
+ordered_with : (homes : List HomeRecords) (i : ℕ) (new : HomeRecords) → AreOf new.home new.records → AllByRecursion (λ (h : HomeRecords). AreOf h.home h.records) homes → AllByRecursion (λ (h : HomeRecords). AreOf h.home h.records) (set homes i new)
+ordered_with [] i new here each = tt
+ordered_with (h ∷ homes) zero new here each = (here, each.1)
+ordered_with (h ∷ homes) (suc i) new here each = (each.0, ordered_with homes i new here each.1)
+
+-- they are still one home for each node, with its records in order
+pub kept_with : (front purges : List ℕ) (homes : List HomeRecords) (i : ℕ) (new d : HomeRecords) → i < length homes → new.home ≡ (get_or homes i d).home → AreOf new.home new.records →
     IsKept (record { front = front; purges = purges; homes = homes }) → IsKept (record { front = front; purges = purges; homes = set homes i new })
-kept_with front purges homes i new d e same is =
-    record { purges = is.purges; homes = length-set homes i new ∙ is.homes; numbered = homes_with 1 homes i new d e same is.numbered }
+kept_with front purges homes i new d e same order is =
+    record {
+      purges = is.purges;
+      homes = length-set homes i new ∙ is.homes;
+      numbered = homes_with 1 homes i new d e same is.numbered;
+      ordered = ordered_with homes i new order is.ordered;
+    }
 
 -- the number of a home
 pub home_numbered : (k : ℕ) (homes : List HomeRecords) (i : ℕ) (d : HomeRecords) → i < length homes → AreHomesFrom k homes → (get_or homes i d).home ≡ k + i

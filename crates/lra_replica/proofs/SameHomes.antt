@@ -1,10 +1,10 @@
 -- Replicas that hold the same.
-use Rattle.std.proofs.Common.{◌≡◌, ◌≤◌, ◌<◌, ◌+◌, ◌∷◌, ℕ, Bool, true, List, [], map, take, length, get_or, refl, sym, ap, ◌∙◌, arith}
-use Rattle.std.specs.List.{AllZip}
+use Rattle.std.proofs.Common.{◌≡◌, ◌≤◌, ◌<◌, ◌+◌, ◌∷◌, ℕ, Bool, true, List, [], map, take, length, get_or, refl, sym, ap, subst, ◌∙◌, arith}
+use Rattle.std.specs.List.{AllByRecursion, AllZip}
 use Rattle.std.proofs.lemmas.List.{length-map, take_all, take_more_same}
 use Rattle.lra_id.specs.contracts.front.FrontPartialEq.TheImpl as of_fronts
 use Rattle.lra_forest.specs.declared.record.Record.{Record}
-use Rattle.lra_forest.specs.Forests.{HomeRecords}
+use Rattle.lra_forest.specs.Forests.{AreOf, HomeRecords}
 use Rattle.lra_forest.proofs.Alike.{front_same, front_own}
 use Rattle.lra_replica.specs.Replicas.{AreHomesFrom, IsKept, Kept, view_of}
 use Rattle.lra_replica.specs.Views.{View}
@@ -67,6 +67,15 @@ copied_numbers n [] (k ∷ ks) each are = absurd each
 copied_numbers n (h ∷ hs) [] each are = absurd each
 copied_numbers n (h ∷ hs) (k ∷ ks) each are = (each.0.0 ∙ are.0, copied_numbers (n + 1) hs ks each.1 are.1)
 
+copied_order : (homes copies : List HomeRecords) → AllZip IsCopy homes copies → AllByRecursion (λ (h : HomeRecords). AreOf h.home h.records) homes → AllByRecursion (λ (h : HomeRecords). AreOf h.home h.records) copies
+copied_order [] [] each order = tt
+copied_order [] (k ∷ ks) each order = absurd each
+copied_order (h ∷ hs) [] each order = absurd each
+copied_order (h ∷ hs) (k ∷ ks) each order = (
+  subst (λ (n : ℕ). AreOf n k.records) (sym each.0.0) (subst (λ (rs : List Record). AreOf h.home rs) (sym each.0.1) order.0),
+  copied_order hs ks each.1 order.1,
+)
+
 copied_length : (homes copies : List HomeRecords) → AllZip IsCopy homes copies → length copies ≡ length homes
 copied_length [] [] each = refl
 copied_length [] (k ∷ ks) each = absurd each
@@ -80,10 +89,11 @@ copied_records [] (k ∷ ks) each = absurd each
 copied_records (h ∷ hs) [] each = absurd each
 copied_records (h ∷ hs) (k ∷ ks) each = ap (λ (rs : List Record). rs ∷ records_in ks) each.0.1 ∙ ap (λ (rest : List (List Record)). h.records ∷ rest) (copied_records hs ks each.1)
 
--- and are one for each node
+-- and are one for each node, in order
 pub copied_kept : (front purges : List ℕ) (homes copies : List HomeRecords) → AllZip IsCopy homes copies → IsKept (record { front = front; purges = purges; homes = homes }) → IsKept (record { front = front; purges = purges; homes = copies })
 copied_kept front purges homes copies each is = record {
   purges = is.purges;
   homes = copied_length homes copies each ∙ is.homes;
   numbered = copied_numbers 1 homes copies each is.numbered;
+  ordered = copied_order homes copies each is.ordered;
 }

@@ -1,11 +1,10 @@
--- two views have a merge
+-- two views have one merge
 use Rattle.std.proofs.Common.{◌≡◌, inl, inr, ◌≤◌, ◌-◌, ◌==◌, ◌||◌, ◌&&◌, ℕ, suc, List, [], ◌∷◌, ◌++◌, refl, sym, ap, subst, ◌∙◌, Bool, true, false, cond, arith, Option, Some, None, length, nat_le, find}
 use Rattle.std.proofs.lemmas.Bool.Decides.{nat_tests}
 use Rattle.std.proofs.lemmas.List.{length-map}
 use Rattle.std.specs.List.{list_any, AllByRecursion}
 use Rattle.lra_id.specs.Ids.{Id, is_fact_number}
 use Rattle.lra_id.specs.Fronts.{is_covered}
-use Rattle.lra_facts.specs.declared.fact.Fact.{Fact}
 use Rattle.lra_facts.specs.Lists.{In}
 use Rattle.lra_facts.proofs.Membership.{any_from, in_append}
 use Rattle.lra_forest.specs.declared.record.Record.{Record}
@@ -14,11 +13,13 @@ use Rattle.lra_forest.specs.Records.{nodes_to}
 use Rattle.lra_forest.proofs.Bools.{all_from, all_in}
 use Rattle.lra_forest.proofs.Gatherings.{find_in}
 use Rattle.lra_forest.proofs.Puts.{put_are_of, put_find}
+use Rattle.lra_forest.proofs.Uniqueness.{same_records}
 use Rattle.lra_forest.specs.Merging.{home_stamp, merged_record, taken}
 use Rattle.lra_replica.specs.Merging.{IsMerged, all_taken, merged, put_some, taken_of}
-use Rattle.lra_replica.specs.Views.{StandsFor, View, record_at, records_at}
+use Rattle.lra_replica.specs.Views.{IsInOrder, View, record_at, records_at}
 use Rattle.lra_replica.proofs.MergedRecords.{nth_of}
 use Rattle.lra_replica.proofs.Unions.{length_join}
+use Rattle.lra_replica.proofs.Uniqueness.{same_homes, same_views}
 use Rattle.lra_replica.proofs.Basics.{in_left, in_right, length_nodes}
 
 -- Names of records
@@ -122,15 +123,15 @@ none_of_part l xs ys inside none = by (find (is_of l) xs) refl
         let clash : true ≡ false = sym on ∙ none in
         absurd cc
 
-module _ (S T : List Fact) (a b : View) (nodes : length a.front ≡ length b.front) (sa : StandsFor S a) (sb : StandsFor T b) where
+module _ (a b : View) (nodes : length a.front ≡ length b.front) (own : IsInOrder a) (other : IsInOrder b) where
   abbrev of_home : ℕ → List Record
   of_home home = records_at a.records home ++ records_at b.records home
 
   of_that_home : (home : ℕ) → 1 ≤ home → home ≤ length a.front → AllByRecursion (λ (r : Record). r.home ≡ home) (of_home home)
   of_that_home home low high =
       all_from (λ (r : Record). r.home ≡ home) (of_home home) (λ r m. elim (in_append (records_at a.records home) (records_at b.records home) r m) [
-        | inl x ↦ all_in (λ (s : Record). s.home ≡ home) (records_at a.records home) (sa.records home low high).order.homes r x
-        | inr y ↦ all_in (λ (s : Record). s.home ≡ home) (records_at b.records home) (sb.records home low (omega (arith, high, nodes))).order.homes r y
+        | inl x ↦ all_in (λ (s : Record). s.home ≡ home) (records_at a.records home) (own home low high).homes r x
+        | inr y ↦ all_in (λ (s : Record). s.home ≡ home) (records_at b.records home) (other home low (omega (arith, high, nodes))).homes r y
       ])
 
   at_home : (home : ℕ) → 1 ≤ home → home ≤ length a.front → records_at (merged a b).records home ≡ all_taken a b (of_home home)
@@ -150,7 +151,7 @@ module _ (S T : List Fact) (a b : View) (nodes : length a.front ≡ length b.fro
           let gone = is_fact_number l.num && is_covered b.front l in
           sym (ap (λ o. taken (is_covered a.front l) gone o (record_at b l)) left ∙ ap (taken (is_covered a.front l) gone None) right)
 
-  -- the merge of two views that count the same nodes is one
+  -- the merge of two views in order that count the same nodes is one
   pub merge_is : IsMerged a b (merged a b)
   merge_is =
       let size = length_join a.front b.front nodes in
@@ -164,3 +165,23 @@ module _ (S T : List Fact) (a b : View) (nodes : length a.front ≡ length b.fro
             subst (AreOf home) (sym (at_home home low near)) (taken_are_of a b home (of_home home) (of_that_home home low near));
         records = λ l low high. at_record l low (omega (arith, high, size));
       }
+
+-- Two views have no other merge
+
+one_home : (a b c d : View) (home : ℕ) → IsMerged a b c → IsMerged a b d → 1 ≤ home → home ≤ length c.front → home ≤ length d.front → records_at c.records home ≡ records_at d.records home
+one_home a b c d home m n low high top =
+    let left = m.order home low high in
+    let right = n.order home low top in
+    same_records home (records_at c.records home) (records_at d.records home) left.homes right.homes left.ascending right.ascending
+    (λ num. m.records (record { home = home; num = num }) low high ∙ sym (n.records (record { home = home; num = num }) low top))
+
+one_merge : (a b c d : View) → IsMerged a b c → IsMerged a b d → c ≡ d
+one_merge a b c d m n =
+    let fronts : c.front ≡ d.front = m.front ∙ sym n.front in
+    let nodes : length c.front ≡ length d.front = ap (λ (v : List ℕ). length v) fronts in
+    same_views c d fronts (m.purges ∙ sym n.purges)
+    (same_homes (length c.front) c.records d.records m.homes (n.homes ∙ sym nodes) (λ home low high. one_home a b c d home m n low high (omega (arith, high, nodes))))
+
+-- what is a merge of two views in order is the merge
+pub merge_only : (a b c : View) → IsInOrder a → IsInOrder b → IsMerged a b c → c ≡ merged a b
+merge_only a b c own other m = one_merge a b c (merged a b) m (merge_is a b m.nodes own other)

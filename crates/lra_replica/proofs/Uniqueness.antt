@@ -26,23 +26,33 @@ pub one_front : (S : List Fact) (a b : List ℕ) → length a ≡ length b → I
 one_front S a b nodes left right =
     same_number_lists a b nodes (λ i there. omega (arith, counts_below S a b left right i, counts_below S b a right left i))
 
-one_home : (S : List Fact) (nodes i : ℕ) (xs ys : List (List Record)) → AreRecords nodes S (i + 1) (records_at xs (i + 1)) → AreRecords nodes S (i + 1) (records_at ys (i + 1)) → get_or xs i [] ≡ get_or ys i []
-one_home S nodes i xs ys left right =
+-- lists of so many homes are equal where each home's records are
+pub same_homes : (nodes : ℕ) (xs ys : List (List Record)) → length xs ≡ nodes → length ys ≡ nodes → ((home : ℕ) → 1 ≤ home → home ≤ nodes → records_at xs home ≡ records_at ys home) → xs ≡ ys
+same_homes nodes xs ys long as_long same =
+    same_lists xs ys (long ∙ sym as_long) (λ i d there.
     let place : i + 1 - 1 ≡ i = omega arith in
-    ap (λ (k : ℕ). get_or xs k []) (sym place)
-    ∙ one_list nodes (i + 1) S (records_at xs (i + 1)) (records_at ys (i + 1)) left.order right.order left.stands right.stands
+    let first : 1 ≤ i + 1 = omega arith in
+    let last : i + 1 ≤ nodes = omega (arith, there, long) in
+    get_or_default xs i d [] there
+    ∙ ap (λ (k : ℕ). get_or xs k []) (sym place)
+    ∙ same (i + 1) first last
     ∙ ap (λ (k : ℕ). get_or ys k []) place
+    ∙ get_or_default ys i [] d (omega (arith, last, as_long)))
+
+pub same_views : (a b : View) → a.front ≡ b.front → a.purges ≡ b.purges → a.records ≡ b.records → a ≡ b
+same_views a b fronts purges records =
+    ap (λ (v : List ℕ). record { front = v; purges = a.purges; records = a.records }) fronts
+    ∙ ap (λ (v : List ℕ). record { front = b.front; purges = v; records = a.records }) purges
+    ∙ ap (λ (rs : List (List Record)). record { front = b.front; purges = b.purges; records = rs }) records
+
+one_home : (S : List Fact) (nodes home : ℕ) (xs ys : List Record) → AreRecords nodes S home xs → AreRecords nodes S home ys → xs ≡ ys
+one_home S nodes home xs ys left right = one_list nodes home S xs ys left.order right.order left.stands right.stands
 
 one_forest : (S : List Fact) (nodes : ℕ) (xs ys : List (List Record)) → length xs ≡ nodes → length ys ≡ nodes
     → ((home : ℕ) → 1 ≤ home → home ≤ nodes → AreRecords nodes S home (records_at xs home))
     → ((home : ℕ) → 1 ≤ home → home ≤ nodes → AreRecords nodes S home (records_at ys home)) → xs ≡ ys
 one_forest S nodes xs ys long as_long left right =
-    same_lists xs ys (long ∙ sym as_long) (λ i d there.
-    let first : 1 ≤ i + 1 = omega arith in
-    let last : i + 1 ≤ nodes = omega (arith, there, long) in
-    get_or_default xs i d [] there
-    ∙ one_home S nodes i xs ys (left (i + 1) first last) (right (i + 1) first last)
-    ∙ get_or_default ys i [] d (omega (arith, last, as_long)))
+    same_homes nodes xs ys long as_long (λ home low high. one_home S nodes home (records_at xs home) (records_at ys home) (left home low high) (right home low high))
 
 -- a set has one view of so many nodes
 pub one_view : (S : List Fact) (a b : View) → length a.front ≡ length b.front → StandsFor S a → StandsFor S b → a ≡ b
@@ -53,6 +63,4 @@ one_view S a b nodes left right =
     one_forest S (length b.front) a.records b.records (left.homes ∙ nodes) right.homes
     (subst (λ (n : ℕ). (home : ℕ) → 1 ≤ home → home ≤ n → AreRecords n S home (records_at a.records home)) nodes left.records)
     right.records in
-    ap (λ (v : List ℕ). record { front = v; purges = a.purges; records = a.records }) fronts
-    ∙ ap (λ (v : List ℕ). record { front = b.front; purges = v; records = a.records }) purges
-    ∙ ap (λ (rs : List (List Record)). record { front = b.front; purges = b.purges; records = rs }) records
+    same_views a b fronts purges records

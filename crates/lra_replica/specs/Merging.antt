@@ -14,7 +14,7 @@ use Rattle.lra_replica.specs.Views.{StandsFor, View, record_at, records_at}
 
 -- Two views
 
--- What is taken of an LRA, of two views: the other counts its begin, and holds it or has it no more
+-- what the receiver keeps of an LRA when it merges the other view
 abbrev pub taken_of : View → View → Id → Option Record
 taken_of a b l = taken (is_covered a.front l) (is_fact_number l.num && is_covered b.front l) (record_at a l) (record_at b l)
 

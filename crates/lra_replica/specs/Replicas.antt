@@ -9,7 +9,7 @@ use Rattle.lra_facts.specs.declared.fact.Fact.{Fact}
 use Rattle.lra_facts.specs.Lists.{In}
 use Rattle.lra_facts.specs.Sets.{is_under}
 use Rattle.lra_forest.specs.declared.record.Record.{Record}
-use Rattle.lra_forest.specs.Forests.{HomeRecords, is_of}
+use Rattle.lra_forest.specs.Forests.{AreOf, HomeRecords, is_of}
 use Rattle.lra_forest.specs.Places.{put_record}
 use Rattle.lra_replica.specs.Views.{View, record_at, records_at}
 
@@ -38,11 +38,12 @@ pub record AreEmptyHomes (nodes : ℕ) (homes : List HomeRecords) : Type 0 where
 abbrev pub empty_view : ℕ → View
 empty_view nodes = record { front = replicate nodes 0; purges = replicate nodes 0; records = replicate nodes [] }
 
--- one home for each node that the front counts
+-- one home for each node that the front counts, and each home's records in order
 pub record IsKept (kept : Kept) : Type 0 where
   pub purges : length kept.purges ≡ length kept.front
   pub homes : length kept.homes ≡ length kept.front
   pub numbered : AreHomesFrom 1 kept.homes
+  pub ordered : AllByRecursion (λ (home : HomeRecords). AreOf home.home home.records) kept.homes
 
 -- Patches
 

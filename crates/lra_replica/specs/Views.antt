@@ -21,6 +21,10 @@ pub record View : Type 0 where
 abbrev pub records_at : List (List Record) → ℕ → List Record
 records_at records home = get_or records (home - 1) []
 
+-- the records of each home are of it, each once and in order
+abbrev pub IsInOrder : View → Type 0
+IsInOrder view = (home : ℕ) → 1 ≤ home → home ≤ length view.front → AreOf home (records_at view.records home)
+
 -- the record of l
 abbrev pub record_at : View → Id → Option Record
 record_at view l = find (is_of l) (records_at view.records l.home)

@@ -6,10 +6,10 @@ ghost use Rattle.lra_forest.specs.declared.record.Record.{Record};
 ghost use Rattle.lra_forest.specs.Shape.{AreInShape};
 ghost use Rattle.lra_replica.specs.Absorbing.{AreTakenAt, IsChangeAt, IsGrown, IsTakenTo};
 ghost use Rattle.lra_replica.specs.Histories.{History, IsClosed, IsLawful, facts};
-ghost use Rattle.lra_replica.specs.Merging.{IsAbsorbed, IsMerged};
+ghost use Rattle.lra_replica.specs.Merging.{IsAbsorbed, IsMerged, merged};
 ghost use Rattle.lra_replica.specs.Replicas.{Fits, patched, spare_at, view_of};
 ghost use Rattle.lra_replica.specs.Shape.{HasShape};
-ghost use Rattle.lra_replica.specs.Views.{StandsFor, View};
+ghost use Rattle.lra_replica.specs.Views.{IsInOrder, StandsFor, View};
 
 use crate::{Patch, Replica, Taken};
 use lra_facts::Refusal;
@@ -120,14 +120,15 @@ impl Replica {
         Ok(())
     }
 
-    /// Prepares to take what a node of as many nodes tells, and makes room for it. Of an LRA of which both have a record, the
-    /// two are merged; one that the other alone has is taken, unless the own front counts its begin, since then it was purged
-    /// here; one that is held here alone is removed where the other tells what it holds and was begun there. The greater of
-    /// each node's counts and last purges are kept. E16 at place 0 where the view would lose its shape. It costs one walk over
-    /// the records of both.
+    /// Prepares to take what another replica of as many nodes tells, and makes room for it. Of an LRA of which both have a
+    /// record, the two are merged. One that the other alone has is taken, unless the own front counts its begin, since then it
+    /// was purged here. One that is held here alone is removed where the other tells all that it holds at that home and its
+    /// front counts the begin, since then it was purged there. The greater of each node's counts and last purges are kept. E16
+    /// at place 0 where the view would lose its shape. It costs what `Forest::taking` and `fits_with` cost at each home.
     pub fn absorb(&mut self, alloc: Global, taken: Taken) -> Result<Patch, Refusal>
         requires { length self.old.front ≡ length taken.front }
         ensures view { view_of self.new ≡ view_of self.old }
+        ensures order { IsInOrder (view_of self.old) }
         ensures room { IfOk result (λ patch. Fits patch self.new) }
         ensures absorbed { IfOk result (λ patch. IsAbsorbed (view_of self.old) taken (patched patch (view_of self.old))) }
         ensures shape { IfOk result (λ patch. HasShape (patched patch (view_of self.old))) }
@@ -147,16 +148,17 @@ impl Replica {
         Ok(patch)
     }
 
-    /// Merges another replica of as many nodes into this one, by the rules of `absorb`. E16 at place 0 where the merge would
-    /// have lost its shape, which the views of nodes of one history never do; then and where memory is wanting nothing
-    /// changes. It costs a copy of the other, and one walk over the records of both.
+    /// Merges another replica of as many nodes into this one, by the rules of `absorb`. E16 at place 0 where the merged
+    /// records would break the shape; replicas of one history never do. On any refusal nothing changes. It costs a copy of
+    /// the other, and what `absorb` costs.
     pub fn merge(&mut self, alloc: Global, other: &Replica) -> Result<(), Refusal>
         requires { length self.old.front ≡ length other.now.front }
-        ensures merged { OnOk result (IsMerged (view_of self.old) (view_of other.now) (view_of self.new)) }
+        ensures merged { OnOk result (view_of self.new ≡ merged (view_of self.old) (view_of other.now)) }
+        ensures is { OnOk result (IsMerged (view_of self.old) (view_of other.now) (view_of self.new)) }
         ensures shape { OnOk result (HasShape (view_of self.new)) }
         ensures kept { OnErr result (view_of self.new ≡ view_of self.old) }
         ensures refused { IfErr result (λ refusal. (refusal ≡ NoMemory) ⊎
-            ((refusal ≡ BadFrame 0) × ((c : View) → IsMerged (view_of self.old) (view_of other.now) c → HasShape c → ⊥))) }
+            ((refusal ≡ BadFrame 0) × (HasShape (merged (view_of self.old) (view_of other.now)) → ⊥))) }
         ensures union { (h : History) (v w : List ℕ) → IsLawful h → IsClosed h v → IsClosed h w →
             StandsFor (facts h v) (view_of self.old) → StandsFor (facts h w) (view_of other.now) →
             MatchResult result (λ _. StandsFor (facts h (join_fronts v w)) (view_of self.new)) (λ refusal. refusal ≡ NoMemory) }

@@ -1,8 +1,9 @@
 // Replicas that are merged: two parts of one history, a merge that is refused, many nodes in several orders.
 use crate::played::prepared;
-use crate::{Command, Prepared, Replica, Row};
+use crate::{Command, Prepared, Replica, Row, Taken};
 use lra_facts::{Links, Refusal};
-use lra_id::{LraId, NodeId};
+use lra_forest::{Forest, Told};
+use lra_id::{Front, LraId, NodeId};
 use lra_states::{Act, LraStatus, Outcome, Verdict};
 use std::alloc::Global;
 use std::test::Fail;
@@ -218,5 +219,28 @@ fn what_is_told_is_taken_by_a_patch(rt: HostRuntime) -> Result<(), Fail> {
     assert!(rt; second.same(&both));
     assert_eq!(rt; second.status(id), Ok(LraStatus::Closing));
     assert_eq!(rt; second.status(lra(2, 1)?), Ok(LraStatus::Active));
+    Ok(())
+}
+
+#[test]
+fn what_tells_nothing_changes_nothing(rt: HostRuntime) -> Result<(), Fail> {
+    let alloc = rt.alloc();
+    let mut replica = Replica::new(alloc, 1)?;
+    begin(&mut replica, alloc, 1, None)?;
+    let copy = replica.try_clone()?;
+    let records = Forest::new(alloc, NodeId::new(1)?);
+    let mut homes = Vec::new(alloc);
+    homes.push(Told {
+        records,
+        held: None,
+    })?;
+    let taken = Taken::new(Front::zero(1), Front::zero(1), homes);
+    if replica.front().nodes() != 1 {
+        return Err("other nodes")?;
+    }
+    let patch = replica.absorb(alloc, taken)?;
+    assert_eq!(rt; patch.records().len(), 0);
+    replica.apply(patch);
+    assert!(rt; replica.same(&copy));
     Ok(())
 }

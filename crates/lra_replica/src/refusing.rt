@@ -16,12 +16,9 @@ ghost use Rattle.lra_replica.specs.Views.{StandsFor};
 
 use crate::Replica;
 use lra_facts::Refusal;
-use lra_forest::{MOST_DEPTH, MOST_MEMBERS};
+use lra_forest::{MOST_DEPTH, MOST_HELD, MOST_MEMBERS};
 use lra_id::{LAST_NUMBER, LraId, NodeId};
 use lra_states::Act;
-
-/// How many LRAs of its own a node holds at most.
-const MOST_LRAS: usize = 256;
 
 impl Replica {
     /// The refusal to show an LRA, where none of its id is held.
@@ -129,7 +126,7 @@ impl Replica {
         requires { me ≤ length self.now.front }
         ensures { (S : List Fact) → IsSettled S → StandsFor S (view_of self.now) → result ≡ crowded S me }
     {
-        if self.held_at(me) >= MOST_LRAS {
+        if self.held_at(me) >= MOST_HELD {
             return Some(Refusal::LrasFull);
         }
         None

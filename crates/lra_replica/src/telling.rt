@@ -1,7 +1,7 @@
 // What one node tells another.
 ghost use Rattle.std.specs.Prelude.{◌≡◌, IfOk, map};
 ghost use Rattle.lra_forest.specs.declared.record.Record.{Record};
-ghost use Rattle.lra_replica.specs.Merging.{TellsAll};
+ghost use Rattle.lra_replica.specs.Merging.{IsTelling, TellsAll};
 ghost use Rattle.lra_replica.specs.Replicas.{view_of};
 
 use crate::Replica;
@@ -27,6 +27,20 @@ impl Model for Taken {
     ghost view = { λ t. record { front = t.front; purges = t.purges; homes = t.homes.items } };
 
     ghost invariant = { λ t. IsTelling (record { front = t.front; purges = t.purges; homes = t.homes.items }) };
+}
+
+impl Taken {
+    /// What a node tells that has this front and these last purges, and tells this of each home, one for each node.
+    pub fn new(front: Front, purges: Front, homes: Vec<Told>) -> Taken
+        requires { IsTelling (record { front = front; purges = purges; homes = homes.items }) }
+        ensures { result ≡ record { front = front; purges = purges; homes = homes.items } }
+    {
+        Taken {
+            front,
+            purges,
+            homes,
+        }
+    }
 }
 
 /// The numbers of the LRAs of these records.

@@ -1,15 +1,21 @@
 // Laws of merges. Each view is that of a closed set of one lawful history, and one is a part of another where its set is.
 ghost use Rattle.std.specs.Prelude.{◌≡◌, ℕ, List, length};
 ghost use Rattle.lra_id.specs.Fronts.{join_fronts};
-ghost use Rattle.lra_facts.specs.declared.fact.Fact.{Fact};
 ghost use Rattle.lra_replica.specs.Histories.{History, IsClosed, IsLawful, facts};
-ghost use Rattle.lra_replica.specs.Merging.{IsClosedView, IsMerged, IsPartOf, merged};
-ghost use Rattle.lra_replica.specs.Views.{StandsFor, View};
+ghost use Rattle.lra_replica.specs.Merging.{IsAbsorbed, IsClosedView, IsMerged, IsPartOf, Telling, TellsAll, merged};
+ghost use Rattle.lra_replica.specs.Views.{IsInOrder, StandsFor, View};
 
-/// Two views that count the same nodes have a merge.
+/// Two views that count the same nodes, and whose homes' records are in order, have just one merge.
 pub fn two_views_have_a_merge()
-    ensures { (S T : List Fact) (a b : View) → length a.front ≡ length b.front → StandsFor S a → StandsFor T b →
-        IsMerged a b (merged a b) }
+    ensures merge { (a b : View) → length a.front ≡ length b.front → IsInOrder a → IsInOrder b → IsMerged a b (merged a b) }
+    ensures only { (a b c : View) → IsInOrder a → IsInOrder b → IsMerged a b c → c ≡ merged a b }
+{}
+
+/// To take all that another view has is to merge it.
+#[tactic(auto, using(crate::proofs::Tellings::merged_from, crate::proofs::Tellings::absorbed_from))]
+pub fn telling_all_is_merging()
+    ensures merged { (a b c : View) (telling : Telling) → TellsAll telling b → IsAbsorbed a telling c → IsMerged a b c }
+    ensures absorbed { (a b c : View) (telling : Telling) → TellsAll telling b → IsMerged a b c → IsAbsorbed a telling c }
 {}
 
 /// The merge of the views of two closed sets is the view of the sets' union, and that is closed too.

@@ -3,6 +3,7 @@ use Rattle.lra_id.specs.Fronts.{IsBelow, join_fronts}
 use Rattle.lra_replica.specs.Merging.{IsTelling, Telling}
 use Rattle.lra_replica.specs.Replicas.{IsKept, Kept}
 use Rattle.lra_replica.proofs.Absorbed.{patch_absorbs, patch_fits, patch_shapes}
+use Rattle.lra_replica.proofs.Homes.{opened_in_order}
 use Rattle.lra_replica.proofs.replica.Replica.absorb.Goals as goal
 
 kept_is : (c : goal.In_ok-absorb_homes) → IsKept c.args.self.now
@@ -38,3 +39,12 @@ returns-clause-shape c =
     c.in_ok-absorb_homes.ensures.view c.in_ok-absorb_homes.ensures.taken (front_is c) (purges_are c)
     (subst (λ (v : List ℕ). IsBelow v c.absorb_homes.new.patch.front) (sym c.in_ok-absorb_homes.ensures.purges)
     (subst (λ (v : List ℕ). IsBelow c.join-2.result v) (sym c.in_ok-absorb_homes.ensures.front) below))
+
+pub returns-clause-order : goal.returns-clause-order
+returns-clause-order c = opened_in_order _ c.args.self.now c.self.view_is c.self.invariant
+
+pub returns-then-not-below-clause-order : goal.returns-then-not-below-clause-order
+returns-then-not-below-clause-order c = opened_in_order _ c.args.self.now c.self.view_is c.self.invariant
+
+pub returns-in_err-absorb_homes-clause-order : goal.returns-in_err-absorb_homes-clause-order
+returns-in_err-absorb_homes-clause-order c = opened_in_order _ c.args.self.now c.self.view_is c.self.invariant

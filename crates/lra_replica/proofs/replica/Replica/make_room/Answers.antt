@@ -1,9 +1,9 @@
-use Rattle.std.proofs.Common.{◌≡◌, ◌≤◌, ◌<◌, ◌+◌, ◌-◌, ◌==◌, ◌∙◌, ℕ, Bool, true, false, List, cond, refl, length, ap, arith, get_or, map, set}
+use Rattle.std.proofs.Common.{◌≡◌, ◌≤◌, ◌<◌, ◌+◌, ◌-◌, ◌==◌, ◌∙◌, ℕ, Bool, true, false, List, cond, refl, length, sym, ap, subst, arith, get_or, map, set}
 use Rattle.lra_forest.specs.declared.record.Record.{Record}
-use Rattle.lra_forest.specs.Forests.{HomeRecords}
+use Rattle.lra_forest.specs.Forests.{AreOf, HomeRecords}
 use Rattle.lra_replica.specs.Replicas.{Kept, spare_at, view_of}
 use Rattle.lra_replica.specs.Views.{View}
-use Rattle.lra_replica.proofs.Rooms.{kept_with, same_records, spare_new, spare_with}
+use Rattle.lra_replica.proofs.Rooms.{kept_with, ordered_here, same_records, spare_new, spare_with}
 use Rattle.lra_replica.proofs.replica.Replica.make_room.Goals as goal
 
 place_is : (c : goal.After-self-1) → c.from-place.result - 1 ≡ c.args.home - 1
@@ -21,11 +21,17 @@ is_home c = c.index_mut.ensures.value ∙ ap (λ (i : ℕ). get_or c.self.inside
 abbrev view_with : List ℕ → List ℕ → List (List Record) → View
 view_with front purges records = record { front = front; purges = purges; records = records }
 
+order : (c : goal.After-self-1) → AreOf c.reserve.new.self.home c.reserve.new.self.records
+order c =
+    subst (λ (n : ℕ). AreOf n c.reserve.new.self.records) (sym c.reserve.ensures.home)
+    (subst (λ (rs : List Record). AreOf c.index_mut.result.now.home rs) (sym c.reserve.ensures.records)
+    (ordered_here c.self.inside.homes.items (c.args.home - 1) c.index_mut.result.now (within c) (is_home c) c.self.invariant.ordered))
+
 pub invariant_of-self : goal.invariant_of-self
 invariant_of-self c =
     rw (place_is c)
     (kept_with c.self.inside.front c.self.inside.purges c.self.inside.homes.items (c.args.home - 1) c.reserve.new.self c.index_mut.result.now (within c)
-    (c.reserve.ensures.home ∙ ap (λ (h : HomeRecords). h.home) (is_home c)) c.self.invariant)
+    (c.reserve.ensures.home ∙ ap (λ (h : HomeRecords). h.home) (is_home c)) (order c) c.self.invariant)
 
 pub returns-clause-view : goal.returns-clause-view
 returns-clause-view c =

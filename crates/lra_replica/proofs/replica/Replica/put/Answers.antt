@@ -1,10 +1,11 @@
 use Rattle.std.proofs.Common.{◌≡◌, ◌≤◌, ◌<◌, ◌-◌, ◌+◌, ◌==◌, ◌∙◌, ℕ, List, length, sym, ap, arith, get_or, map, subst, cond, set}
 use Rattle.lra_forest.specs.declared.record.Record.{Record}
-use Rattle.lra_forest.specs.Forests.{HomeRecords}
+use Rattle.lra_forest.specs.Forests.{AreOf, HomeRecords}
 use Rattle.lra_forest.specs.Places.{put_record}
+use Rattle.lra_forest.proofs.Puts.{put_are_of}
 use Rattle.lra_replica.specs.Replicas.{Kept, spare_at, put_at_home}
 use Rattle.lra_replica.specs.Views.{records_at}
-use Rattle.lra_replica.proofs.Rooms.{kept_with, home_numbered, records_with, records_of, spare_is, spare_with}
+use Rattle.lra_replica.proofs.Rooms.{kept_with, home_numbered, ordered_here, records_with, records_of, spare_is, spare_with}
 use Rattle.lra_replica.proofs.replica.Replica.put.Goals as goal
 
 place_is : (c : goal.After-index_mut) → c.from-place.result - 1 ≡ c.args.added.home - 1
@@ -33,9 +34,15 @@ put-requires-clause-room c none =
 pub invariant_of-self : goal.invariant_of-self
 invariant_of-self c =
     let at = c.before.before in
+    let home = c.index_mut.result.now in
+    let order : AreOf c.put.new.self.home c.put.new.self.records =
+    subst (λ (n : ℕ). AreOf n c.put.new.self.records) (sym c.put.ensures.home)
+    (subst (λ (rs : List Record). AreOf home.home rs) (sym c.put.ensures.records)
+    (put_are_of home.home c.args.added home.records (put-requires-clause-home at)
+    (ordered_here c.self.inside.homes.items (c.args.added.home - 1) home (within at) (is_home at) c.self.invariant.ordered))) in
     rw (place_is at)
     (kept_with c.self.inside.front c.self.inside.purges c.self.inside.homes.items (c.args.added.home - 1) c.put.new.self c.index_mut.result.now (within at)
-    (c.put.ensures.home ∙ ap (λ (h : HomeRecords). h.home) (is_home at)) c.self.invariant)
+    (c.put.ensures.home ∙ ap (λ (h : HomeRecords). h.home) (is_home at)) order c.self.invariant)
 
 pub returns-clause-records : goal.returns-clause-records
 returns-clause-records c =

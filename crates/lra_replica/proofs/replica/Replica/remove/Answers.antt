@@ -1,11 +1,12 @@
-use Rattle.std.proofs.Common.{◌≡◌, ◌≤◌, ◌<◌, ◌-◌, ◌+◌, ◌==◌, ◌∙◌, ℕ, List, length, sym, ap, arith, get_or, map, cond, set, Bool, true, false}
+use Rattle.std.proofs.Common.{◌≡◌, ◌≤◌, ◌<◌, ◌-◌, ◌+◌, ◌==◌, ◌∙◌, ℕ, List, length, sym, ap, subst, arith, get_or, map, cond, set, Bool, true, false}
 use mathlib.Core.Bool.{not}
 use Rattle.std.specs.List.{filter}
 use Rattle.lra_forest.specs.declared.record.Record.{Record}
-use Rattle.lra_forest.specs.Forests.{HomeRecords, is_of}
+use Rattle.lra_forest.specs.Forests.{AreOf, HomeRecords, is_of}
+use Rattle.lra_forest.proofs.Removals.{filter_are_of}
 use Rattle.lra_replica.specs.Replicas.{Kept, spare_at, taken_out}
 use Rattle.lra_replica.specs.Views.{records_at}
-use Rattle.lra_replica.proofs.Rooms.{kept_with, records_with, records_of, spare_with}
+use Rattle.lra_replica.proofs.Rooms.{kept_with, ordered_here, records_with, records_of, spare_with}
 use Rattle.lra_replica.proofs.replica.Replica.remove.Goals as goal
 
 place_is : (c : goal.After-self-1) → c.from-place.result - 1 ≡ c.args.id.home - 1
@@ -17,11 +18,19 @@ within c = omega (arith, place_is c, c.if-place-len.true, c.len.ensures, c.self.
 is_home : (c : goal.After-self-1) → c.index_mut.result.now ≡ get_or c.self.inside.homes.items (c.args.id.home - 1) c.index_mut.result.now
 is_home c = c.index_mut.ensures.value ∙ ap (λ (i : ℕ). get_or c.self.inside.homes.items i c.index_mut.result.now) (place_is c)
 
+order : (c : goal.After-self-1) → AreOf c.remove.new.self.home c.remove.new.self.records
+order c =
+    let home = c.index_mut.result.now in
+    subst (λ (n : ℕ). AreOf n c.remove.new.self.records) (sym c.remove.ensures.home)
+    (subst (λ (rs : List Record). AreOf home.home rs) (sym c.remove.ensures.records)
+    (filter_are_of (λ (r : Record). not (is_of c.args.id r)) home.home home.records
+    (ordered_here c.self.inside.homes.items (c.args.id.home - 1) home (within c) (is_home c) c.self.invariant.ordered)))
+
 pub invariant_of-self : goal.invariant_of-self
 invariant_of-self c =
     rw (place_is c)
     (kept_with c.self.inside.front c.self.inside.purges c.self.inside.homes.items (c.args.id.home - 1) c.remove.new.self c.index_mut.result.now (within c)
-    (c.remove.ensures.home ∙ ap (λ (h : HomeRecords). h.home) (is_home c)) c.self.invariant)
+    (c.remove.ensures.home ∙ ap (λ (h : HomeRecords). h.home) (is_home c)) (order c) c.self.invariant)
 
 pub returns-then-place-len-clause-records : goal.returns-then-place-len-clause-records
 returns-then-place-len-clause-records c =
