@@ -254,8 +254,9 @@ impl Forest {
             ≡ taken (nat_le num mine) (is_gone told (held_numbers other.held) num)
             (found_at self.now.home self.now.records num) (found_at self.now.home other.records.records num)) }
     {
+        // What these ensure is needed: both are in order.
         let own = self.records();
-        let _heard = other.records.records();
+        let _ = other.records.records();
         let removed = all_gone(alloc, own, told, &other)?;
         let records = self.all_brought(alloc, mine, other.records)?;
         Ok(Changes { removed, records })
