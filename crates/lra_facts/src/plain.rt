@@ -4,7 +4,7 @@ ghost use mathlib.Core.Bool.{not};
 ghost use Rattle.std.specs.List.{list_any, AllByRecursion};
 ghost use Rattle.std.specs.Option.{option_copied};
 ghost use Rattle.lra_facts.specs.Sets.{IsNumbered, NamesEarlier, begins, begins_held, begun_by, is_begun, parent_of, parent_named, links_of, joined_links, member_status, is_participant, demands, is_demanded, gives_number, numbers_given, depth, is_heard, chain, held_at, is_decided, is_decision, want, is_under, is_held, is_purged_root, is_purge, has_left, is_leave, heard, reported, status_by, joined_status, shows, some_shows, shows_now, is_ended, is_open, status};
-ghost use Rattle.lra_states.specs.States.{same_member_status, greater, completing, compensating, shown};
+ghost use Rattle.lra_states.specs.States.{same_member_status, completing, compensating, shown};
 ghost use Rattle.lra_id.specs.Ids.{same_id};
 
 use crate::{Body, Fact, Links};
@@ -253,20 +253,9 @@ pub fn greatest_report(facts: &[Fact], id: LraId, member: u8, act: Act) -> Optio
 {
     let mut greatest = None;
     for fact in facts {
-        greatest = greater_of(greatest, report_of(id, member, act, fact));
+        greatest = Outcome::or_greater(greatest, report_of(id, member, act, fact));
     }
     greatest
-}
-
-/// The greater of two outcomes, where none is the least.
-fn greater_of(a: Option<Outcome>, b: Option<Outcome>) -> Option<Outcome>
-    ensures { result ≡ greater a b }
-{
-    match (a, b) {
-        (None, b) => b,
-        (a, None) => a,
-        (Some(a), Some(b)) => if a < b { Some(b) } else { Some(a) },
-    }
 }
 
 /// The status of a participant, by what its LRA wants, its links and what was heard of it.

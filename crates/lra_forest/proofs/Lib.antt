@@ -17,6 +17,7 @@ pub mod Overdue
 pub mod Places
 pub mod Puts
 pub mod Removals
+pub mod Sayings
 pub mod Seats
 pub mod Seeing
 pub mod Sizes
@@ -25,3 +26,16 @@ pub mod Takes
 pub mod Trees
 pub mod Uniqueness
 pub mod Wanting
+pub mod Lasts
+pub mod Laters
+pub mod Greatest
+pub mod Paths
+pub mod Pendings
+pub mod Sagas
+pub mod Shares
+pub mod Gathered
+pub mod Collected
+pub mod Climbs
+pub mod Owed
+pub mod Errands
+pub mod Firsts

@@ -1,9 +1,9 @@
 -- the overdue LRA with the least number
-use Rattle.std.proofs.Common.{◌≡◌, inl, inr, ◌<◌, ◌&&◌, ◌||◌, ◌∷◌, ◌++◌, ℕ, zero, suc, List, [], refl, sym, ap, subst, ◌∙◌, Bool, true, false, cond, arith, Option, Some, None, Result, Ok, Err, IfOk, MatchResult, find, get_or, length, take, is_none, is_some}
+use Rattle.std.proofs.Common.{◌≡◌, inl, inr, ◌<◌, ◌&&◌, ◌||◌, ◌∷◌, ℕ, zero, suc, List, [], refl, sym, ap, subst, ◌∙◌, Bool, true, false, cond, arith, Option, Some, None, Result, Ok, Err, IfOk, MatchResult, find, get_or, length, is_none}
 use Rattle.std.specs.Result.{result_ok}
 use Rattle.std.specs.List.{AllByRecursion}
 use Rattle.std.proofs.lemmas.Bool.Decides.{nat_tests}
-use Rattle.lra_id.specs.Ids.{Id, IsFactNumber}
+use Rattle.lra_id.specs.Ids.{Id, IsFactNumber, is_fact_number}
 use Rattle.lra_states.specs.declared.outcome.Verdict.{Verdict}
 use Rattle.lra_facts.specs.declared.fact.Fact.{Fact}
 use Rattle.lra_facts.specs.Lists.{In}
@@ -11,11 +11,15 @@ use Rattle.lra_facts.specs.Sets.{begins, is_begun, is_held, want, IsNumbered}
 use Rattle.lra_forest.specs.declared.record.Record.{Record}
 use Rattle.lra_forest.specs.Forests.{AreOf, IsAscending, is_of}
 use Rattle.lra_forest.specs.Overdue.{is_overdue, is_past, IsLeastOverdue}
-use Rattle.lra_forest.specs.Standing.{Stands}
+use Rattle.lra_forest.specs.Standing.{Stands, IsNested, IsWhole}
 use Rattle.lra_forest.proofs.Bools.{all_in, and_left}
 use Rattle.lra_forest.proofs.Chained.{begins_at}
 use Rattle.lra_forest.proofs.Gatherings.{find_in}
 use Rattle.lra_forest.proofs.Standings.{found_is, held_if_found, stands_at}
+use Rattle.std.specs.Option.{option_map_or}
+use Rattle.lra_forest.specs.Said.{first_overdue, is_overdue_at, want_at}
+use Rattle.lra_forest.specs.Shape.{found_at}
+use Rattle.lra_forest.proofs.Sayings.{want_said}
 
 abbrev pub at : ℕ → ℕ → Id
 at home num = record { home = home; num = num }
@@ -38,15 +42,6 @@ find_at home (q ∷ rs) (suc i) r h less is =
     let after = all_in (λ x. q.num < x.num) rs h.ascending.0 r inside in
     let other : is_of (at home r.num) q ≡ false = grind (arith, nat_tests, after) in
     rw other (find_at home rs i r (record { homes = h.homes.1; ascending = h.ascending.1 }) (omega (arith, less)) is)
-
--- a record with a lesser number than the one at a place comes before the place
-in_take : (rs : List Record) (i : ℕ) (r q : Record) → IsAscending rs → i < length rs → r ≡ get_or rs i r → In q rs → q.num < r.num → In q (take i rs)
-in_take [] i r q h less is inside lesser = absurd (omega (arith, less))
-in_take (x ∷ rs) zero r q h less is (inl same) lesser = absurd (let a = ap (λ (y : Record). y.num) is in let b = ap (λ (y : Record). y.num) same in omega (arith, a, b, lesser))
-in_take (x ∷ rs) zero r q h less is (inr inside) lesser =
-    absurd (let a = ap (λ (y : Record). y.num) is in let b = all_in (λ y. x.num < y.num) rs h.0 q inside in omega (arith, a, b, lesser))
-in_take (x ∷ rs) (suc i) r q h less is (inl same) lesser = inl same
-in_take (x ∷ rs) (suc i) r q h less is (inr inside) lesser = inr (in_take rs i r q h.1 (omega (arith, less)) is inside lesser)
 
 -- whether an LRA is overdue, by its record and what it wants
 pub overdue_by : (nodes : ℕ) (S : List Fact) (records : List Record) (now : ℕ) (x : Id) (r : Record) → Stands nodes x.home S records → find (is_of x) records ≡ Some r → is_overdue S now x ≡ (is_past r.deadline now && is_none (want S x))
@@ -80,57 +75,82 @@ not_true : (b : Bool) → (b ≡ true → ⊥) → b ≡ false
 not_true true h = absurd (h refl)
 not_true false h = refl
 
-abbrev pub NoneOf : List Fact → ℕ → ℕ → List Record → Type 0
-NoneOf S home now records = AllByRecursion (λ r. is_overdue S now (at home r.num) ≡ false) records
+-- a record of a home is what is found of its LRA
+pub found_in : (home : ℕ) (rs : List Record) (r : Record) → AreOf home rs → In r rs → find (is_of (at home r.num)) rs ≡ Some r
+found_in home [] r h i = absurd i
+found_in home (q ∷ rs) r h (inl same) =
+    let own = h.homes.0 in
+    let number : r.num ≡ q.num = ap (λ (x : Record). x.num) same in
+    let there : is_of (at home r.num) q ≡ true = grind (arith, nat_tests, own, number) in
+    rw there (ap (λ x. Some x) (sym same))
+found_in home (q ∷ rs) r h (inr i) =
+    let after = all_in (λ x. q.num < x.num) rs h.ascending.0 r i in
+    let other : is_of (at home r.num) q ≡ false = grind (arith, nat_tests, after) in
+    rw other (found_in home rs r (record { homes = h.homes.1; ascending = h.ascending.1 }) i)
 
--- where none of the records is overdue, no LRA of the home is
-pub none_overdue : (nodes home : ℕ) (S : List Fact) (records : List Record) (now : ℕ) → Stands nodes home S records → NoneOf S home now records → IsLeastOverdue S home now None
-none_overdue nodes home S records now stands none l own = not_true (is_overdue S now l) (λ late.
-    let there = overdue_in nodes home S records now l stands own late in
-    let not_late = all_in (λ r. is_overdue S now (at home r.num) ≡ false) records none there.0 there.1 in
-    let wrong : is_overdue S now l ≡ false = ap (is_overdue S now) there.2 ∙ not_late in
-    absurd (let both : true ≡ false = sym late ∙ wrong in cc))
+-- where none is found, none passes
+none_passes : (p : Record → Bool) (rs : List Record) (q : Record) → find p rs ≡ None → In q rs → p q ≡ false
+none_passes p [] q e i = absurd i
+none_passes p (x ∷ rs) q e i = by (none_passes p rs q) (p x) refl e i
+  where
+    by : (find p rs ≡ None → In q rs → p q ≡ false) → (b : Bool) → p x ≡ b → cond b (Some x) (find p rs) ≡ None → In q (x ∷ rs) → p q ≡ false
+    by rest true t e i = absurd cc
+    by rest false t e (inl same) = ap p same ∙ t
+    by rest false t e (inr i) = rest e i
 
--- where none of those before a record is overdue, and it is, it is the least
-pub least_overdue : (nodes home : ℕ) (S : List Fact) (records : List Record) (now i : ℕ) (r : Record) → AreOf home records → Stands nodes home S records → i < length records → r ≡ get_or records i r → is_overdue S now (at home r.num) ≡ true → NoneOf S home now (take i records) → IsLeastOverdue S home now (Some (at home r.num))
-least_overdue nodes home S records now i r order stands less is late none = (
-  refl,
-  late,
-  λ k own lesser. not_true (is_overdue S now k) (λ also.
-      let there = overdue_in nodes home S records now k stands own also in
-      let number : there.0.num ≡ k.num = sym (ap (λ (y : Id). y.num) there.2) in
-      let before = in_take records i r there.0 order.ascending less is there.1 (omega (arith, number, lesser)) in
-      let not_late = all_in (λ q. is_overdue S now (at home q.num) ≡ false) (take i records) none there.0 before in
-      let wrong : is_overdue S now k ≡ false = ap (is_overdue S now) there.2 ∙ not_late in
-      absurd (let both : true ≡ false = sym also ∙ wrong in cc)),
-)
+-- and none with a lesser number than the one that is found
+lesser_fails : (p : Record → Bool) (rs : List Record) (r q : Record) → IsAscending rs → find p rs ≡ Some r → In q rs → q.num < r.num → p q ≡ false
+lesser_fails p [] r q h e i less = absurd i
+lesser_fails p (x ∷ rs) r q h e i less = by (λ found inside. lesser_fails p rs r q h.1 found inside less) (p x) refl e i
+  where
+    by : (find p rs ≡ Some r → In q rs → p q ≡ false) → (b : Bool) → p x ≡ b → cond b (Some x) (find p rs) ≡ Some r → In q (x ∷ rs) → p q ≡ false
+    by rest true t e (inl same) = absurd (let a : x ≡ r = cc in let b = ap (λ (y : Record). y.num) a in let c = ap (λ (y : Record). y.num) same in omega (arith, b, c, less))
+    by rest true t e (inr i) = absurd (let a : x ≡ r = cc in let b = ap (λ (y : Record). y.num) a in let c = all_in (λ y. x.num < y.num) rs h.0 q i in omega (arith, b, c, less))
+    by rest false t e (inl same) = ap p same ∙ t
+    by rest false t e (inr i) = rest e i
 
--- one that is not overdue is not answered
-pub none_late : (late : Bool) (x : Id) → late ≡ false → None ≡ cond late (Some x) None
-none_late late x e = rw e refl
+pub number_passes : (n : ℕ) → IsFactNumber n → is_fact_number n ≡ true
+number_passes n is = let low = is.0 in let high = is.1 in grind (arith, nat_tests, low, high)
 
-pub some_late : (late : Bool) (x : Id) (o : Option Id) → late ≡ true → o ≡ Some x → o ≡ cond late (Some x) None
-some_late late x o e is = rw e is
+-- a record tells of its LRA what the set does
+late_alike : (nodes home : ℕ) (S : List Fact) (records : List Record) (now : ℕ) (r : Record) → AreOf home records → IsWhole S → IsNested S → AllByRecursion IsNumbered S → Stands nodes home S records → In r records
+    → is_overdue_at (found_at home records) now r ≡ is_overdue S now (at home r.num)
+late_alike nodes home S records now r order whole nest numbered stands i =
+    let found = found_in home records r order i in
+    let held = held_if_found nodes S records (at home r.num) r stands found in
+    ap (λ (b : Bool). b && (is_past r.deadline now && is_none (want_at (found_at home records) r.num))) (number_passes r.num (held_number S (at home r.num) numbered held))
+    ∙ ap (λ (w : Option Verdict). is_past r.deadline now && is_none w) (want_said nodes S records (at home r.num) whole nest stands held)
+    ∙ sym (overdue_by nodes S records now (at home r.num) r stands found)
 
-pub wants_some : (o : Option Verdict) → is_some o ≡ true → is_none o ≡ false
-wants_some None e = absurd cc
-wants_some (Some v) e = refl
+-- the LRA of the first record is the least
+pub overdue_said : (nodes home : ℕ) (S : List Fact) (records : List Record) (now : ℕ) → AreOf home records → IsWhole S → IsNested S → AllByRecursion IsNumbered S → Stands nodes home S records
+    → IsLeastOverdue S home now (first_overdue home (found_at home records) now records)
+overdue_said nodes home S records now order whole nest numbered stands = by (find p records) refl
+  where
+    p : Record → Bool
+    p = is_overdue_at (found_at home records) now
 
-pub wants_none : (o : Option Verdict) → is_some o ≡ false → is_none o ≡ true
-wants_none None e = refl
-wants_none (Some v) e = absurd cc
+    alike : (r : Record) → In r records → p r ≡ is_overdue S now (at home r.num)
+    alike r i = late_alike nodes home S records now r order whole nest numbered stands i
 
-pub not_both : (a b : Bool) → b ≡ false → (a && b) ≡ false
-not_both true b e = e
-not_both false b e = refl
+    early : (k : Id) → k.home ≡ home → ((q : Record) → In q records → q.num ≡ k.num → p q ≡ false) → is_overdue S now k ≡ false
+    early k own fails = not_true (is_overdue S now k) (λ late.
+        let there = overdue_in nodes home S records now k stands own late in
+        let number : there.0.num ≡ k.num = sym (ap (λ (y : Id). y.num) there.2) in
+        let wrong : is_overdue S now k ≡ false = ap (is_overdue S now) there.2 ∙ sym (alike there.0 there.1) ∙ fails there.0 there.1 number in
+        absurd (let both : true ≡ false = sym late ∙ wrong in cc))
+
+    by : (o : Option Record) → find p records ≡ o → IsLeastOverdue S home now (option_map_or (λ (r : Record). Some (at home r.num)) o None)
+    by None e = λ k own. early k own (λ q i number. none_passes p records q e i)
+    by (Some r) e =
+        let there = find_in p records r e in (
+          refl,
+          sym (alike r there.0) ∙ there.1,
+          λ k own lesser. early k own (λ q i number. lesser_fails p records r q order.ascending e i (omega (arith, number, lesser))),
+        )
 
 -- the id of a number that a fact can have
 pub id_made : {E : Type 0} (r : Result Id E) (home num : ℕ) → IfOk r (λ id. (id.home ≡ home) × (id.num ≡ num)) → MatchResult r (λ _. IsFactNumber num) (λ _. IsFactNumber num → ⊥) → IsFactNumber num → result_ok r ≡ Some (at home num)
 id_made (Ok id) home num value exact some =
     ap (λ (h : ℕ). Some (at h id.num)) value.0 ∙ ap (λ (n : ℕ). Some (at home n)) value.1
 id_made (Err e) home num value exact some = absurd (exact some)
-
--- one more that is not overdue
-pub none_more : (S : List Fact) (home now : ℕ) (rs : List Record) (r : Record) → NoneOf S home now rs → is_overdue S now (at home r.num) ≡ false → NoneOf S home now (rs ++ r ∷ [])
-none_more S home now [] r h e = (e, tt)
-none_more S home now (q ∷ rs) r h e = (h.0, none_more S home now rs r h.1 e)

@@ -2,11 +2,15 @@ pub mod Gathering
 pub mod Merging
 pub mod Numbers
 pub mod Overdue
+pub mod Owings
 pub mod Participants
 pub mod Places
 pub mod Records
+pub mod Dues
 pub mod Forests
 pub mod Standing
+pub mod Said
 pub mod Shape
 pub mod Statuses
 pub mod Wants
+pub mod Walks

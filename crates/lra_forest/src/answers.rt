@@ -1,23 +1,25 @@
 // What the records of a home answer of an LRA and of its participants.
-ghost use Rattle.std.specs.Prelude.{◌≡◌, ◌↔◌, ◌<◌, ◌^◌, ℕ, List, Err, None, Some, true, find, nat_le, if◌then◌else◌};
+ghost use Rattle.std.specs.Prelude.{◌≡◌, ◌↔◌, ℕ, List, Err, None, Some, true, find, is_some, length, nat_le, if◌then◌else◌};
 ghost use Rattle.std.specs.List.{AllByRecursion};
 ghost use Rattle.std.specs.Option.{option_copied};
 ghost use Rattle.lra_states.specs.States.{level};
 ghost use Rattle.lra_facts.specs.declared.fact.Fact.{Fact};
 ghost use Rattle.lra_facts.specs.declared.refusal.Refusal.TheVariants.{NotHeld};
 ghost use Rattle.lra_facts.specs.Sets.{IsNumbered, demands, depth, is_demanded, is_heard, is_held, is_participant, numbers_given};
-ghost use Rattle.lra_forest.specs.Forests.{is_of};
+ghost use Rattle.lra_forest.specs.Forests.{AreOf, is_of};
 ghost use Rattle.lra_forest.specs.Overdue.{IsLeastOverdue, is_overdue, is_past};
-ghost use Rattle.lra_forest.specs.Participants.{answered_of, heard_by, participant_at};
-ghost use Rattle.lra_forest.specs.Standing.{IsSeated, IsWhole, Stands, answered};
+ghost use Rattle.lra_forest.specs.Participants.{answered_of, heard_by, parent_held, participant_at, participant_of as participant_held};
+ghost use Rattle.lra_forest.specs.Said.{depth_at, first_overdue, is_overdue_at, is_demanded_at, is_heard_at, members_at, participant_of};
+ghost use Rattle.lra_forest.specs.Shape.{found_at};
+ghost use Rattle.lra_forest.specs.Standing.{IsNested, IsSeated, IsWhole, Stands, answered};
 
-use crate::{Forest, Member, Participant, Record};
+use crate::{Forest, MOST_DEPTH, Member, Participant, Record};
 use lra_facts::Refusal;
 use lra_id::LraId;
 use lra_states::{Act, Outcome, Verdict};
 
 /// The participant that a member is.
-fn participant_at(member: Option<&Member>) -> Option<&Participant>
+pub fn participant_at(member: Option<&Member>) -> Option<&Participant>
     ensures { option_copied result ≡ participant_at (option_copied member.entry) }
 {
     match member {
@@ -37,13 +39,15 @@ fn demands(want: Option<Verdict>, participant: &Participant, act: Act) -> bool
     }
 }
 
-/// The greatest outcome of an act that was heard of a participant.
-fn heard_by(participant: &Participant, act: Act) -> Option<Outcome>
-    ensures { result ≡ heard_by participant.now act }
-{
-    match act {
-        Act::Complete => participant.completed,
-        Act::Compensate => participant.compensated,
+impl Participant {
+    /// The greatest outcome of an act that was heard of it.
+    pub fn heard(&self, act: Act) -> Option<Outcome>
+        ensures { result ≡ heard_by self.now act }
+    {
+        match act {
+            Act::Complete => self.completed,
+            Act::Compensate => self.compensated,
+        }
     }
 }
 
@@ -51,7 +55,7 @@ fn heard_by(participant: &Participant, act: Act) -> Option<Outcome>
 fn hears(participant: &Participant, act: Act, outcome: Outcome) -> bool
     ensures { result ≡ nat_le (level (Some outcome)) (level (heard_by participant.now act)) }
 {
-    match heard_by(participant, act) {
+    match participant.heard(act) {
         Some(greatest) => outcome <= greatest,
         None => false,
     }
@@ -67,11 +71,8 @@ fn is_past(deadline: u64, now: u64) -> bool
 impl Forest {
     /// The LRA of this record, which is one of the forest's, if it is overdue.
     fn if_overdue(&self, kept: &Record, now: u64) -> Option<LraId>
-        ensures { (nodes : ℕ) (S : List Fact) → IsWhole S → AllByRecursion IsNumbered S →
-            Stands nodes self.now.home S self.now.records →
-            find (is_of (record { home = self.now.home; num = kept.now.num })) self.now.records ≡ Some kept.now →
-            result ≡ (if is_overdue S now (record { home = self.now.home; num = kept.now.num })
-            then Some (record { home = self.now.home; num = kept.now.num }) else None) }
+        ensures { let at = found_at self.now.home self.now.records in
+            result ≡ (if is_overdue_at at now kept.now then Some (record { home = self.now.home; num = kept.now.num }) else None) }
     {
         if !is_past(kept.deadline, now) {
             return None;
@@ -82,11 +83,10 @@ impl Forest {
         LraId::new(self.home(), kept.num).ok()
     }
 
-    /// Of the LRAs of the home that want nothing and whose deadline has passed, the one with the least number. It looks at
-    /// each record once, and where a deadline has passed at those of the LRAs that it is nested in.
-    pub fn overdue(&self, now: u64) -> Option<LraId>
-        ensures { (nodes : ℕ) (S : List Fact) → IsWhole S → AllByRecursion IsNumbered S →
-            Stands nodes self.now.home S self.now.records → IsLeastOverdue S self.now.home now result }
+    /// The LRA of the first record that is overdue.
+    fn first_overdue(&self, now: u64) -> Option<LraId>
+        ensures value { result ≡ first_overdue self.now.home (found_at self.now.home self.now.records) now self.now.records }
+        ensures order { AreOf self.now.home self.now.records }
     {
         let records = self.records();
         for kept in records {
@@ -97,32 +97,39 @@ impl Forest {
         None
     }
 
+    /// Of the LRAs of the home that want nothing and whose deadline has passed, the one with the least number. It looks at
+    /// each record once, and where a deadline has passed at those of the LRAs that it is nested in.
+    pub fn overdue(&self, now: u64) -> Option<LraId>
+        ensures says { result ≡ first_overdue self.now.home (found_at self.now.home self.now.records) now self.now.records }
+        ensures answer { (nodes : ℕ) (S : List Fact) → IsWhole S → IsNested S → AllByRecursion IsNumbered S →
+            Stands nodes self.now.home S self.now.records → IsLeastOverdue S self.now.home now result }
+    {
+        self.first_overdue(now)
+    }
+
     /// How deep the LRA with this number is nested, by its chain of parents.
     fn depth_at(&self, num: u64) -> u64
-        requires { num < 2 ^ 63 }
-        ensures { (nodes : ℕ) (S : List Fact) → IsWhole S → Stands nodes self.now.home S self.now.records →
-            is_held S (record { home = self.now.home; num = num }) ≡ true →
-            result ≡ depth S (record { home = self.now.home; num = num }) }
+        ensures { result ≡ depth_at (found_at self.now.home self.now.records) num }
     {
-        let mut depth = 1;
+        let mut depth = 0;
         let mut at = num;
-        'above: loop {
+        for _ in 0..MOST_DEPTH {
             let Some(record) = self.numbered(at) else {
                 return depth;
             };
-            match record.parent {
-                Some(place) if place.number < at => {
-                    at = place.number;
-                    depth += 1;
-                }
-                _ => return depth,
-            }
+            depth += 1;
+            let Some(place) = record.parent else {
+                return depth;
+            };
+            at = place.number;
         }
+        depth
     }
 
     /// How deep an LRA is nested, where a root has depth 1. It looks up the record of each that it is nested in.
     pub fn depth(&self, id: LraId) -> Result<u64, Refusal>
-        ensures answer { (nodes : ℕ) (S : List Fact) → IsWhole S → Stands nodes id.home S self.now.records →
+        ensures says { let at = found_at id.home self.now.records in result ≡ answered (is_some (at id.num)) (depth_at at id.num) }
+        ensures answer { (nodes : ℕ) (S : List Fact) → IsWhole S → IsNested S → Stands nodes id.home S self.now.records →
             result ≡ answered (is_held S id) (depth S id) }
         ensures refused { result ≡ Err NotHeld ↔ (find (is_of id) self.now.records ≡ None) }
     {
@@ -134,6 +141,7 @@ impl Forest {
 
     /// How many member numbers of an LRA were given.
     pub fn numbers_given(&self, id: LraId) -> Result<usize, Refusal>
+        ensures says { let at = found_at id.home self.now.records in result ≡ answered (is_some (at id.num)) (length (members_at at id.num)) }
         ensures answer { (nodes : ℕ) (S : List Fact) → IsWhole S → Stands nodes id.home S self.now.records →
             result ≡ answered (is_held S id) (numbers_given S id) }
         ensures refused { result ≡ Err NotHeld ↔ (find (is_of id) self.now.records ≡ None) }
@@ -147,7 +155,9 @@ impl Forest {
     /// Whether what an LRA wants demands an act of its participant with this member number. It looks up the records of the
     /// LRA and of those that it is nested in.
     pub fn demands(&self, id: LraId, member: u8, act: Act) -> Result<bool, Refusal>
-        ensures answer { (nodes : ℕ) (S : List Fact) → IsWhole S → IsSeated S → Stands nodes id.home S self.now.records →
+        ensures says { let at = found_at id.home self.now.records in
+            result ≡ answered_of (is_some (at id.num)) (is_some (participant_of at id.num member)) (is_demanded_at at id.num member act) }
+        ensures answer { (nodes : ℕ) (S : List Fact) → IsWhole S → IsNested S → IsSeated S → Stands nodes id.home S self.now.records →
             result ≡ answered_of (is_held S id) (is_participant S id member) (is_demanded S id member act) }
         ensures refused { result ≡ Err NotHeld ↔ (find (is_of id) self.now.records ≡ None) }
     {
@@ -168,6 +178,8 @@ impl Forest {
         act: Act,
         outcome: Outcome,
     ) -> Result<bool, Refusal>
+        ensures says { let at = found_at id.home self.now.records in
+            result ≡ answered_of (is_some (at id.num)) (is_some (participant_of at id.num member)) (is_heard_at at id.num member act outcome) }
         ensures answer { (nodes : ℕ) (S : List Fact) → IsWhole S → IsSeated S → Stands nodes id.home S self.now.records →
             result ≡ answered_of (is_held S id) (is_participant S id member) (is_heard S id member act outcome) }
         ensures refused { result ≡ Err NotHeld ↔ (find (is_of id) self.now.records ≡ None) }
@@ -179,5 +191,30 @@ impl Forest {
             return Err(Refusal::UnknownMember);
         };
         Ok(hears(participant, act, outcome))
+    }
+
+    /// The participant of an LRA with this member number, if the LRA is held and has one.
+    pub fn participant(&self, id: LraId, member: u8) -> Option<&Participant>
+        ensures { (nodes : ℕ) (S : List Fact) → IsSeated S → Stands nodes id.home S self.now.records →
+            option_copied result ≡ participant_held S id member }
+    {
+        let Some(record) = self.get(id) else {
+            return None;
+        };
+        participant_at(record.members.get(member))
+    }
+
+    /// The parent of an LRA, if the LRA is held and nested.
+    pub fn parent(&self, id: LraId) -> Option<LraId>
+        ensures { (nodes : ℕ) (S : List Fact) → IsWhole S → AllByRecursion IsNumbered S → Stands nodes id.home S self.now.records →
+            result ≡ parent_held S id }
+    {
+        let Some(record) = self.get(id) else {
+            return None;
+        };
+        let Some(place) = record.parent else {
+            return None;
+        };
+        LraId::new(self.home(), place.number).ok()
     }
 }

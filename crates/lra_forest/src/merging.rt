@@ -3,7 +3,6 @@ ghost use Rattle.std.specs.Prelude.{◌≡◌, ◌==◌, ◌&&◌, ℕ, Some, No
 ghost use Rattle.std.specs.List.{AllByRecursion, list_any};
 ghost use Rattle.std.specs.Option.{option_copied};
 ghost use Rattle.lra_id.specs.Ids.{Id};
-ghost use Rattle.lra_states.specs.States.{greater};
 ghost use Rattle.lra_forest.specs.Forests.{AreOf};
 ghost use Rattle.lra_forest.specs.Merging.{brought, changed_by, held_numbers, home_stamp, is_gone, is_unlisted, linked, merged_member, merged_members, merged_participant, merged_record, taken};
 ghost use Rattle.lra_forest.specs.Shape.{found_at};
@@ -28,18 +27,6 @@ pub struct Told {
 pub struct Changes {
     pub removed: Vec<LraId>,
     pub records: Forest,
-}
-
-/// The greater of two outcomes, where none is the least.
-fn greater(own: Option<Outcome>, heard: Option<Outcome>) -> Option<Outcome>
-    ensures { result ≡ greater own heard }
-{
-    match (own, heard) {
-        (own, None) => own,
-        (Some(Outcome::Failed), _) => own,
-        (Some(Outcome::Done), Some(Outcome::Busy | Outcome::Done)) => own,
-        (_, heard) => heard,
-    }
 }
 
 /// A participant without what it has no link for.
@@ -67,8 +54,8 @@ fn merged_participant(kept: Participant, other: &Participant) -> Participant
     let forgotten = kept.forgotten || other.forgotten;
     linked(Participant {
         links: kept.links,
-        completed: greater(kept.completed, other.completed),
-        compensated: greater(kept.compensated, other.compensated),
+        completed: Outcome::or_greater(kept.completed, other.completed),
+        compensated: Outcome::or_greater(kept.compensated, other.compensated),
         forgotten,
     })
 }

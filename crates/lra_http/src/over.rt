@@ -1,5 +1,5 @@
 // Sources and sinks over std's readers and writers.
-ghost use Rattle.std.specs.Prelude.{◌≡◌, ◌+◌};
+ghost use Rattle.std.specs.Prelude.{◌≡◌, ◌+◌, ◌&&◌, ◌==◌, ◌↔◌, Err, Ok, if◌then◌else◌, nat_lt};
 ghost use Rattle.lra_http.specs.Counted.{uncalled};
 ghost use Rattle.lra_http.specs.Streams.{failed_calls, interrupted_calls};
 
@@ -44,12 +44,26 @@ impl Calls {
     }
 }
 
-/// What an error of std's tells of a call.
-fn call_error(kind: ErrorKind) -> CallError {
+/// What an error of std's tells of a call: only one that is interrupted may be made again.
+fn call_error(kind: ErrorKind) -> CallError
+    ensures { (result ≡ CallError.Interrupted) ↔ (kind ≡ ErrorKind.Interrupted) }
+{
     if kind == ErrorKind::Interrupted {
         CallError::Interrupted
     } else {
         CallError::Failed
+    }
+}
+
+/// What a write that took so many of the given bytes came to. One that takes none of some bytes would be made again for ever,
+/// so it failed.
+fn taken(count: usize, given: usize) -> Result<usize, CallError>
+    ensures { result ≡ (if (count == 0) && nat_lt 0 given then Err CallError.Failed else Ok count) }
+{
+    if count == 0 && given > 0 {
+        Err(CallError::Failed)
+    } else {
+        Ok(count)
     }
 }
 
@@ -144,8 +158,7 @@ impl<W: Write> Sink for OverWrite<W> {
 
     fn write_some(&mut self, bytes: &[u8]) -> Result<usize, CallError> {
         let outcome = match self.writer.write(bytes) {
-            Ok(0) if !bytes.is_empty() => Err(CallError::Failed),
-            Ok(n) => Ok(n),
+            Ok(count) => taken(count, bytes.len()),
             Err(error) => Err(call_error(error.kind())),
         };
         self.calls.count(&outcome);

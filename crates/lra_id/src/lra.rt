@@ -8,7 +8,7 @@ use std::marker::Model;
 use uuid::Uuid;
 
 /// An LRA, by its home node and the number of its begin there. Ids are ordered by home, and then by number.
-#[derive(Clone, Copy, Debug, PartialEq, Eq, PartialOrd, Ord)]
+#[derive(Clone, Copy, Debug, PartialEq, Eq)]
 pub struct LraId {
     home: NodeId,
     num: u64,

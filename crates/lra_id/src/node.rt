@@ -8,7 +8,7 @@ use std::fmt;
 use std::marker::Model;
 
 /// A node, by its number from 1 to 8.
-#[derive(Clone, Copy, Debug, PartialEq, Eq, PartialOrd, Ord)]
+#[derive(Clone, Copy, Debug, PartialEq, Eq)]
 pub struct NodeId {
     number: u8,
 }

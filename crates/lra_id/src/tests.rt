@@ -84,16 +84,6 @@ fn numbers_out_of_range_are_refused(rt: HostRuntime) -> Result<(), Fail> {
 }
 
 #[test]
-fn ids_are_ordered_by_home_and_then_number(rt: HostRuntime) -> Result<(), Fail> {
-    let sorted = [lra(1, 1)?, lra(1, 2)?, lra(1, 10)?, lra(2, 1)?, lra(8, 1)?];
-    for pair in sorted.windows(2) {
-        assert_eq!(rt; pair.len(), 2);
-        assert!(rt; pair[0] < pair[1]);
-    }
-    Ok(())
-}
-
-#[test]
 fn names_and_fronts_print(rt: HostRuntime) -> Result<(), Fail> {
     let node = NodeId::new(1)?;
     assert_eq!(rt; node.to_string(rt.alloc())?.as_str(), "1");

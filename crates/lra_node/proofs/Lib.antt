@@ -3,5 +3,8 @@ pub mod Members
 pub mod Numbers
 pub mod Readings
 pub mod Runs
+pub mod Spelled
 pub mod Splits
 pub mod Steps
+pub mod TwoWords
+pub mod Texts

@@ -5,7 +5,7 @@ use Rattle.lra_id.specs.Ids.{Id, IsId, id_text}
 use Rattle.lra_states.specs.Names.{act_name, outcome_name}
 use Rattle.lra_states.specs.declared.outcome.Verdict.TheVariants.{Close, Cancel}
 use Rattle.lra_node.specs.declared.ask.Ask.{Ask}
-use Rattle.lra_node.specs.declared.ask.Ask.TheVariants.{Enter, Tick, Show, Member, Front, Same, Text, Read}
+use Rattle.lra_node.specs.declared.ask.Ask.TheVariants.{Enter, Tick, Show, Member, Duties, Hear, Front, Same, Text, Read}
 use Rattle.lra_replica.specs.declared.command.Command.TheVariants.{Begin, Join, Leave, Decide, Report, Forgot, Purge}
 use Rattle.lra_facts.specs.declared.links.Links.{Links}
 use Rattle.lra_node.specs.Joins.{GivesLinks}
@@ -26,11 +26,13 @@ none_reported nodes words none (Enter node (Decide id Close)) verb _ _ = absurd 
 none_reported nodes words none (Enter node (Decide id Cancel)) verb _ _ = absurd (omega (arith, third _ _ verb))
 none_reported nodes words none (Enter node (Report id m act outcome)) _ has fits =
     none node id m (act_name act ∷ outcome_name outcome ∷ []) fits.0 fits.1.0 fits.1.1 has
-none_reported nodes words none (Enter node (Forgot id m)) _ has _ = absurd has
-none_reported nodes words none (Enter node (Purge root)) _ has _ = absurd has
+none_reported nodes words none (Enter node (Forgot id m)) verb _ _ = absurd (omega (arith, third _ _ verb))
+none_reported nodes words none (Enter node (Purge root)) verb _ _ = absurd (omega (arith, third _ _ verb))
 none_reported nodes words none (Tick node now) verb _ _ = absurd (omega (arith, third _ _ verb))
 none_reported nodes words none (Show node id) verb _ _ = absurd (omega (arith, third _ _ verb))
 none_reported nodes words none (Member node id m) verb _ _ = absurd (omega (arith, third _ _ verb))
+none_reported nodes words none (Duties node) verb _ _ = absurd (omega (arith, third _ _ verb))
+none_reported nodes words none (Hear node id m kind answer) verb _ _ = absurd (omega (arith, third _ _ verb))
 none_reported nodes words none (Front node) verb _ _ = absurd (omega (arith, third _ _ verb))
 none_reported nodes words none (Same node other) verb _ _ = absurd (omega (arith, third _ _ verb))
 none_reported nodes words none (Text id) verb _ _ = absurd (omega (arith, third _ _ verb))
@@ -50,11 +52,13 @@ none_joined nodes words rest a b is none (Enter node (Leave id m)) verb _ _ = ab
 none_joined nodes words rest a b is none (Enter node (Decide id Close)) verb _ _ = absurd (omega (arith, third _ _ verb))
 none_joined nodes words rest a b is none (Enter node (Decide id Cancel)) verb _ _ = absurd (omega (arith, third _ _ verb))
 none_joined nodes words rest a b is none (Enter node (Report id m act outcome)) verb _ _ = absurd (omega (arith, third _ _ verb))
-none_joined nodes words rest a b is none (Enter node (Forgot id m)) _ has _ = absurd has
-none_joined nodes words rest a b is none (Enter node (Purge root)) _ has _ = absurd has
+none_joined nodes words rest a b is none (Enter node (Forgot id m)) verb _ _ = absurd (omega (arith, third _ _ verb))
+none_joined nodes words rest a b is none (Enter node (Purge root)) verb _ _ = absurd (omega (arith, third _ _ verb))
 none_joined nodes words rest a b is none (Tick node now) verb _ _ = absurd (omega (arith, third _ _ verb))
 none_joined nodes words rest a b is none (Show node id) verb _ _ = absurd (omega (arith, third _ _ verb))
 none_joined nodes words rest a b is none (Member node id m) verb _ _ = absurd (omega (arith, third _ _ verb))
+none_joined nodes words rest a b is none (Duties node) verb _ _ = absurd (omega (arith, third _ _ verb))
+none_joined nodes words rest a b is none (Hear node id m kind answer) verb _ _ = absurd (omega (arith, third _ _ verb))
 none_joined nodes words rest a b is none (Front node) verb _ _ = absurd (omega (arith, third _ _ verb))
 none_joined nodes words rest a b is none (Same node other) verb _ _ = absurd (omega (arith, third _ _ verb))
 none_joined nodes words rest a b is none (Text id) verb _ _ = absurd (omega (arith, third _ _ verb))

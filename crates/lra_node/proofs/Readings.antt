@@ -1,10 +1,10 @@
 -- How far the reading of a line has come.
-use Rattle.std.proofs.Common.{◌≡◌, ℕ, ◌<◌, ◌≤◌, ◌==◌, true, false, List, [], ◌∷◌, ◌++◌, Option, None, Some, length, take, refl, ap, sym, ◌∙◌, append_assoc, arith}
+use Rattle.std.proofs.Common.{◌≡◌, ℕ, ◌<◌, ◌≤◌, ◌==◌, true, false, List, [], ◌∷◌, ◌++◌, Option, None, Some, length, take, refl, ap, sym, subst, ◌∙◌, append_assoc, arith}
 use Rattle.std.proofs.lemmas.List.{append-nil, take_all, length-take, length-append, take-append-le}
 use Rattle.std.specs.Io.KnownBytes.{Consumes, Keeps, IsAtEnd}
-use Rattle.lra_node.specs.Parts.{lines_of}
-use Rattle.lra_node.specs.Scripts.{ReadsLine}
-use Rattle.lra_node.proofs.Splits.{HasNone, HasNone-push, parts_whole, parts_last}
+use Rattle.lra_node.specs.Parts.{HasNone}
+use Rattle.lra_node.specs.Scripts.{ReadsLine, ReadsPart}
+use Rattle.lra_node.proofs.Splits.{HasNone-push}
 
 -- of what was left a part of a line was read, of which so much is kept
 abbrev pub IsReading : List ℕ → Option (List ℕ) → Option (List ℕ) → Type 0
@@ -29,14 +29,28 @@ reading_line kept None now next r took = tt
 reading_line kept (Some left) None next r took = absurd r
 reading_line kept (Some left) (Some now) None r took = absurd took
 reading_line kept (Some left) (Some now) (Some next) (part, is, none, had) took =
-    (part, is, ap lines_of (had ∙ ap (λ (l : List ℕ). part ++ l) took) ∙ parts_whole 10 part next none)
+    (part, is, none, had ∙ ap (λ (l : List ℕ). part ++ l) took)
 
 pub reading_end : (kept : List ℕ) (left now next : Option (List ℕ)) → IsReading kept left now → IsAtEnd now → Keeps now next → ReadsLine false kept left next
 reading_end kept None now next r end kept_it = tt
 reading_end kept (Some left) None next r end kept_it = absurd r
 reading_end kept (Some left) (Some now) None r end kept_it = absurd kept_it
 reading_end kept (Some left) (Some now) (Some next) (part, is, none, had) end kept_it =
-    (part, is, ap lines_of (had ∙ ap (λ (l : List ℕ). part ++ l) end ∙ append-nil part) ∙ parts_last 10 part none, kept_it ∙ end)
+    let whole : left ≡ part = had ∙ ap (λ (l : List ℕ). part ++ l) end ∙ append-nil part in
+    (is ∙ ap (take 4097) (sym whole), subst (HasNone 10) (sym whole) none, kept_it ∙ end)
+
+-- a fault keeps what is left
+pub reading_cut : (kept : List ℕ) (left now next : Option (List ℕ)) → IsReading kept left now → Keeps now next → ReadsPart left next
+reading_cut kept None now next r kept_it = tt
+reading_cut kept (Some left) None next r kept_it = absurd r
+reading_cut kept (Some left) (Some now) None r kept_it = absurd kept_it
+reading_cut kept (Some left) (Some now) (Some next) (part, is, none, had) kept_it =
+    (part, none, had ∙ ap (λ (l : List ℕ). part ++ l) (sym kept_it))
+
+pub reading_stop : (kept : List ℕ) (left now : Option (List ℕ)) → IsReading kept left now → ReadsPart left now
+reading_stop kept None now r = tt
+reading_stop kept (Some left) None r = absurd r
+reading_stop kept (Some left) (Some now) (part, is, none, had) = (part, none, had)
 
 -- one more byte is kept, where there is room
 pub keep_more : (kept part : List ℕ) (b : ℕ) → length kept < 4097 → kept ≡ take 4097 part → kept ++ b ∷ [] ≡ take 4097 (part ++ b ∷ [])

@@ -1,15 +1,16 @@
 -- How far a script has come, and how it goes on.
-use Rattle.std.proofs.Common.{◌≡◌, ℕ, ◌<◌, ◌≤◌, ◌⊎◌, inl, inr, Bool, true, false, List, [], ◌∷◌, ◌++◌, Option, None, Some, length, take, refl, ap, sym, subst, ◌∙◌, append_assoc, arith}
+use Rattle.std.proofs.Common.{◌≡◌, ℕ, suc, ◌+◌, ◌*◌, ◌<◌, ◌≤◌, ◌⊎◌, inl, inr, Bool, true, false, List, [], ◌∷◌, ◌++◌, Option, None, Some, length, take, refl, ap, sym, subst, ◌∙◌, append_assoc, arith}
 use Rattle.std.proofs.lemmas.List.{append-nil, take_all, length-take-le}
 use Rattle.std.specs.Io.KnownBytes.{Appends}
 use Rattle.lra_http.specs.Streams.{AppendsPart}
 use Rattle.lra_http.proofs.Known.{Appends-trans}
 use Rattle.lra_facts.specs.declared.fact.Fact.{Fact}
 use Rattle.lra_facts.specs.declared.refusal.Refusal.TheVariants.{NoMemory}
-use Rattle.lra_node.specs.Parts.{lines_of}
+use Rattle.lra_node.specs.Parts.{HasNone, lines_of}
 use Rattle.lra_replica.specs.Replicas.{Kept}
-use Rattle.lra_node.specs.Scripts.{refused, Answers, Prints, ScriptText, WritesText, ReadsLine}
+use Rattle.lra_node.specs.Scripts.{refused, Answers, AnswersWhole, IsFewALine, Prints, ScriptText, WritesText, ReadsLine, ReadsPart}
 use Rattle.lra_node.specs.Worlds.{Holds}
+use Rattle.lra_node.proofs.Splits.{parts_whole, parts_last}
 
 -- any lines have a text: each may meet want of memory
 pub some_text : (n : ℕ) (S : List Fact) (lines : List (List ℕ)) → (out : List ℕ) × ScriptText n S lines out
@@ -38,23 +39,57 @@ pub Appends-none : (o : Option (List ℕ)) → Appends o o []
 Appends-none None = tt
 Appends-none (Some x) = sym (append-nil x)
 
--- Where the input is known: out was written, and what is a text of the lines that are left completes out to a text of all.
+-- these lines were taken off the front of an input, whole, and this is left
+pub record IsTaken (input taken left : List ℕ) (whole : List (List ℕ)) : Type 0 where
+  pub split : input ≡ taken ++ left
+  pub lines : (bs : List ℕ) → lines_of (taken ++ bs) ≡ whole ++ lines_of bs
+
+-- over the facts S more lines can be answered behind these, which were answered so
+abbrev pub GoesOn : ℕ → List Fact → List (List ℕ) → List ℕ → Type 0
+GoesOn n S whole out = (lines : List (List ℕ)) (tail : List ℕ) → ScriptText n S lines tail → ScriptText n [] (whole ++ lines) (out ++ tail)
+
+-- Where the input is known: the lines that were taken of it are answered whole, and what is left is answered behind them.
 abbrev pub IsRunning : ℕ → List Fact → Option (List ℕ) → Option (List ℕ) → Option (List ℕ) → Option (List ℕ) → Type 0
 IsRunning n S None now old new = Unit {0}
 IsRunning n S (Some input) None old new = ⊥
 IsRunning n S (Some input) (Some left) old new =
-    (out : List ℕ) × Appends old new out × ((tail : List ℕ) → ScriptText n S (lines_of left) tail → ScriptText n [] (lines_of input) (out ++ tail))
+    (taken out : List ℕ) × (whole : List (List ℕ)) × IsTaken input taken left whole × Appends old new out × GoesOn n S whole out
 
 running_start : (n : ℕ) (start old : Option (List ℕ)) → IsRunning n [] start start old old
 running_start n None old = tt
-running_start n (Some input) old = ([], Appends-none old, λ tail h. h)
+running_start n (Some input) old = ([], [], [], record { split = refl; lines = λ bs. refl }, Appends-none old, λ lines tail h. h)
+
+-- a line more
+taken_line : (input taken left line next : List ℕ) (whole : List (List ℕ)) → IsTaken input taken left whole → HasNone 10 line → left ≡ line ++ 10 ∷ next
+    → IsTaken input (taken ++ (line ++ 10 ∷ [])) next (whole ++ line ∷ [])
+taken_line input taken left line next whole was none is = record {
+  split = was.split ∙ ap (λ (l : List ℕ). taken ++ l) (is ∙ sym (append_assoc line (10 ∷ []) next)) ∙ sym (append_assoc taken (line ++ 10 ∷ []) next);
+  lines = λ bs.
+      ap lines_of (append_assoc taken (line ++ 10 ∷ []) bs ∙ ap (λ (l : List ℕ). taken ++ l) (append_assoc line (10 ∷ []) bs))
+      ∙ was.lines (line ++ 10 ∷ bs)
+      ∙ ap (λ (l : List (List ℕ)). whole ++ l) (parts_whole 10 line bs none)
+      ∙ sym (append_assoc whole (line ∷ []) (lines_of bs));
+}
+
+-- the text of all lines, where this is the text of those that are left
+whole_text : (n : ℕ) (S : List Fact) (input taken left out tail : List ℕ) (whole : List (List ℕ)) → IsTaken input taken left whole → GoesOn n S whole out
+    → ScriptText n S (lines_of left) tail → ScriptText n [] (lines_of input) (out ++ tail)
+whole_text n S input taken left out tail whole was goes h =
+    let P : List (List ℕ) → Type 0 = λ l. ScriptText n [] l (out ++ tail) in
+    subst P (sym (ap lines_of was.split ∙ was.lines left)) (goes (lines_of left) tail h)
 
 -- a text of a line and of those after it
-text_on : (n : ℕ) (S T : List Fact) (kept line left : List ℕ) (lines : List (List ℕ)) (first tail : List ℕ) → kept ≡ take 4097 line → lines_of left ≡ line ∷ lines
-    → Answers n S kept first T → ScriptText n T lines tail → ScriptText n S (lines_of left) (first ++ tail)
-text_on n S T kept line left lines first tail is parted answers h =
-    let P : List (List ℕ) → Type 0 = λ ls. ScriptText n S ls (first ++ tail) in
-    subst P (sym parted) (first, tail, T, refl, kept_answers n S kept line first T is answers, h)
+text_on : (n : ℕ) (S T : List Fact) (kept line : List ℕ) (lines : List (List ℕ)) (first tail : List ℕ) → kept ≡ take 4097 line
+    → Answers n S kept first T → ScriptText n T lines tail → ScriptText n S (line ∷ lines) (first ++ tail)
+text_on n S T kept line lines first tail is answers h = (first, tail, T, refl, kept_answers n S kept line first T is answers, h)
+
+goes_on : (n : ℕ) (S T : List Fact) (kept line : List ℕ) (whole : List (List ℕ)) (out first : List ℕ) → GoesOn n S whole out → kept ≡ take 4097 line
+    → Answers n S kept first T → GoesOn n T (whole ++ line ∷ []) (out ++ first)
+goes_on n S T kept line whole out first goes is answers = λ lines tail h.
+    let P : List (List ℕ) → Type 0 = λ l. ScriptText n [] l ((out ++ first) ++ tail) in
+    let Q : List ℕ → Type 0 = λ l. ScriptText n [] (whole ++ (line ∷ lines)) l in
+    subst P (sym (append_assoc whole (line ∷ []) lines))
+    (subst Q (sym (append_assoc out first tail)) (goes (line ∷ lines) (first ++ tail) (text_on n S T kept line lines first tail is answers h)))
 
 -- a line over the facts S leaves the facts T, and what it prints was written so
 abbrev Leaves : ℕ → List Fact → List ℕ → List Fact → (List ℕ → Type 0) → Type 0
@@ -65,28 +100,32 @@ running_line : (n : ℕ) (S T : List Fact) (kept : List ℕ) (start now next old
 running_line n S T kept None now next old mid new r read prints = tt
 running_line n S T kept (Some input) None next old mid new r read prints = absurd r
 running_line n S T kept (Some input) (Some left) None old mid new r read prints = absurd read
-running_line n S T kept (Some input) (Some left) (Some next) old mid new (out, grew, goes) (line, is, parted) (first, answers, wrote) = (
+running_line n S T kept (Some input) (Some left) (Some next) old mid new (taken, out, whole, was, grew, goes) (line, is, none, had) (first, answers, wrote) = (
+  taken ++ (line ++ 10 ∷ []),
   out ++ first,
+  whole ++ line ∷ [],
+  taken_line input taken left line next whole was none had,
   Appends-trans old mid new out first grew wrote,
-  λ tail h.
-      let P : List ℕ → Type 0 = λ l. ScriptText n [] (lines_of input) l in
-      subst P (sym (append_assoc out first tail)) (goes (first ++ tail) (text_on n S T kept line left (lines_of next) first tail is parted answers h)),
+  goes_on n S T kept line whole out first goes is answers,
 )
 
 -- the text of the last line
-text_end : (n : ℕ) (S T : List Fact) (kept line left first : List ℕ) → kept ≡ take 4097 line → lines_of left ≡ line ∷ [] → Answers n S kept first T
-    → ScriptText n S (lines_of left) first
-text_end n S T kept line left first is parted answers =
-    let P : List ℕ → Type 0 = λ l. ScriptText n S (lines_of left) l in
-    subst P (append-nil first) (text_on n S T kept line left [] first [] is parted answers refl)
+text_end : (n : ℕ) (S T : List Fact) (kept left first : List ℕ) → kept ≡ take 4097 left → HasNone 10 left → Answers n S kept first T → ScriptText n S (lines_of left) first
+text_end n S T kept left first is none answers =
+    let P : List (List ℕ) → Type 0 = λ l. ScriptText n S l first in
+    let Q : List ℕ → Type 0 = λ l. ScriptText n S (left ∷ []) l in
+    subst P (sym (parts_last 10 left none)) (subst Q (append-nil first) (text_on n S T kept left [] first [] is answers refl))
 
 running_end : (n : ℕ) (S T : List Fact) (kept : List ℕ) (start now next old mid new : Option (List ℕ)) → IsRunning n S start now old mid
     → ReadsLine false kept now next → Leaves n S kept T (Appends mid new) → WritesText n (Appends old new) start
 running_end n S T kept None now next old mid new r read prints = tt
 running_end n S T kept (Some input) None next old mid new r read prints = absurd r
 running_end n S T kept (Some input) (Some left) None old mid new r read prints = absurd read
-running_end n S T kept (Some input) (Some left) (Some next) old mid new (out, grew, goes) (line, is, parted, none) (first, answers, wrote) =
-    (out ++ first, goes first (text_end n S T kept line left first is parted answers), Appends-trans old mid new out first grew wrote)
+running_end n S T kept (Some input) (Some left) (Some next) old mid new (taken, out, whole, was, grew, goes) (is, none, end) (first, answers, wrote) = (
+  out ++ first,
+  whole_text n S input taken left out first whole was goes (text_end n S T kept left first is none answers),
+  Appends-trans old mid new out first grew wrote,
+)
 
 -- a part of what comes after out
 part_on : (old mid new : Option (List ℕ)) (out first tail : List ℕ) → Appends old mid out → AppendsPart mid new first → AppendsPart old new (out ++ (first ++ tail))
@@ -97,29 +136,59 @@ part_on old mid new out first tail grew (front, rest, is, wrote) = (
   Appends-trans old mid new out front grew wrote,
 )
 
-part_with : (n : ℕ) (S T : List Fact) (kept line left : List ℕ) (lines : List (List ℕ)) (input : List ℕ) (old mid new : Option (List ℕ)) (out first : List ℕ)
-    → kept ≡ take 4097 line → lines_of left ≡ line ∷ lines → Answers n S kept first T → Appends old mid out → AppendsPart mid new first
-    → ((tail : List ℕ) → ScriptText n S (lines_of left) tail → ScriptText n [] (lines_of input) (out ++ tail)) → WritesText n (AppendsPart old new) (Some input)
-part_with n S T kept line left lines input old mid new out first is parted answers grew wrote goes =
-    let more = some_text n T lines in
-    (out ++ (first ++ more.0), goes (first ++ more.0) (text_on n S T kept line left lines first more.0 is parted answers more.1), part_on old mid new out first more.0 grew wrote)
+-- what is written of a line's answer is a part of a text
+part_with : (n : ℕ) (S : List Fact) (input taken left : List ℕ) (whole : List (List ℕ)) (old mid new : Option (List ℕ)) (out first tail : List ℕ)
+    → IsTaken input taken left whole → GoesOn n S whole out → Appends old mid out → AppendsPart mid new first
+    → ScriptText n S (lines_of left) (first ++ tail) → WritesText n (AppendsPart old new) (Some input)
+part_with n S input taken left whole old mid new out first tail was goes grew wrote h =
+    (out ++ (first ++ tail), whole_text n S input taken left out (first ++ tail) whole was goes h, part_on old mid new out first tail grew wrote)
+
+-- a text of a line that a line feed ended, and of what follows
+text_more : (n : ℕ) (S T : List Fact) (kept line left next first tail : List ℕ) → kept ≡ take 4097 line → HasNone 10 line → left ≡ line ++ 10 ∷ next
+    → Answers n S kept first T → ScriptText n T (lines_of next) tail → ScriptText n S (lines_of left) (first ++ tail)
+text_more n S T kept line left next first tail is none had answers h =
+    let P : List (List ℕ) → Type 0 = λ l. ScriptText n S l (first ++ tail) in
+    subst P (sym (ap lines_of had ∙ parts_whole 10 line next none)) (text_on n S T kept line (lines_of next) first tail is answers h)
 
 part_line : (n : ℕ) (S T : List Fact) (more : Bool) (kept : List ℕ) (start now next old mid new : Option (List ℕ)) → IsRunning n S start now old mid
     → ReadsLine more kept now next → Leaves n S kept T (AppendsPart mid new) → WritesText n (AppendsPart old new) start
 part_line n S T more kept None now next old mid new r read prints = tt
 part_line n S T more kept (Some input) None next old mid new r read prints = absurd r
 part_line n S T more kept (Some input) (Some left) None old mid new r read prints = absurd read
-part_line n S T true kept (Some input) (Some left) (Some next) old mid new (out, grew, goes) (line, is, parted) (first, answers, wrote) =
-    part_with n S T kept line left (lines_of next) input old mid new out first is parted answers grew wrote goes
-part_line n S T false kept (Some input) (Some left) (Some next) old mid new (out, grew, goes) (line, is, parted, none) (first, answers, wrote) =
-    part_with n S T kept line left [] input old mid new out first is parted answers grew wrote goes
+part_line n S T true kept (Some input) (Some left) (Some next) old mid new (taken, out, whole, was, grew, goes) (line, is, none, had) (first, answers, wrote) =
+    let more = some_text n T (lines_of next) in
+    part_with n S input taken left whole old mid new out first more.0 was goes grew wrote (text_more n S T kept line left next first more.0 is none had answers more.1)
+part_line n S T false kept (Some input) (Some left) (Some next) old mid new (taken, out, whole, was, grew, goes) (is, none, end) (first, answers, wrote) =
+    let P : List ℕ → Type 0 = λ l. ScriptText n S (lines_of left) l in
+    part_with n S input taken left whole old mid new out first [] was goes grew wrote
+    (subst P (sym (append-nil first)) (text_end n S T kept left first is none answers))
 
 part_fault : (n : ℕ) (S : List Fact) (start now old new : Option (List ℕ)) → IsRunning n S start now old new → WritesText n (AppendsPart old new) start
 part_fault n S None now old new r = tt
 part_fault n S (Some input) None old new r = absurd r
-part_fault n S (Some input) (Some left) old new (out, grew, goes) =
+part_fault n S (Some input) (Some left) old new (taken, out, whole, was, grew, goes) =
     let more = some_text n S (lines_of left) in
-    (out ++ more.0, goes more.0 more.1, (out, more.0, refl, grew))
+    (out ++ more.0, whole_text n S input taken left out more.0 whole was goes more.1, (out, more.0, refl, grew))
+
+-- a read broke off in mid-line: all lines before it are answered
+whole_fault : (n : ℕ) (S : List Fact) (start now next old new : Option (List ℕ)) → IsRunning n S start now old new → ReadsPart now next → AnswersWhole n (Appends old new) start next
+whole_fault n S None now next old new r cut = tt
+whole_fault n S (Some input) None next old new r cut = absurd r
+whole_fault n S (Some input) (Some left) None old new r cut = absurd cut
+whole_fault n S (Some input) (Some left) (Some next) old new (taken, out, whole, was, grew, goes) (part, none, had) = (
+  taken ++ part,
+  part,
+  out,
+  whole,
+  was.split ∙ ap (λ (l : List ℕ). taken ++ l) had ∙ sym (append_assoc taken part next),
+  was.lines part ∙ ap (λ (l : List (List ℕ)). whole ++ l) (parts_last 10 part none),
+  (
+      let P : List (List ℕ) → Type 0 = λ l. ScriptText n [] l out in
+      let Q : List ℕ → Type 0 = λ l. ScriptText n [] (whole ++ []) l in
+      subst P (append-nil whole) (subst Q (append-nil out) (goes [] [] refl))
+      ),
+  grew,
+)
 
 -- the facts that a world holds, over which a script has come so far
 abbrev pub Runs : ℕ → Kept → Option (List ℕ) → Option (List ℕ) → Option (List ℕ) → Option (List ℕ) → Type 0
@@ -153,3 +222,36 @@ runs_part n before after more kept start now next old mid new (S, h, r) read pri
 
 pub runs_fault : (n : ℕ) (world : Kept) (start now old new : Option (List ℕ)) → Runs n world start now old new → WritesText n (AppendsPart old new) start
 runs_fault n world start now old new (S, h, r) = part_fault n S start now old new r
+
+pub runs_whole : (n : ℕ) (world : Kept) (start now next old new : Option (List ℕ)) → Runs n world start now old new → ReadsPart now next → AnswersWhole n (Appends old new) start next
+runs_whole n world start now next old new (S, h, r) cut = whole_fault n S start now next old new r cut
+
+-- Interrupted calls
+
+-- fewer than make a fault for each line that was taken
+abbrev pub IsFewSoFar : Option (List ℕ) → Option (List ℕ) → (before after : ℕ) → Type 0
+IsFewSoFar None now before after = Unit {0}
+IsFewSoFar (Some input) None before after = ⊥
+IsFewSoFar (Some input) (Some left) before after = after + 1023 * length (lines_of left) ≤ before + 1023 * length (lines_of input)
+
+pub few_start : (start : Option (List ℕ)) (before : ℕ) → IsFewSoFar start start before before
+few_start None before = tt
+few_start (Some input) before = omega arith
+
+pub few_line : (kept : List ℕ) (start now next : Option (List ℕ)) (before mid after : ℕ) → IsFewSoFar start now before mid → ReadsLine true kept now next → after < mid + 1024
+    → IsFewSoFar start next before after
+few_line kept None now next before mid after few read less = tt
+few_line kept (Some input) None next before mid after few read less = absurd few
+few_line kept (Some input) (Some left) None before mid after few read less = absurd read
+few_line kept (Some input) (Some left) (Some next) before mid after few (line, is, none, had) less =
+    let count : length (lines_of left) ≡ suc (length (lines_of next)) = ap length (ap lines_of had ∙ parts_whole 10 line next none) in
+    omega (arith, few, less, count)
+
+pub few_end : (kept : List ℕ) (start now next : Option (List ℕ)) (before mid after : ℕ) → IsFewSoFar start now before mid → ReadsLine false kept now next → after < mid + 1024
+    → IsFewALine start before after
+few_end kept None now next before mid after few read less = tt
+few_end kept (Some input) None next before mid after few read less = absurd few
+few_end kept (Some input) (Some left) None before mid after few read less = absurd read
+few_end kept (Some input) (Some left) (Some next) before mid after few (is, none, end) less =
+    let count : length (lines_of left) ≡ 1 = ap length (parts_last 10 left none) in
+    omega (arith, few, less, count)

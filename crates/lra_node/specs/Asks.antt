@@ -3,10 +3,12 @@ use Rattle.std.specs.Prelude.{◌≡◌, ◌≤◌, ◌<◌, ◌^◌, ℕ, List,
 use Rattle.std.specs.Fmt.{decimal}
 use Rattle.lra_id.specs.Ids.{Id, IsId, IsTextOf, id_text}
 use Rattle.lra_states.specs.Names.{verdict_name, act_name, outcome_name}
+use Rattle.lra_callback.specs.Names.{kind_name}
 use Rattle.lra_node.specs.declared.ask.Ask.{Ask}
-use Rattle.lra_node.specs.declared.ask.Ask.TheVariants.{Enter, Tick, Show, Member, Front, Same, Text, Read}
+use Rattle.lra_node.specs.declared.ask.Ask.TheVariants.{Enter, Tick, Show, Member, Duties, Hear, Front, Same, Text, Read}
 use Rattle.lra_replica.specs.declared.command.Command.{Command}
 use Rattle.lra_replica.specs.declared.command.Command.TheVariants.{Begin, Join, Leave, Decide, Report, Forgot, Purge}
+use Rattle.lra_node.specs.Calls.{AnswerFits, GivesAnswer}
 use Rattle.lra_node.specs.Joins.{GivesLinks}
 use Rattle.lra_node.specs.Parts.{words_of}
 
@@ -33,6 +35,8 @@ Fits nodes (Enter node command) = IsNodeOf nodes node × CommandFits command
 Fits nodes (Tick node now) = IsNodeOf nodes node × (now < 2 ^ 64)
 Fits nodes (Show node id) = IsNodeOf nodes node × IsId id
 Fits nodes (Member node id member) = IsNodeOf nodes node × IsId id × IsMemberNumber member
+Fits nodes (Duties node) = IsNodeOf nodes node
+Fits nodes (Hear node id member kind answer) = IsNodeOf nodes node × IsId id × IsMemberNumber member × AnswerFits answer
 Fits nodes (Front node) = IsNodeOf nodes node
 Fits nodes (Same node other) = IsNodeOf nodes node × IsNodeOf nodes other
 Fits nodes (Text id) = IsId id
@@ -50,6 +54,8 @@ verb_of (Enter node (Purge root)) = codes "purge"
 verb_of (Tick node now) = codes "tick"
 verb_of (Show node id) = codes "show"
 verb_of (Member node id member) = codes "member"
+verb_of (Duties node) = codes "duties"
+verb_of (Hear node id member kind answer) = codes "answer"
 verb_of (Front node) = codes "front"
 verb_of (Same node other) = codes "same"
 verb_of (Text id) = codes "text"
@@ -60,7 +66,7 @@ abbrev pub parent_words : Option Id → List (List ℕ)
 parent_words None = []
 parent_words (Some p) = id_text p ∷ []
 
--- the words after it; numbers are decimal without leading zeros. No words ask yet that something is forgotten or purged
+-- the words after it; numbers are decimal without leading zeros
 abbrev pub HasArguments : List (List ℕ) → Ask → Type 0
 HasArguments words (Enter node (Begin parent deadline)) = words ≡ decimal node ∷ decimal deadline ∷ parent_words parent
 HasArguments words (Enter node (Join id links)) =
@@ -69,11 +75,14 @@ HasArguments words (Enter node (Leave id member)) = words ≡ decimal node ∷ i
 HasArguments words (Enter node (Decide id verdict)) = words ≡ decimal node ∷ id_text id ∷ []
 HasArguments words (Enter node (Report id member act outcome)) =
     words ≡ decimal node ∷ id_text id ∷ decimal member ∷ act_name act ∷ outcome_name outcome ∷ []
-HasArguments words (Enter node (Forgot id member)) = ⊥
-HasArguments words (Enter node (Purge root)) = ⊥
+HasArguments words (Enter node (Forgot id member)) = words ≡ decimal node ∷ id_text id ∷ decimal member ∷ []
+HasArguments words (Enter node (Purge root)) = words ≡ decimal node ∷ id_text root ∷ []
 HasArguments words (Tick node now) = words ≡ decimal node ∷ decimal now ∷ []
 HasArguments words (Show node id) = words ≡ decimal node ∷ id_text id ∷ []
 HasArguments words (Member node id member) = words ≡ decimal node ∷ id_text id ∷ decimal member ∷ []
+HasArguments words (Duties node) = words ≡ decimal node ∷ []
+HasArguments words (Hear node id member kind answer) =
+    (given : List (List ℕ)) × (words ≡ decimal node ∷ id_text id ∷ decimal member ∷ kind_name kind ∷ given) × GivesAnswer given answer
 HasArguments words (Front node) = words ≡ decimal node ∷ []
 HasArguments words (Same node other) = words ≡ decimal node ∷ decimal other ∷ []
 HasArguments words (Text id) = words ≡ id_text id ∷ []

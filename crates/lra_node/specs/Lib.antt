@@ -1,4 +1,6 @@
+pub mod Arguments
 pub mod Asks
+pub mod Calls
 pub mod Joins
 pub mod Parts
 pub mod Scripts

@@ -1,5 +1,5 @@
 -- The parts of a text between single bytes: the lines of an input, the words of a line.
-use Rattle.std.specs.Prelude.{ℕ, ◌==◌, List, [], ◌∷◌, if◌then◌else◌}
+use Rattle.std.specs.Prelude.{◌≡◌, ℕ, ◌==◌, false, List, [], ◌∷◌, if◌then◌else◌}
 
 -- b, and then the first part
 abbrev pub onto_first : ℕ → List (List ℕ) → List (List ℕ)
@@ -18,3 +18,8 @@ lines_of = parts 10
 -- words are parted by one space
 abbrev pub words_of : List ℕ → List (List ℕ)
 words_of = parts 32
+
+-- no byte equals at: the text is one part
+abbrev pub HasNone : ℕ → List ℕ → Type 0
+HasNone at [] = Unit {0}
+HasNone at (b ∷ bs) = ((b == at) ≡ false) × HasNone at bs

@@ -14,8 +14,10 @@ ghost use Rattle.lra_node.specs.Worlds.{Holds, after_here, front_of, reply_here}
 
 use crate::ask::Ask;
 use crate::asking::ask_of;
+use crate::calls::{hear_answer, show_duties};
 use crate::line::MOST_IN_LINE;
 use crate::room::Room;
+use crate::telling::{refusal_line, tell, word_line};
 use crate::world::World;
 use lra_facts::Refusal;
 use lra_id::LraId;
@@ -58,6 +60,14 @@ fn obey(alloc: Global, world: &mut World, ask: Ask) -> Result<String, AllocError
         Ask::Tick { now, .. } => tick(alloc, world, now),
         Ask::Show { id, .. } => show(alloc, world, id),
         Ask::Member { id, member, .. } => show_member(alloc, world, id, member),
+        Ask::Duties { .. } => show_duties(alloc, world),
+        Ask::Hear {
+            id,
+            member,
+            kind,
+            answer,
+            ..
+        } => hear_answer(alloc, world, id, member, kind, &answer),
         Ask::Front { .. } => show_front(alloc, world),
         Ask::Same { .. } => show_same(alloc, world),
         Ask::Text(id) => text_line(alloc, id),
@@ -75,25 +85,6 @@ fn enter(alloc: Global, world: &mut World, command: Command) -> Result<String, A
     match world.step(alloc, command) {
         Ok(reply) => tell(alloc, room, reply),
         Err(error) => Err(error),
-    }
-}
-
-/// The line that a reply prints: of an event, in room that was made before.
-fn tell(alloc: Global, room: Room, reply: CommandReply) -> Result<String, AllocError>
-    requires { room ≡ [] }
-    ensures ok { IfOk result (λ text. string_bytes text ≡ reply_line reply) }
-    ensures err { OnErr result (IsRefusal reply) }
-{
-    match reply {
-        CommandReply::Began(id, member) => Ok(began_line(room, id, member)),
-        CommandReply::Joined(_, member) => Ok(joined_line(room, member)),
-        CommandReply::Left => Ok(word_line(room, "left")),
-        CommandReply::Decided(_, status) => Ok(word_line(room, status.name())),
-        CommandReply::Reported => Ok(word_line(room, "reported")),
-        CommandReply::Known => Ok(word_line(room, "known")),
-        CommandReply::Forgotten => Ok(word_line(room, "forgot")),
-        CommandReply::Purged => Ok(word_line(room, "purged")),
-        CommandReply::Refused(refusal) => refusal_line(alloc, refusal),
     }
 }
 
@@ -138,40 +129,6 @@ fn expired_line(mut room: Room, id: LraId) -> String
 {
     room.text("expired ");
     room.id(id);
-    room.into_line()
-}
-
-/// The line that tells of an LRA that was begun: its member number only where it has one.
-fn began_line(mut room: Room, id: LraId, member: u8) -> String
-    requires { room ≡ [] }
-    ensures { string_bytes result ≡ printed (began_text id member) }
-{
-    room.text("began ");
-    room.id(id);
-    if member > 0 {
-        room.text(" member ");
-        room.number(u64::from(member));
-    }
-    room.into_line()
-}
-
-/// The line that tells of a participant that joined.
-fn joined_line(mut room: Room, member: u8) -> String
-    requires { room ≡ [] }
-    ensures { string_bytes result ≡ printed (codes "joined " ++ decimal member) }
-{
-    room.text("joined ");
-    room.number(u64::from(member));
-    room.into_line()
-}
-
-/// The line of one short word.
-fn word_line(mut room: Room, word: &str) -> String
-    requires empty { room ≡ [] }
-    requires short { length word.now ≤ 40 }
-    ensures { string_bytes result ≡ printed word.now }
-{
-    room.text(word);
     room.into_line()
 }
 
@@ -229,11 +186,4 @@ fn id_line(alloc: Global, id: LraId) -> Result<String, AllocError>
     ensures { IfOk result (λ text. string_bytes text ≡ printed (id_text id)) }
 {
     format!(in alloc; "{id}\n")
-}
-
-/// The line that a refusal prints.
-fn refusal_line(alloc: Global, refusal: Refusal) -> Result<String, AllocError>
-    ensures { IfOk result (λ text. string_bytes text ≡ refused refusal) }
-{
-    format!(in alloc; "refused {refusal}\n")
 }

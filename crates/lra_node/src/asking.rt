@@ -3,6 +3,7 @@ ghost use Rattle.std.specs.Prelude.{◌≡◌, ◌≤◌, IfOk, MatchOption, cod
 ghost use Rattle.lra_node.specs.declared.ask.Ask.{Ask};
 ghost use Rattle.lra_node.specs.Asks.{ReadsArguments, Spells};
 
+mod answers;
 mod joins;
 mod lras;
 mod members;
@@ -10,14 +11,15 @@ mod nodes;
 
 use crate::ask::Ask;
 use crate::words::Words;
+use answers::hear_of;
 use joins::join_of;
 use lra_states::Verdict;
-use lras::{begin_of, decide_of, read_of, show_of, text_of};
-use members::{leave_of, member_of, report_of};
-use nodes::{front_of, same_of, tick_of};
+use lras::{begin_of, decide_of, purge_of, read_of, show_of, text_of};
+use members::{forgot_of, leave_of, member_of, report_of};
+use nodes::{duties_of, front_of, same_of, tick_of};
 use std::alloc::{AllocError, Global};
 
-/// What a line asks of a world of so many nodes. Only the links of a join take memory.
+/// What a line asks of a world of so many nodes. Only the links of a join and the body of an answer take memory.
 pub fn ask_of(alloc: Global, line: &[u8], nodes: u8) -> Result<Option<Ask>, AllocError>
     requires { nodes ≤ 8 }
     ensures { IfOk result (λ found. MatchOption found ((ask : Ask) → Spells nodes line.now ask → ⊥) (Spells nodes line.now)) }
@@ -29,15 +31,22 @@ pub fn ask_of(alloc: Global, line: &[u8], nodes: u8) -> Result<Option<Ask>, Allo
     if verb == b"join".as_slice() {
         return join_of(alloc, words, nodes);
     }
-    Ok(asked_without_links(verb, words, nodes))
+    if verb == b"answer".as_slice() {
+        return hear_of(alloc, words, nodes);
+    }
+    Ok(asked_of_nodes(verb, words, nodes))
 }
 
-/// What the words after a verb ask, where no links are read.
-fn asked_without_links(verb: &[u8], words: Words<'_>, nodes: u8) -> Option<Ask>
+/// What the words after a verb ask of nodes, LRAs and participants, where nothing of the words is kept.
+fn asked_of_nodes(verb: &[u8], words: Words<'_>, nodes: u8) -> Option<Ask>
     requires few { nodes ≤ 8 }
-    requires other { verb.now ≡ codes "join" → ⊥ }
+    requires no_join { verb.now ≡ codes "join" → ⊥ }
+    requires no_answer { verb.now ≡ codes "answer" → ⊥ }
     ensures { ReadsArguments nodes verb.now words.entry result }
 {
+    if verb == b"duties".as_slice() {
+        return duties_of(words, nodes);
+    }
     if verb == b"front".as_slice() {
         return front_of(words, nodes);
     }
@@ -50,10 +59,12 @@ fn asked_without_links(verb: &[u8], words: Words<'_>, nodes: u8) -> Option<Ask>
     asked_of_lras(verb, words, nodes)
 }
 
-/// What the words after a verb ask of LRAs and participants, where no links are read.
+/// What the words after a verb ask of LRAs and participants, where nothing of the words is kept.
 fn asked_of_lras(verb: &[u8], words: Words<'_>, nodes: u8) -> Option<Ask>
     requires few { nodes ≤ 8 }
     requires no_join { verb.now ≡ codes "join" → ⊥ }
+    requires no_answer { verb.now ≡ codes "answer" → ⊥ }
+    requires no_duties { verb.now ≡ codes "duties" → ⊥ }
     requires no_front { verb.now ≡ codes "front" → ⊥ }
     requires no_same { verb.now ≡ codes "same" → ⊥ }
     requires no_tick { verb.now ≡ codes "tick" → ⊥ }
@@ -85,6 +96,12 @@ fn asked_of_lras(verb: &[u8], words: Words<'_>, nodes: u8) -> Option<Ask>
     }
     if verb == b"read".as_slice() {
         return read_of(words);
+    }
+    if verb == b"forgot".as_slice() {
+        return forgot_of(words, nodes);
+    }
+    if verb == b"purge".as_slice() {
+        return purge_of(words, nodes);
     }
     None
 }

@@ -1,7 +1,7 @@
 // Reading a line.
 ghost use Rattle.std.specs.Prelude.{◌≡◌, ◌<◌, ◌≤◌, ◌+◌, ◌⊎◌, ℕ, List, [], ◌∷◌, ◌++◌, take, vec_capacity, IfOk, OnOk, OnErr};
 ghost use Rattle.lra_http.specs.Streams.{most_interrupted};
-ghost use Rattle.lra_node.specs.Scripts.{ReadsLine};
+ghost use Rattle.lra_node.specs.Scripts.{ReadsLine, ReadsPart};
 
 use lra_http::{ReadFault, Source, read_byte};
 
@@ -22,8 +22,10 @@ pub fn read_line<R: Source>(
     requires { 4097 ≤ vec_capacity line.old }
     ensures room { 4097 ≤ vec_capacity line.new }
     ensures read { IfOk result (λ more. ReadsLine more line.new.items (R.left reader.old) (R.left reader.new)) }
+    ensures cut { OnErr result (ReadsPart (R.left reader.old) (R.left reader.new)) }
     ensures none_failed { OnOk result (R.failed reader.new ≡ R.failed reader.old) }
     ensures counted { R.interrupted reader.old ≤ R.interrupted reader.new }
+    ensures few { OnOk result (R.interrupted reader.new < R.interrupted reader.old + most_interrupted) }
     ensures fewer { OnOk result (reads_left.new < reads_left.old) }
     ensures spent { R.calls reader.old + reads_left.old ≤ R.calls reader.new + reads_left.new }
     ensures fault { OnErr result ((R.failed reader.old < R.failed reader.new) ⊎ (R.interrupted reader.new ≡ R.interrupted reader.old + most_interrupted) ⊎ (reads_left.new ≡ 0)) }

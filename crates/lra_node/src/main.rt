@@ -4,16 +4,20 @@
 mod answer;
 mod ask;
 mod asking;
+mod calls;
+pub mod laws;
 mod line;
 mod number;
 mod room;
 mod script;
+mod telling;
 #[cfg(test)]
 mod tests;
 mod words;
 mod world;
 
-ghost use Rattle.std.specs.Prelude.{◌≡◌, ◌↔◌, IsTrue, OnOk, OnErr, codes};
+ghost use Rattle.std.specs.Prelude.{◌≡◌, ◌↔◌, IsTrue, OnErr, OnOk, map, string_bytes};
+ghost use Rattle.lra_node.specs.Arguments.{asked_words};
 
 use lra_http::{OverRead, OverWrite};
 use script::{ScriptFault, script};
@@ -25,41 +29,48 @@ const USAGE: &str = "usage: lra_node script N | serve N PORT DIR";
 /// Runs the script over standard input. It ends with 0 at the end of the input, with 1 after a fault or where memory was
 /// wanting at the start, and with 2, and the usage, where the arguments ask for something else.
 fn main(rt: HostRuntime) -> ExitCode {
-    let Ok(asked) = asks_for_script(&rt) else {
+    let Ok(words) = arguments(&rt) else {
         return ExitCode::from(1);
     };
-    if !asked {
+    let outcome = if is_script(&words) {
+        let mut reader = OverRead::new(rt.reader());
+        let mut writer = OverWrite::new(io::writer(&rt));
+        script(rt.alloc(), &mut reader, &mut writer, 1)
+    } else {
         let _ = eprintln!(rt; "{USAGE}");
-        return ExitCode::from(2);
+        Ok(())
+    };
+    ExitCode::from(status_of(&words, outcome))
+}
+
+/// The arguments after the program's name.
+fn arguments(rt: &HostRuntime) -> io::Result<Vec<String>> {
+    let mut words = Vec::new(rt.alloc());
+    for word in env::args(rt)?.skip(1) {
+        words.push(word)?;
     }
-    let mut reader = OverRead::new(rt.reader());
-    let mut writer = OverWrite::new(io::writer(&rt));
-    let outcome = script(rt.alloc(), &mut reader, &mut writer, 1);
-    ExitCode::from(status_of(outcome))
+    Ok(words)
 }
 
-/// Whether there are two arguments, which ask for a script of one node.
-fn asks_for_script(rt: &HostRuntime) -> io::Result<bool> {
-    let mut words = env::args(rt)?;
-    let _program = words.next();
-    match (words.next(), words.next(), words.next()) {
-        (Some(command), Some(nodes), None) => Ok(is_script(command.as_str(), nodes.as_str())),
-        _ => Ok(false),
+/// Whether the arguments ask for a script of one node: there is no other count until the script has frames.
+fn is_script(words: &[String]) -> bool
+    ensures { IsTrue result ↔ (map string_bytes words.now ≡ asked_words) }
+{
+    match words {
+        [command, nodes] => command.as_str() == "script" && nodes.as_str() == "1",
+        _ => false,
     }
 }
 
-/// Whether two arguments ask for a script of one node: there is no other count until nodes exchange frames.
-fn is_script(command: &str, nodes: &str) -> bool
-    ensures { IsTrue result ↔ (command.now ≡ codes "script") × (nodes.now ≡ codes "1") }
+/// The exit status, by the arguments and by how the script that they asked for came out.
+fn status_of(words: &[String], outcome: Result<(), ScriptFault>) -> u8
+    ensures other { (map string_bytes words.now ≡ asked_words → ⊥) → result ≡ 2 }
+    ensures ended { map string_bytes words.now ≡ asked_words → OnOk outcome (result ≡ 0) }
+    ensures fault { map string_bytes words.now ≡ asked_words → OnErr outcome (result ≡ 1) }
 {
-    command == "script" && nodes == "1"
-}
-
-/// The exit status after a script.
-fn status_of(outcome: Result<(), ScriptFault>) -> u8
-    ensures ended { OnOk outcome (result ≡ 0) }
-    ensures fault { OnErr outcome (result ≡ 1) }
-{
+    if !is_script(words) {
+        return 2;
+    }
     match outcome {
         Ok(()) => 0,
         Err(_) => 1,

@@ -67,6 +67,19 @@ pub fn member_number_of(word: &[u8]) -> Option<u8>
     Some(number as u8)
 }
 
+/// The code of an answer that a word spells: at most 65,535.
+pub fn code_of(word: &[u8]) -> Option<u16>
+    ensures { MatchOption result ((n : ℕ) → n < 2 ^ 16 → word.now ≡ decimal n → ⊥) (λ n. word.now ≡ decimal n) }
+{
+    let Some(number) = number_of(word) else {
+        return None;
+    };
+    if number > u64::from(u16::MAX) {
+        return None;
+    }
+    Some(number as u16)
+}
+
 /// The id that a word spells: its home, which has one digit, and its number, parted by a point.
 pub fn id_of(word: &[u8]) -> Option<LraId>
     ensures { MatchOption result ((id : Id) → IsId id → word.now ≡ id_text id → ⊥) (λ id. IsId id × (word.now ≡ id_text id)) }

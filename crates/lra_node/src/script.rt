@@ -3,7 +3,7 @@ ghost use Rattle.std.specs.Prelude.{◌≡◌, ◌≤◌, ◌<◌, ◌+◌, ◌�
 ghost use Rattle.std.specs.Io.KnownBytes.{Appends};
 ghost use Rattle.lra_http.specs.Streams.{AppendsPart, most_interrupted};
 ghost use Rattle.lra_facts.specs.declared.fact.Fact.{Fact};
-ghost use Rattle.lra_node.specs.Scripts.{Prints, ReadsToEnd, WritesText, most_reads};
+ghost use Rattle.lra_node.specs.Scripts.{AnswersWhole, IsFewALine, Prints, ReadsToEnd, WritesText, most_reads};
 ghost use Rattle.lra_node.specs.Worlds.{Holds};
 
 use crate::answer::answer;
@@ -32,10 +32,17 @@ pub fn script<R: Source, W: Sink>(
 ) -> Result<(), ScriptFault>
     requires one { nodes ≡ 1 }
 
-    // What is written is the text of what is read; after a fault it is a front of it.
+    // What is written is the text of what is read; after a fault it is a front of it. After a read fault every line that
+    // was read whole is answered whole.
     ensures text { OnOk result (WritesText nodes (Appends (W.written writer.old) (W.written writer.new)) (R.left reader.old)) }
     ensures part { OnErr result (WritesText nodes (AppendsPart (W.written writer.old) (W.written writer.new)) (R.left reader.old)) }
+    ensures whole { result ≡ Err ScriptFault.Read → AnswersWhole nodes (Appends (W.written writer.old) (W.written writer.new)) (R.left reader.old) (R.left reader.new) }
     ensures end { OnOk result (ReadsToEnd (R.left reader.old) (R.left reader.new)) }
+
+    // No call failed, and of interrupted ones there were fewer than 1,024 a line.
+    ensures none_failed { OnOk result ((R.failed reader.new ≡ R.failed reader.old) × (W.failed writer.new ≡ W.failed writer.old)) }
+    ensures few_reads { OnOk result (IsFewALine (R.left reader.old) (R.interrupted reader.old) (R.interrupted reader.new)) }
+    ensures few_writes { OnOk result (IsFewALine (R.left reader.old) (W.interrupted writer.old) (W.interrupted writer.new)) }
 
     // Each fault has its cause.
     ensures read_fault { result ≡ Err ScriptFault.Read → (R.failed reader.old < R.failed reader.new) ⊎ (R.interrupted reader.old + most_interrupted ≤ R.interrupted reader.new) ⊎ (R.calls reader.old + most_reads ≤ R.calls reader.new) }
@@ -75,6 +82,7 @@ fn print_line<W: Sink>(
     ensures err { (S : List Fact) → Holds S world.old → OnErr result (Prints nodes S line.now world.new (AppendsPart (W.written writer.old) (W.written writer.new))) }
     ensures none_failed { OnOk result (W.failed writer.new ≡ W.failed writer.old) }
     ensures counted { W.interrupted writer.old ≤ W.interrupted writer.new }
+    ensures few { OnOk result (W.interrupted writer.new < W.interrupted writer.old + most_interrupted) }
     ensures fault { OnErr result ((W.failed writer.old < W.failed writer.new) ⊎ (W.interrupted writer.new ≡ W.interrupted writer.old + most_interrupted)) }
 {
     let mut interrupted = 0;

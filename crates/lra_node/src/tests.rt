@@ -1,8 +1,11 @@
 // What no clause says: the texts that outside examples give, and runs that end in the middle.
+mod calls;
 mod faults;
+mod limits;
 mod members;
 mod nesting;
 mod nodes;
+mod purging;
 
 use crate::script::{ScriptFault, script};
 use crate::world::World;
@@ -185,7 +188,7 @@ fn a_world_shows_what_it_decided(rt: HostRuntime) -> Result<(), Fail> {
 }
 
 #[test]
-fn a_world_refuses_what_no_line_spells(rt: HostRuntime) -> Result<(), Fail> {
+fn a_world_forgets_and_purges(rt: HostRuntime) -> Result<(), Fail> {
     let mut world = World::new(rt.alloc())?;
     let begin = Command::Begin {
         parent: None,
@@ -195,25 +198,49 @@ fn a_world_refuses_what_no_line_spells(rt: HostRuntime) -> Result<(), Fail> {
         return Err(Fail::from("begun"));
     };
     let forgot = Command::Forgot { id, member: 1 };
-    let refused = CommandReply::Refused(Refusal::BadText);
-    assert_eq!(rt; world.step(rt.alloc(), forgot)?, refused);
+    let unknown = CommandReply::Refused(Refusal::UnknownMember);
+    assert_eq!(rt; world.step(rt.alloc(), forgot)?, unknown);
+    let early = CommandReply::Refused(Refusal::NotEnded(LraStatus::Active));
+    assert_eq!(rt; world.step(rt.alloc(), Command::Purge { root: id })?, early);
+    let verdict = Verdict::Close;
+    world.step(rt.alloc(), Command::Decide { id, verdict })?;
     assert_eq!(rt;
         world.step(rt.alloc(), Command::Purge { root: id })?,
-        refused
+        CommandReply::Purged
     );
-    assert_eq!(rt; world.front().count(id.home()), 1);
+    assert_eq!(rt; world.status(id), Err(Refusal::NotHeld));
+    assert_eq!(rt; world.front().count(id.home()), 3);
     Ok(())
 }
 
+/// The words of a text, which are parted by one space.
+fn words_of(alloc: Global, text: &str) -> Result<Vec<String>, Fail> {
+    let mut words = Vec::new(alloc);
+    for word in text.split(' ') {
+        words.push(String::from_str(alloc, word)?)?;
+    }
+    Ok(words)
+}
+
 #[test]
-fn arguments_and_exit_statuses(rt: HostRuntime) {
-    assert!(rt; is_script("script", "1"));
-    assert!(rt; !is_script("script", "2"));
-    assert!(rt; !is_script("script", "01"));
-    assert!(rt; !is_script("serve", "1"));
-    assert_eq!(rt; status_of(Ok(())), 0);
-    assert_eq!(rt; status_of(Err(ScriptFault::Read)), 1);
-    assert_eq!(rt; status_of(Err(ScriptFault::Write)), 1);
-    assert_eq!(rt; status_of(Err(ScriptFault::NoMemory)), 1);
+fn arguments_and_exit_statuses(rt: HostRuntime) -> Result<(), Fail> {
+    let alloc = rt.alloc();
+    for text in [
+        "script",
+        "script 2",
+        "script 01",
+        "serve 1",
+        "script 1 1",
+        "",
+    ] {
+        assert_eq!(rt; status_of(&words_of(alloc, text)?, Ok(())), 2);
+    }
+    let words = words_of(alloc, "script 1")?;
+    assert!(rt; is_script(&words));
+    assert_eq!(rt; status_of(&words, Ok(())), 0);
+    assert_eq!(rt; status_of(&words, Err(ScriptFault::Read)), 1);
+    assert_eq!(rt; status_of(&words, Err(ScriptFault::Write)), 1);
+    assert_eq!(rt; status_of(&words, Err(ScriptFault::NoMemory)), 1);
     assert_eq!(rt; USAGE, "usage: lra_node script N | serve N PORT DIR");
+    Ok(())
 }

@@ -1,5 +1,6 @@
 // The words of a line.
 ghost use Rattle.std.specs.Prelude.{◌≡◌, [], ◌∷◌, ◌↔◌, IsTrue, MatchOption};
+ghost use Rattle.lra_node.specs.Calls.{IsRestOf};
 ghost use Rattle.lra_node.specs.Parts.{words_of};
 
 use std::marker::Model;
@@ -43,6 +44,16 @@ impl<'a> Words<'a> {
         ensures { result ≡ self.now }
     {
         Words { rest: self.rest }
+    }
+
+    /// The rest of the line behind the space that follows the words that were read; nothing, where all were read.
+    pub fn rest(&self) -> &'a [u8]
+        ensures { IsRestOf self.now result.now }
+    {
+        match self.rest {
+            Some(text) => text,
+            None => &[],
+        }
     }
 
     /// Whether all words were read.

@@ -1,17 +1,22 @@
 // The world of one node: what it holds. It stands in for the nodes and their frames until those are there.
-ghost use Rattle.std.specs.Prelude.{◌≡◌, ◌≤◌, List, [], length, IfOk, IfSome, IsTrue, OnOk, OnErr};
+ghost use Rattle.std.specs.Prelude.{◌≡◌, ◌≤◌, List, [], length, true, IfOk, IfSome, IsTrue, OnOk, OnErr};
 ghost use Rattle.lra_facts.specs.declared.fact.Fact.{Fact};
 ghost use Rattle.lra_forest.specs.Overdue.{IsLeastOverdue};
 ghost use Rattle.lra_replica.specs.Growth.{IsSettled};
-ghost use Rattle.lra_replica.specs.Prepared.{HasRoom, member_shown, shown_of};
+ghost use Rattle.lra_replica.specs.Prepared.{HasRoom, IsPrepared, member_shown, shown_of};
 ghost use Rattle.lra_replica.specs.Replicas.{Fits, view_of};
 ghost use Rattle.lra_replica.specs.Views.{StandsFor};
-ghost use Rattle.lra_node.specs.Worlds.{Holds, IsPreparedHere, after_here, front_of, here, reply_here, with_patch};
+ghost use Rattle.lra_forest.specs.Dues.{AreAll};
+ghost use Rattle.lra_facts.specs.Sets.{is_held, want};
+ghost use Rattle.lra_callback.specs.Duties.{IsDuty, act_wanted, comes_first};
+ghost use Rattle.lra_node.specs.Calls.{act_asked, act_demanded, act_where};
+ghost use Rattle.lra_node.specs.Worlds.{Holds, after_here, front_of, here, reply_here, with_patch};
 
+use lra_callback::{Duties, Kind, act_wanted, pick};
 use lra_facts::Refusal;
 use lra_id::{Front, LraId, NodeId};
 use lra_replica::{Command, CommandReply, Prepared, Replica};
-use lra_states::{LraStatus, MemberStatus};
+use lra_states::{Act, LraStatus, MemberStatus};
 use std::alloc::{AllocError, Global};
 use std::marker::Model;
 
@@ -78,8 +83,49 @@ impl World {
         self.replica.expire(first_node(), now)
     }
 
-    /// Enters what a command asks, or refuses it: what is to be forgotten or purged is refused as E1. Want of memory enters
-    /// nothing.
+    /// Whom the node is to call now, and what for.
+    pub fn duties(&self, alloc: Global) -> Result<Duties, AllocError>
+        ensures { (S : List Fact) → Holds S self.now → IfOk result (λ duties. AreAll (IsDuty here S) (comes_first S) duties) }
+    {
+        match pick(alloc, &self.replica, first_node()) {
+            Ok(duties) => Ok(duties),
+            Err(_) => Err(AllocError),
+        }
+    }
+
+    /// The act that an answer to a call of this kind is heard for: of a status the one that the LRA's want demands, or why
+    /// there is none. What is heard of a forget is the same for either.
+    pub fn act_asked(&self, kind: Kind, id: LraId, member: u8) -> Result<Act, Refusal>
+        ensures { (S : List Fact) → Holds S self.now → result ≡ act_asked S kind id member }
+    {
+        match kind {
+            Kind::Complete | Kind::Forget => Ok(Act::Complete),
+            Kind::Compensate => Ok(Act::Compensate),
+            Kind::Status => self.act_of_status(id, member),
+        }
+    }
+
+    /// The act that a participant is asked for the status of.
+    fn act_of_status(&self, id: LraId, member: u8) -> Result<Act, Refusal>
+        ensures { (S : List Fact) → Holds S self.now → result ≡ act_where (member_shown S (front_of S) id member) (act_demanded (act_wanted (want S id))) }
+    {
+        match self.member(id, member) {
+            Ok(_) => self.act_demanded(id),
+            Err(refusal) => Err(refusal),
+        }
+    }
+
+    /// The act that the want of an LRA that is held demands.
+    fn act_demanded(&self, id: LraId) -> Result<Act, Refusal>
+        ensures { (S : List Fact) → Holds S self.now → is_held S id ≡ true → result ≡ act_demanded (act_wanted (want S id)) }
+    {
+        match self.replica.want(id) {
+            Ok(want) => act_wanted(want).ok_or(Refusal::NotDue(LraStatus::Active)),
+            Err(refusal) => Err(refusal),
+        }
+    }
+
+    /// Enters what a command asks, or refuses it. Want of memory enters nothing.
     pub fn step(&mut self, alloc: Global, command: Command) -> Result<CommandReply, AllocError>
         ensures reply { (S : List Fact) → Holds S self.old → IfOk result (λ reply. reply ≡ reply_here S command) }
         ensures after { (S : List Fact) → Holds S self.old → OnOk result (Holds (after_here S command) self.new) }
@@ -112,7 +158,7 @@ fn prepare(alloc: Global, replica: &mut Replica, command: Command) -> Result<Pre
     requires { 1 ≤ length replica.old.front }
     ensures view { view_of replica.new ≡ view_of replica.old }
     ensures room { HasRoom result replica.new }
-    ensures prepared { (S : List Fact) → IsSettled S → StandsFor S (view_of replica.old) → IsPreparedHere S (view_of replica.old) command result }
+    ensures prepared { (S : List Fact) → IsSettled S → StandsFor S (view_of replica.old) → IsPrepared S (view_of replica.old) here command result }
 {
     let me = first_node();
     match command {
@@ -126,7 +172,8 @@ fn prepare(alloc: Global, replica: &mut Replica, command: Command) -> Result<Pre
             act,
             outcome,
         } => replica.report(alloc, me, id, member, act, outcome),
-        Command::Forgot { .. } | Command::Purge { .. } => Err(Refusal::BadText),
+        Command::Forgot { id, member } => replica.forgot(alloc, me, id, member),
+        Command::Purge { root } => replica.purge(alloc, me, root),
     }
 }
 

@@ -10,6 +10,7 @@ use Rattle.lra_facts.proofs.Membership.{filter_in, in_append, map_in}
 use Rattle.lra_replica.specs.declared.command.Command.{Command}
 use Rattle.lra_replica.specs.declared.command.Command.TheVariants.{Begin as BeginAsked, Join as JoinAsked, Leave as LeaveAsked, Decide as DecideAsked, Report as ReportAsked, Forgot as ForgotAsked, Purge as PurgeAsked}
 use Rattle.lra_replica.specs.Growth.{IsMore}
+use Rattle.lra_replica.specs.Laws.{IsCurrent}
 use Rattle.lra_replica.specs.Histories.{Entry, History, IsClosed, IsLawful, IsLawfulEntry, Made, entries_of, facts, is_counted, made, made_by, made_from, with_entry}
 use Rattle.lra_replica.specs.Replicas.{raised}
 use Rattle.lra_replica.specs.Replies.{IsLawfulBody, Taken, body_for, command_of, judge}
@@ -180,6 +181,17 @@ closed_still h u node e some there closed =
       ];
       nodes = closed.nodes ∙ sym (length_with h node e);
       within = λ n. omega (arith, closed.within n, entries_with h node n e some there);
+    }
+
+-- and that of another node has all that the other entered
+pub current_still : (h : History) (node other : ℕ) (u : List ℕ) (e : Entry) → 1 ≤ node → node ≤ length h → IsCurrent h other u → (other ≡ node → ⊥) → IsCurrent (with_entry h node e) other u
+current_still h node other u e some there current apart =
+    let places : other - 1 ≡ node - 1 → ⊥ = λ same. apart (omega (arith, same, some, current.some)) in
+    record {
+      some = current.some;
+      there = omega (arith, current.there, length_with h node e);
+      closed = closed_still h u node e some there current.closed;
+      own = current.own ∙ ap (λ (es : List Entry). length es) (sym (get_or-set_other h (node - 1) (other - 1) (entries_of h node ++ e ∷ []) [] places));
     }
 
 -- the set of a front that has all that the node entered, and that of the front with one more of the node, are one fact apart

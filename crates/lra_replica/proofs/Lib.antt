@@ -1,5 +1,7 @@
 pub mod Absorbed
 pub mod Adding
+pub mod Alike
+pub mod Answered
 pub mod Basics
 pub mod Begun
 pub mod Changed
@@ -34,7 +36,6 @@ pub mod Proper
 pub mod Purged
 pub mod Ranked
 pub mod Readying
-pub mod Replied
 pub mod Risen
 pub mod Rooms
 pub mod SameHomes
@@ -47,3 +48,4 @@ pub mod Together
 pub mod Told
 pub mod Unions
 pub mod Uniqueness
+pub mod Removing

@@ -1,21 +1,21 @@
 -- where two closed sets differ over Close and Cancel, an LRA further up was cancelled
-use Rattle.std.proofs.Common.{◌≡◌, inl, inr, ℕ, List, [], ◌∷◌, refl, sym, ap, subst, ◌∙◌, Bool, true, false, cond, Option, Some, None}
+use Rattle.std.proofs.Common.{◌≡◌, ◌⊎◌, inl, inr, ℕ, List, [], ◌∷◌, refl, sym, ap, subst, ◌∙◌, Bool, true, false, cond, Option, Some, None}
 use Rattle.lra_id.specs.Ids.{Id, same_id}
 use Rattle.lra_states.specs.States.{same_verdict, shown}
-use Rattle.lra_states.specs.declared.status.LraStatus.TheVariants.{Closed, Cancelled}
+use Rattle.lra_states.specs.declared.status.LraStatus.TheVariants.{Cancelled, Closed, FailedToCancel, FailedToClose}
 use Rattle.lra_states.specs.declared.outcome.Verdict.{Verdict}
 use Rattle.lra_states.specs.declared.outcome.Verdict.TheVariants.{Close, Cancel}
 use Rattle.lra_facts.specs.declared.fact.Body.{Body}
 use Rattle.lra_facts.specs.declared.fact.Body.TheVariants.{Begin, Join, Leave, Decide, Report, Forgot, Purge}
 use Rattle.lra_facts.specs.declared.fact.Fact.{Fact}
 use Rattle.lra_facts.specs.Lists.{In}
-use Rattle.lra_facts.specs.Sets.{chain, is_decided, is_decision, is_held, is_root, parent_of, status, want}
+use Rattle.lra_facts.specs.Sets.{chain, is_decided, is_decision, is_held, is_root, parent_of, want}
 use Rattle.lra_facts.proofs.Membership.{any_from, any_gives}
 use Rattle.lra_forest.proofs.Bools.{and_left, and_right}
 use Rattle.lra_forest.proofs.Chained.{chain_root}
 use Rattle.lra_forest.proofs.Seats.{same_is}
 use Rattle.lra_replica.specs.Histories.{History, IsClosed, IsLawful, facts}
-use Rattle.lra_replica.specs.Rising.{IsCancelledAbove}
+use Rattle.lra_replica.specs.Rising.{IsCancelledAbove, IsShownCancelled, IsShownClosed}
 use Rattle.lra_replica.proofs.Decided.{counted_entry, decided_by, decision_asks, entered_before, same_chain, wanted_begun}
 use Rattle.lra_replica.proofs.Histories.{closed_settled}
 use Rattle.lra_replica.proofs.Lawfulness.{none_is}
@@ -82,26 +82,57 @@ root_whole h lawful v w cv cw l root close cancel =
     only a (inl s) = s
     only a (inr m) = absurd m
 
--- what shows Closed wants Close
-closed_wants : (held : Bool) (x : Option Verdict) (e i u : Bool) → cond held (Some (shown x e i u)) None ≡ Some Closed → x ≡ Some Close
-closed_wants false x e i u s = absurd cc
-closed_wants true None e i u s = absurd cc
-closed_wants true (Some Close) e i u s = refl
-closed_wants true (Some Cancel) false i u s = absurd cc
-closed_wants true (Some Cancel) true i false s = absurd cc
-closed_wants true (Some Cancel) true i true s = absurd cc
+-- what shows closed wants Close
+closed_wants : (held : Bool) (x : Option Verdict) (e i u : Bool) → (cond held (Some (shown x e i u)) None ≡ Some Closed) ⊎ (cond held (Some (shown x e i u)) None ≡ Some FailedToClose) → x ≡ Some Close
+closed_wants held x e i u (inl s) = by held x e i u s
+  where
+    by : (held : Bool) (x : Option Verdict) (e i u : Bool) → cond held (Some (shown x e i u)) None ≡ Some Closed → x ≡ Some Close
+    by false x e i u s = absurd cc
+    by true None e i u s = absurd cc
+    by true (Some Close) e i u s = refl
+    by true (Some Cancel) false i u s = absurd cc
+    by true (Some Cancel) true i false s = absurd cc
+    by true (Some Cancel) true i true s = absurd cc
+closed_wants held x e i u (inr s) = by held x e i u s
+  where
+    by : (held : Bool) (x : Option Verdict) (e i u : Bool) → cond held (Some (shown x e i u)) None ≡ Some FailedToClose → x ≡ Some Close
+    by false x e i u s = absurd cc
+    by true None e i u s = absurd cc
+    by true (Some Close) e i u s = refl
+    by true (Some Cancel) false i u s = absurd cc
+    by true (Some Cancel) true i false s = absurd cc
+    by true (Some Cancel) true i true s = absurd cc
 
--- what shows Cancelled wants Cancel
-cancelled_wants : (held : Bool) (x : Option Verdict) (e i u : Bool) → cond held (Some (shown x e i u)) None ≡ Some Cancelled → x ≡ Some Cancel
-cancelled_wants false x e i u s = absurd cc
-cancelled_wants true None e i u s = absurd cc
-cancelled_wants true (Some Cancel) e i u s = refl
-cancelled_wants true (Some Close) false i u s = absurd cc
-cancelled_wants true (Some Close) true false u s = absurd cc
-cancelled_wants true (Some Close) true true u s = absurd cc
+-- what shows cancelled wants Cancel
+cancelled_wants : (held : Bool) (x : Option Verdict) (e i u : Bool) → (cond held (Some (shown x e i u)) None ≡ Some Cancelled) ⊎ (cond held (Some (shown x e i u)) None ≡ Some FailedToCancel) → x ≡ Some Cancel
+cancelled_wants held x e i u (inl s) = by held x e i u s
+  where
+    by : (held : Bool) (x : Option Verdict) (e i u : Bool) → cond held (Some (shown x e i u)) None ≡ Some Cancelled → x ≡ Some Cancel
+    by false x e i u s = absurd cc
+    by true None e i u s = absurd cc
+    by true (Some Cancel) e i u s = refl
+    by true (Some Close) false i u s = absurd cc
+    by true (Some Close) true false u s = absurd cc
+    by true (Some Close) true true u s = absurd cc
+cancelled_wants held x e i u (inr s) = by held x e i u s
+  where
+    by : (held : Bool) (x : Option Verdict) (e i u : Bool) → cond held (Some (shown x e i u)) None ≡ Some FailedToCancel → x ≡ Some Cancel
+    by false x e i u s = absurd cc
+    by true None e i u s = absurd cc
+    by true (Some Cancel) e i u s = refl
+    by true (Some Close) false i u s = absurd cc
+    by true (Some Close) true false u s = absurd cc
+    by true (Some Close) true true u s = absurd cc
 
--- and is not shown Closed in one and Cancelled in another
-pub root_shown : (h : History) → IsLawful h → (v w : List ℕ) → IsClosed h v → IsClosed h w → (l : Id) → is_root (facts h v) l ≡ true → status (facts h v) l ≡ Some Closed → status (facts h w) l ≡ Some Cancelled → ⊥
+-- so what is shown closed in one and cancelled in another has an LRA further up that was cancelled
+pub shown_parted : (h : History) → IsLawful h → (v w : List ℕ) → IsClosed h v → IsClosed h w → (l : Id) → IsShownClosed (facts h v) l → IsShownCancelled (facts h w) l → IsCancelledAbove h w l
+shown_parted h lawful v w cv cw l closed cancelled =
+    parted h lawful v w cv cw l
+    (closed_wants (is_held (facts h v) l) (want (facts h v) l) _ _ _ closed)
+    (cancelled_wants (is_held (facts h w) l) (want (facts h w) l) _ _ _ cancelled)
+
+-- and a root is not
+pub root_shown : (h : History) → IsLawful h → (v w : List ℕ) → IsClosed h v → IsClosed h w → (l : Id) → is_root (facts h v) l ≡ true → IsShownClosed (facts h v) l → IsShownCancelled (facts h w) l → ⊥
 root_shown h lawful v w cv cw l root closed cancelled =
     root_whole h lawful v w cv cw l root
     (closed_wants (is_held (facts h v) l) (want (facts h v) l) _ _ _ closed)

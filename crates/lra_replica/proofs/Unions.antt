@@ -3,6 +3,7 @@ use Rattle.std.proofs.Common.{◌≡◌, ◌⊎◌, inl, inr, ◌≤◌, ℕ, ze
 use Rattle.lra_id.specs.Fronts.{IsBelow, count, join_fronts}
 use Rattle.lra_facts.specs.declared.fact.Fact.{Fact}
 use Rattle.lra_facts.specs.Lists.{In, IsUnion}
+use Rattle.lra_replica.specs.Laws.{IsCurrent}
 use Rattle.lra_replica.specs.Histories.{History, IsClosed, Made, facts, made}
 use Rattle.lra_replica.specs.Views.{IsCounted}
 use Rattle.lra_replica.proofs.Histories.{entry_of, facts_inside, in_facts}
@@ -75,6 +76,16 @@ closed_join h v w cv cw =
           ];
       nodes = length_join v w (cv.nodes ∙ sym cw.nodes) ∙ cv.nodes;
       within = λ node. omega (arith, count_join v w node, cv.within node, cw.within node);
+    }
+
+-- and one that counts all that a node entered, to such a one
+pub current_join : (h : History) (node : ℕ) (v w : List ℕ) → IsCurrent h node v → IsClosed h w → IsCurrent h node (join_fronts v w)
+current_join h node v w current closed =
+    record {
+      some = current.some;
+      there = current.there;
+      closed = closed_join h v w current.closed closed;
+      own = omega (arith, count_join v w node, current.own, closed.within node);
     }
 
 -- fronts that count two sets join to one that counts their union

@@ -1,11 +1,10 @@
--- Pages: the LRAs that are held, in order of their homes and numbers.
-use Rattle.std.specs.Prelude.{◌≡◌, ◌≤◌, ◌<◌, ◌⊎◌, ℕ, Bool, true, false, Option, Some, None, List, [], ◌∷◌, length}
+-- Pages: the LRAs that a reading tells are held, in order of their homes and numbers.
+use Rattle.std.specs.Prelude.{◌&&◌, ◌≡◌, ◌≤◌, ◌<◌, ◌⊎◌, ℕ, Bool, true, false, Option, Some, None, List, [], ◌∷◌, length}
 use Rattle.std.specs.List.{AllByRecursion}
-use Rattle.lra_id.specs.Ids.{Id}
-use Rattle.lra_facts.specs.declared.fact.Fact.{Fact}
+use Rattle.lra_id.specs.Ids.{Id, is_fact_number}
 use Rattle.lra_facts.specs.Lists.{In}
-use Rattle.lra_facts.specs.Sets.{is_held, shows_now}
 use Rattle.lra_replica.specs.declared.page.Row.{Row}
+use Rattle.lra_replica.specs.Replies.{Reading}
 
 -- by home, and at one home by number
 abbrev pub IsBefore : Id → Id → Type 0
@@ -34,38 +33,42 @@ AreBefore rows l = AllByRecursion (λ r. IsBefore r.id l) rows
 abbrev pub HasRow : List Row → Id → Type 0
 HasRow rows l = (r : Row) × In r rows × (r.id ≡ l)
 
+-- l is held, and has a number that a fact can have: such as have not are the numbers of no LRA
+abbrev pub is_listed : Reading → Id → Bool
+is_listed t l = is_fact_number l.num && t.held l
+
 -- it tells of an LRA that is held beyond `after`, and what that shows
-pub record IsRow (S : List Fact) (after : Option Id) (row : Row) : Type 0 where
-  pub held : is_held S row.id ≡ true
+pub record IsRow (t : Reading) (after : Option Id) (row : Row) : Type 0 where
+  pub held : is_listed t row.id ≡ true
   pub beyond : IsBeyond after row.id
-  pub status : row.status ≡ shows_now S row.id
+  pub status : row.status ≡ t.shows row.id
 
 -- The next LRAs that are held beyond `after`: at most 64, in order. Each that is held there has a row, or comes after all of
 -- 64 rows, and then there are more. There are more only where one that is held comes after all rows
-pub record IsPage (S : List Fact) (after : Option Id) (page : PageRows) : Type 0 where
+pub record IsPage (t : Reading) (after : Option Id) (page : PageRows) : Type 0 where
   pub order : AreAscending page.rows
-  pub rows : AllByRecursion (IsRow S after) page.rows
+  pub rows : AllByRecursion (IsRow t after) page.rows
   pub few : length page.rows ≤ 64
-  pub all : (l : Id) → is_held S l ≡ true → IsBeyond after l → HasRow page.rows l ⊎ ((length page.rows ≡ 64) × AreBefore page.rows l × (page.more ≡ true))
-  pub more : page.more ≡ true → (l : Id) × (is_held S l ≡ true) × IsBeyond after l × AreBefore page.rows l
+  pub all : (l : Id) → is_listed t l ≡ true → IsBeyond after l → HasRow page.rows l ⊎ ((length page.rows ≡ 64) × AreBefore page.rows l × (page.more ≡ true))
+  pub more : page.more ≡ true → (l : Id) × (is_listed t l ≡ true) × IsBeyond after l × AreBefore page.rows l
 
 -- the first of the LRAs that are held beyond `after`, or none where none is
-abbrev pub IsNext : List Fact → Option Id → Option Id → Type 0
-IsNext S after None = (l : Id) → IsBeyond after l → is_held S l ≡ false
-IsNext S after (Some n) = (is_held S n ≡ true) × IsBeyond after n × ((l : Id) → IsBeyond after l → IsBefore l n → is_held S l ≡ false)
+abbrev pub IsNext : Reading → Option Id → Option Id → Type 0
+IsNext t after None = (l : Id) → IsBeyond after l → is_listed t l ≡ false
+IsNext t after (Some n) = (is_listed t n ≡ true) × IsBeyond after n × ((l : Id) → IsBeyond after l → IsBefore l n → is_listed t l ≡ false)
 
 -- the same of the LRAs of a home with numbers above this
-abbrev pub IsNextAt : List Fact → ℕ → ℕ → Option Id → Type 0
-IsNextAt S home num None = (l : Id) → l.home ≡ home → num < l.num → is_held S l ≡ false
-IsNextAt S home num (Some n) =
-    (is_held S n ≡ true) × (n.home ≡ home) × (num < n.num) × ((l : Id) → l.home ≡ home → num < l.num → l.num < n.num → is_held S l ≡ false)
+abbrev pub IsNextAt : Reading → ℕ → ℕ → Option Id → Type 0
+IsNextAt t home num None = (l : Id) → l.home ≡ home → num < l.num → is_listed t l ≡ false
+IsNextAt t home num (Some n) =
+    (is_listed t n ≡ true) × (n.home ≡ home) × (num < n.num) × ((l : Id) → l.home ≡ home → num < l.num → l.num < n.num → is_listed t l ≡ false)
 
 -- the same of the LRAs of the homes after this
-abbrev pub IsFirstBeyond : List Fact → ℕ → Option Id → Type 0
-IsFirstBeyond S home None = (l : Id) → home < l.home → is_held S l ≡ false
-IsFirstBeyond S home (Some n) = (is_held S n ≡ true) × (home < n.home) × ((l : Id) → home < l.home → IsBefore l n → is_held S l ≡ false)
+abbrev pub IsFirstBeyond : Reading → ℕ → Option Id → Type 0
+IsFirstBeyond t home None = (l : Id) → home < l.home → is_listed t l ≡ false
+IsFirstBeyond t home (Some n) = (is_listed t n ≡ true) × (home < n.home) × ((l : Id) → home < l.home → IsBefore l n → is_listed t l ≡ false)
 
 -- and its row
-abbrev pub IsNextRow : List Fact → Option Id → Option Row → Type 0
-IsNextRow S after None = IsNext S after None
-IsNextRow S after (Some r) = IsNext S after (Some r.id) × (r.status ≡ shows_now S r.id)
+abbrev pub IsNextRow : Reading → Option Id → Option Row → Type 0
+IsNextRow t after None = IsNext t after None
+IsNextRow t after (Some r) = IsNext t after (Some r.id) × (r.status ≡ t.shows r.id)

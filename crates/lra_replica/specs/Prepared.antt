@@ -17,7 +17,7 @@ use Rattle.lra_forest.specs.declared.record.Place.{Place}
 use Rattle.lra_forest.specs.declared.record.Record.{Record}
 use Rattle.lra_replica.specs.Growth.{IsMore, stamped}
 use Rattle.lra_replica.specs.Replies.{Judgement, Denied, Old, Taken, judge, next_fact, reply_of}
-use Rattle.lra_replica.specs.Views.{View, StandsFor, record_at}
+use Rattle.lra_replica.specs.Views.{View, StandsFor}
 use Rattle.lra_replica.specs.Replicas.{Change, Fits, Kept, patched, raised}
 
 -- A patch where the command is taken: with it the view stands for the set with exactly the command's fact. None where it
@@ -29,10 +29,14 @@ AddsFact S view me c (Some change) =
     × (change.front ≡ raised view.front me)
     × ((T : List Fact) → IsMore (next_fact S view.front me c) S T → StandsFor T (patched change view))
 
--- the reply that the definitions give, with its patch, or want of memory
+-- the refusal of a command, or want of memory, which comes only where the command is taken
+abbrev pub IsDenied : List Fact → View → ℕ → Command → Refusal → Type 0
+IsDenied S view me c refusal = ((refusal ≡ NoMemory) × (judge S view.front me c ≡ Taken)) ⊎ (reply_of S view.front me c ≡ Refused refusal)
+
+-- the reply that the definitions give, with its patch, or what denies it
 abbrev pub IsPrepared : List Fact → View → ℕ → Command → Result Prepared Refusal → Type 0
 IsPrepared S view me c (Ok prepared) = (prepared.reply ≡ reply_of S view.front me c) × AddsFact S view me c prepared.patch
-IsPrepared S view me c (Err refusal) = (refusal ≡ NoMemory) ⊎ (reply_of S view.front me c ≡ Refused refusal)
+IsPrepared S view me c (Err refusal) = IsDenied S view me c refusal
 
 -- what is made of a command that meets this refusal, or none
 abbrev pub judged_by : Option Refusal → Judgement
@@ -61,14 +65,6 @@ fresh_record v me parent deadline =
 -- with the number of a node's next fact
 abbrev pub with_stamp : ℕ → ℕ → Record → Record
 with_stamp node num r = record r { stamps = stamped node num r.stamps }
-
--- Where the command is taken, a copy of the record of l with the number of the node's next fact; else the refusal, or want of
--- memory
-abbrev pub IsReady : List Fact → View → ℕ → Command → Id → Result Record Refusal → Type 0
-IsReady S view me c l (Ok copy) =
-    (judge S view.front me c ≡ Taken)
-    × ((old : Record) × (record_at view l ≡ Some old) × (copy ≡ with_stamp me (count view.front me + 1) old))
-IsReady S view me c l (Err refusal) = (refusal ≡ NoMemory) ⊎ (reply_of S view.front me c ≡ Refused refusal)
 
 -- there is room for the patch
 abbrev pub HasRoom : Result Prepared Refusal → Kept → Type 0

@@ -79,6 +79,10 @@ patched change view =
 abbrev pub spare_at : List HomeRecords → ℕ → ℕ
 spare_at homes home = option_map_or (λ (h : HomeRecords). h.spare) (slice_get homes (home - 1)) 0
 
+-- there is as much room at each home as there was, or more: a patch that fitted fits still
+abbrev pub KeepsRoom : (before after : Kept) → Type 0
+KeepsRoom before after = (home : ℕ) → 1 ≤ home → spare_at before.homes home ≤ spare_at after.homes home
+
 abbrev pub count_of_home : ℕ → List Record → ℕ
 count_of_home home records = length (filter (λ r. r.home == home) records)
 

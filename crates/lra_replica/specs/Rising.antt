@@ -1,8 +1,9 @@
 -- What the laws of rising statuses speak of: ranks, decisions, and Cancels further up.
-use Rattle.std.specs.Prelude.{◌≡◌, ℕ, List}
+use Rattle.std.specs.Prelude.{◌≡◌, ◌⊎◌, ℕ, List, Some}
 use Rattle.lra_id.specs.Ids.{Id}
 use Rattle.lra_states.specs.States.{rank_of}
 use Rattle.lra_states.specs.declared.outcome.Verdict.{Verdict}
+use Rattle.lra_states.specs.declared.status.LraStatus.TheVariants.{Cancelled, Closed, FailedToCancel, FailedToClose}
 use Rattle.lra_states.specs.declared.outcome.Verdict.TheVariants.{Cancel}
 use Rattle.lra_facts.specs.declared.fact.Body.TheVariants.{Decide}
 use Rattle.lra_facts.specs.declared.fact.Fact.{Fact}
@@ -13,6 +14,14 @@ use Rattle.lra_replica.specs.Histories.{History, Made, facts, made}
 -- the rank of what an LRA shows in a set: 0 to 6, and 7 where it is not held
 abbrev pub rank_in : List Fact → Id → ℕ
 rank_in S l = rank_of (status S l)
+
+-- a set shows l closed, or that it failed to close
+abbrev pub IsShownClosed : List Fact → Id → Type 0
+IsShownClosed S l = (status S l ≡ Some Closed) ⊎ (status S l ≡ Some FailedToClose)
+
+-- cancelled, or that it failed to cancel
+abbrev pub IsShownCancelled : List Fact → Id → Type 0
+IsShownCancelled S l = (status S l ≡ Some Cancelled) ⊎ (status S l ≡ Some FailedToCancel)
 
 -- the entry is one of the history, and closes or cancels l
 pub record IsDecision (h : History) (l : Id) (verdict : Verdict) (e : Made) : Type 0 where

@@ -7,7 +7,7 @@ ghost use Rattle.lra_forest.specs.Shape.{AreInShape};
 ghost use Rattle.lra_replica.specs.Absorbing.{AreTakenAt, IsChangeAt, IsGrown, IsTakenTo};
 ghost use Rattle.lra_replica.specs.Histories.{History, IsClosed, IsLawful, facts};
 ghost use Rattle.lra_replica.specs.Merging.{IsAbsorbed, IsMerged, merged};
-ghost use Rattle.lra_replica.specs.Replicas.{Fits, patched, spare_at, view_of};
+ghost use Rattle.lra_replica.specs.Replicas.{Fits, KeepsRoom, patched, view_of};
 ghost use Rattle.lra_replica.specs.Shape.{HasShape};
 ghost use Rattle.lra_replica.specs.Views.{IsInOrder, StandsFor, View};
 
@@ -81,7 +81,7 @@ impl Replica {
         ensures view { view_of self.new ≡ view_of self.old }
         ensures front { patch.new.front ≡ patch.old.front }
         ensures purges { patch.new.purges ≡ patch.old.purges }
-        ensures room { (home : ℕ) → 1 ≤ home → spare_at self.old.homes home ≤ spare_at self.new.homes home }
+        ensures room { KeepsRoom self.old self.new }
         ensures grown { OnOk result (IsGrown (view_of self.old) told reach self.new.homes patch.old patch.new) }
         ensures refused { IfErr result (λ refusal. (refusal ≡ NoMemory) ⊎
             ((refusal ≡ BadFrame 0) × ((after : List Record) → AreTakenAt (view_of self.old) told reach after →
@@ -106,6 +106,7 @@ impl Replica {
         ensures view { view_of self.new ≡ view_of self.old }
         ensures front { patch.new.front ≡ patch.old.front }
         ensures purges { patch.new.purges ≡ patch.old.purges }
+        ensures stays { KeepsRoom self.old self.new }
         ensures taken { OnOk result (IsTakenTo (view_of self.old) taken self.new.homes patch.new (length self.old.front)) }
         ensures refused { IfErr result (λ refusal. (refusal ≡ NoMemory) ⊎
             ((refusal ≡ BadFrame 0) × ((c : View) → IsAbsorbed (view_of self.old) taken c → c.front ≡ patch.old.front → HasShape c → ⊥))) }
@@ -130,6 +131,7 @@ impl Replica {
         ensures view { view_of self.new ≡ view_of self.old }
         ensures order { IsInOrder (view_of self.old) }
         ensures room { IfOk result (λ patch. Fits patch self.new) }
+        ensures stays { KeepsRoom self.old self.new }
         ensures absorbed { IfOk result (λ patch. IsAbsorbed (view_of self.old) taken (patched patch (view_of self.old))) }
         ensures shape { IfOk result (λ patch. HasShape (patched patch (view_of self.old))) }
         ensures refused { IfErr result (λ refusal. (refusal ≡ NoMemory) ⊎

@@ -4,8 +4,9 @@ ghost use Rattle.lra_id.specs.Fronts.{count};
 ghost use Rattle.lra_facts.specs.declared.fact.Fact.{Fact};
 ghost use Rattle.lra_replica.specs.declared.command.Command.TheVariants.{Begin};
 ghost use Rattle.lra_replica.specs.Growth.{IsSettled};
-ghost use Rattle.lra_replica.specs.Prepared.{HasRoom, IsPrepared, IsReady, fresh_record};
-ghost use Rattle.lra_replica.specs.Replicas.{view_of};
+ghost use Rattle.lra_replica.specs.Next.{IsNext, IsReadyNext};
+ghost use Rattle.lra_replica.specs.Prepared.{HasRoom, IsPrepared, fresh_record};
+ghost use Rattle.lra_replica.specs.Replicas.{KeepsRoom, view_of};
 ghost use Rattle.lra_replica.specs.Views.{StandsFor};
 
 use crate::changing::stamp;
@@ -58,6 +59,8 @@ impl Replica {
         requires { me ≤ length self.old.front }
         ensures view { view_of self.new ≡ view_of self.old }
         ensures room { HasRoom result self.new }
+        ensures stays { KeepsRoom self.old self.new }
+        ensures next { IsNext (view_of self.old) me (Begin None deadline) result }
         ensures prepared { (S : List Fact) → IsSettled S → StandsFor S (view_of self.old) →
             IsPrepared S (view_of self.old) me (Begin None deadline) result }
     {
@@ -76,8 +79,7 @@ impl Replica {
     /// The record of an LRA in which a node may begin one.
     fn ready_to_nest(&self, me: NodeId, parent: LraId) -> Result<Record, Refusal>
         requires { me ≤ length self.now.front }
-        ensures ready { (S : List Fact) → IsSettled S → StandsFor S (view_of self.now) → (deadline : ℕ) →
-            IsReady S (view_of self.now) me (Begin (Some parent) deadline) parent result }
+        ensures ready { (deadline : ℕ) → IsReadyNext (view_of self.now) me (Begin (Some parent) deadline) parent result }
         ensures left { IfOk result (λ _. count self.now.front me < 281474976710655) }
         ensures home { IfOk result (λ copy. copy.home ≡ me) }
         ensures few { IfOk result (λ copy. length copy.members < 32) }
@@ -106,9 +108,12 @@ impl Replica {
         requires { me ≤ length self.old.front }
         ensures view { view_of self.new ≡ view_of self.old }
         ensures room { HasRoom result self.new }
+        ensures stays { KeepsRoom self.old self.new }
+        ensures next { IsNext (view_of self.old) me (Begin (Some parent) deadline) result }
         ensures prepared { (S : List Fact) → IsSettled S → StandsFor S (view_of self.old) →
             IsPrepared S (view_of self.old) me (Begin (Some parent) deadline) result }
     {
+        let _ = me.number();
         let mut next = self.ready_to_nest(me, parent)?;
         let id = self.next_id(me);
         next.members.push(Member::Nested(id.num()))?;
@@ -137,6 +142,8 @@ impl Replica {
         requires { me ≤ length self.old.front }
         ensures view { view_of self.new ≡ view_of self.old }
         ensures room { HasRoom result self.new }
+        ensures stays { KeepsRoom self.old self.new }
+        ensures next { IsNext (view_of self.old) me (Begin parent deadline) result }
         ensures prepared { (S : List Fact) → IsSettled S → StandsFor S (view_of self.old) →
             IsPrepared S (view_of self.old) me (Begin parent deadline) result }
     {

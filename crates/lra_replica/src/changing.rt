@@ -1,10 +1,9 @@
 // What a fact changes in a record.
 ghost use Rattle.std.specs.Prelude.{◌≡◌, ◌≤◌, ◌<◌, ◌+◌, ◌-◌, ◌⊎◌, Some, None, IfOk, IfErr, OnOk, length, slice_set};
 ghost use Rattle.lra_id.specs.Fronts.{count};
-ghost use Rattle.lra_states.specs.States.{greater};
 ghost use Rattle.lra_facts.specs.declared.refusal.Refusal.TheVariants.{NoMemory, NotHeld};
 ghost use Rattle.lra_forest.specs.declared.record.Record.{Record};
-ghost use Rattle.lra_replica.specs.Growth.{change_at, leaving, reporting, stamped};
+ghost use Rattle.lra_replica.specs.Growth.{change_at, forgetting, leaving, reporting, stamped};
 ghost use Rattle.lra_replica.specs.Prepared.{with_stamp};
 ghost use Rattle.lra_replica.specs.Replicas.{view_of};
 ghost use Rattle.lra_replica.specs.Views.{record_at};
@@ -26,25 +25,14 @@ pub fn stamp(stamps: &mut Front, node: NodeId, num: u64)
     }
 }
 
-/// The greater of two outcomes, where none is the least.
-fn greater(own: Option<Outcome>, heard: Outcome) -> Option<Outcome>
-    ensures { result ≡ greater own (Some heard) }
-{
-    match (own, heard) {
-        (Some(Outcome::Failed), _) => own,
-        (Some(Outcome::Done), Outcome::Busy | Outcome::Done) => own,
-        _ => Some(heard),
-    }
-}
-
 /// A participant, after an outcome of an act was heard of it.
 fn reported(participant: Participant, act: Act, outcome: Outcome) -> Participant
     ensures { Member.Participant result ≡ reporting act outcome (Member.Participant participant) }
 {
     let mut next = participant;
     match act {
-        Act::Complete => next.completed = greater(next.completed, outcome),
-        Act::Compensate => next.compensated = greater(next.compensated, outcome),
+        Act::Complete => next.completed = Outcome::or_greater(next.completed, Some(outcome)),
+        Act::Compensate => next.compensated = Outcome::or_greater(next.compensated, Some(outcome)),
     }
     next
 }
@@ -92,6 +80,36 @@ pub fn report_to(
 {
     if let Some(member) = members.get(number) {
         let next = reporting(member.clone()?, act, outcome);
+        members.set(number, next);
+    }
+    Ok(())
+}
+
+/// A participant, after it was told to forget.
+fn forgotten(participant: Participant) -> Participant
+    ensures { Member.Participant result ≡ forgetting (Member.Participant participant) }
+{
+    let mut next = participant;
+    next.forgotten = true;
+    next
+}
+
+/// A member, after it was told to forget.
+pub fn forgetting(member: Member) -> Member
+    ensures { result ≡ forgetting member }
+{
+    match member {
+        Member::Participant(participant) => Member::Participant(forgotten(participant)),
+        other => other,
+    }
+}
+
+/// Notes that the participant with this number was told to forget.
+pub fn forget_at(members: &mut Members, number: u8) -> Result<(), AllocError>
+    ensures { 1 ≤ number → OnOk result (members.new ≡ change_at forgetting (number - 1) members.old) }
+{
+    if let Some(member) = members.get(number) {
+        let next = forgetting(member.clone()?);
         members.set(number, next);
     }
     Ok(())

@@ -1,13 +1,15 @@
 // Pages of what a node holds.
-ghost use Rattle.std.specs.Prelude.{◌≡◌, ◌∷◌, [], List, None, Some, IfErr, IfOk};
-ghost use Rattle.lra_id.specs.Ids.{IsFactNumber};
+ghost use Rattle.std.specs.Prelude.{◌≡◌, ◌≤◌, ◌∷◌, [], List, None, Some, IfErr, IfOk, if◌then◌else◌, length};
+ghost use Rattle.lra_id.specs.Ids.{is_fact_number};
 ghost use Rattle.lra_facts.specs.declared.fact.Fact.{Fact};
 ghost use Rattle.lra_facts.specs.declared.refusal.Refusal.TheVariants.{NoMemory};
 ghost use Rattle.lra_forest.specs.declared.record.Record.{Record};
 ghost use Rattle.lra_forest.specs.Forests.{id_of};
 ghost use Rattle.lra_replica.specs.Growth.{IsSettled};
 ghost use Rattle.lra_replica.specs.Pages.{IsFirstBeyond, IsNext, IsNextAt, IsNextRow, IsPage};
-ghost use Rattle.lra_replica.specs.Replicas.{view_of};
+ghost use Rattle.lra_replica.specs.Readings.{by_view};
+ghost use Rattle.lra_replica.specs.Replicas.{IsKept, view_of};
+ghost use Rattle.lra_replica.specs.Replies.{by_facts};
 ghost use Rattle.lra_replica.specs.Views.{StandsFor};
 
 use crate::Replica;
@@ -62,7 +64,7 @@ impl Page {
 /// The LRA of the first record.
 fn first_of(records: &[Record]) -> Option<LraId>
     ensures none { records.now ≡ [] → result ≡ None }
-    ensures first { (r : Record) (rs : List Record) → records.now ≡ r ∷ rs → IsFactNumber r.num → result ≡ Some (id_of r) }
+    ensures first { (r : Record) (rs : List Record) → records.now ≡ r ∷ rs → result ≡ (if is_fact_number r.num then Some (id_of r) else None) }
 {
     match records.first() {
         Some(record) => LraId::new(record.home, record.num).ok(),
@@ -73,7 +75,7 @@ fn first_of(records: &[Record]) -> Option<LraId>
 impl Replica {
     /// The first LRA that is held of those that a home began with greater numbers than this.
     fn next_at(&self, home: NodeId, num: u64) -> Option<LraId>
-        ensures { (S : List Fact) → IsSettled S → StandsFor S (view_of self.now) → IsNextAt S home num result }
+        ensures { IsNextAt (by_view (view_of self.now)) home num result }
     {
         match self.home(home) {
             Some(records) => first_of(records.after(num)),
@@ -81,11 +83,22 @@ impl Replica {
         }
     }
 
+    /// How many nodes there are, each with a home.
+    fn nodes(&self) -> usize
+        ensures count { result ≡ length self.now.front }
+        ensures few { result ≤ 8 }
+        ensures kept { IsKept self.now }
+    {
+        let _ = self.homes();
+        self.front().nodes()
+    }
+
     /// The first LRA that is held of the homes after this, where 0 comes before all.
     fn first_beyond(&self, home: usize) -> Option<LraId>
-        ensures { (S : List Fact) → IsSettled S → StandsFor S (view_of self.now) → IsFirstBeyond S home result }
+        ensures first { IsFirstBeyond (by_view (view_of self.now)) home result }
+        ensures kept { IsKept self.now }
     {
-        for place in home..self.front().nodes() {
+        for place in home..self.nodes() {
             let Ok(node) = NodeId::new(place as u8 + 1) else {
                 unreachable!();
             };
@@ -98,7 +111,7 @@ impl Replica {
 
     /// The first LRA that is held beyond this one, or the first of all.
     fn next_after(&self, after: Option<LraId>) -> Option<LraId>
-        ensures { (S : List Fact) → IsSettled S → StandsFor S (view_of self.now) → IsNext S after result }
+        ensures { IsNext (by_view (view_of self.now)) after result }
     {
         let Some(id) = after else {
             return self.first_beyond(0);
@@ -111,7 +124,7 @@ impl Replica {
 
     /// The row of the first LRA that is held beyond this one, or of the first of all.
     fn next_row(&self, after: Option<LraId>) -> Option<Row>
-        ensures { (S : List Fact) → IsSettled S → StandsFor S (view_of self.now) → IsNextRow S after result }
+        ensures { IsNextRow (by_view (view_of self.now)) after result }
     {
         let Some(id) = self.next_after(after) else {
             return None;
@@ -124,7 +137,7 @@ impl Replica {
 
     /// The next 64 LRAs that are held beyond this one, or the first of all, with their rows.
     fn next_rows(&self, alloc: Global, after: Option<LraId>) -> Result<Page, AllocError>
-        ensures { (S : List Fact) → IsSettled S → StandsFor S (view_of self.now) → IfOk result (λ page. IsPage S after page) }
+        ensures { IfOk result (λ page. IsPage (by_view (view_of self.now)) after page) }
     {
         let mut rows = Vec::new(alloc);
         let mut last = after;
@@ -143,7 +156,8 @@ impl Replica {
     /// what it shows. Only memory can be wanting. For each row it finds the LRA by halving its home's records, after a look
     /// at each home between, and what it shows costs as much as `status`.
     pub fn page(&self, alloc: Global, after: Option<LraId>) -> Result<Page, Refusal>
-        ensures page { (S : List Fact) → IsSettled S → StandsFor S (view_of self.now) → IfOk result (λ page. IsPage S after page) }
+        ensures page { IfOk result (λ page. IsPage (by_view (view_of self.now)) after page) }
+        ensures settled { (S : List Fact) → IsSettled S → StandsFor S (view_of self.now) → IfOk result (λ page. IsPage (by_facts S) after page) }
         ensures cause { IfErr result (λ refusal. refusal ≡ NoMemory) }
     {
         Ok(self.next_rows(alloc, after)?)

@@ -1,18 +1,19 @@
 // Commands as prepared patches.
-ghost use Rattle.std.specs.Prelude.{◌≡◌, ◌≤◌, ◌<◌, ◌+◌, ◌⊎◌, ℕ, List, Some, None, IfOk, IfErr, IfSome, OnOk, length};
+ghost use Rattle.std.specs.Prelude.{◌≡◌, ◌≤◌, ◌<◌, ◌+◌, ◌⊎◌, ℕ, List, Some, None, Ok, true, IfOk, IfErr, IfSome, OnOk, is_some, length};
 ghost use Rattle.lra_id.specs.Fronts.{count};
 ghost use Rattle.lra_facts.specs.declared.fact.Fact.{Fact};
 ghost use Rattle.lra_facts.specs.declared.refusal.Refusal.TheVariants.{NoMemory};
-ghost use Rattle.lra_facts.specs.Sets.{is_held, shows_now};
 ghost use Rattle.lra_facts.specs.declared.links.Links.{Links};
 ghost use Rattle.lra_states.specs.declared.outcome.Verdict.{Verdict};
 ghost use Rattle.lra_forest.specs.Forests.{id_of};
 ghost use Rattle.lra_forest.specs.Places.{put_record};
-ghost use Rattle.lra_forest.specs.Standing.{IsNested, IsWhole, Stands, answered};
+ghost use Rattle.lra_forest.specs.Said.{shown_at};
+ghost use Rattle.lra_forest.specs.Shape.{found_at};
 ghost use Rattle.lra_replica.specs.declared.command.Command.TheVariants.{Join, Leave, Decide};
 ghost use Rattle.lra_replica.specs.Growth.{IsSettled};
-ghost use Rattle.lra_replica.specs.Prepared.{HasRoom, IsPrepared, IsReady};
-ghost use Rattle.lra_replica.specs.Replicas.{Fits, one_change, raised, spare_at, two_changes, view_of};
+ghost use Rattle.lra_replica.specs.Next.{IsNext, IsReadyNext};
+ghost use Rattle.lra_replica.specs.Prepared.{HasRoom, IsPrepared};
+ghost use Rattle.lra_replica.specs.Replicas.{Fits, KeepsRoom, one_change, raised, spare_at, two_changes, view_of};
 ghost use Rattle.lra_replica.specs.Views.{StandsFor, record_at, records_at};
 
 use crate::changing::leave_from;
@@ -25,7 +26,7 @@ use std::alloc::{AllocError, Global};
 
 impl Replica {
     /// The front with one more of a node that has a number left.
-    fn raised(&self, me: NodeId) -> Front
+    pub(crate) fn raised(&self, me: NodeId) -> Front
         requires node { me ≤ length self.now.front }
         requires left { count self.now.front me < 281474976710655 }
         ensures value { result ≡ raised self.now.front me }
@@ -41,7 +42,7 @@ impl Replica {
     pub(crate) fn make_room(&mut self, home: NodeId, more: usize) -> Result<(), AllocError>
         requires { home ≤ length self.old.front }
         ensures view { view_of self.new ≡ view_of self.old }
-        ensures kept { (home : ℕ) → 1 ≤ home → spare_at self.old.homes home ≤ spare_at self.new.homes home }
+        ensures stays { KeepsRoom self.old self.new }
         ensures ok { OnOk result (more ≤ spare_at self.new.homes home) }
     {
         let place = usize::from(home.number()) - 1;
@@ -61,6 +62,7 @@ impl Replica {
         ensures view { view_of self.new ≡ view_of self.old }
         ensures patch { IfOk result (λ patch. patch ≡ one_change (view_of self.old) me next) }
         ensures room { IfOk result (λ patch. Fits patch self.new) }
+        ensures stays { KeepsRoom self.old self.new }
         ensures some { IfOk result (λ _. 1 ≤ me) }
     {
         self.make_room(next.home, 1)?;
@@ -91,6 +93,7 @@ impl Replica {
         ensures view { view_of self.new ≡ view_of self.old }
         ensures patch { IfOk result (λ patch. patch ≡ two_changes (view_of self.old) me first second) }
         ensures room { IfOk result (λ patch. Fits patch self.new) }
+        ensures stays { KeepsRoom self.old self.new }
         ensures some { IfOk result (λ _. 1 ≤ me) }
     {
         self.make_room(first.home, 2)?;
@@ -109,7 +112,7 @@ impl Replica {
 
     /// The record of an LRA that a participant may join.
     fn ready_to_join(&self, me: NodeId, id: LraId) -> Result<Record, Refusal>
-        ensures ready { (S : List Fact) → IsSettled S → StandsFor S (view_of self.now) → (links : Links) → IsReady S (view_of self.now) me (Join id links) id result }
+        ensures ready { (links : Links) → IsReadyNext (view_of self.now) me (Join id links) id result }
         ensures left { IfOk result (λ _. count self.now.front me < 281474976710655) }
         ensures home { IfOk result (λ copy. copy.home ≤ length self.now.front) }
         ensures few { IfOk result (λ copy. length copy.members < 32) }
@@ -129,7 +132,7 @@ impl Replica {
 
     /// The record of an LRA that a participant may leave.
     fn ready_to_leave(&self, me: NodeId, id: LraId, member: u8) -> Result<Record, Refusal>
-        ensures ready { (S : List Fact) → IsSettled S → StandsFor S (view_of self.now) → IsReady S (view_of self.now) me (Leave id member) id result }
+        ensures ready { IsReadyNext (view_of self.now) me (Leave id member) id result }
         ensures left { IfOk result (λ _. count self.now.front me < 281474976710655) }
         ensures home { IfOk result (λ copy. copy.home ≤ length self.now.front) }
     {
@@ -141,7 +144,7 @@ impl Replica {
 
     /// The record of an LRA that may be decided.
     fn ready_to_decide(&self, me: NodeId, id: LraId) -> Result<Record, Refusal>
-        ensures ready { (S : List Fact) → IsSettled S → StandsFor S (view_of self.now) → (verdict : Verdict) → IsReady S (view_of self.now) me (Decide id verdict) id result }
+        ensures ready { (verdict : Verdict) → IsReadyNext (view_of self.now) me (Decide id verdict) id result }
         ensures some { IfOk result (λ _. 1 ≤ me) }
         ensures left { IfOk result (λ _. count self.now.front me < 281474976710655) }
         ensures home { IfOk result (λ copy. copy.home ≤ length self.now.front) }
@@ -164,6 +167,8 @@ impl Replica {
         requires { me ≤ length self.old.front }
         ensures view { view_of self.new ≡ view_of self.old }
         ensures room { HasRoom result self.new }
+        ensures stays { KeepsRoom self.old self.new }
+        ensures next { IsNext (view_of self.old) me (Join id links) result }
         ensures prepared { (S : List Fact) → IsSettled S → StandsFor S (view_of self.old) → IsPrepared S (view_of self.old) me (Join id links) result }
     {
         let mut next = match self.ready_to_join(me, id) {
@@ -195,6 +200,8 @@ impl Replica {
         requires { me ≤ length self.old.front }
         ensures view { view_of self.new ≡ view_of self.old }
         ensures room { HasRoom result self.new }
+        ensures stays { KeepsRoom self.old self.new }
+        ensures next { IsNext (view_of self.old) me (Leave id member) result }
         ensures prepared { (S : List Fact) → IsSettled S → StandsFor S (view_of self.old) → IsPrepared S (view_of self.old) me (Leave id member) result }
     {
         let mut next = self.ready_to_leave(me, id, member)?;
@@ -210,10 +217,10 @@ impl Replica {
     fn shown_with(&mut self, next: Record) -> (Result<LraStatus, Refusal>, Record)
         requires { next.home ≤ length self.old.front }
         ensures same { view_of self.new ≡ view_of self.old }
+        ensures stays { KeepsRoom self.old self.new }
         ensures back { result.1 ≡ next }
-        ensures answer { (T : List Fact) → (record_at (view_of self.old) (id_of next) ≡ None → ⊥) → IsWhole T → IsNested T →
-            Stands (length self.old.front) next.home T (put_record next (records_at (view_of self.old).records next.home)) →
-            result.0 ≡ answered (is_held T (id_of next)) (shows_now T (id_of next)) }
+        ensures says { is_some (record_at (view_of self.old) (id_of next)) ≡ true →
+            result.0 ≡ Ok (shown_at (found_at next.home (put_record next (records_at (view_of self.old).records next.home))) next.num) }
     {
         let place = usize::from(next.home.number()) - 1;
         self.homes[place].status_with(next)
@@ -231,6 +238,8 @@ impl Replica {
         requires { me ≤ length self.old.front }
         ensures view { view_of self.new ≡ view_of self.old }
         ensures room { HasRoom result self.new }
+        ensures stays { KeepsRoom self.old self.new }
+        ensures next { IsNext (view_of self.old) me (Decide id verdict) result }
         ensures prepared { (S : List Fact) → IsSettled S → StandsFor S (view_of self.old) → IsPrepared S (view_of self.old) me (Decide id verdict) result }
     {
         let mut next = self.ready_to_decide(me, id)?;

@@ -4,9 +4,9 @@ ghost use Rattle.lra_id.specs.Fronts.{count};
 ghost use Rattle.lra_facts.specs.declared.fact.Fact.{Fact};
 ghost use Rattle.lra_replica.specs.declared.command.Command.TheVariants.{Report};
 ghost use Rattle.lra_replica.specs.Growth.{IsSettled};
+ghost use Rattle.lra_replica.specs.Next.{IsNext, judge_on};
 ghost use Rattle.lra_replica.specs.Prepared.{HasRoom, IsPrepared, judged_as};
-ghost use Rattle.lra_replica.specs.Replicas.{view_of};
-ghost use Rattle.lra_replica.specs.Replies.{judge};
+ghost use Rattle.lra_replica.specs.Replicas.{KeepsRoom, view_of};
 ghost use Rattle.lra_replica.specs.Views.{StandsFor};
 
 use crate::changing::report_to;
@@ -26,8 +26,7 @@ impl Replica {
         act: Act,
         outcome: Outcome,
     ) -> Result<bool, Refusal>
-        ensures judged { (S : List Fact) → IsSettled S → StandsFor S (view_of self.now) →
-            judge S self.now.front me (Report id member act outcome) ≡ judged_as result }
+        ensures judged { judge_on (view_of self.now) me (Report id member act outcome) ≡ judged_as result }
         ensures left { result ≡ Ok false → count self.now.front me < 281474976710655 }
     {
         if let Some(refusal) = self.refusal_to_report(id, member, act) {
@@ -58,6 +57,8 @@ impl Replica {
         requires { me ≤ length self.old.front }
         ensures view { view_of self.new ≡ view_of self.old }
         ensures room { HasRoom result self.new }
+        ensures stays { KeepsRoom self.old self.new }
+        ensures next { IsNext (view_of self.old) me (Report id member act outcome) result }
         ensures prepared { (S : List Fact) → IsSettled S → StandsFor S (view_of self.old) →
             IsPrepared S (view_of self.old) me (Report id member act outcome) result }
     {

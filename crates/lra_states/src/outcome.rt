@@ -4,6 +4,7 @@ ghost use Rattle.lra_states.specs.declared.outcome.Act.{Act};
 ghost use Rattle.lra_states.specs.declared.outcome.Outcome.{Outcome};
 ghost use Rattle.lra_states.specs.declared.outcome.Verdict.{Verdict};
 ghost use Rattle.lra_states.specs.Names.{act_name, outcome_name, verdict_name};
+ghost use Rattle.lra_states.specs.States.{greater};
 
 use lra_id::BadText;
 use std::fmt;
@@ -64,6 +65,18 @@ impl Outcome {
             Outcome::Busy => "busy",
             Outcome::Done => "done",
             Outcome::Failed => "failed",
+        }
+    }
+
+    /// The greater of two, of which none is the least.
+    pub fn or_greater(own: Option<Outcome>, heard: Option<Outcome>) -> Option<Outcome>
+        ensures { result ≡ greater own heard }
+    {
+        match (own, heard) {
+            (own, None) => own,
+            (Some(Outcome::Failed), _) => own,
+            (Some(Outcome::Done), Some(Outcome::Busy | Outcome::Done)) => own,
+            (_, heard) => heard,
         }
     }
 

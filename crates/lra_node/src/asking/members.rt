@@ -24,6 +24,15 @@ pub fn leave_of(words: Words<'_>, nodes: u8) -> Option<Ask>
     Some(Ask::Enter { node, command })
 }
 
+pub fn forgot_of(words: Words<'_>, nodes: u8) -> Option<Ask>
+    requires { nodes ≤ 8 }
+    ensures { ReadsArguments nodes (codes "forgot") words.entry result }
+{
+    let (node, id, member) = participant_of(words, nodes)?;
+    let command = Command::Forgot { id, member };
+    Some(Ask::Enter { node, command })
+}
+
 pub fn member_of(words: Words<'_>, nodes: u8) -> Option<Ask>
     requires { nodes ≤ 8 }
     ensures { ReadsArguments nodes (codes "member") words.entry result }
@@ -60,7 +69,7 @@ fn participant_of(mut words: Words<'_>, nodes: u8) -> Option<(NodeId, LraId, u8)
 }
 
 /// The node, the id and the member number that the next three words spell.
-fn next_participant(words: &mut Words<'_>, nodes: u8) -> Option<(NodeId, LraId, u8)>
+pub fn next_participant(words: &mut Words<'_>, nodes: u8) -> Option<(NodeId, LraId, u8)>
     requires { nodes ≤ 8 }
     ensures { MatchOption result ((node : ℕ) (id : Id) (m : ℕ) (rest : List (List ℕ)) → IsNodeOf nodes node → IsId id → IsMemberNumber m → words.old ≡ decimal node ∷ id_text id ∷ decimal m ∷ rest → ⊥) (λ p. IsNodeOf nodes p.0 × IsId p.1 × IsMemberNumber p.2 × (words.old ≡ decimal p.0 ∷ id_text p.1 ∷ decimal p.2 ∷ words.new)) }
 {

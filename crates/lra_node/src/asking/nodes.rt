@@ -17,6 +17,17 @@ pub fn front_of(mut words: Words<'_>, nodes: u8) -> Option<Ask>
     Some(Ask::Front { node })
 }
 
+pub fn duties_of(mut words: Words<'_>, nodes: u8) -> Option<Ask>
+    requires { nodes ≤ 8 }
+    ensures { ReadsArguments nodes (codes "duties") words.entry result }
+{
+    let node = node_of(words.next()?, nodes)?;
+    if !words.is_done() {
+        return None;
+    }
+    Some(Ask::Duties { node })
+}
+
 pub fn same_of(mut words: Words<'_>, nodes: u8) -> Option<Ask>
     requires { nodes ≤ 8 }
     ensures { ReadsArguments nodes (codes "same") words.entry result }

@@ -86,8 +86,13 @@ fn a_reader_that_fails_in_mid_stream(rt: HostRuntime) {
             script(rt.alloc(), &mut reader, &mut writer, 1),
             Err(ScriptFault::Read)
         );
-        let text = writer.into_inner();
-        assert!(rt; b"began 1.1\nClosed\n".starts_with(&text), "{cut}");
+        // So many bytes are left when the read fails, and the second line has 12.
+        let whole: &[u8] = match cut {
+            0 => b"began 1.1\nClosed\n",
+            1..=12 => b"began 1.1\n",
+            _ => b"",
+        };
+        assert!(rt; writer.into_inner().as_slice() == whole, "{cut}");
     }
 }
 

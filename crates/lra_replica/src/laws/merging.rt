@@ -2,6 +2,7 @@
 ghost use Rattle.std.specs.Prelude.{◌≡◌, ℕ, List, length};
 ghost use Rattle.lra_id.specs.Fronts.{join_fronts};
 ghost use Rattle.lra_replica.specs.Histories.{History, IsClosed, IsLawful, facts};
+ghost use Rattle.lra_replica.specs.Laws.{IsCurrent};
 ghost use Rattle.lra_replica.specs.Merging.{IsAbsorbed, IsClosedView, IsMerged, IsPartOf, Telling, TellsAll, merged};
 ghost use Rattle.lra_replica.specs.Views.{IsInOrder, StandsFor, View};
 
@@ -18,11 +19,14 @@ pub fn telling_all_is_merging()
     ensures absorbed { (a b c : View) (telling : Telling) → TellsAll telling b → IsMerged a b c → IsAbsorbed a telling c }
 {}
 
-/// The merge of the views of two closed sets is the view of the sets' union, and that is closed too.
+/// The merge of the views of two closed sets is the view of the sets' union, and that is closed too. A node's front that is
+/// merged with another stays the node's: it counts all that the node entered.
 pub fn a_merge_is_the_union()
     ensures view { (h : History) (v w : List ℕ) (a b c : View) → IsLawful h → IsClosed h v → IsClosed h w →
         StandsFor (facts h v) a → StandsFor (facts h w) b → IsMerged a b c → StandsFor (facts h (join_fronts v w)) c }
     ensures closed { (h : History) (v w : List ℕ) → IsClosed h v → IsClosed h w → IsClosed h (join_fronts v w) }
+    ensures current { (h : History) (node : ℕ) (v w : List ℕ) → IsCurrent h node v → IsClosed h w →
+        IsCurrent h node (join_fronts v w) }
 {}
 
 /// A view merged with itself stays as it is.

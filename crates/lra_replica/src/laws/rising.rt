@@ -4,10 +4,9 @@ ghost use Rattle.lra_id.specs.Fronts.{IsBelow, is_covered};
 ghost use Rattle.lra_id.specs.Ids.{Id};
 ghost use Rattle.lra_states.specs.declared.outcome.Verdict.{Verdict};
 ghost use Rattle.lra_states.specs.declared.outcome.Verdict.TheVariants.{Cancel, Close};
-ghost use Rattle.lra_states.specs.declared.status.LraStatus.TheVariants.{Cancelled, Closed};
-ghost use Rattle.lra_facts.specs.Sets.{is_root, status, want};
+ghost use Rattle.lra_facts.specs.Sets.{is_root, want};
 ghost use Rattle.lra_replica.specs.Histories.{History, IsClosed, IsLawful, Made, facts};
-ghost use Rattle.lra_replica.specs.Rising.{IsCancelledAbove, IsDecision, rank_in};
+ghost use Rattle.lra_replica.specs.Rising.{IsCancelledAbove, IsDecision, IsShownCancelled, IsShownClosed, rank_in};
 
 /// What an LRA shows never falls in rank as more facts are known: in two closed sets of a lawful history, where the front of
 /// the first is below that of the second and covers the LRA. The last rank is that of an LRA that is not held, so what is
@@ -25,13 +24,16 @@ pub fn one_decision_each()
         IsDecision h l verdict e → e.fact.origin ≡ l.home }
 {}
 
-/// Where an LRA wants Close in one closed set of a lawful history and Cancel in another, an LRA in which it is nested was
-/// cancelled. So a root never wants both, and no node shows it Closed where another shows it Cancelled.
+/// No verdict is split: where an LRA is shown Closed or FailedToClose in one closed set of a lawful history and Cancelled or
+/// FailedToCancel in another, an LRA in which it is nested was cancelled. The same of what it wants. So a root never wants
+/// both, and no node shows it closed where another shows it cancelled.
 pub fn no_split_verdict()
-    ensures above { (h : History) (v w : List ℕ) (l : Id) → IsLawful h → IsClosed h v → IsClosed h w →
+    ensures shown { (h : History) (v w : List ℕ) (l : Id) → IsLawful h → IsClosed h v → IsClosed h w →
+        IsShownClosed (facts h v) l → IsShownCancelled (facts h w) l → IsCancelledAbove h w l }
+    ensures wanted { (h : History) (v w : List ℕ) (l : Id) → IsLawful h → IsClosed h v → IsClosed h w →
         want (facts h v) l ≡ Some Close → want (facts h w) l ≡ Some Cancel → IsCancelledAbove h w l }
     ensures root { (h : History) (v w : List ℕ) (l : Id) → IsLawful h → IsClosed h v → IsClosed h w →
         is_root (facts h v) l ≡ true → want (facts h v) l ≡ Some Close → want (facts h w) l ≡ Some Cancel → ⊥ }
-    ensures shown { (h : History) (v w : List ℕ) (l : Id) → IsLawful h → IsClosed h v → IsClosed h w →
-        is_root (facts h v) l ≡ true → status (facts h v) l ≡ Some Closed → status (facts h w) l ≡ Some Cancelled → ⊥ }
+    ensures shown_root { (h : History) (v w : List ℕ) (l : Id) → IsLawful h → IsClosed h v → IsClosed h w →
+        is_root (facts h v) l ≡ true → IsShownClosed (facts h v) l → IsShownCancelled (facts h w) l → ⊥ }
 {}

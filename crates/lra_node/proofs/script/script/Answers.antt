@@ -1,5 +1,5 @@
 use Rattle.std.proofs.Common.{◌∙◌, arith}
-use Rattle.lra_node.proofs.Runs.{part_none, runs_end, runs_fault, runs_line, runs_part}
+use Rattle.lra_node.proofs.Runs.{few_end, few_line, part_none, runs_end, runs_fault, runs_line, runs_part, runs_whole}
 use Rattle.lra_node.proofs.script.script.Goals as goal
 
 pub returns-in_default-clause-part : goal.returns-in_default-clause-part
@@ -30,5 +30,20 @@ lines-preserved g c =
       reads_counted = omega (arith, c.read_line.ensures.counted, c.lines.invariant.reads_counted);
       spent = omega (arith, c.read_line.ensures.spent, c.lines.invariant.spent);
       none_unwritten = c.in-Ok-print_line.ensures.none_failed ∙ c.lines.invariant.none_unwritten;
+      few_reads = few_line _ _ _ _ _ _ _ c.lines.invariant.few_reads read c.in-Ok-read_line.ensures.few;
+      few_writes = few_line _ _ _ _ _ _ _ c.lines.invariant.few_writes read c.in-Ok-print_line.ensures.few;
       writes_counted = omega (arith, c.print_line.ensures.counted, c.lines.invariant.writes_counted);
     }
+
+pub returns-in_default-read_line-clause-whole : goal.returns-in_default-read_line-clause-whole
+returns-in_default-read_line-clause-whole g c = λ _. runs_whole _ _ _ _ _ _ _ c.lines.invariant.running c.in_default-read_line.ensures.cut
+
+pub returns-then-not-more-clause-few_reads : goal.returns-then-not-more-clause-few_reads
+returns-then-not-more-clause-few_reads g c =
+    let read = rw c.if-not-more.true at c.in-Ok-read_line.ensures.read in
+    few_end _ _ _ _ _ _ _ c.lines.invariant.few_reads read c.in-Ok-read_line.ensures.few
+
+pub returns-then-not-more-clause-few_writes : goal.returns-then-not-more-clause-few_writes
+returns-then-not-more-clause-few_writes g c =
+    let read = rw c.if-not-more.true at c.in-Ok-read_line.ensures.read in
+    few_end _ _ _ _ _ _ _ c.lines.invariant.few_writes read c.in-Ok-print_line.ensures.few

@@ -1,6 +1,6 @@
 use Rattle.std.proofs.Common.{◌≡◌, ◌+◌, ◌≤◌, vec_capacity}
 use Rattle.lra_node.specs.Scripts.{most_reads}
-use Rattle.lra_node.proofs.Runs.{Runs}
+use Rattle.lra_node.proofs.Runs.{IsFewSoFar, Runs}
 use Rattle.lra_node.proofs.script.script.Given as goal
 
 abbrev pub invariant-lines : goal.invariant-lines
@@ -11,6 +11,8 @@ invariant-lines g l = let s = g.R.Source in let t = g.W.Sink in record {
   reads_counted : s.interrupted l.fn.reader ≤ s.interrupted l.reader;
   spent : s.calls l.fn.reader + most_reads ≤ s.calls l.reader + l.reads_left;
   none_unwritten : t.failed l.writer ≡ t.failed l.fn.writer;
+  few_reads : IsFewSoFar (s.left l.fn.reader) (s.left l.reader) (s.interrupted l.fn.reader) (s.interrupted l.reader);
+  few_writes : IsFewSoFar (s.left l.fn.reader) (s.left l.reader) (t.interrupted l.fn.writer) (t.interrupted l.writer);
   writes_counted : t.interrupted l.fn.writer ≤ t.interrupted l.writer;
 }
 

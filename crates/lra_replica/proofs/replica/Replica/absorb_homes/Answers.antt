@@ -1,4 +1,4 @@
-use Rattle.std.proofs.Common.{◌∙◌, List, [], inl, inr, refl, sym, ap, subst}
+use Rattle.std.proofs.Common.{◌∙◌, List, [], inl, inr, refl, sym, ap, subst, arith}
 use Rattle.lra_id.specs.Fronts.{count}
 use Rattle.lra_forest.specs.declared.merging.Told.{Told}
 use Rattle.lra_replica.specs.Merging.{IsTelling, Telling}
@@ -8,7 +8,10 @@ use Rattle.lra_replica.proofs.replica.Replica.absorb_homes.Goals as goal
 
 pub loop-told-init : goal.loop-told-init
 loop-told-init c =
-    record {
+    record { so = so; stays = λ home some. omega arith }
+  where
+    so : IsTakenSo (view_of c.args.self.now) c.args.taken c.args.self.now c.args.patch.now c.args.patch.now c.into_iter-told-iterator.result.rest.items
+    so = record {
       done = [];
       all = ap (λ (t : Telling). t.homes) (sym c.taken.view_is) ∙ sym c.into_iter-told-iterator.ensures.into_iter_gives.0;
       view = refl;
@@ -20,13 +23,13 @@ loop-told-init c =
 pub absorb_home-requires : goal.absorb_home-requires
 absorb_home-requires c =
     let is = subst (λ (t : Telling). IsTelling t) c.taken.view_is c.taken.invariant in
-    let so = subst (λ (ts : List Told). IsTakenSo (view_of c.args.self.now) c.args.taken c.loop-told.self c.loop-told.patch c.args.patch.now ts) c.in-Some.ensures.steps.0 c.loop-told.invariant in
+    let so = subst (λ (ts : List Told). IsTakenSo (view_of c.args.self.now) c.args.taken c.loop-told.self c.loop-told.patch c.args.patch.now ts) c.in-Some.ensures.steps.0 c.loop-told.invariant.so in
     next_within (view_of c.args.self.now) c.args.taken c.loop-told.self c.loop-told.patch c.args.patch.now c.in-Some.told c.next.new.self.rest.items is c.requires.nodes so
 
 pub returns-in-Err-clause-refused : goal.returns-in-Err-clause-refused
 returns-in-Err-clause-refused c =
     let is = subst (λ (t : Telling). IsTelling t) c.taken.view_is c.taken.invariant in
-    let so = subst (λ (ts : List Told). IsTakenSo (view_of c.args.self.now) c.args.taken c.loop-told.self c.loop-told.patch c.args.patch.now ts) c.in-Some.ensures.steps.0 c.loop-told.invariant in
+    let so = subst (λ (ts : List Told). IsTakenSo (view_of c.args.self.now) c.args.taken c.loop-told.self c.loop-told.patch c.args.patch.now ts) c.in-Some.ensures.steps.0 c.loop-told.invariant.so in
     let far = c.count-reach.ensures ∙ ap (count c.taken.inside.front) c.home.ensures ∙ ap (λ (t : Telling). count t.front c.in-Some.told.records.home) c.taken.view_is in
     elim c.in-Err.ensures.refused [
       | inl memory ↦ inl memory
@@ -41,8 +44,15 @@ returns-in-Err-clause-refused c =
 pub loop-told-preserved : goal.loop-told-preserved
 loop-told-preserved c =
     let is = subst (λ (t : Telling). IsTelling t) c.taken.view_is c.taken.invariant in
-    let so = subst (λ (ts : List Told). IsTakenSo (view_of c.args.self.now) c.args.taken c.loop-told.self c.loop-told.patch c.args.patch.now ts) c.in-Some.ensures.steps.0 c.loop-told.invariant in
+    let so = subst (λ (ts : List Told). IsTakenSo (view_of c.args.self.now) c.args.taken c.loop-told.self c.loop-told.patch c.args.patch.now ts) c.in-Some.ensures.steps.0 c.loop-told.invariant.so in
     let far = c.count-reach.ensures ∙ ap (count c.taken.inside.front) c.home.ensures ∙ ap (λ (t : Telling). count t.front c.in-Some.told.records.home) c.taken.view_is in
     let done = c.in_default.ensures in
-    next_taken (view_of c.args.self.now) c.args.taken c.loop-told.self c.loop-told.patch c.args.patch.now c.in-Some.told c.next.new.self.rest.items is c.requires.nodes so
-    c.absorb_home.new.self c.absorb_home.new.patch c.count-reach.result far done.view done.front done.purges done.room done.grown
+    let taken = next_taken (view_of c.args.self.now) c.args.taken c.loop-told.self c.loop-told.patch c.args.patch.now c.in-Some.told c.next.new.self.rest.items is c.requires.nodes so
+    c.absorb_home.new.self c.absorb_home.new.patch c.count-reach.result far done.view done.front done.purges done.room done.grown in
+    record { so = taken; stays = λ home some. omega (arith, c.loop-told.invariant.stays home some, done.room home some) }
+
+pub returns-in-Err-clause-stays : goal.returns-in-Err-clause-stays
+returns-in-Err-clause-stays c home some = omega (arith, c.loop-told.invariant.stays home some, c.in-Err.ensures.room home some)
+
+pub returns-clause-stays : goal.returns-clause-stays
+returns-clause-stays c = c.loop-told.invariant.stays

@@ -44,8 +44,8 @@ returns-clause-ok c =
     let room = spare_new c.self.inside.homes.items c.args.home c.reserve.new.self (within c) in
     rw (place_is c, room) c.reserve.ensures.ok
 
-pub returns-clause-kept : goal.returns-clause-kept
-returns-clause-kept c home some =
+pub returns-clause-stays : goal.returns-clause-stays
+returns-clause-stays c home some =
     let homes : spare_at c.self.inside.homes.items home ≡ spare_at c.args.self.now.homes home = ap (λ (k : Kept). spare_at k.homes home) c.self.view_is in
     let room = spare_with c.self.inside.homes.items (c.args.home - 1) c.reserve.new.self c.index_mut.result.now 0 (within c)
     (omega (arith, c.reserve.ensures.kept, ap (λ (h : HomeRecords). h.spare) (is_home c))) home some in

@@ -1,8 +1,6 @@
-use Rattle.std.proofs.Common.{◌≡◌, List, length}
-use Rattle.lra_facts.specs.declared.fact.Fact.{Fact}
-use Rattle.lra_replica.specs.Growth.{IsSettled}
+use Rattle.std.proofs.Common.{◌≡◌, length}
+use Rattle.lra_replica.specs.Readings.{by_view}
 use Rattle.lra_replica.specs.Replicas.{view_of}
-use Rattle.lra_replica.specs.Views.{StandsFor}
 use Rattle.lra_replica.proofs.Paging.{AreRows}
 use Rattle.lra_replica.proofs.replica.Replica.next_rows.Given as goal
 
@@ -10,5 +8,5 @@ use Rattle.lra_replica.proofs.replica.Replica.next_rows.Given as goal
 abbrev pub invariant-loop : goal.invariant-loop
 invariant-loop l = record {
   count : length l.rows.items ≡ l.counter;
-  rows : (S : List Fact) → IsSettled S → StandsFor S (view_of l.self) → AreRows S l.fn.after l.last l.rows.items;
+  rows : AreRows (by_view (view_of l.self)) l.fn.after l.last l.rows.items;
 }

@@ -1,0 +1,95 @@
+-- What participants are called for now, over the set of facts that a node holds.
+use Rattle.std.specs.Prelude.{◌≡◌, ◌==◌, ◌&&◌, ◌||◌, ℕ, Bool, true, false, Option, Some, None, List, if◌then◌else◌, is_some, nat_lt}
+use mathlib.Core.Bool.{not}
+use Rattle.std.specs.Option.{option_map_or}
+use Rattle.lra_id.specs.Ids.{Id}
+use Rattle.lra_states.specs.declared.outcome.Act.{Act}
+use Rattle.lra_states.specs.declared.outcome.Act.TheVariants.{Complete as CompleteAct, Compensate as CompensateAct}
+use Rattle.lra_states.specs.declared.outcome.Outcome.{Outcome}
+use Rattle.lra_states.specs.declared.outcome.Outcome.TheVariants.{Busy, Done, Failed}
+use Rattle.lra_states.specs.declared.outcome.Verdict.{Verdict}
+use Rattle.lra_states.specs.declared.outcome.Verdict.TheVariants.{Close, Cancel}
+use Rattle.lra_facts.specs.declared.fact.Fact.{Fact}
+use Rattle.lra_facts.specs.declared.links.Links.{Links}
+use Rattle.lra_facts.specs.Duties.{is_compensation_due, is_forget_duty}
+use Rattle.lra_facts.specs.Sets.{heard, is_held, links_of, parent_of, want}
+use Rattle.lra_forest.specs.declared.duties.Due.{Due}
+use Rattle.lra_forest.specs.Dues.{is_before, is_complete_duty, is_topmost_before}
+use Rattle.lra_callback.specs.declared.answer.Kind.{Kind}
+use Rattle.lra_callback.specs.declared.answer.Kind.TheVariants.{Complete, Compensate, Status, Forget}
+use Rattle.lra_callback.specs.declared.duty.Duty.{Duty}
+
+abbrev pub is_busy : Option Outcome → Bool
+is_busy None = false
+is_busy (Some Busy) = true
+is_busy (Some Done) = false
+is_busy (Some Failed) = false
+
+-- the participant was heard to be busy with the act, and gave a link to ask for its status: it is asked, and the call is not
+-- repeated
+abbrev pub asks_status : List Fact → Id → ℕ → Act → Bool
+asks_status S l m act = is_busy (heard S l m act) && option_map_or (λ links. is_some links.status) (links_of S l m) false
+
+-- the act that is wanted
+abbrev pub act_wanted : Option Verdict → Option Act
+act_wanted (Some Close) = Some CompleteAct
+act_wanted (Some Cancel) = Some CompensateAct
+act_wanted None = None
+
+-- what is wanted demands this act
+abbrev pub is_act_wanted : Option Verdict → Act → Bool
+is_act_wanted (Some Close) CompleteAct = true
+is_act_wanted (Some Cancel) CompensateAct = true
+is_act_wanted (Some Close) CompensateAct = false
+is_act_wanted (Some Cancel) CompleteAct = false
+is_act_wanted None act = false
+
+-- whether the participant m of l is to be called so, for this act. One that is to forget is told the act that was wanted
+abbrev pub is_owed : List Fact → Kind → Act → Id → ℕ → Bool
+is_owed S Complete CompleteAct l m = is_complete_duty S l m && not (asks_status S l m CompleteAct)
+is_owed S Status CompleteAct l m = is_complete_duty S l m && asks_status S l m CompleteAct
+is_owed S Compensate CompensateAct l m = is_compensation_due S l m && not (asks_status S l m CompensateAct)
+is_owed S Status CompensateAct l m = is_compensation_due S l m && asks_status S l m CompensateAct
+is_owed S Forget act l m = is_forget_duty S l m && is_act_wanted (want S l) act
+is_owed S Complete CompensateAct l m = false
+is_owed S Compensate CompleteAct l m = false
+
+-- the link for calls of a kind
+abbrev pub link_for : Kind → Links → Option (List ℕ)
+link_for Complete links = links.complete
+link_for Compensate links = Some links.compensate
+link_for Status links = links.status
+link_for Forget links = links.forget
+
+-- the one that a participant gave
+abbrev pub link_given : List Fact → Kind → Id → ℕ → Option (List ℕ)
+link_given S kind l m = option_map_or (link_for kind) (links_of S l m) None
+
+-- a participant of an LRA of the home is to be called so now, at the link that it gave for it
+pub record IsDuty (home : ℕ) (S : List Fact) (d : Duty) : Type 0 where
+  pub own : d.id.home ≡ home
+  pub held : is_held S d.id ≡ true
+  pub owed : is_owed S d.kind d.act d.id d.member ≡ true
+  pub called : link_given S d.kind d.id d.member ≡ Some d.link
+  pub nested : d.parent ≡ parent_of S d.id
+
+-- The order: completions, then compensations, then what is to be forgotten
+
+abbrev pub stage : Kind → Act → ℕ
+stage Complete act = 0
+stage Compensate act = 1
+stage Status CompleteAct = 0
+stage Status CompensateAct = 1
+stage Forget act = 2
+
+abbrev pub due_of : Duty → Due
+due_of d = record { lra = d.id; member = d.member }
+
+-- compensations go by the number of the topmost cancelled LRA; the others by the LRA's number, and by the member number
+abbrev pub is_before_at : List Fact → ℕ → Due → Due → Bool
+is_before_at S n a b = if n == 1 then is_topmost_before S a b else is_before a b
+
+abbrev pub comes_first : List Fact → Duty → Duty → Bool
+comes_first S a b =
+    nat_lt (stage a.kind a.act) (stage b.kind b.act)
+    || ((stage a.kind a.act == stage b.kind b.act) && is_before_at S (stage a.kind a.act) (due_of a) (due_of b))

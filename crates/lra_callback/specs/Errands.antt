@@ -1,0 +1,58 @@
+-- What is made of each participant of which something is due.
+use Rattle.std.specs.Prelude.{◌&&◌, ℕ, Bool, Option, Some, List, [], if◌then◌else◌, is_some}
+use Rattle.std.specs.Option.{option_map_or}
+use Rattle.lra_id.specs.Ids.{Id}
+use Rattle.lra_states.specs.declared.outcome.Act.{Act}
+use Rattle.lra_states.specs.declared.outcome.Act.TheVariants.{Complete as CompleteAct, Compensate as CompensateAct}
+use Rattle.lra_facts.specs.declared.fact.Fact.{Fact}
+use Rattle.lra_facts.specs.Duties.{is_compensation_due, is_forget_duty}
+use Rattle.lra_facts.specs.Sets.{parent_of, want}
+use Rattle.lra_forest.specs.declared.duties.Due.{Due}
+use Rattle.lra_forest.specs.declared.record.Participant.{Participant as ParticipantRecord}
+use Rattle.lra_forest.specs.Dues.{is_complete_duty}
+use Rattle.lra_forest.specs.Participants.{heard_by}
+use Rattle.lra_callback.specs.declared.answer.Kind.{Kind}
+use Rattle.lra_callback.specs.declared.answer.Kind.TheVariants.{Complete, Compensate, Status, Forget}
+use Rattle.lra_callback.specs.declared.duty.Duty.{Duty}
+use Rattle.lra_callback.specs.declared.duty.Errand.{Errand}
+use Rattle.lra_callback.specs.declared.duty.Errand.TheVariants.{Call, Release}
+use Rattle.lra_callback.specs.Duties.{act_wanted, asks_status, is_busy, link_given}
+
+-- what has to be due of a participant
+abbrev pub due_by : Errand → List Fact → Id → ℕ → Bool
+due_by (Call CompleteAct) = is_complete_duty
+due_by (Call CompensateAct) = is_compensation_due
+due_by Release = is_forget_duty
+
+abbrev pub kind_of_act : Act → Kind
+kind_of_act CompleteAct = Complete
+kind_of_act CompensateAct = Compensate
+
+-- the kind of the next call for an act, by what is kept of the participant
+abbrev pub kind_by : ParticipantRecord → Act → Kind
+kind_by p act = if is_busy (heard_by p act) && is_some p.links.status then Status else kind_of_act act
+
+abbrev pub kind_in : Errand → ParticipantRecord → Kind
+kind_in (Call act) p = kind_by p act
+kind_in Release p = Forget
+
+-- and by the set
+abbrev pub kind_from : List Fact → Errand → Due → Kind
+kind_from S (Call act) d = if asks_status S d.lra d.member act then Status else kind_of_act act
+kind_from S Release d = Forget
+
+abbrev pub act_from : List Fact → Errand → Due → Option Act
+act_from S (Call act) d = Some act
+act_from S Release d = act_wanted (want S d.lra)
+
+-- the duty that is made of it; where no act is wanted or no link was given, any act and link
+abbrev pub duty_from : List Fact → Errand → Due → Duty
+duty_from S errand d =
+    record {
+      kind = kind_from S errand d;
+      act = option_map_or (λ act. act) (act_from S errand d) CompleteAct;
+      id = d.lra;
+      member = d.member;
+      link = option_map_or (λ link. link) (link_given S (kind_from S errand d) d.lra d.member) [];
+      parent = parent_of S d.lra;
+    }

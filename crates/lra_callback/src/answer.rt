@@ -1,0 +1,208 @@
+// What is heard of a participant's answer.
+ghost use Rattle.std.specs.Prelude.{◌≡◌, Some};
+ghost use Rattle.lra_callback.specs.Names.{heard_name, kind_name};
+ghost use Rattle.lra_callback.specs.Answers.{bare, done_status, failed_status, heard_by_act, heard_by_forget, heard_by_status, heard_of, trimmed, unquoted, without_leading, without_trailing};
+
+use lra_states::{Act, MemberStatus, Outcome};
+use std::fmt;
+use std::marker::Model;
+
+/// What a participant is called for: to complete, to compensate, for the status of one of these, or to forget.
+#[derive(Clone, Copy, Debug, PartialEq, Eq)]
+pub enum Kind {
+    Complete,
+    Compensate,
+    Status,
+    Forget,
+}
+
+impl Kind {
+    /// The word for it in commands.
+    pub fn name(self) -> &'static str
+        ensures { result.now ≡ kind_name self }
+    {
+        match self {
+            Kind::Complete => "complete",
+            Kind::Compensate => "compensate",
+            Kind::Status => "status",
+            Kind::Forget => "forget",
+        }
+    }
+}
+
+impl fmt::Display for Kind {
+    ghost output = { λ kind. Some (kind_name kind) };
+
+    fn fmt<W: fmt::Write>(&self, f: &mut fmt::Formatter<W>) -> fmt::Result {
+        f.write_str(self.name())
+    }
+}
+
+/// The bytes behind the head of an answer.
+#[derive(Debug, Drop)]
+pub struct Body {
+    bytes: Vec<u8>,
+}
+
+impl Model for Body {
+    ghost use Rattle.std.specs.Prelude.{List, ℕ};
+
+    ghost Value = { List ℕ };
+
+    ghost view = { λ b. b.bytes.items };
+}
+
+impl Body {
+    /// These bytes.
+    pub fn new(bytes: Vec<u8>) -> Body
+        ensures { result ≡ bytes.items }
+    {
+        Body { bytes }
+    }
+
+    /// Its bytes.
+    pub fn as_slice(&self) -> &[u8]
+        ensures { result.now ≡ self.now }
+    {
+        &self.bytes
+    }
+}
+
+/// What came back of a call: the code and the body of a whole response, or no whole response.
+#[derive(Debug, Drop)]
+pub enum Answer {
+    Code(u16, Body),
+    Broken,
+}
+
+/// What is heard of an answer: an outcome of the act, that the participant was told to forget, or nothing that counts, so
+/// that it is to be called again.
+#[derive(Clone, Copy, Debug, PartialEq, Eq)]
+pub enum Heard {
+    Told(Outcome),
+    Forgotten,
+    Again,
+}
+
+impl Heard {
+    /// The word for it.
+    pub fn name(self) -> &'static str
+        ensures { result.now ≡ heard_name self }
+    {
+        match self {
+            Heard::Told(Outcome::Busy) => "Busy",
+            Heard::Told(Outcome::Done) => "Done",
+            Heard::Told(Outcome::Failed) => "Failed",
+            Heard::Forgotten => "Forgotten",
+            Heard::Again => "Again",
+        }
+    }
+}
+
+/// The text without the spaces, CR and LF at its start.
+fn without_leading(text: &[u8]) -> &[u8]
+    ensures { result.now ≡ without_leading text.now }
+{
+    let mut rest = text;
+    while let [b' ' | b'\r' | b'\n', after @ ..] = rest {
+        rest = after;
+    }
+    rest
+}
+
+/// The text without the spaces, CR and LF at its end.
+fn without_trailing(text: &[u8]) -> &[u8]
+    ensures { result.now ≡ without_trailing text.now }
+{
+    let mut rest = text;
+    while let [before @ .., b' ' | b'\r' | b'\n'] = rest {
+        rest = before;
+    }
+    rest
+}
+
+/// What is in double quotes, or the text itself if it is not.
+fn unquoted(text: &[u8]) -> &[u8]
+    ensures { result.now ≡ unquoted text.now }
+{
+    match text {
+        [b'"', inner @ .., b'"'] => inner,
+        _ => text,
+    }
+}
+
+/// What a participant shows where the act is done.
+fn done_status(act: Act) -> MemberStatus
+    ensures { result ≡ done_status act }
+{
+    match act {
+        Act::Complete => MemberStatus::Completed,
+        Act::Compensate => MemberStatus::Compensated,
+    }
+}
+
+/// What a participant shows where the act failed.
+fn failed_status(act: Act) -> MemberStatus
+    ensures { result ≡ failed_status act }
+{
+    match act {
+        Act::Complete => MemberStatus::FailedToComplete,
+        Act::Compensate => MemberStatus::FailedToCompensate,
+    }
+}
+
+/// What is heard of the answer to a call to complete or to compensate.
+fn heard_by_act(code: u16) -> Heard
+    ensures { result ≡ heard_by_act code }
+{
+    match code {
+        200 | 204 | 410 => Heard::Told(Outcome::Done),
+        202 => Heard::Told(Outcome::Busy),
+        409 => Heard::Told(Outcome::Failed),
+        _ => Heard::Again,
+    }
+}
+
+/// What is heard of the answer to a question for the status of an act.
+fn heard_by_status(act: Act, code: u16, body: &[u8]) -> Heard
+    ensures { result ≡ heard_by_status act code body.now }
+{
+    if code == 410 {
+        return Heard::Told(Outcome::Done);
+    }
+    if code != 200 {
+        return Heard::Again;
+    }
+    let name = unquoted(without_trailing(without_leading(body)));
+    if name == done_status(act).name().as_bytes() {
+        Heard::Told(Outcome::Done)
+    } else if name == failed_status(act).name().as_bytes() {
+        Heard::Told(Outcome::Failed)
+    } else {
+        Heard::Again
+    }
+}
+
+/// What is heard of the answer where a participant was told to forget.
+fn heard_by_forget(code: u16) -> Heard
+    ensures { result ≡ heard_by_forget code }
+{
+    match code {
+        200 | 204 | 404 | 410 => Heard::Forgotten,
+        _ => Heard::Again,
+    }
+}
+
+/// What is heard of an answer to a call of this kind. A broken answer is none.
+pub fn hear(act: Act, kind: Kind, answer: &Answer) -> Heard
+    ensures { result ≡ heard_of act kind answer.now }
+{
+    let Answer::Code(code, body) = answer else {
+        return Heard::Again;
+    };
+    match kind {
+        Kind::Complete | Kind::Compensate => heard_by_act(*code),
+        Kind::Status => heard_by_status(act, *code, body.as_slice()),
+        Kind::Forget => heard_by_forget(*code),
+    }
+}

@@ -1,0 +1,200 @@
+// What participants are called for now.
+ghost use Rattle.std.specs.Prelude.{◌≡◌, ◌≤◌, ◌++◌, ℕ, List, Some, IfErr, IfOk, OnOk, length, map};
+ghost use Rattle.std.specs.Option.{option_copied};
+ghost use Rattle.lra_facts.specs.declared.fact.Fact.{Fact};
+ghost use Rattle.lra_facts.specs.declared.refusal.Refusal.TheVariants.{NoMemory};
+ghost use Rattle.lra_facts.specs.Lists.{In};
+ghost use Rattle.lra_forest.specs.declared.duties.Due.{Due};
+ghost use Rattle.lra_forest.specs.Dues.{AreAll, IsDueAt};
+ghost use Rattle.lra_replica.specs.Growth.{IsSettled};
+ghost use Rattle.lra_replica.specs.Replicas.{view_of};
+ghost use Rattle.lra_replica.specs.Views.{StandsFor};
+ghost use Rattle.lra_callback.specs.Duties.{IsDuty, act_wanted, comes_first, link_for};
+ghost use Rattle.lra_callback.specs.Errands.{act_from, due_by, duty_from, kind_by, kind_in, kind_of_act};
+
+use crate::Kind;
+use lra_facts::{Link, Refusal};
+use lra_forest::{Due, Participant};
+use lra_id::{LraId, NodeId};
+use lra_replica::Replica;
+use lra_states::{Act, Outcome, Verdict};
+use std::alloc::{AllocError, Global};
+use std::marker::Model;
+
+/// A participant that is to be called: what for, at which link, and the parent of its LRA, if it is nested.
+#[derive(Debug, PartialEq, Drop)]
+pub struct Duty {
+    pub kind: Kind,
+    pub act: Act,
+    pub id: LraId,
+    pub member: u8,
+    pub link: Link,
+    pub parent: Option<LraId>,
+}
+
+/// The participants that are to be called, in order.
+#[derive(Debug, Drop)]
+pub struct Duties {
+    list: Vec<Duty>,
+}
+
+impl Model for Duties {
+    ghost use Rattle.std.specs.Prelude.{List};
+    ghost use Rattle.lra_callback.specs.declared.duty.Duty.{Duty};
+
+    ghost Value = { List Duty };
+
+    ghost view = { λ d. d.list.items };
+}
+
+impl Duties {
+    /// The duties in order.
+    pub fn as_slice(&self) -> &[Duty]
+        ensures { result.now ≡ self.now }
+    {
+        &self.list
+    }
+
+    /// The duties in order, each to be kept.
+    pub fn into_vec(self) -> Vec<Duty>
+        ensures { result.items ≡ self }
+    {
+        self.list
+    }
+}
+
+/// What a participant is called for: to do an act, or to be released from remembering it.
+#[derive(Clone, Copy)]
+enum Errand {
+    Call(Act),
+    Release,
+}
+
+/// The kind of a call for an act.
+fn kind_of_act(act: Act) -> Kind
+    ensures { result ≡ kind_of_act act }
+{
+    match act {
+        Act::Complete => Kind::Complete,
+        Act::Compensate => Kind::Compensate,
+    }
+}
+
+/// The kind of the next call for an act: one that is busy is asked for its status, where it gave a link for that.
+fn kind_by(participant: &Participant, act: Act) -> Kind
+    ensures { result ≡ kind_by participant.now act }
+{
+    match (participant.heard(act), &participant.links.status) {
+        (Some(Outcome::Busy), Some(_)) => Kind::Status,
+        _ => kind_of_act(act),
+    }
+}
+
+/// The kind of the next call of an errand.
+fn kind_in(errand: Errand, participant: &Participant) -> Kind
+    ensures { result ≡ kind_in errand participant.now }
+{
+    match errand {
+        Errand::Call(act) => kind_by(participant, act),
+        Errand::Release => Kind::Forget,
+    }
+}
+
+/// The act that is wanted, if one is.
+pub fn act_wanted(want: Option<Verdict>) -> Option<Act>
+    ensures { result ≡ act_wanted want }
+{
+    match want {
+        Some(Verdict::Close) => Some(Act::Complete),
+        Some(Verdict::Cancel) => Some(Act::Compensate),
+        None => None,
+    }
+}
+
+/// The link for calls of a kind.
+fn link_for(participant: &Participant, kind: Kind) -> Option<&Link>
+    ensures { option_copied result ≡ link_for kind participant.now.links }
+{
+    match kind {
+        Kind::Complete => participant.links.complete.as_ref(),
+        Kind::Compensate => Some(&participant.links.compensate),
+        Kind::Status => participant.links.status.as_ref(),
+        Kind::Forget => participant.links.forget.as_ref(),
+    }
+}
+
+/// The act of a participant's errand.
+fn act_of(replica: &Replica, errand: Errand, due: Due) -> Option<Act>
+    ensures { (home : ℕ) (S : List Fact) → IsSettled S → StandsFor S (view_of replica.now) →
+        IsDueAt home S (due_by errand) due → result ≡ act_from S errand due }
+{
+    match errand {
+        Errand::Call(act) => Some(act),
+        Errand::Release => match replica.want(due.lra) {
+            Ok(want) => act_wanted(want),
+            Err(_) => None,
+        },
+    }
+}
+
+/// The call that is due of a participant.
+fn duty_of(replica: &Replica, errand: Errand, due: Due) -> Result<Option<Duty>, AllocError>
+    ensures { (home : ℕ) (S : List Fact) → IsSettled S → StandsFor S (view_of replica.now) →
+        IsDueAt home S (due_by errand) due → IfOk result (λ duty. duty ≡ Some (duty_from S errand due)) }
+{
+    let Some(participant) = replica.participant(due.lra, due.member) else {
+        return Ok(None);
+    };
+    let Some(act) = act_of(replica, errand, due) else {
+        return Ok(None);
+    };
+    let kind = kind_in(errand, participant);
+    let Some(link) = link_for(participant, kind) else {
+        return Ok(None);
+    };
+    Ok(Some(Duty {
+        kind,
+        act,
+        id: due.lra,
+        member: due.member,
+        link: link.clone()?,
+        parent: replica.parent(due.lra),
+    }))
+}
+
+/// Adds the calls that are due of these participants.
+fn add(
+    replica: &Replica,
+    errand: Errand,
+    dues: &[Due],
+    duties: &mut Vec<Duty>,
+) -> Result<(), AllocError>
+    ensures { (home : ℕ) (S : List Fact) → IsSettled S → StandsFor S (view_of replica.now) →
+        ((due : Due) → In due dues.now → IsDueAt home S (due_by errand) due) →
+        OnOk result (duties.new.items ≡ duties.old.items ++ map (duty_from S errand) dues.now) }
+{
+    for due in dues {
+        if let Some(duty) = duty_of(replica, errand, *due)? {
+            duties.push(duty)?;
+        }
+    }
+    Ok(())
+}
+
+/// The participants in LRAs of a home that are to be called now: to complete and to be told to forget by LRA and member
+/// number, to compensate by the topmost cancelled LRA.
+pub fn pick(alloc: Global, replica: &Replica, me: NodeId) -> Result<Duties, Refusal>
+    requires { me ≤ length replica.now.front }
+    ensures all { (S : List Fact) → IsSettled S → StandsFor S (view_of replica.now) →
+        IfOk result (λ duties. AreAll (IsDuty me S) (comes_first S) duties) }
+    ensures cause { IfErr result (λ refusal. refusal ≡ NoMemory) }
+{
+    let mut list = Vec::new(alloc);
+    let dues = replica.complete_duties(alloc, me)?;
+    add(replica, Errand::Call(Act::Complete), &dues, &mut list)?;
+    let dues = replica.next_compensations(alloc, me)?;
+    add(replica, Errand::Call(Act::Compensate), &dues, &mut list)?;
+    let dues = replica.forget_duties(alloc, me)?;
+    add(replica, Errand::Release, &dues, &mut list)?;
+    Ok(Duties { list })
+}

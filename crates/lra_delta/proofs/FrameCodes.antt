@@ -1,0 +1,274 @@
+-- frames
+use Rattle.std.proofs.Common.{◌≡◌, ℕ, zero, suc, ◌+◌, ◌^◌, ◌<◌, ◌≤◌, Bool, true, false, cond, min, List, [], ◌∷◌, ◌++◌, length, Option, Some, None, Ok, Err, refl, sym, ap, subst, ◌∙◌, arith, length-append}
+use Rattle.std.specs.Int.{w8, w16, w32, w64}
+use Rattle.std.specs.Prelude.{◌==◌, ◌&&◌, nat_le, slice_index}
+use Rattle.std.specs.List.{AllByRecursion}
+use Rattle.std.proofs.lemmas.Bool.{eqb-true}
+use Rattle.std.proofs.lemmas.Bool.Decides.{nat_tests}
+use Rattle.std.proofs.lemmas.List.{append-nil, nil_from_length}
+use Rattle.lra_delta.specs.declared.input.Stop.TheVariants.{Fault}
+use Rattle.lra_forest.specs.declared.record.Record.{Record}
+use Rattle.lra_delta.specs.Frames.{Frame}
+use Rattle.lra_delta.specs.Fields.{Rest, Read, ◌>>=◌, value_of, Along}
+use Rattle.lra_delta.specs.Spelling.{live_mark, live_body, live_list, live, record_text, records, body, flat, magic, spelling}
+use Rattle.lra_delta.specs.Rules.{Context, start, after, is_record_count, IsRecord, is_live_mark, is_live_count, is_live_number, AreLive, IsLive, is_node_count, are_counts, is_front, at_most, IsBody, IsDelta, is_frame_length, by_home}
+use Rattle.lra_delta.specs.OneRecord.{IsRecordUnder, alone_at, record_in, under}
+use Rattle.lra_delta.specs.Reading.{records_at, live_list_at, live_by, live_at, body_at, within, ended_at, framed_at, frame_at, frame_in}
+use Rattle.lra_delta.proofs.Codes.{IsBytes, IsCode, IsThere, Uncut, Takes, bind_ok, rule_ok, ok_is, uncut_bind, uncut_if, step, cased, finish, refit, each_code, number_code, wide8, wide16, wide32, wide64}
+use Rattle.lra_delta.proofs.HomeLists.{flat_by_home}
+use Rattle.lra_delta.proofs.RecordCodes.{vector_code, record_code}
+
+-- ---- live lists
+
+live_count_small : (n : ℕ) → is_live_count n ≡ true → n < 2 ^ 16
+live_count_small n e = grind (arith, nat_tests)
+
+live_mark_small : (base purge n : ℕ) → is_live_mark base purge n ≡ true → n ≤ 1
+live_mark_small base purge n e = grind (arith, nat_tests)
+
+live_mark_is : (base purge top : ℕ) (o : Option (List ℕ)) → IsLive base purge top o → (live_mark o < 2 ^ 8) × (is_live_mark base purge (live_mark o) ≡ true)
+live_mark_is base purge top None f = (omega arith, f)
+live_mark_is base purge top (Some ns) f = (omega arith, f.0)
+
+no_list : (o : Option (List ℕ)) → live_mark o ≡ 0 → o ≡ None
+no_list None e = refl
+no_list (Some ns) e = absurd cc
+
+list_made : (base purge top : ℕ) (o : Option (List ℕ)) → IsLive base purge top o × (live_mark o ≡ 1) → (x : List ℕ) × (o ≡ Some x) × AreLive top x
+list_made base purge top None f = absurd cc
+list_made base purge top (Some ns) f = (ns, refl, f.0.1)
+
+live_list_code : (top : ℕ) → IsCode (live_list_at top) live_list (AreLive top)
+unfolding live_list_at live_list
+live_list_code top = step _ (number_code w16 (2 ^ 16) wide16 is_live_count) (λ ns. length ns) (λ ns f. (live_count_small (length ns) f.0, f.0)) (λ n fn.
+    refit (each_code (λ last. number_code w64 (2 ^ 64) wide64 (is_live_number top last)) n 0) (λ ns f. ((rw f.1 fn.1, f.0), f.1)) (λ ns f. (f.0.1, f.1)))
+
+live_by_code : (base purge top mark : ℕ) → (mark < 2 ^ 8) × (is_live_mark base purge mark ≡ true) → IsCode (λ r. live_by top mark r) live_body (λ o. IsLive base purge top o × (live_mark o ≡ mark))
+unfolding live_by
+live_by_code base purge top zero f = finish None refl (f.1, refl) (λ o g. no_list o g.1)
+live_by_code base purge top (suc zero) f = cased (live_list_code top) (λ ns. Some ns) (λ ns g. refl) (λ ns g. ((f.1, g), refl)) (list_made base purge top)
+live_by_code base purge top (suc (suc n)) f = absurd (omega (arith, live_mark_small base purge (suc (suc n)) f.1))
+
+live_code : (base purge top : ℕ) → IsCode (live_at base purge top) live (IsLive base purge top)
+unfolding live_at live
+live_code base purge top = step (λ x. live_by top x.0 x.1) (number_code w8 (2 ^ 8) wide8 (is_live_mark base purge)) live_mark (live_mark_is base purge top) (λ mark f. live_by_code base purge top mark f)
+
+-- ---- records
+
+nodes_small : (n : ℕ) → is_node_count n ≡ true → n < 2 ^ 8
+nodes_small n e = grind (arith, nat_tests)
+
+nodes_few : (n : ℕ) → is_node_count n ≡ true → n ≤ 8
+nodes_few n e = grind (arith, nat_tests)
+
+record_count_small : (nodes n : ℕ) → nodes ≤ 8 → is_record_count nodes n ≡ true → n < 2 ^ 16
+record_count_small nodes n le e = grind (arith, nat_tests)
+
+pub records_code : (k : Context) → length k.front ≤ 8 → IsCode (records_at k) records (λ rs. (is_record_count (length k.front) (length rs) ≡ true) × Along (IsRecord k) after start rs)
+unfolding records_at records
+records_code k le = step _ (number_code w16 (2 ^ 16) wide16 (is_record_count (length k.front))) (λ rs. length rs) (λ rs f. (record_count_small (length k.front) (length rs) le f.0, f.0)) (λ n fn.
+    refit (each_code (record_code k) n start) (λ rs f. ((rw f.1 fn.1, f.0), f.1)) (λ rs f. (f.0.1, f.1)))
+
+-- ---- bodies
+
+frame_is : (d : Frame) (n : ℕ) (a b c : List ℕ) (l : List (Option (List ℕ))) → length d.base ≡ n → d.base ≡ a → d.front ≡ b → d.purges ≡ c → d.live ≡ l → d.records ≡ by_home (length d.base) (flat d.records)
+    → d ≡ record { base = a; front = b; purges = c; live = l; records = by_home n (flat d.records) }
+frame_is d n a b c l en ea eb ec el er =
+    let one : d ≡ record { base = d.base; front = d.front; purges = d.purges; live = d.live; records = by_home n (flat d.records) } =
+    ap (λ (x : List (List Record)). record { base = d.base; front = d.front; purges = d.purges; live = d.live; records = x }) (er ∙ ap (λ (x : ℕ). by_home x (flat d.records)) en) in
+    one ∙ rw (← ea, ← eb, ← ec, ← el) refl
+
+-- what isn't asked of a vector: that its numbers fit, which its limits give
+both : (a b : Bool) → (a && b) ≡ true → (a ≡ true) × (b ≡ true)
+both true b e = (refl, e)
+both false b e = absurd cc
+
+count_fits : (n : ℕ) → nat_le n 281474976710655 ≡ true → n < 2 ^ 64
+count_fits n e = grind (arith, nat_tests)
+
+fits_under : (n l : ℕ) → nat_le n l ≡ true → l < 2 ^ 64 → n < 2 ^ 64
+fits_under n l e lt = grind (arith, nat_tests)
+
+counts_fit : (ns : List ℕ) → are_counts ns ≡ true → AllByRecursion (λ x. x < 2 ^ 64) ns
+counts_fit [] e = tt
+counts_fit (n ∷ ns) e = let h = both (nat_le n 281474976710655) (are_counts ns) e in (count_fits n h.0, counts_fit ns h.1)
+
+purges_fit : (limits ns : List ℕ) → length ns ≡ length limits → AllByRecursion (λ x. x < 2 ^ 64) limits → at_most limits ns ≡ true → AllByRecursion (λ x. x < 2 ^ 64) ns
+purges_fit limits [] len f e = tt
+purges_fit [] (n ∷ ns) len f e = absurd cc
+purges_fit (l ∷ limits) (n ∷ ns) len f e = let h = both (nat_le n l) (at_most limits ns) e in (fits_under n l h.0 f.0, purges_fit limits ns (omega (arith, len)) f.1 h.1)
+
+front_counts : (base ns : List ℕ) → is_front base ns ≡ true → are_counts ns ≡ true
+front_counts base ns e = grind (arith, nat_tests)
+
+pub body_code : IsCode body_at body IsBody
+unfolding body_at body
+body_code =
+    step _ (number_code w8 (2 ^ 8) wide8 is_node_count) (λ d. length d.base) (λ d f. (nodes_small (length d.base) f.nodes, f.nodes)) (λ n fn.
+    step _ (vector_code n are_counts) (λ d. d.base) (λ d f. ((counts_fit d.base f.0.base, f.1), f.0.base)) (λ a fa.
+    step _ (vector_code n (is_front a)) (λ d. d.front) (λ d f. let g = f.0.0 in ((counts_fit d.front (front_counts d.base d.front g.front), g.same_nodes ∙ f.0.1), rw (← f.1) g.front)) (λ b fb.
+    step _ (vector_code n (at_most b)) (λ d. d.purges) (λ d f. let g = f.0.0.0 in ((purges_fit d.front d.purges (g.purge_nodes ∙ sym g.same_nodes) (counts_fit d.front (front_counts d.base d.front g.front)) g.purges, g.purge_nodes ∙ f.0.0.1), rw (← f.1) g.purges)) (λ c fc.
+    step _ (each_code (λ i. live_code (slice_index a i) (slice_index c i) (slice_index b i)) n 0) (λ d. d.live) (λ d f. let g = f.0.0.0.0 in (rw (← f.0.0.1, ← f.0.1, ← f.1) g.lives, g.live_nodes ∙ f.0.0.0.1)) (λ l fl.
+    let k : Context = record { base = a; front = b; lives = l } in
+    let put : (rs : List Record) → (is_record_count (length b) (length rs) ≡ true) × Along (IsRecord k) after start rs → flat (by_home n rs) ≡ rs =
+    λ rs fr. ap (λ (x : ℕ). flat (by_home x rs)) (sym fb.0.1) ∙ flat_by_home k start rs fr.1 in
+    cased (records_code k (omega (arith, nodes_few n fn.1, fb.0.1)))
+    (λ rs. record { base = a; front = b; purges = c; live = l; records = by_home n rs })
+    (λ rs fr. ap records (put rs fr))
+    (λ rs fr. (
+      (
+        (
+          (
+            (
+              record {
+                nodes = rw fa.0.1 fn.1;
+                base = fa.1;
+                same_nodes = fb.0.1 ∙ sym fa.0.1;
+                front = fb.1;
+                purge_nodes = fc.0.1 ∙ sym fa.0.1;
+                purges = fc.1;
+                live_nodes = fl.1 ∙ sym fa.0.1;
+                lives = fl.0;
+                count = rw (put rs fr) (rw (fb.0.1 ∙ sym fa.0.1) at fr.0);
+                records = rw (put rs fr) fr.1;
+                homes = ap (λ (x : ℕ). by_home x rs) (sym fa.0.1) ∙ ap (by_home (length a)) (sym (put rs fr));
+              },
+              fa.0.1,
+            ),
+            refl,
+          ),
+          refl,
+        ),
+        refl,
+      ),
+      refl,
+    ))
+    (λ d f. let g = f.0.0.0.0.0 in
+    (flat d.records, frame_is d n a b c l f.0.0.0.0.1 f.0.0.0.1 f.0.0.1 f.0.1 f.1 g.homes, (rw (ap length (sym f.0.0.1) ∙ g.same_nodes) g.count, rw (← f.0.0.0.1, ← f.0.0.1, ← f.1) g.records))))))))
+
+-- ---- what the length bounds
+
+min_left : (a b : ℕ) → min a b ≤ a
+min_left a b = omega arith
+
+same_place : (n : ℕ) → (n == n) ≡ true
+same_place n = grind (arith, nat_tests)
+
+pub ended_code : (len : ℕ) → IsCode (ended_at len) body (λ d. IsBody d × (length (body d) ≡ len))
+unfolding ended_at
+ended_code len = record {
+  takes = λ r bytes well d r' e.
+      let k : Frame × Rest → Read Frame = λ x. cond (x.1.place == r.place + len) (Ok (x.0, record { place = x.1.place; limit = r.limit; ahead = x.1.ahead })) (Err (Fault x.1.place)) in
+      let b = bind_ok (body_at (within len r)) k (d, r') e in
+      let inside : (within len r).place ≤ (within len r).limit = omega arith in
+      let t = body_code.takes (within len r) bytes inside b.0.0 b.0.1 b.1 in
+      let g = rule_ok (b.0.1.place == r.place + len) (Fault b.0.1.place) (b.0.0, record { place = b.0.1.place; limit = r.limit; ahead = b.0.1.ahead }) (d, r') b.2 in
+      let here : b.0.1.place ≡ r.place + len = eqb-true _ _ g.0 in
+      let size : length (body b.0.0) ≡ len = omega (arith, here, t.1.place) in
+      let text : Takes r (body b.0.0) (record { place = b.0.1.place; limit = r.limit; ahead = b.0.1.ahead }) = record { parts = t.1.parts; place = t.1.place; limit = refl; within = omega (arith, t.1.within, t.1.limit) } in
+      let P : Frame × Rest → Type 0 = λ y. (IsBody y.0 × (length (body y.0) ≡ len)) × Takes r (body y.0) y.1 × IsBytes y.1.ahead in
+      subst P g.1 ((t.0, size), text, t.2);
+  again = λ d f r r' t.
+      let mid : Rest = record { place = r'.place; limit = min r.limit (r.place + len); ahead = r'.ahead } in
+      let one : body_at (within len r) ≡ Ok (d, mid) = body_code.again d f.0 (within len r) mid (record { parts = t.parts; place = t.place; limit = refl; within = omega (arith, t.place, t.within, t.limit, f.1) }) in
+      let at_end : r'.place ≡ r.place + len = omega (arith, t.place, f.1) in
+      let two : (r'.place == r.place + len) ≡ true = rw (← at_end) (same_place r'.place) in
+      let same : record { place = r'.place; limit = r.limit; ahead = r'.ahead } ≡ r' = ap (λ (n : ℕ). record { place = r'.place; limit = n; ahead = r'.ahead }) (sym t.limit) in
+      rw (one, two) (ap (λ (x : Rest). Ok (d, x)) same);
+  uncut = λ r bytes well there.
+      let inside : (within len r).place ≤ (within len r).limit = omega arith in
+      let here : IsThere (within len r) = omega arith in
+      uncut_bind (body_at (within len r)) _ (body_code.uncut (within len r) bytes inside here) (λ x e there'.
+      let t = body_code.takes (within len r) bytes inside x.0 x.1 e in
+      let size : length r.ahead ≡ length (body x.0) + length x.1.ahead = ap length t.1.parts ∙ length-append (body x.0) x.1.ahead in
+      let last : IsThere (record { place = x.1.place; limit = r.limit; ahead = x.1.ahead }) = omega (arith, size, t.1.place, there) in
+      uncut_if (x.1.place == r.place + len) x.1.place _ last);
+}
+
+frame_length_small : (n : ℕ) → is_frame_length n ≡ true → n < 2 ^ 32
+frame_length_small n e = grind (arith, nat_tests)
+
+pub framed_code : IsCode framed_at spelling IsDelta
+unfolding framed_at
+framed_code =
+    step _ (number_code w32 (2 ^ 32) wide32 (λ n. n == magic)) (λ d. magic) (λ d f. (omega arith, refl)) (λ m fm.
+    step _ (number_code w8 (2 ^ 8) wide8 (λ n. n == 1)) (λ d. 1) (λ d f. (omega arith, refl)) (λ v fv.
+    step (λ x. ended_at x.0 x.1) (number_code w32 (2 ^ 32) wide32 is_frame_length) (λ d. length (body d)) (λ d f. (frame_length_small (length (body d)) f.0.0.short, f.0.0.short)) (λ len fl.
+    refit (ended_code len)
+    (λ d f. (((record { is_body = f.0; short = rw f.1 fl.1 }, sym (eqb-true _ _ fm.1)), sym (eqb-true _ _ fv.1)), f.1))
+    (λ d f. (f.0.0.0.is_body, f.1)))))
+
+-- ---- the laws
+
+value_ok : {A : Type 0} (m : Read A) (x : A) → value_of m ≡ Ok x → (y : A × Rest) × (m ≡ Ok y) × (y.0 ≡ x)
+value_ok (Ok y) x e = (y, refl, cc)
+value_ok (Err d) x e = absurd cc
+
+-- one item, and then the end
+abbrev pub ending : {A : Type 0} → (Rest → Read A) → Rest → Read A
+ending scan r = scan r >>= λ x. cond (x.1.place == r.limit) (Ok x) (Err (Fault x.1.place))
+
+pub whole_takes : {A : Type 0} {scan : Rest → Read A} {spell : A → List ℕ} {Fits : A → Type 0} → IsCode scan spell Fits → (bytes : List ℕ) (a : A) → IsBytes bytes
+    → value_of (ending scan (record { place = 0; limit = length bytes; ahead = bytes })) ≡ Ok a → Fits a × (bytes ≡ spell a)
+whole_takes {A} {scan} {spell} {Fits} code bytes a fits e =
+    let r : Rest = record { place = 0; limit = length bytes; ahead = bytes } in
+    let v = value_ok (ending scan r) a e in
+    let k : A × Rest → Read A = λ x. cond (x.1.place == r.limit) (Ok x) (Err (Fault x.1.place)) in
+    let b = bind_ok (scan r) k v.0 v.1 in
+    let g = rule_ok (b.0.1.place == r.limit) (Fault b.0.1.place) b.0 v.0 b.2 in
+    let t = code.takes r fits (omega arith) b.0.0 b.0.1 b.1 in
+    let here : b.0.1.place ≡ length bytes = eqb-true _ _ g.0 in
+    let size : length bytes ≡ length (spell b.0.0) + length b.0.1.ahead = ap length t.1.parts ∙ length-append (spell b.0.0) b.0.1.ahead in
+    let nothing : b.0.1.ahead ≡ [] = nil_from_length b.0.1.ahead (omega (arith, here, size, t.1.place)) in
+    let whole : bytes ≡ spell b.0.0 = t.1.parts ∙ ap (λ (x : List ℕ). spell b.0.0 ++ x) nothing ∙ append-nil (spell b.0.0) in
+    let same : b.0.0 ≡ a = ap (λ (x : A × Rest). x.0) g.1 ∙ v.2 in
+    subst (λ (x : A). Fits x × (bytes ≡ spell x)) same (t.0, whole)
+
+pub whole_again : {A : Type 0} {scan : Rest → Read A} {spell : A → List ℕ} {Fits : A → Type 0} → IsCode scan spell Fits → (a : A) → Fits a
+    → value_of (ending scan (record { place = 0; limit = length (spell a); ahead = spell a })) ≡ Ok a
+whole_again {A} {scan} {spell} {Fits} code a f =
+    let r : Rest = record { place = 0; limit = length (spell a); ahead = spell a } in
+    let r' : Rest = record { place = length (spell a); limit = length (spell a); ahead = [] } in
+    let one : scan r ≡ Ok (a, r') = code.again a f r r' (record { parts = sym (append-nil (spell a)); place = omega arith; limit = refl; within = omega arith }) in
+    rw (one, same_place (length (spell a))) refl
+
+pub frame_takes : (bytes : List ℕ) (d : Frame) → IsBytes bytes → frame_in bytes ≡ Ok d → IsDelta d × (bytes ≡ spelling d)
+unfolding frame_at
+frame_takes bytes d fits e = whole_takes framed_code bytes d fits e
+
+pub frame_again : (d : Frame) → IsDelta d → frame_in (spelling d) ≡ Ok d
+unfolding frame_at
+frame_again d f = whole_again framed_code d f
+
+pub record_takes : (front bytes : List ℕ) (kept : Record) → IsBytes bytes → record_in front bytes ≡ Ok kept → IsRecordUnder front kept × (bytes ≡ record_text kept)
+unfolding alone_at
+record_takes front bytes kept fits e = whole_takes (record_code (under front) start) bytes kept fits e
+
+pub record_again : (front : List ℕ) (kept : Record) → IsRecordUnder front kept → record_in front (record_text kept) ≡ Ok kept
+unfolding alone_at
+record_again front kept f = whole_again (record_code (under front) start) kept f
+
+-- the input's end is the frame's: nothing is cut
+pub frame_uncut : (bytes : List ℕ) → IsBytes bytes → Uncut (frame_at (record { place = 0; limit = length bytes; ahead = bytes }))
+unfolding frame_at
+frame_uncut bytes fits =
+    let r : Rest = record { place = 0; limit = length bytes; ahead = bytes } in
+    uncut_bind (framed_at r) _ (framed_code.uncut r fits (omega arith) (omega arith)) (λ x e there. uncut_if (x.1.place == r.limit) x.1.place _ there)
+
+-- no spelling begins another
+pub one_of : {A : Type 0} {scan : Rest → Read A} {spell : A → List ℕ} {Fits : A → Type 0} → IsCode scan spell Fits → (a b : A) (x y : List ℕ) → Fits a → Fits b → spell a ++ x ≡ spell b ++ y → (a ≡ b) × (x ≡ y)
+one_of {A} {scan} {spell} {Fits} code a b x y fa fb e =
+    let top : ℕ = length (spell a) + length (spell b) in
+    let r : Rest = record { place = 0; limit = top; ahead = spell a ++ x } in
+    let ra : Rest = record { place = length (spell a); limit = top; ahead = x } in
+    let rb : Rest = record { place = length (spell b); limit = top; ahead = y } in
+    let one : scan r ≡ Ok (a, ra) = code.again a fa r ra (record { parts = refl; place = omega arith; limit = refl; within = omega arith }) in
+    let two : scan r ≡ Ok (b, rb) = code.again b fb r rb (record { parts = e; place = omega arith; limit = refl; within = omega arith }) in
+    let same = ok_is (a, ra) (b, rb) (sym one ∙ two) in
+    (ap (λ (p : A × Rest). p.0) same, ap (λ (p : A × Rest). p.1.ahead) same)
+
+pub one_delta : (a b : Frame) (x y : List ℕ) → IsDelta a → IsDelta b → spelling a ++ x ≡ spelling b ++ y → (a ≡ b) × (x ≡ y)
+one_delta = one_of framed_code
+
+pub one_record : (front : List ℕ) (a b : Record) (x y : List ℕ) → IsRecordUnder front a → IsRecordUnder front b → record_text a ++ x ≡ record_text b ++ y → (a ≡ b) × (x ≡ y)
+one_record front = one_of (record_code (under front) start)

@@ -1,0 +1,99 @@
+-- how many bytes the spelling of each part has
+use Rattle.std.proofs.Common.{◌≡◌, ◌∙◌, ◌+◌, ◌*◌, ℕ, List, [], ◌∷◌, ◌++◌, Option, Some, None, arith, ap, length, refl, sym}
+use Rattle.std.proofs.lemmas.List.{length-append}
+use Rattle.std.proofs.lemmas.List.Sums.{sum_by-cons}
+use Rattle.std.proofs.lemmas.Grind.{flat_map-append}
+use Rattle.std.specs.List.{flat_map, sum_by}
+use Rattle.lra_forest.specs.declared.record.Member.{Member}
+use Rattle.lra_forest.specs.declared.record.Member.TheVariants.{Nested, Participant, Left}
+use Rattle.lra_forest.specs.declared.record.Participant.{Participant as ParticipantRecord}
+use Rattle.lra_forest.specs.declared.record.Place.{Place}
+use Rattle.lra_forest.specs.declared.record.Record.{Record}
+use Rattle.lra_delta.specs.Frames.{Frame}
+use Rattle.lra_delta.specs.Sizes.{frame_size, link_size, links_size, live_size, member_size, place_size, record_size}
+use Rattle.lra_delta.specs.Spelling.{body, byte, counted, decision_mark, flat, link_text, live, live_list, member, members, number, parent, participant, place, record_text, records, two_bytes, vector}
+use Rattle.lra_delta.proofs.RecordCodes.{length-vector}
+
+both : (a b : List ℕ) (m n : ℕ) → length a ≡ m → length b ≡ n → length (a ++ b) ≡ m + n
+both a b m n e f = omega (arith, length-append a b, e, f)
+
+byte_first : (n : ℕ) (rest : List ℕ) (m : ℕ) → length rest ≡ m → length (byte n ++ rest) ≡ 1 + m
+byte_first n rest m e = omega (arith, e)
+
+count_first : (n : ℕ) (rest : List ℕ) (m : ℕ) → length rest ≡ m → length (two_bytes n ++ rest) ≡ 2 + m
+count_first n rest m e = omega (arith, e)
+
+number_first : (n : ℕ) (rest : List ℕ) (m : ℕ) → length rest ≡ m → length (number n ++ rest) ≡ 8 + m
+number_first n rest m e = omega (arith, e)
+
+each : {X : Type 0} (f : X → List ℕ) (size : X → ℕ) → ((x : X) → length (f x) ≡ size x) → (xs : List X) → length (flat_map f xs) ≡ sum_by size xs
+each f size e [] = refl
+each f size e (x ∷ xs) = both (f x) (flat_map f xs) (size x) (sum_by size xs) (e x) (each f size e xs) ∙ sym (sum_by-cons size x xs)
+
+text_length : (text : List ℕ) → length (counted text) ≡ 1 + length text
+unfolding counted
+text_length text = omega arith
+
+link_length : (o : Option (List ℕ)) → length (counted (link_text o)) ≡ link_size o
+link_length None = text_length []
+link_length (Some text) = text_length text
+
+participant_length : (p : ParticipantRecord) → length (participant p) ≡ links_size p.links + 3
+unfolding participant
+participant_length p =
+    let complete = link_length p.links.complete in
+    let compensate = text_length p.links.compensate in
+    let status = link_length p.links.status in
+    let forget = link_length p.links.forget in
+    both _ _ _ _ complete (both _ _ _ _ compensate (both _ _ _ _ status (both _ _ _ _ forget refl))) ∙ omega arith
+
+member_length : (m : Member) → length (member m) ≡ member_size m
+unfolding member
+member_length (Nested num) = refl
+member_length (Participant p) = byte_first 1 (participant p) (links_size p.links + 3) (participant_length p) ∙ omega arith
+member_length Left = refl
+
+members_length : (ms : List Member) → length (members ms) ≡ 1 + sum_by member_size ms
+unfolding members
+members_length ms = byte_first (length ms) (flat_map member ms) (sum_by member_size ms) (each member member_size member_length ms)
+
+parent_length : (o : Option Place) → length (parent o) ≡ place_size o
+unfolding parent place
+parent_length None = refl
+parent_length (Some p) = refl
+
+record_length : (r : Record) → length (record_text r) ≡ record_size r
+unfolding record_text
+record_length r =
+    let marked : List ℕ = vector r.stamps ++ members r.members in
+    let decided : List ℕ = byte (decision_mark r.decision) ++ marked in
+    let timed : List ℕ = number r.deadline ++ decided in
+    let nested : List ℕ = parent r.parent ++ timed in
+    let last = both (vector r.stamps) (members r.members) _ _ (length-vector r.stamps) (members_length r.members) in
+    let after = number_first r.deadline decided _ (byte_first (decision_mark r.decision) marked _ last) in
+    let whole = byte_first r.home (number r.num ++ nested) _ (number_first r.num nested _ (both (parent r.parent) timed _ _ (parent_length r.parent) after)) in
+    whole ∙ omega arith
+
+live_length : (o : Option (List ℕ)) → length (live o) ≡ live_size o
+unfolding live live_list
+live_length None = refl
+live_length (Some ns) = byte_first 1 (two_bytes (length ns) ++ vector ns) _ (count_first (length ns) (vector ns) (8 * length ns) (length-vector ns)) ∙ omega arith
+
+homes_length : (homes : List (List Record)) → length (flat_map record_text (flat homes)) ≡ sum_by (λ rs. sum_by record_size rs) homes
+homes_length [] = refl
+homes_length (rs ∷ homes) =
+    ap (λ (l : List ℕ). length l) (flat_map-append record_text rs (flat homes))
+    ∙ both _ _ _ _ (each record_text record_size record_length rs) (homes_length homes)
+    ∙ sym (sum_by-cons (λ qs. sum_by record_size qs) rs homes)
+
+records_length : (homes : List (List Record)) → length (records (flat homes)) ≡ 2 + sum_by (λ rs. sum_by record_size rs) homes
+unfolding records
+records_length homes = count_first (length (flat homes)) _ _ (homes_length homes)
+
+pub length_body : (d : Frame) → length (body d) ≡ frame_size d
+unfolding body
+length_body d =
+    let lives = each live live_size live_length d.live in
+    let last = both (flat_map live d.live) (records (flat d.records)) _ _ lives (records_length d.records) in
+    let vectors = both (vector d.base) _ _ _ (length-vector d.base) (both (vector d.front) _ _ _ (length-vector d.front) (both (vector d.purges) _ _ _ (length-vector d.purges) last)) in
+    byte_first (length d.base) _ _ vectors ∙ omega arith

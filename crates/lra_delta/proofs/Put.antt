@@ -1,0 +1,43 @@
+-- what was put of the homes, one after another
+use Rattle.std.proofs.Common.{◌≡◌, ◌<◌, ◌+◌, ◌++◌, ◌∙◌, ℕ, List, [], ◌∷◌, refl, sym, ap, subst, append_assoc, get_or, length, take}
+use Rattle.std.specs.List.{All, AllByRecursion, flat_map}
+use Rattle.std.proofs.lemmas.List.Elements.{All-from_recursion, All-push, recursion_from_All}
+use Rattle.std.proofs.lemmas.List.{append-nil, take_more}
+use Rattle.std.proofs.lemmas.Grind.{flat_map-append}
+use Rattle.lra_forest.specs.declared.merging.Told.{Told}
+use Rattle.lra_forest.specs.Merging.{held_numbers}
+use Rattle.lra_delta.specs.Order.{lists, records_told}
+use Rattle.lra_delta.specs.Spelling.{flat, live, record_text}
+use Rattle.lra_delta.specs.Typed.{IsTypedRecord}
+
+pub lives_put : (homes : List Told) → flat_map (λ (told : Told). live (held_numbers told.held)) homes ≡ flat_map live (lists homes)
+lives_put [] = refl
+lives_put (told ∷ homes) = ap (λ (l : List ℕ). live (held_numbers told.held) ++ l) (lives_put homes)
+
+pub homes_put : (homes : List Told) → flat_map (λ (told : Told). flat_map record_text told.records.records) homes ≡ flat_map record_text (flat (records_told homes))
+homes_put [] = refl
+homes_put (told ∷ homes) =
+    ap (λ (l : List ℕ). flat_map record_text told.records.records ++ l) (homes_put homes)
+    ∙ sym (flat_map-append record_text told.records.records (flat (records_told homes)))
+
+-- what is typed of each home is of its records
+pub homes_typed : (homes : List Told) → All (λ (told : Told). All IsTypedRecord told.records.records) homes → All (All IsTypedRecord) (records_told homes)
+homes_typed homes all = All-from_recursion (All IsTypedRecord) (records_told homes) (each homes (recursion_from_All (λ (told : Told). All IsTypedRecord told.records.records) homes all))
+  where
+    each : (ts : List Told) → AllByRecursion (λ (told : Told). All IsTypedRecord told.records.records) ts → AllByRecursion (All IsTypedRecord) (records_told ts)
+    each [] f = tt
+    each (told ∷ ts) f = (f.0, each ts f.1)
+
+-- one element more
+pub all_next : {X : Type 0} (P : X → Type 0) (xs : List X) (i : ℕ) (x : X) → i < length xs → x ≡ get_or xs i x → All P (take i xs) → P x → All P (take (i + 1) xs)
+all_next P xs i x within at so_far here =
+    subst (All P) (ap (λ y. take i xs ++ y ∷ []) at ∙ sym (take_more xs i x within)) (All-push P (take i xs) x so_far here)
+
+-- and its text
+pub text_next : {X : Type 0} (f : X → List ℕ) (xs : List X) (i : ℕ) (x : X) (old before after : List ℕ) → i < length xs → x ≡ get_or xs i x → before ≡ old ++ flat_map f (take i xs) → after ≡ before ++ f x
+    → after ≡ old ++ flat_map f (take (i + 1) xs)
+text_next f xs i x old before after within at so_far here =
+    let more : take (i + 1) xs ≡ take i xs ++ x ∷ [] = take_more xs i x within ∙ sym (ap (λ y. take i xs ++ y ∷ []) at) in
+    let text : flat_map f (take (i + 1) xs) ≡ flat_map f (take i xs) ++ f x =
+    ap (flat_map f) more ∙ flat_map-append f (take i xs) (x ∷ []) ∙ ap (λ l. flat_map f (take i xs) ++ l) (append-nil (f x)) in
+    here ∙ ap (λ l. l ++ f x) so_far ∙ append_assoc old (flat_map f (take i xs)) (f x) ∙ sym (ap (λ l. old ++ l) text)

@@ -1,0 +1,5 @@
+use Rattle.lra_delta.proofs.Spelled.{is_delta}
+use Rattle.lra_delta.proofs.frame_spelling.encode.Goals as goal
+
+pub returns-clause-frame : goal.returns-clause-frame
+returns-clause-frame c = is_delta c.args.delta.now c.put_frame.ensures.typed

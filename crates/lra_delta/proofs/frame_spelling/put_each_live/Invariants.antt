@@ -1,0 +1,12 @@
+use Rattle.std.proofs.Common.{◌≡◌, ◌++◌, take}
+use Rattle.std.specs.List.{flat_map}
+use Rattle.lra_forest.specs.declared.merging.Told.{Told}
+use Rattle.lra_forest.specs.Merging.{held_numbers}
+use Rattle.lra_delta.specs.Spelling.{live}
+use Rattle.lra_delta.proofs.frame_spelling.put_each_live.Given as goal
+
+abbrev pub invariant-loop-told : goal.invariant-loop-told
+invariant-loop-told g l = record {
+  same : g.O.Output.start l.out ≡ g.O.Output.start l.fn.out;
+  text : g.O.Output.text l.out ≡ g.O.Output.text l.fn.out ++ flat_map (λ (told : Told). live (held_numbers told.held)) (take l.told-index l.homes);
+}

@@ -1,0 +1,12 @@
+use Rattle.std.proofs.Common.{◌≡◌, ◌++◌, take}
+use Rattle.std.specs.List.{All, flat_map}
+use Rattle.lra_delta.specs.Spelling.{member}
+use Rattle.lra_delta.specs.Typed.{HasLinks}
+use Rattle.lra_delta.proofs.record_spelling.put_each_member.Given as goal
+
+abbrev pub invariant-loop-m : goal.invariant-loop-m
+invariant-loop-m g l = record {
+  same : g.O.Output.start l.out ≡ g.O.Output.start l.fn.out;
+  text : g.O.Output.text l.out ≡ g.O.Output.text l.fn.out ++ flat_map member (take l.m-index l.ms);
+  links : All HasLinks (take l.m-index l.ms);
+}

@@ -1,0 +1,10 @@
+use Rattle.std.proofs.Common.{◌≡◌, ◌++◌, take}
+use Rattle.std.specs.List.{flat_map}
+use Rattle.lra_delta.specs.Spelling.{number}
+use Rattle.lra_delta.proofs.record_spelling.put_numbers.Given as goal
+
+abbrev pub invariant-loop-n : goal.invariant-loop-n
+invariant-loop-n g l = record {
+  same : g.O.Output.start l.out ≡ g.O.Output.start l.fn.out;
+  text : g.O.Output.text l.out ≡ g.O.Output.text l.fn.out ++ flat_map number (take l.n-index l.ns);
+}

@@ -1,0 +1,16 @@
+pub mod Answer
+pub mod Fields
+pub mod Frames
+pub mod Grammar
+pub mod Logs
+pub mod OneRecord
+pub mod Order
+pub mod Reading
+pub mod Rules
+pub mod Seen
+pub mod Sending
+pub mod Sizes
+pub mod Spelling
+pub mod Taking
+pub mod Typed
+pub mod Written

@@ -1,0 +1,36 @@
+-- One record alone, as a journal keeps it: under a front, with base zero and no live list.
+use Rattle.std.specs.Prelude.{◌≤◌, ◌<◌, ◌^◌, ◌==◌, ℕ, List, [], None, Result, Ok, Err, if◌then◌else◌, length, replicate}
+use Rattle.lra_id.specs.Fronts.{count}
+use Rattle.lra_forest.specs.declared.record.Record.{Record}
+use Rattle.lra_delta.specs.declared.input.Stop.{Stop}
+use Rattle.lra_delta.specs.declared.input.Stop.TheVariants.{Fault}
+use Rattle.lra_delta.specs.Fields.{Rest, Read, ◌>>=◌, value_of}
+use Rattle.lra_delta.specs.Grammar.{FitsIn}
+use Rattle.lra_delta.specs.Rules.{Context, IsRecord, start, told_context}
+use Rattle.lra_delta.specs.Reading.{record_at}
+
+abbrev pub under : (front : List ℕ) → Context
+under front = told_context (replicate (length front) 0) front []
+
+-- The record fits under this front, of at most 8 nodes and with numbers of 48 bits: it is of one of the nodes, and would fit in
+-- a frame with base zero
+pub record FitsUnder (front : List ℕ) (kept : Record) : Type 0 where
+  pub few : length front ≤ 8
+  pub small : (node : ℕ) → count front node < 2 ^ 48
+  pub some : 1 ≤ kept.home
+  pub high : kept.home ≤ length front
+  pub fits : FitsIn (replicate (length front) 0) front None kept
+
+-- what has a spelling as one record
+abbrev pub IsRecordUnder : (front : List ℕ) → Record → Type 0
+IsRecordUnder front kept = IsRecord (under front) start kept
+
+-- a record, and then the end
+unfoldable pub alone_at : (front : List ℕ) → Rest → Read Record
+alone_at front r = do
+  kept ← record_at (under front) start r
+  if kept.1.place == r.limit then Ok kept else Err (Fault kept.1.place)
+
+-- all of the bytes
+abbrev pub record_in : (front bytes : List ℕ) → Result Record Stop
+record_in front bytes = value_of (alone_at front (record { place = 0; limit = length bytes; ahead = bytes }))

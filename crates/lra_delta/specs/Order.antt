@@ -1,0 +1,36 @@
+-- when records come in the order of a frame
+use Rattle.std.specs.Prelude.{◌≡◌, ◌+◌, ℕ, [], true, List, Option, map, slice_index}
+use Rattle.lra_forest.specs.declared.record.Record.{Record}
+use Rattle.lra_forest.specs.declared.merging.Told.{Told}
+use Rattle.lra_forest.specs.Merging.{held_numbers}
+use Rattle.lra_replica.specs.Merging.{AreToldFrom}
+use Rattle.lra_delta.specs.declared.order.Last.{Last}
+use Rattle.lra_delta.specs.Fields.{Along, Rest, Read}
+use Rattle.lra_delta.specs.Rules.{after, by_home, is_home, is_next}
+use Rattle.lra_delta.specs.Reading.{live_at}
+
+abbrev pub Follows : ℕ → Last → Record → Type 0
+Follows nodes last r = (is_home nodes last.home r.home ≡ true) × (is_next last r.home r.num ≡ true)
+
+abbrev pub AreInOrder : ℕ → Last → List Record → Type 0
+AreInOrder nodes last rs = Along (Follows nodes) after last rs
+
+-- what is told of each home
+
+abbrev pub lists : List Told → List (Option (List ℕ))
+lists homes = map (λ (told : Told). held_numbers told.held) homes
+
+abbrev pub records_told : List Told → List (List Record)
+records_told homes = map (λ (told : Told). told.records.records) homes
+
+-- the home at a place, counted from 0
+abbrev pub live_of_place : (base purges front : List ℕ) → ℕ → Rest → Read (Option (List ℕ))
+live_of_place base purges front place = live_at (slice_index base place) (slice_index purges place) (slice_index front place)
+
+abbrev pub next_place : ℕ → Option (List ℕ) → ℕ
+next_place place live = place + 1
+
+-- of each home from 1 to so many no record
+pub record AreEmpty (nodes : ℕ) (homes : List Told) : Type 0 where
+  pub numbered : AreToldFrom 1 homes
+  pub none : records_told homes ≡ by_home nodes []

@@ -1,0 +1,90 @@
+-- what is known of an input, and what a reading of it says
+use Rattle.std.specs.Prelude.{◌≡◌, ◌+◌, ◌<◌, ◌≤◌, ℕ, min, List, ◌++◌, length, take, drop, Option, None, Some, Result, Ok, Err, IfOk, IfErr}
+use Rattle.std.specs.Borrow.{GName}
+use Rattle.lra_http.specs.Streams.{HasCause, most_interrupted}
+use Rattle.lra_delta.specs.declared.input.Stop.{Stop}
+use Rattle.lra_delta.specs.declared.input.Stop.TheVariants.{Fault, Cut, ReadFault, Memory}
+use Rattle.lra_delta.specs.Fields.{Rest, Read, Gives, value_of}
+
+-- how a source stands: the bytes that are left, where they are known, its failed and interrupted calls, and the count of interrupted calls of the message
+pub record Standing : Type 0 where
+  pub left : Option (List ℕ)
+  pub failed : ℕ
+  pub interrupted : ℕ
+  pub counted : ℕ
+
+-- how the source stood, how many bytes the frame may take of it, and which source it is
+pub record Start : Type 0 where
+  pub standing : Standing
+  pub bytes : ℕ
+  pub source : GName
+
+-- the start, how the source stands now, what was taken of it since, and where the frame has to end
+pub record Seen : Type 0 where
+  pub first : Start
+  pub now : Standing
+  pub taken : List ℕ
+  pub limit : ℕ
+
+-- these bytes begin the whole
+unfoldable pub Begins : List ℕ → List ℕ → Type 0
+Begins front whole = (more : List ℕ) × (whole ≡ front ++ more)
+
+-- what is left of the whole, by what was taken of it
+abbrev pub rest_in : List ℕ → Seen → Rest
+rest_in whole s = record { place = length s.taken; limit = s.limit; ahead = drop (length s.taken) whole }
+
+-- After a stop the whole may go on behind what was taken, unless the input gave no more.
+abbrev pub MayBe : Stop → Seen → List ℕ → Type 0
+MayBe (Fault place) s whole = Begins s.taken whole
+MayBe Cut s whole = whole ≡ s.taken
+MayBe ReadFault s whole = whole ≡ s.taken
+MayBe Memory s whole = Begins s.taken whole
+
+-- the whole, as far as a result tells
+abbrev pub Whole : {X : Type 0} → Result X Stop → Seen → List ℕ → Type 0
+Whole (Ok x) s whole = Begins s.taken whole
+Whole (Err e) s whole = MayBe e s whole
+
+-- the known bytes are these, all of them
+abbrev pub IsAll : Option (List ℕ) → List ℕ → Type 0
+IsAll None bytes = Unit {0}
+IsAll (Some xs) bytes = xs ≡ bytes
+
+-- no field has more bytes
+abbrev pub widest : ℕ
+widest = 128
+
+-- What a stop has as its cause. A fault comes before any byte behind its field is taken.
+abbrev pub HasReason : Stop → Seen → Type 0
+HasReason (Fault place) s = (place ≤ length s.taken) × (length s.taken ≤ place + widest)
+HasReason Cut s = (length s.taken < s.limit) × IsAll s.first.standing.left s.taken
+HasReason ReadFault s = HasCause s.first.standing.failed s.now.failed s.now.counted
+HasReason Memory s = Unit {0}
+
+abbrev pub Reads : {X Y : Type 0} → Seen → Seen → (X → Y) → Result X Stop → (Rest → Read Y) → Type 0
+Reads old new view result scan =
+    (new.first ≡ old.first)
+    × IfErr result (λ e. HasReason e new)
+    × ((whole : List ℕ) → Whole result new whole → Begins old.taken whole × Gives (λ x. (view x, rest_in whole new)) result (scan (rest_in whole old)))
+    × (old.now.counted < most_interrupted → IfOk result (λ _. new.now.counted < most_interrupted))
+
+-- the same without what is left
+abbrev pub Answers : {X Y : Type 0} → Seen → Seen → (X → Y) → Result X Stop → (Rest → Read Y) → Type 0
+Answers old new view result scan =
+    (new.first ≡ old.first)
+    × IfErr result (λ e. HasReason e new)
+    × ((whole : List ℕ) → Whole result new whole → Begins old.taken whole × Gives view result (value_of (scan (rest_in whole old))))
+    × (old.now.counted < most_interrupted → IfOk result (λ _. new.now.counted < most_interrupted))
+
+-- the frame ends after so many bytes more at the latest
+abbrev pub within : ℕ → Seen → Seen
+within len s = record { first = s.first; now = s.now; taken = s.taken; limit = min s.limit (length s.taken + len) }
+
+-- a source that tells its bytes
+abbrev pub telling : List ℕ → Standing
+telling bytes = record { left = Some bytes; failed = 0; interrupted = 0; counted = 0 }
+
+-- a slice, read up to a place
+abbrev pub of_slice : List ℕ → ℕ → ℕ → Seen
+of_slice bytes place limit = record { first = record { standing = telling bytes; bytes = length bytes; source = 0 }; now = telling (drop place bytes); taken = take place bytes; limit = limit }

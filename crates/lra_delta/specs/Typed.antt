@@ -1,0 +1,32 @@
+-- What the types of a delta say of its numbers and links, which are plain lists here.
+use Rattle.std.specs.Prelude.{◌≤◌, ◌<◌, ◌^◌, Some, length}
+use Rattle.std.specs.List.{All}
+use Rattle.lra_facts.specs.declared.links.Links.{Links}
+use Rattle.lra_forest.specs.declared.record.Member.{Member}
+use Rattle.lra_forest.specs.declared.record.Member.TheVariants.{Nested, Participant, Left}
+use Rattle.lra_forest.specs.declared.record.Record.{Record}
+use Rattle.lra_delta.specs.Frames.{Frame}
+use Rattle.lra_delta.specs.Rules.{IsLink}
+
+-- each link that is given is kept as it is
+pub record AreLinks (links : Links) : Type 0 where
+  pub complete : IsLink links.complete
+  pub compensate : IsLink (Some links.compensate)
+  pub status : IsLink links.status
+  pub forget : IsLink links.forget
+
+abbrev pub HasLinks : Member → Type 0
+HasLinks (Nested num) = Unit {0}
+HasLinks (Participant p) = AreLinks p.links
+HasLinks Left = Unit {0}
+
+-- a deadline of 64 bits, and links
+pub record IsTypedRecord (r : Record) : Type 0 where
+  pub deadline : r.deadline < 2 ^ 64
+  pub links : All HasLinks r.members
+
+-- 1 to 8 nodes
+pub record IsTyped (frame : Frame) : Type 0 where
+  pub some : 1 ≤ length frame.front
+  pub few : length frame.front ≤ 8
+  pub records : All (All IsTypedRecord) frame.records

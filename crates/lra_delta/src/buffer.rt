@@ -1,0 +1,56 @@
+// A byte vector as an output.
+ghost use Rattle.std.specs.Prelude.{◌≡◌, [], false, IfOk};
+ghost use Rattle.lra_delta.specs.Written.{no_sink};
+
+use crate::log::Log;
+use crate::output::Output;
+use std::alloc::{AllocError, Global};
+
+/// A byte vector, until memory runs out.
+#[derive(Drop)]
+pub struct Buffer {
+    bytes: Vec<u8>,
+    text: Log,
+    full: bool,
+    ghost whole: { full ≡ false → bytes.items ≡ text },
+}
+
+impl Buffer {
+    /// Nothing was put yet.
+    pub fn new(alloc: Global) -> Buffer
+        ensures { ⟦<Buffer as Output>⟧.text result ≡ [] }
+    {
+        Buffer {
+            bytes: Vec::new(alloc),
+            text: Log::new(),
+            full: false,
+        }
+    }
+
+    /// All that was put, if memory was there for it.
+    pub fn into_bytes(self) -> Result<Vec<u8>, AllocError>
+        ensures { IfOk result (λ bytes. bytes.items ≡ ⟦<Buffer as Output>⟧.text self) }
+    {
+        if self.full {
+            return Err(AllocError);
+        }
+        Ok(self.bytes)
+    }
+}
+
+impl Output for Buffer {
+    ghost text = { λ s. s.text };
+
+    ghost start = { λ _. no_sink };
+
+    fn put(&mut self, bytes: &[u8]) {
+        self.text.extend(bytes);
+        if self.full {
+            return;
+        }
+        match self.bytes.extend_from_slice(bytes) {
+            Ok(_) => {}
+            Err(_) => self.full = true,
+        }
+    }
+}

@@ -1,0 +1,42 @@
+// Frames out of bytes.
+ghost use Rattle.std.specs.Prelude.{◌≡◌, ◌++◌, ℕ, List, Ok, IfOk};
+ghost use Rattle.lra_delta.specs.Answer.{Decodes};
+ghost use Rattle.lra_delta.specs.Frames.{Frame};
+ghost use Rattle.lra_delta.specs.Reading.{frame_in};
+ghost use Rattle.lra_delta.specs.Rules.{IsDelta};
+ghost use Rattle.lra_delta.specs.Spelling.{spelling};
+
+use crate::Delta;
+use crate::bytes::Bytes;
+use crate::frame_fields::frame_of;
+use crate::input::Stop;
+use lra_facts::Refusal;
+use std::alloc::Global;
+
+/// What all of the bytes spell.
+fn decoded(alloc: Global, bytes: &[u8]) -> Result<Delta, Refusal>
+    ensures { Decodes result (frame_in bytes.now) }
+{
+    let mut input = Bytes::new(bytes);
+    match frame_of(alloc, &mut input) {
+        Ok(delta) => Ok(delta),
+        Err(Stop::Fault(place)) => Err(Refusal::BadFrame(place)),
+        Err(Stop::Cut) => unreachable!(),
+        Err(Stop::ReadFault) => unreachable!(),
+        Err(Stop::Memory) => Err(Refusal::NoMemory),
+    }
+}
+
+impl Delta {
+    /// What all of the bytes spell. E16 at the place of the first field that isn't whole or breaks its rule.
+    pub fn decode(alloc: Global, bytes: &[u8]) -> Result<Delta, Refusal>
+        // Which place it is.
+        ensures exact { Decodes result (frame_in bytes.now) }
+        // What is read keeps the rules, and is spelled so.
+        ensures found { IfOk result (λ delta. IsDelta delta × (bytes.now ≡ spelling delta)) }
+        // What is spelled so is read, unless memory runs out.
+        ensures only { (frame : Frame) → IsDelta frame → bytes.now ≡ spelling frame → Decodes result (Ok frame) }
+    {
+        decoded(alloc, bytes)
+    }
+}

@@ -1,0 +1,411 @@
+// The fields of a frame before and after its records.
+ghost use Rattle.std.specs.Prelude.{[], ◌≡◌, ◌++◌, ◌∷◌, ◌+◌, ◌-◌, ◌*◌, ◌≤◌, ◌<◌, ◌==◌, ℕ, List, Option, length, map, replicate, slice_index, slice_set, true, IfOk, OnOk};
+ghost use Rattle.std.specs.Int.{w8, w16, w32, w64};
+ghost use Rattle.lra_forest.specs.Merging.{held_numbers};
+ghost use Rattle.lra_forest.specs.declared.merging.Told.{Told};
+ghost use Rattle.std.specs.List.{AllByRecursion};
+ghost use Rattle.lra_replica.specs.Merging.{AreToldFrom};
+ghost use Rattle.lra_replica.specs.Views.{records_at as records_of_home};
+ghost use Rattle.lra_delta.specs.Seen.{Answers, Reads};
+ghost use Rattle.lra_delta.specs.Fields.{each_at, number_at, vector_at};
+ghost use Rattle.lra_delta.specs.Rules.{are_counts, at_most, by_home, is_frame_length, is_front, is_live_number, is_node_count, start, told_context};
+ghost use Rattle.lra_delta.specs.Rules.{after as after_lem};
+ghost use Rattle.lra_delta.specs.Reading.{body_at, frame_at, live_at, live_list_at, record_at, records_at};
+ghost use Rattle.lra_delta.specs.Spelling.{magic};
+ghost use Rattle.lra_delta.specs.Order.{AreEmpty, AreInOrder, lists, live_of_place, next_place, records_told};
+
+use crate::Delta;
+use crate::fields::{byte, four_bytes, number, two_bytes};
+use crate::input::{Input, Stop};
+use crate::order::Last;
+use crate::record_fields::{at_most, many_of, record_of};
+use lra_forest::{Forest, Record, Told};
+use lra_id::{Front, NodeId};
+use std::alloc::{AllocError, Global};
+
+// ---- vectors
+
+/// Whether each number is one that counts facts: of 48 bits.
+fn are_counts(ns: &[u64]) -> bool
+    ensures { result ≡ are_counts ns.now }
+{
+    ns.iter().all(|n| *n <= 281_474_976_710_655)
+}
+
+/// What the taker has to have.
+#[tactic(auto, unfolding(crate::specs::Fields::vector_at))]
+fn base_of<I: Input>(alloc: Global, nodes: u8, input: &mut I) -> Result<Front, Stop>
+    requires some { 1 ≤ nodes }
+    requires few { nodes ≤ 8 }
+    ensures gives { Reads (I.seen input.old) (I.seen input.new) (λ x. x) result (vector_at nodes are_counts) }
+    ensures nodes { IfOk result (λ x. length x ≡ nodes) }
+{
+    let place = input.place();
+    let counts = many_of(alloc, nodes, input)?;
+    if !are_counts(&counts) {
+        return Err(Stop::Fault(place));
+    }
+    Ok(Front::from_counts(&counts))
+}
+
+/// How many facts the sender has: none fewer than the base.
+#[tactic(auto, unfolding(crate::specs::Fields::vector_at))]
+fn front_of<I: Input>(alloc: Global, nodes: u8, base: &Front, input: &mut I) -> Result<Front, Stop>
+    requires some { 1 ≤ nodes }
+    requires few { nodes ≤ 8 }
+    ensures gives { Reads (I.seen input.old) (I.seen input.new) (λ x. x) result (vector_at nodes (is_front base.now)) }
+    ensures nodes { IfOk result (λ x. length x ≡ nodes) }
+{
+    let place = input.place();
+    let counts = many_of(alloc, nodes, input)?;
+    if !(are_counts(&counts) && at_most(&counts, base.as_slice())) {
+        return Err(Stop::Fault(place));
+    }
+    Ok(Front::from_counts(&counts))
+}
+
+/// The number of each home's last purge: within the front.
+#[tactic(auto, unfolding(crate::specs::Fields::vector_at))]
+fn purges_of<I: Input>(
+    alloc: Global,
+    nodes: u8,
+    front: &Front,
+    input: &mut I,
+) -> Result<Front, Stop>
+    requires some { 1 ≤ nodes }
+    requires few { nodes ≤ 8 }
+    ensures gives { Reads (I.seen input.old) (I.seen input.new) (λ x. x) result (vector_at nodes (at_most front.now)) }
+    ensures nodes { IfOk result (λ x. length x ≡ nodes) }
+{
+    let place = input.place();
+    let counts = many_of(alloc, nodes, input)?;
+    if !at_most(front.as_slice(), &counts) {
+        return Err(Stop::Fault(place));
+    }
+    Ok(Front::from_counts(&counts))
+}
+
+// ---- live lists
+
+/// The number of an LRA that is held, above the last one.
+fn live_number_of<I: Input>(top: u64, last: u64, input: &mut I) -> Result<u64, Stop>
+    ensures { Reads (I.seen input.old) (I.seen input.new) (λ x. x) result (number_at w64 (is_live_number top last)) }
+{
+    let place = input.place();
+    let num = number(input)?;
+    if !(last < num && num <= top) {
+        return Err(Stop::Fault(place));
+    }
+    Ok(num)
+}
+
+/// So many numbers of LRAs that are held.
+fn each_live_number<I: Input>(
+    alloc: Global,
+    top: u64,
+    count: u16,
+    input: &mut I,
+) -> Result<Vec<u64>, Stop>
+    ensures { Reads (I.seen input.old) (I.seen input.new) (λ x. x.items) result (each_at (λ last. number_at w64 (is_live_number top last)) (λ (last n : ℕ). n) count 0) }
+{
+    let mut list = Vec::new(alloc);
+    let mut last = 0;
+    'numbers: for _ in 0..count {
+        let num = live_number_of(top, last, input)?;
+        last = num;
+        list.push(num)?;
+    }
+    Ok(list)
+}
+
+/// A count, and as many numbers.
+#[tactic(auto, unfolding(crate::specs::Reading::live_list_at))]
+fn live_list_of<I: Input>(alloc: Global, top: u64, input: &mut I) -> Result<Vec<u64>, Stop>
+    ensures { Reads (I.seen input.old) (I.seen input.new) (λ x. x.items) result (live_list_at top) }
+{
+    let place = input.place();
+    let count = two_bytes(input)?;
+    if !(count <= 256) {
+        return Err(Stop::Fault(place));
+    }
+    each_live_number(alloc, top, count, input)
+}
+
+/// The live list of a home, which is there where its last purge is beyond the base.
+#[tactic(auto, unfolding(crate::specs::Reading::live_at, crate::specs::Reading::live_by))]
+fn live_of<I: Input>(
+    alloc: Global,
+    base: u64,
+    purge: u64,
+    top: u64,
+    input: &mut I,
+) -> Result<Option<Vec<u64>>, Stop>
+    ensures { Reads (I.seen input.old) (I.seen input.new) held_numbers result (live_at base purge top) }
+{
+    let place = input.place();
+    let mark = byte(input)?;
+    let wanted = if base < purge { 1 } else { 0 };
+    if !(mark == wanted) {
+        return Err(Stop::Fault(place));
+    }
+    if mark == 0 {
+        return Ok(None);
+    }
+    Ok(Some(live_list_of(alloc, top, input)?))
+}
+
+/// The home at a place, counted from 0.
+fn home_at(place: u8) -> NodeId
+    requires { place < 8 }
+    ensures { result ≡ place + 1 }
+{
+    match NodeId::new(place + 1) {
+        Ok(home) => home,
+        Err(_) => unreachable!(),
+    }
+}
+
+/// The live list of a home, with no record yet.
+fn told_of<I: Input>(
+    alloc: Global,
+    place: u8,
+    base: &Front,
+    purges: &Front,
+    front: &Front,
+    input: &mut I,
+) -> Result<Told, Stop>
+    requires { place < 8 }
+    ensures gives { Reads (I.seen input.old) (I.seen input.new) (λ (told : Told). held_numbers told.held) result (live_at (slice_index base.now place) (slice_index purges.now place) (slice_index front.now place)) }
+    ensures home { IfOk result (λ told. (told.records.home ≡ place + 1) × (told.records.records ≡ [])) }
+{
+    let home = home_at(place);
+    let (base, purge, top) = (base.count(home), purges.count(home), front.count(home));
+    let held = live_of(alloc, base, purge, top, input)?;
+    Ok(Told {
+        records: Forest::new(alloc, home),
+        held,
+    })
+}
+
+/// The live lists of so many homes.
+fn each_home<I: Input>(
+    alloc: Global,
+    nodes: u8,
+    base: &Front,
+    purges: &Front,
+    front: &Front,
+    input: &mut I,
+) -> Result<Vec<Told>, Stop>
+    requires { nodes ≤ 8 }
+    ensures gives { Reads (I.seen input.old) (I.seen input.new) (λ x. lists x.items) result (each_at (live_of_place base.now purges.now front.now) next_place nodes 0) }
+    ensures empty { IfOk result (λ x. AreEmpty nodes x.items) }
+{
+    let mut list = Vec::new(alloc);
+    'homes: for place in 0..nodes {
+        let told = told_of(alloc, place, base, purges, front, input)?;
+        list.push(told)?;
+    }
+    Ok(list)
+}
+
+// ---- records
+
+/// How far the records were read, with this one.
+fn after(last: Last, r: &Record) -> Last
+    requires { last.count < 65535 }
+    ensures { result ≡ after_lem last r.now }
+{
+    let count = if last.home == r.home.number() {
+        last.count + 1
+    } else {
+        1
+    };
+    Last {
+        home: r.home.number(),
+        num: r.num,
+        count,
+    }
+}
+
+/// So many records, in order.
+fn each_record<I: Input>(
+    alloc: Global,
+    base: &Front,
+    front: &Front,
+    homes: &[Told],
+    count: u16,
+    input: &mut I,
+) -> Result<Vec<Record>, Stop>
+    ensures gives { Reads (I.seen input.old) (I.seen input.new) (λ x. x.items) result (each_at (record_at (told_context base.now front.now homes.now)) after_lem count start) }
+    ensures order { IfOk result (λ x. AreInOrder (length front.now) start x.items) }
+{
+    let mut list = Vec::new(alloc);
+    let mut last = Last {
+        home: 0,
+        num: 0,
+        count: 0,
+    };
+    'records: for _ in 0..count {
+        let kept = record_of(alloc, base, front, homes, last, input)?;
+        last = after(last, &kept);
+        list.push(kept)?;
+    }
+    Ok(list)
+}
+
+/// A count, and as many records.
+#[tactic(auto, unfolding(crate::specs::Reading::records_at))]
+fn records_of<I: Input>(
+    alloc: Global,
+    base: &Front,
+    front: &Front,
+    homes: &[Told],
+    input: &mut I,
+) -> Result<Vec<Record>, Stop>
+    ensures gives { Reads (I.seen input.old) (I.seen input.new) (λ x. x.items) result (records_at (told_context base.now front.now homes.now)) }
+    ensures order { IfOk result (λ x. AreInOrder (length front.now) start x.items) }
+{
+    let place = input.place();
+    let count = two_bytes(input)?;
+    if !(count as usize <= 256 * front.nodes()) {
+        return Err(Stop::Fault(place));
+    }
+    each_record(alloc, base, front, homes, count, input)
+}
+
+/// Puts a record behind those of its home.
+fn put_last(told: &mut Told, kept: Record) -> Result<(), AllocError>
+    requires home { kept.home ≡ told.old.records.home }
+    requires last { AllByRecursion (λ q. q.num < kept.num) told.old.records.records }
+    ensures home { OnOk result (told.new.records.home ≡ told.old.records.home) }
+    ensures held { OnOk result (told.new.held ≡ told.old.held) }
+    ensures records { OnOk result (told.new.records.records ≡ told.old.records.records ++ kept ∷ []) }
+{
+    told.records.reserve(1)?;
+    told.records.put(kept);
+    Ok(())
+}
+
+/// Puts a record behind those of its home.
+fn put_home(homes: &mut Vec<Told>, kept: Record) -> Result<(), AllocError>
+    requires there { kept.home ≤ length homes.old.items }
+    requires told { AreToldFrom 1 homes.old.items }
+    requires last { AllByRecursion (λ q. q.num < kept.num) (records_of_home (records_told homes.old.items) kept.home) }
+    ensures told { OnOk result (AreToldFrom 1 homes.new.items) }
+    ensures held { OnOk result (lists homes.new.items ≡ lists homes.old.items) }
+    ensures records { OnOk result (records_told homes.new.items ≡ slice_set (records_told homes.old.items) (kept.home - 1) (records_of_home (records_told homes.old.items) kept.home ++ kept ∷ [])) }
+{
+    let place = usize::from(kept.home.number()) - 1;
+    put_last(&mut homes[place], kept)
+}
+
+/// Puts records, in their order, at their homes.
+fn put_all(homes: &mut Vec<Told>, records: Vec<Record>) -> Result<(), AllocError>
+    requires empty { AreEmpty (length homes.old.items) homes.old.items }
+    requires order { AreInOrder (length homes.old.items) start records.items }
+    ensures told { OnOk result (AreToldFrom 1 homes.new.items) }
+    ensures held { OnOk result (lists homes.new.items ≡ lists homes.old.items) }
+    ensures records { OnOk result (records_told homes.new.items ≡ by_home (length homes.old.items) records.items) }
+{
+    for kept in records {
+        put_home(homes, kept)?;
+    }
+    Ok(())
+}
+
+// ---- the frame
+
+/// How many nodes there are.
+fn nodes_of<I: Input>(input: &mut I) -> Result<u8, Stop>
+    ensures gives { Reads (I.seen input.old) (I.seen input.new) (λ x. x) result (number_at w8 is_node_count) }
+    ensures some { IfOk result (λ x. 1 ≤ x) }
+    ensures few { IfOk result (λ x. x ≤ 8) }
+{
+    let place = input.place();
+    let nodes = byte(input)?;
+    if !(1 <= nodes && nodes <= 8) {
+        return Err(Stop::Fault(place));
+    }
+    Ok(nodes)
+}
+
+/// All that stands after the length.
+#[tactic(auto, unfolding(crate::specs::Reading::body_at))]
+fn body_of<I: Input>(alloc: Global, input: &mut I) -> Result<Delta, Stop>
+    ensures { Reads (I.seen input.old) (I.seen input.new) (λ x. x) result body_at }
+{
+    let nodes = nodes_of(input)?;
+    let base = base_of(alloc, nodes, input)?;
+    let front = front_of(alloc, nodes, &base, input)?;
+    let purges = purges_of(alloc, nodes, &front, input)?;
+    let mut homes = each_home(alloc, nodes, &base, &purges, &front, input)?;
+    let records = records_of(alloc, &base, &front, &homes, input)?;
+    put_all(&mut homes, records)?;
+    Ok(Delta::new(base, front, purges, homes))
+}
+
+/// The letters LRAD.
+fn magic_of<I: Input>(input: &mut I) -> Result<u32, Stop>
+    ensures { Reads (I.seen input.old) (I.seen input.new) (λ x. x) result (number_at w32 (λ n. n == magic)) }
+{
+    let place = input.place();
+    let letters = four_bytes(input)?;
+    if !(letters == 0x4c52_4144) {
+        return Err(Stop::Fault(place));
+    }
+    Ok(letters)
+}
+
+/// The version, 1.
+fn version_of<I: Input>(input: &mut I) -> Result<u8, Stop>
+    ensures { Reads (I.seen input.old) (I.seen input.new) (λ x. x) result (number_at w8 (λ n. n == 1)) }
+{
+    let place = input.place();
+    let version = byte(input)?;
+    if !(version == 1) {
+        return Err(Stop::Fault(place));
+    }
+    Ok(version)
+}
+
+/// How many bytes come after it.
+fn length_of<I: Input>(input: &mut I) -> Result<u32, Stop>
+    ensures { Reads (I.seen input.old) (I.seen input.new) (λ x. x) result (number_at w32 is_frame_length) }
+{
+    let place = input.place();
+    let len = four_bytes(input)?;
+    if !(len <= 67_108_855) {
+        return Err(Stop::Fault(place));
+    }
+    Ok(len)
+}
+
+/// Whether so many bytes from a start end at a place.
+fn ends(start: u64, len: u64, place: u64) -> bool
+    ensures { result ≡ (place == start + len) }
+{
+    start <= place && place - start == len
+}
+
+/// A frame, which must end where its length says and where the input has to.
+#[tactic(auto, unfolding(crate::specs::Reading::frame_at, crate::specs::Reading::framed_at, crate::specs::Reading::ended_at))]
+pub fn frame_of<I: Input>(alloc: Global, input: &mut I) -> Result<Delta, Stop>
+    ensures answers { Answers (I.seen input.old) (I.seen input.new) (λ x. x) result frame_at }
+    ensures whole { IfOk result (λ _. length (I.seen input.new).taken ≡ (I.seen input.old).limit) }
+{
+    let limit = input.limit();
+    magic_of(input)?;
+    version_of(input)?;
+    let len = length_of(input)? as u64;
+    let start = input.place();
+    input.bound(len);
+    let delta = body_of(alloc, input)?;
+    let place = input.place();
+    if !ends(start, len, place) {
+        return Err(Stop::Fault(place));
+    }
+    if !(place == limit) {
+        return Err(Stop::Fault(place));
+    }
+    Ok(delta)
+}

@@ -1,0 +1,75 @@
+// One record, as the journal keeps it.
+ghost use Rattle.std.specs.Prelude.{◌≡◌, ℕ, List, IfOk, Ok, length};
+ghost use Rattle.lra_forest.specs.declared.record.Record.{Record};
+ghost use Rattle.lra_delta.specs.Answer.{Decodes};
+ghost use Rattle.lra_delta.specs.OneRecord.{FitsUnder, IsRecordUnder, alone_at, record_in};
+ghost use Rattle.lra_delta.specs.Seen.{Answers};
+ghost use Rattle.lra_delta.specs.Spelling.{record_text};
+
+use crate::buffer::Buffer;
+use crate::bytes::Bytes;
+use crate::input::{Input, Stop};
+use crate::order::Last;
+use crate::record_fields::record_of;
+use crate::record_spelling::put_record;
+use lra_facts::Refusal;
+use lra_forest::Record;
+use lra_id::Front;
+use std::alloc::{AllocError, Global};
+
+/// A record, which must end where the input has to.
+#[tactic(auto, unfolding(crate::specs::OneRecord::alone_at))]
+fn alone_of<I: Input>(alloc: Global, front: &Front, input: &mut I) -> Result<Record, Stop>
+    ensures { Answers (I.seen input.old) (I.seen input.new) (λ x. x) result (alone_at front.now) }
+{
+    let limit = input.limit();
+    let base = Front::zero(front.nodes());
+    let last = Last {
+        home: 0,
+        num: 0,
+        count: 0,
+    };
+    let kept = record_of(alloc, &base, front, &[], last, input)?;
+    let place = input.place();
+    if !(place == limit) {
+        return Err(Stop::Fault(place));
+    }
+    Ok(kept)
+}
+
+/// The record that all of the bytes spell.
+fn alone(alloc: Global, bytes: &[u8], front: &Front) -> Result<Record, Refusal>
+    ensures { Decodes result (record_in front.now bytes.now) }
+{
+    let mut input = Bytes::new(bytes);
+    match alone_of(alloc, front, &mut input) {
+        Ok(kept) => Ok(kept),
+        Err(Stop::Fault(place)) => Err(Refusal::BadFrame(place)),
+        Err(Stop::Cut) => unreachable!(),
+        Err(Stop::ReadFault) => unreachable!(),
+        Err(Stop::Memory) => Err(Refusal::NoMemory),
+    }
+}
+
+/// The record that all of the bytes spell, with base zero and no live list, under a front. E16 at the place of the first field
+/// that isn't whole or breaks its rule.
+pub fn decode_record(alloc: Global, bytes: &[u8], front: &Front) -> Result<Record, Refusal>
+    // Which place it is.
+    ensures exact { Decodes result (record_in front.now bytes.now) }
+    // What is read keeps the rules, and is spelled so.
+    ensures found { IfOk result (λ kept. IsRecordUnder front.now kept × (bytes.now ≡ record_text kept)) }
+    // What is spelled so is read, unless memory runs out.
+    ensures only { (kept : Record) → IsRecordUnder front.now kept → bytes.now ≡ record_text kept → Decodes result (Ok kept) }
+{
+    alone(alloc, bytes, front)
+}
+
+/// The bytes that spell a record. Under a front where it fits they are read as itself again.
+pub fn encode_record(alloc: Global, kept: &Record) -> Result<Vec<u8>, AllocError>
+    ensures text { IfOk result (λ bytes. bytes.items ≡ record_text kept.now) }
+    ensures rules { (front : List ℕ) → FitsUnder front kept.now → IsRecordUnder front kept.now }
+{
+    let mut out = Buffer::new(alloc);
+    put_record(&mut out, kept);
+    out.into_bytes()
+}

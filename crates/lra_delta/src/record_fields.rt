@@ -1,0 +1,442 @@
+// The fields of a record in order.
+ghost use Rattle.std.specs.Prelude.{[], ◌≡◌, ◌+◌, ◌-◌, ◌*◌, ◌≤◌, ◌<◌, ◌==◌, ℕ, length, slice_index, true, IfOk};
+ghost use Rattle.std.specs.Int.{w8, w64};
+ghost use Rattle.std.specs.List.{list_any};
+ghost use Rattle.lra_id.specs.Fronts.{count};
+ghost use Rattle.lra_forest.specs.Merging.{held_numbers};
+ghost use Rattle.lra_delta.specs.Order.{Follows};
+ghost use Rattle.lra_delta.specs.Seen.{Reads};
+ghost use Rattle.lra_delta.specs.Fields.{each_at, many_at, number_at, vector_at, whole_at};
+ghost use Rattle.lra_delta.specs.Frames.{is_beyond, live_at};
+ghost use Rattle.lra_delta.specs.Rules.{are_stamps, at_most, is_among, is_home, is_mark_for, is_next, is_number, is_outcome, is_outcome_for, next_nested, told_context};
+ghost use Rattle.lra_delta.specs.Reading.{decision_at, link_at, member_at, members_at, outcome_of, parent_at, participant_at, place_at, record_at, text_at};
+ghost use Rattle.lra_delta.specs.Rules.{is_given_length};
+ghost use Rattle.lra_facts.specs.LinkTexts.{is_kept};
+
+use crate::fields::{byte, number, text};
+use crate::input::{Input, Stop};
+use crate::order::Last;
+use lra_facts::{Link, Links};
+use lra_forest::{Member, Members, Participant, Place, Record, Told};
+use lra_id::{Front, NodeId};
+use lra_states::{Outcome, Verdict};
+use std::alloc::Global;
+
+/// Where an LRA with this number is nested: in one that was begun before.
+#[tactic(auto, unfolding(crate::specs::Reading::place_at))]
+fn place_of<I: Input>(num: u64, input: &mut I) -> Result<Place, Stop>
+    ensures { Reads (I.seen input.old) (I.seen input.new) (λ x. x) result (place_at num) }
+{
+    let place = input.place();
+    let above = number(input)?;
+    if !(1 <= above && above < num) {
+        return Err(Stop::Fault(place));
+    }
+    let place = input.place();
+    let slot = byte(input)?;
+    if !(1 <= slot && slot <= 32) {
+        return Err(Stop::Fault(place));
+    }
+    Ok(Place {
+        number: above,
+        slot,
+    })
+}
+
+/// Where an LRA with this number is nested, if it is.
+#[tactic(auto, unfolding(crate::specs::Reading::parent_at, crate::specs::Reading::parent_by))]
+fn parent_of<I: Input>(num: u64, input: &mut I) -> Result<Option<Place>, Stop>
+    ensures { Reads (I.seen input.old) (I.seen input.new) (λ x. x) result (parent_at num) }
+{
+    let place = input.place();
+    match byte(input)? {
+        0 => Ok(None),
+        1 => Ok(Some(place_of(num, input)?)),
+        _ => Err(Stop::Fault(place)),
+    }
+}
+
+/// Whether the LRA itself was closed or cancelled.
+#[tactic(auto, unfolding(crate::specs::Reading::decision_at))]
+fn decision_of<I: Input>(input: &mut I) -> Result<Option<Verdict>, Stop>
+    ensures { Reads (I.seen input.old) (I.seen input.new) (λ x. x) result decision_at }
+{
+    let place = input.place();
+    match byte(input)? {
+        0 => Ok(None),
+        1 => Ok(Some(Verdict::Close)),
+        2 => Ok(Some(Verdict::Cancel)),
+        _ => Err(Stop::Fault(place)),
+    }
+}
+
+// ---- links
+
+/// A link that has to be there.
+#[tactic(auto, unfolding(crate::specs::Reading::text_at))]
+fn given_link_of<I: Input>(alloc: Global, input: &mut I) -> Result<Link, Stop>
+    ensures { Reads (I.seen input.old) (I.seen input.new) (λ x. x) result (text_at is_given_length is_kept) }
+{
+    let place = input.place();
+    let len = byte(input)?;
+    if !(1 <= len && len <= 127) {
+        return Err(Stop::Fault(place));
+    }
+    let text = text(alloc, place, len, input)?;
+    match Link::from_kept(alloc, &text)? {
+        Some(link) => Ok(link),
+        None => Err(Stop::Fault(place)),
+    }
+}
+
+/// A link, if one is given.
+#[tactic(auto, unfolding(crate::specs::Reading::link_at, crate::specs::Reading::text_at))]
+fn link_of<I: Input>(alloc: Global, input: &mut I) -> Result<Option<Link>, Stop>
+    ensures { Reads (I.seen input.old) (I.seen input.new) (λ x. x) result link_at }
+{
+    let place = input.place();
+    let len = byte(input)?;
+    if !(len <= 127) {
+        return Err(Stop::Fault(place));
+    }
+    let text = text(alloc, place, len, input)?;
+    if text.is_empty() {
+        return Ok(None);
+    }
+    match Link::from_kept(alloc, &text)? {
+        Some(link) => Ok(Some(link)),
+        None => Err(Stop::Fault(place)),
+    }
+}
+
+// ---- participants
+
+/// The outcome of a mark, 0 to 3.
+fn outcome_of(mark: u8) -> Option<Outcome>
+    ensures { result ≡ outcome_of mark }
+{
+    match mark {
+        0 => None,
+        1 => Some(Outcome::Busy),
+        2 => Some(Outcome::Done),
+        _ => Some(Outcome::Failed),
+    }
+}
+
+/// The mark of what was heard of completing: 0 without a link.
+fn completed_of<I: Input>(link: &Option<Link>, input: &mut I) -> Result<u8, Stop>
+    ensures { Reads (I.seen input.old) (I.seen input.new) (λ x. x) result (number_at w8 (is_outcome_for link.now)) }
+{
+    let place = input.place();
+    let mark = byte(input)?;
+    if !(mark <= 3 && (link.is_some() || mark == 0)) {
+        return Err(Stop::Fault(place));
+    }
+    Ok(mark)
+}
+
+/// The mark of what was heard of compensating.
+fn compensated_of<I: Input>(input: &mut I) -> Result<u8, Stop>
+    ensures { Reads (I.seen input.old) (I.seen input.new) (λ x. x) result (number_at w8 is_outcome) }
+{
+    let place = input.place();
+    let mark = byte(input)?;
+    if !(mark <= 3) {
+        return Err(Stop::Fault(place));
+    }
+    Ok(mark)
+}
+
+/// The mark of being told to forget: 0 without a link.
+fn forgotten_of<I: Input>(link: &Option<Link>, input: &mut I) -> Result<u8, Stop>
+    ensures { Reads (I.seen input.old) (I.seen input.new) (λ x. x) result (number_at w8 (is_mark_for link.now)) }
+{
+    let place = input.place();
+    let mark = byte(input)?;
+    if !(mark <= 1 && (link.is_some() || mark == 0)) {
+        return Err(Stop::Fault(place));
+    }
+    Ok(mark)
+}
+
+/// A participant: its links and what was heard of it.
+#[tactic(auto, unfolding(crate::specs::Reading::participant_at))]
+fn participant_of<I: Input>(alloc: Global, input: &mut I) -> Result<Participant, Stop>
+    ensures { Reads (I.seen input.old) (I.seen input.new) (λ x. x) result participant_at }
+{
+    let complete = link_of(alloc, input)?;
+    let compensate = given_link_of(alloc, input)?;
+    let status = link_of(alloc, input)?;
+    let forget = link_of(alloc, input)?;
+    let completed = completed_of(&complete, input)?;
+    let compensated = compensated_of(input)?;
+    let forgotten = forgotten_of(&forget, input)?;
+    Ok(Participant {
+        links: Links {
+            complete,
+            compensate,
+            status,
+            forget,
+        },
+        completed: outcome_of(completed),
+        compensated: outcome_of(compensated),
+        forgotten: forgotten == 1,
+    })
+}
+
+// ---- members
+
+/// A member. An LRA that is nested has a number above the last one, at most the stamp of the home.
+#[tactic(auto, unfolding(crate::specs::Reading::member_at, crate::specs::Reading::member_by))]
+fn member_of<I: Input>(alloc: Global, stamp: u64, last: u64, input: &mut I) -> Result<Member, Stop>
+    ensures { Reads (I.seen input.old) (I.seen input.new) (λ x. x) result (member_at stamp last) }
+{
+    let place = input.place();
+    match byte(input)? {
+        0 => {
+            let place = input.place();
+            let nested = number(input)?;
+            if !(last < nested && nested <= stamp) {
+                return Err(Stop::Fault(place));
+            }
+            Ok(Member::Nested(nested))
+        }
+        1 => Ok(Member::Participant(participant_of(alloc, input)?)),
+        2 => Ok(Member::Left),
+        _ => Err(Stop::Fault(place)),
+    }
+}
+
+/// The number of the last nested LRA, with this member.
+fn next_nested(last: u64, member: &Member) -> u64
+    ensures { result ≡ next_nested last member.now }
+{
+    match member {
+        Member::Nested(nested) => *nested,
+        Member::Participant(_) => last,
+        Member::Left => last,
+    }
+}
+
+/// So many members.
+fn each_member<I: Input>(
+    alloc: Global,
+    stamp: u64,
+    num: u64,
+    count: u8,
+    input: &mut I,
+) -> Result<Vec<Member>, Stop>
+    ensures gives { Reads (I.seen input.old) (I.seen input.new) (λ x. x.items) result (each_at (member_at stamp) next_nested count num) }
+    ensures count { IfOk result (λ x. length x.items ≡ count) }
+{
+    let mut list = Vec::new(alloc);
+    let mut last = num;
+    'members: for _ in 0..count {
+        let member = member_of(alloc, stamp, last, input)?;
+        last = next_nested(last, &member);
+        list.push(member)?;
+    }
+    Ok(list)
+}
+
+/// A count, and as many members.
+#[tactic(auto, unfolding(crate::specs::Reading::members_at))]
+fn members_of<I: Input>(alloc: Global, stamp: u64, num: u64, input: &mut I) -> Result<Members, Stop>
+    ensures { Reads (I.seen input.old) (I.seen input.new) (λ x. x) result (members_at stamp num) }
+{
+    let place = input.place();
+    let count = byte(input)?;
+    if !(count <= 32) {
+        return Err(Stop::Fault(place));
+    }
+    let list = each_member(alloc, stamp, num, count, input)?;
+    Ok(Members::from_vec(list))
+}
+
+// ---- vectors
+
+/// So many numbers.
+fn each_number<I: Input>(alloc: Global, count: u8, input: &mut I) -> Result<Vec<u64>, Stop>
+    ensures gives { Reads (I.seen input.old) (I.seen input.new) (λ x. x.items) result (each_at (λ (s : ℕ). whole_at w64) (λ (s x : ℕ). s) count 0) }
+    ensures took { IfOk result (λ _. length (I.seen input.new).taken ≡ length (I.seen input.old).taken + 8 * count) }
+{
+    let mut list = Vec::new(alloc);
+    'numbers: for _ in 0..count {
+        list.push(number(input)?)?;
+    }
+    Ok(list)
+}
+
+/// A vector of so many numbers: one field.
+#[tactic(auto, unfolding(crate::specs::Fields::many_at))]
+pub(crate) fn many_of<I: Input>(alloc: Global, count: u8, input: &mut I) -> Result<Vec<u64>, Stop>
+    ensures gives { Reads (I.seen input.old) (I.seen input.new) (λ x. x.items) result (many_at count) }
+    ensures count { IfOk result (λ x. length x.items ≡ count) }
+    ensures took { IfOk result (λ _. length (I.seen input.new).taken ≡ length (I.seen input.old).taken + 8 * count) }
+{
+    if input.lacks(8 * count as u64) {
+        return Err(Stop::Fault(input.place()));
+    }
+    each_number(alloc, count, input)
+}
+
+/// Whether each number is at most the limit at its place.
+pub(crate) fn at_most(limits: &[u64], ns: &[u64]) -> bool
+    ensures { result ≡ at_most limits.now ns.now }
+{
+    ns.iter().zip(limits).all(|(n, limit)| *n <= *limit)
+}
+
+// ---- records
+
+/// Whether the record may come after the last one, by its number and how many there were of its home.
+fn is_next(last: Last, home: u8, num: u64) -> bool
+    ensures { result ≡ is_next last home num }
+{
+    if last.home == home {
+        last.num < num && last.count < 256
+    } else {
+        true
+    }
+}
+
+/// Whether a number is among others.
+fn is_in(numbers: &[u64], num: u64) -> bool
+    ensures { result ≡ list_any (λ n. n == num) numbers.now }
+{
+    numbers.iter().any(|n| *n == num)
+}
+
+/// Whether a number is among those that are told of a home, if they are.
+fn is_told(told: &Told, num: u64) -> bool
+    ensures { result ≡ is_among (held_numbers told.now.held) num }
+{
+    match &told.held {
+        Some(numbers) => is_in(numbers, num),
+        None => true,
+    }
+}
+
+/// Whether a number is among those that are told of its home, if they are.
+fn is_among(homes: &[Told], home: NodeId, num: u64) -> bool
+    ensures { result ≡ is_among (live_at (told_context [] [] homes.now).lives home) num }
+{
+    match homes.get(usize::from(home.number() - 1)) {
+        Some(told) => is_told(told, num),
+        None => true,
+    }
+}
+
+/// Whether an LRA of this home may have this number here.
+fn is_number(front: &Front, homes: &[Told], last: Last, home: NodeId, num: u64) -> bool
+    ensures { result ≡ is_number (told_context [] front.now homes.now) last home num }
+{
+    1 <= num
+        && num <= front.count(home)
+        && is_next(last, home.number(), num)
+        && is_among(homes, home, num)
+}
+
+/// The home of a record: not before the last one.
+fn home_of<I: Input>(nodes: usize, last: u8, input: &mut I) -> Result<NodeId, Stop>
+    requires { nodes ≤ 8 }
+    ensures gives { Reads (I.seen input.old) (I.seen input.new) (λ x. x) result (number_at w8 (is_home nodes last)) }
+    ensures rule { IfOk result (λ home. is_home nodes last home ≡ true) }
+{
+    let place = input.place();
+    let home = byte(input)?;
+    if !(1 <= home && usize::from(home) <= nodes && last <= home) {
+        return Err(Stop::Fault(place));
+    }
+    match NodeId::new(home) {
+        Ok(home) => Ok(home),
+        Err(_) => unreachable!(),
+    }
+}
+
+/// The number of a record.
+fn num_of<I: Input>(
+    front: &Front,
+    homes: &[Told],
+    last: Last,
+    home: NodeId,
+    input: &mut I,
+) -> Result<u64, Stop>
+    ensures gives { Reads (I.seen input.old) (I.seen input.new) (λ x. x) result (number_at w64 (is_number (told_context [] front.now homes.now) last home)) }
+    ensures rule { IfOk result (λ num. is_next last home num ≡ true) }
+{
+    let place = input.place();
+    let num = number(input)?;
+    if !is_number(front, homes, last, home, num) {
+        return Err(Stop::Fault(place));
+    }
+    Ok(num)
+}
+
+/// Whether of some node these counts are greater than a base's.
+fn is_beyond(base: &Front, counts: &Front) -> bool
+    ensures { result ≡ is_beyond base.now counts.now }
+{
+    !counts.below(base)
+}
+
+/// Whether a record may have these stamps: within the front, with its begin, and some beyond the base.
+fn are_stamps(base: &Front, front: &Front, home: NodeId, num: u64, stamps: &Front) -> bool
+    ensures { result ≡ are_stamps (told_context base.now front.now []) home num stamps.now }
+{
+    at_most(front.as_slice(), stamps.as_slice())
+        && num <= stamps.count(home)
+        && is_beyond(base, stamps)
+}
+
+/// The stamps of a record.
+#[tactic(auto, unfolding(crate::specs::Fields::vector_at))]
+fn stamps_of<I: Input>(
+    alloc: Global,
+    base: &Front,
+    front: &Front,
+    home: NodeId,
+    num: u64,
+    input: &mut I,
+) -> Result<Front, Stop>
+    ensures { Reads (I.seen input.old) (I.seen input.new) (λ x. x) result (vector_at (length front.now) (are_stamps (told_context base.now front.now []) home num)) }
+{
+    let place = input.place();
+    let counts = many_of(alloc, front.nodes() as u8, input)?;
+    let stamps = Front::from_counts(&counts);
+    if !are_stamps(base, front, home, num, &stamps) {
+        return Err(Stop::Fault(place));
+    }
+    Ok(stamps)
+}
+
+/// A record, after the last one.
+#[tactic(auto, unfolding(crate::specs::Reading::record_at))]
+pub(crate) fn record_of<I: Input>(
+    alloc: Global,
+    base: &Front,
+    front: &Front,
+    homes: &[Told],
+    last: Last,
+    input: &mut I,
+) -> Result<Record, Stop>
+    ensures gives { Reads (I.seen input.old) (I.seen input.new) (λ x. x) result (record_at (told_context base.now front.now homes.now) last) }
+    ensures follows { IfOk result (λ x. Follows (length front.now) last x) }
+{
+    let home = home_of(front.nodes(), last.home, input)?;
+    let num = num_of(front, homes, last, home, input)?;
+    let parent = parent_of(num, input)?;
+    let deadline = number(input)?;
+    let decision = decision_of(input)?;
+    let stamps = stamps_of(alloc, base, front, home, num, input)?;
+    let members = members_of(alloc, stamps.count(home), num, input)?;
+    Ok(Record {
+        home,
+        num,
+        parent,
+        deadline,
+        decision,
+        stamps,
+        members,
+    })
+}

@@ -1,0 +1,193 @@
+// The one spelling of a record, put field by field.
+ghost use Rattle.std.specs.Prelude.{◌≡◌, ◌++◌, ◌≤◌, Some, length};
+ghost use Rattle.std.specs.List.{All, flat_map};
+ghost use Rattle.lra_delta.specs.Rules.{IsLink};
+ghost use Rattle.lra_delta.specs.Spelling.{byte, counted, decision_mark, link_text, member, members, number, outcome_mark, parent, participant, record_text, vector};
+ghost use Rattle.lra_delta.specs.Typed.{AreLinks, HasLinks, IsTypedRecord};
+
+use crate::output::Output;
+use lra_facts::Link;
+use lra_forest::{Member, Members, Participant, Place, Record};
+use lra_id::Front;
+use lra_states::{Outcome, Verdict};
+
+/// A number of one byte.
+pub(crate) fn put_byte<O: Output>(out: &mut O, n: u8)
+    ensures same { O.start out.new ≡ O.start out.old }
+    ensures text { O.text out.new ≡ O.text out.old ++ byte n }
+{
+    out.put(&[n]);
+}
+
+/// A number of eight bytes.
+pub(crate) fn put_number<O: Output>(out: &mut O, n: u64)
+    ensures same { O.start out.new ≡ O.start out.old }
+    ensures text { O.text out.new ≡ O.text out.old ++ number n }
+{
+    out.put(&n.to_be_bytes());
+}
+
+/// Where an LRA is nested, if it is.
+#[tactic(auto, unfolding(crate::specs::Spelling::parent, crate::specs::Spelling::place))]
+fn put_parent<O: Output>(out: &mut O, p: Option<Place>)
+    ensures same { O.start out.new ≡ O.start out.old }
+    ensures text { O.text out.new ≡ O.text out.old ++ parent p }
+{
+    match p {
+        None => put_byte(out, 0),
+        Some(p) => {
+            put_byte(out, 1);
+            put_number(out, p.number);
+            put_byte(out, p.slot);
+        }
+    }
+}
+
+/// The mark of a decision.
+fn decision_mark(decision: Option<Verdict>) -> u8
+    ensures { result ≡ decision_mark decision }
+{
+    match decision {
+        None => 0,
+        Some(Verdict::Close) => 1,
+        Some(Verdict::Cancel) => 2,
+    }
+}
+
+/// The mark of an outcome.
+fn outcome_mark(outcome: Option<Outcome>) -> u8
+    ensures { result ≡ outcome_mark outcome }
+{
+    match outcome {
+        None => 0,
+        Some(Outcome::Busy) => 1,
+        Some(Outcome::Done) => 2,
+        Some(Outcome::Failed) => 3,
+    }
+}
+
+/// Its length, and the text.
+#[tactic(auto, unfolding(crate::specs::Spelling::counted))]
+fn put_text<O: Output>(out: &mut O, text: &[u8])
+    requires { length text.now ≤ 127 }
+    ensures same { O.start out.new ≡ O.start out.old }
+    ensures text { O.text out.new ≡ O.text out.old ++ counted text.now }
+{
+    put_byte(out, text.len() as u8);
+    out.put(text);
+}
+
+/// A link. It is one that is read again.
+#[tactic(auto, using(crate::proofs::Fitted::kept_is_link))]
+fn put_link<O: Output>(out: &mut O, link: &Link)
+    ensures same { O.start out.new ≡ O.start out.old }
+    ensures text { O.text out.new ≡ O.text out.old ++ counted link.now }
+    ensures link { IsLink (Some link.now) }
+{
+    put_text(out, link.as_bytes());
+}
+
+/// A link, or that there is none.
+fn put_link_or_none<O: Output>(out: &mut O, link: &Option<Link>)
+    ensures same { O.start out.new ≡ O.start out.old }
+    ensures text { O.text out.new ≡ O.text out.old ++ counted (link_text link.now) }
+    ensures link { IsLink link.now }
+{
+    match link {
+        None => put_text(out, &[]),
+        Some(link) => put_link(out, link),
+    }
+}
+
+/// A participant: its links and what was heard of it.
+#[tactic(auto, unfolding(crate::specs::Spelling::participant))]
+fn put_participant<O: Output>(out: &mut O, p: &Participant)
+    ensures same { O.start out.new ≡ O.start out.old }
+    ensures text { O.text out.new ≡ O.text out.old ++ participant p.now }
+    ensures links { AreLinks p.now.links }
+{
+    put_link_or_none(out, &p.links.complete);
+    put_link(out, &p.links.compensate);
+    put_link_or_none(out, &p.links.status);
+    put_link_or_none(out, &p.links.forget);
+    put_byte(out, outcome_mark(p.completed));
+    put_byte(out, outcome_mark(p.compensated));
+    put_byte(out, if p.forgotten { 1 } else { 0 });
+}
+
+/// A member.
+#[tactic(auto, unfolding(crate::specs::Spelling::member))]
+fn put_member<O: Output>(out: &mut O, m: &Member)
+    ensures same { O.start out.new ≡ O.start out.old }
+    ensures text { O.text out.new ≡ O.text out.old ++ member m.now }
+    ensures links { HasLinks m.now }
+{
+    match m {
+        Member::Nested(n) => {
+            put_byte(out, 0);
+            put_number(out, *n);
+        }
+        Member::Participant(p) => {
+            put_byte(out, 1);
+            put_participant(out, p);
+        }
+        Member::Left => put_byte(out, 2),
+    }
+}
+
+/// Members, one after another.
+fn put_each_member<O: Output>(out: &mut O, ms: &[Member])
+    ensures same { O.start out.new ≡ O.start out.old }
+    ensures text { O.text out.new ≡ O.text out.old ++ flat_map member ms.now }
+    ensures links { All HasLinks ms.now }
+{
+    for m in ms {
+        put_member(out, m);
+    }
+}
+
+/// A count, and the members.
+#[tactic(auto, unfolding(crate::specs::Spelling::members))]
+fn put_members<O: Output>(out: &mut O, ms: &Members)
+    ensures same { O.start out.new ≡ O.start out.old }
+    ensures text { O.text out.new ≡ O.text out.old ++ members ms.now }
+    ensures links { All HasLinks ms.now }
+{
+    let list = ms.as_slice();
+    put_byte(out, list.len() as u8);
+    put_each_member(out, list);
+}
+
+/// Numbers, one after another.
+pub(crate) fn put_numbers<O: Output>(out: &mut O, ns: &[u64])
+    ensures same { O.start out.new ≡ O.start out.old }
+    ensures text { O.text out.new ≡ O.text out.old ++ flat_map number ns.now }
+{
+    for n in ns {
+        put_number(out, *n);
+    }
+}
+
+/// The counts of a front.
+pub(crate) fn put_front<O: Output>(out: &mut O, front: &Front)
+    ensures same { O.start out.new ≡ O.start out.old }
+    ensures text { O.text out.new ≡ O.text out.old ++ vector front.now }
+{
+    put_numbers(out, front.as_slice());
+}
+
+/// A record. What its numbers and links keep by their types is said beside.
+#[tactic(auto, unfolding(crate::specs::Spelling::record_text))]
+pub(crate) fn put_record<O: Output>(out: &mut O, r: &Record)
+    ensures same { O.start out.new ≡ O.start out.old }
+    ensures text { O.text out.new ≡ O.text out.old ++ record_text r.now }
+    ensures typed { IsTypedRecord r.now }
+{
+    put_byte(out, r.home.number());
+    put_number(out, r.num);
+    put_parent(out, r.parent);
+    put_number(out, r.deadline);
+    put_byte(out, decision_mark(r.decision));
+    put_front(out, &r.stamps);
+    put_members(out, &r.members);
+}

@@ -1,0 +1,116 @@
+// One link, and the text that is kept of it.
+ghost use Rattle.std.specs.Prelude.{◌≡◌, ◌≤◌, IfOk, None, Some, true, if◌then◌else◌, length, string_bytes};
+ghost use Rattle.lra_facts.specs.LinkTexts.{Reads, is_kept, is_link, kept_text};
+
+use crate::Refusal;
+use std::alloc::{AllocError, Global};
+use std::marker::Model;
+use url::{ParseError, Url};
+
+/// The most bytes of a link.
+pub const LINK_LIMIT: usize = 127;
+
+/// A link: an http URL of at most 127 bytes, kept as it is serialised.
+#[derive(Debug, Drop)]
+pub struct Link {
+    text: String,
+}
+
+impl Model for Link {
+    ghost use Rattle.std.specs.Prelude.{List, ℕ, Some, length, ◌≡◌, ◌≤◌, string_bytes};
+    ghost use Rattle.lra_facts.specs.LinkTexts.{kept_text};
+
+    ghost Value = { List ℕ };
+
+    ghost view = { λ link. string_bytes link.text };
+
+    ghost invariant = { λ link. (length (string_bytes link.text) ≤ 127) × (kept_text (string_bytes link.text) ≡ Some (string_bytes link.text)) };
+}
+
+/// Whether a URL is a link.
+fn is_link(url: &Url) -> bool
+    ensures { result ≡ is_link url.now }
+{
+    url.scheme() == "http"
+        && url.username().is_empty()
+        && url.password().is_none()
+        && url.fragment().is_none()
+        && url.as_str().len() <= LINK_LIMIT
+}
+
+impl Link {
+    /// Reads a link, and keeps the text that the URL is serialised to. That text is read as itself again.
+    pub fn read(alloc: Global, text: &str) -> Result<Link, Refusal>
+        ensures answer { Reads (kept_text text.now) result }
+        ensures kept { IfOk result (λ link. kept_text link ≡ Some link) }
+    {
+        if text.len() > LINK_LIMIT {
+            return Err(Refusal::BadText);
+        }
+        match Url::parse(alloc, text) {
+            Ok(url) if is_link(&url) => Ok(Link {
+                text: String::from_str(alloc, url.as_str())?,
+            }),
+            Err(ParseError::OutOfMemory | ParseError::Overflow) => Err(Refusal::NoMemory),
+            _ => Err(Refusal::BadText),
+        }
+    }
+
+    /// The link that is kept as these bytes, if one is.
+    #[tactic(auto, unfolding(crate::specs::LinkTexts::is_kept))]
+    pub fn from_kept(alloc: Global, text: &[u8]) -> Result<Option<Link>, AllocError>
+        ensures { IfOk result (λ link. link ≡ (if is_kept text.now then Some text.now else None)) }
+    {
+        let Ok(text) = str::from_utf8(text) else {
+            return Ok(None);
+        };
+        match Link::read(alloc, text) {
+            Ok(link) if link.as_str() == text => Ok(Some(link)),
+            Err(Refusal::NoMemory) => Err(AllocError),
+            _ => Ok(None),
+        }
+    }
+
+    /// Its text, which is read as itself again.
+    pub fn as_str(&self) -> &str
+        ensures text { result.now ≡ self.now }
+        ensures kept { kept_text self.now ≡ Some self.now }
+    {
+        self.text.as_str()
+    }
+
+    /// Its bytes, at most 127, which are kept as they are.
+    pub fn as_bytes(&self) -> &[u8]
+        ensures text { result.now ≡ self.now }
+        ensures short { length result.now ≤ 127 }
+        ensures kept { is_kept self.now ≡ true }
+    {
+        self.as_str().as_bytes()
+    }
+}
+
+impl PartialEq for Link {
+    ghost use Rattle.std.specs.Cmp.{partial_equiv_from_equiv};
+    ghost use Rattle.std.specs.Cmp.Lexicographic.{nat_list_eq_equiv};
+    ghost use Rattle.std.specs.Str.{bytes_eq};
+
+    ghost eq = { bytes_eq };
+
+    ghost laws = { partial_equiv_from_equiv nat_list_eq_equiv };
+
+    fn eq(&self, other: &Link) -> bool {
+        self.text == other.text
+    }
+}
+
+impl Clone for Link {
+    ghost use Rattle.std.specs.Prelude.{◌≡◌};
+
+    ghost is_clone = { λ x y. y ≡ x };
+
+    fn clone(&self) -> Result<Link, AllocError> {
+        Ok(Link {
+            text: self.text.clone()?,
+        })
+    }
+}

@@ -1,0 +1,14 @@
+use Rattle.std.proofs.Common.{◌≡◌, drop}
+use Rattle.lra_forest.specs.Owings.{IsLastRoot}
+use Rattle.lra_forest.specs.Said.{least_owed_of}
+use Rattle.lra_forest.specs.Shape.{found_at}
+use Rattle.lra_forest.proofs.forest.Forest.least_forget_duty.Given as goal
+
+-- none of those so far is to be told
+abbrev pub invariant-loop-kept : goal.invariant-loop-kept
+invariant-loop-kept l =
+    let at = found_at l.self.home l.self.records in
+    record {
+      none : least_owed_of at l.above.num (drop l.kept-index l.records) ≡ least_owed_of at l.above.num l.records;
+      last : IsLastRoot at l.last;
+    }

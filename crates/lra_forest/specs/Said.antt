@@ -1,0 +1,155 @@
+-- What records say of an LRA, whatever set they stand for, if they stand for one. `at` gives the record of the LRA with a
+-- number, if there is one. Where there is none the LRA has no members and wants nothing.
+use Rattle.std.specs.Prelude.{◌+◌, ◌==◌, ◌&&◌, ℕ, zero, suc, Bool, false, Option, Some, None, List, [], ◌∷◌, filter, find, if◌then◌else◌, is_none, is_some, length, map, nat_le}
+use mathlib.Core.Bool.{not}
+use Rattle.std.specs.List.{list_any}
+use Rattle.std.specs.Option.{option_map_or}
+use Rattle.lra_id.specs.Ids.{Id, is_fact_number}
+use Rattle.lra_states.specs.States.{level, same_member_status, same_verdict, shown}
+use Rattle.lra_states.specs.declared.outcome.Act.{Act}
+use Rattle.lra_states.specs.declared.outcome.Outcome.{Outcome}
+use Rattle.lra_states.specs.declared.outcome.Verdict.{Verdict}
+use Rattle.lra_states.specs.declared.outcome.Verdict.TheVariants.{Close, Cancel}
+use Rattle.lra_states.specs.declared.status.LraStatus.{LraStatus}
+use Rattle.lra_states.specs.declared.status.MemberStatus.{MemberStatus}
+use Rattle.lra_states.specs.declared.status.MemberStatus.TheVariants.{FailedToComplete, FailedToCompensate}
+use Rattle.lra_facts.specs.Duties.{has_to_forget}
+use Rattle.lra_facts.specs.Sets.{demands, is_open}
+use Rattle.lra_forest.specs.declared.duties.Due.{Due}
+use Rattle.lra_forest.specs.declared.record.Member.{Member}
+use Rattle.lra_forest.specs.declared.record.Member.TheVariants.{Nested, Participant, Left}
+use Rattle.lra_forest.specs.declared.record.Participant.{Participant as ParticipantRecord}
+use Rattle.lra_forest.specs.declared.record.Place.{Place}
+use Rattle.lra_forest.specs.declared.record.Record.{Record}
+use Rattle.lra_forest.specs.Forests.{id_of}
+use Rattle.lra_forest.specs.Numbers.{numbered}
+use Rattle.lra_forest.specs.Overdue.{is_past}
+use Rattle.lra_forest.specs.Participants.{heard_by, participant_at}
+use Rattle.lra_forest.specs.Statuses.{shows_within, status_at, status_in}
+
+-- Up
+
+-- a record and those above its parent, if it names one
+abbrev pub with_above : (ℕ → List Record) → Record → List Record
+with_above above r = r ∷ option_map_or (λ (p : Place). above p.number) r.parent []
+
+-- the record of an LRA, that of its parent and so on, at most so many. They end at a root, or where there is no record
+unfoldable pub records_up : ℕ → (ℕ → Option Record) → ℕ → List Record
+records_up zero at num = []
+records_up (suc levels) at num = option_map_or (with_above (records_up levels at)) (at num) []
+
+abbrev pub has_decision : Verdict → Record → Bool
+has_decision verdict r = option_map_or (same_verdict verdict) r.decision false
+
+-- Cancel if one of the chain is cancelled, else Close if one of it is closed
+abbrev pub wanted_by : List Record → Option Verdict
+wanted_by chain =
+    if list_any (has_decision Cancel) chain then Some Cancel
+    else (if list_any (has_decision Close) chain then Some Close else None)
+
+-- what the LRA with this number wants: a chain has at most 8, and what is above those is not looked at
+abbrev pub want_at : (ℕ → Option Record) → ℕ → Option Verdict
+want_at at num = wanted_by (records_up 8 at num)
+
+abbrev pub depth_at : (ℕ → Option Record) → ℕ → ℕ
+depth_at at num = length (records_up 8 at num)
+
+-- Members
+
+abbrev pub members_at : (ℕ → Option Record) → ℕ → List Member
+members_at at num = option_map_or (λ (r : Record). r.members) (at num) []
+
+-- the participant with a member number, if there is one
+abbrev pub participant_of : (ℕ → Option Record) → ℕ → ℕ → Option ParticipantRecord
+participant_of at num m = participant_at (numbered (members_at at num) m)
+
+-- what it shows
+abbrev pub member_shown_at : (ℕ → Option Record) → ℕ → ℕ → Option MemberStatus
+member_shown_at at num m = status_at (want_at at num) (numbered (members_at at num) m)
+
+abbrev pub is_demanded_at : (ℕ → Option Record) → ℕ → ℕ → Act → Bool
+is_demanded_at at num m act = option_map_or (λ (p : ParticipantRecord). demands (want_at at num) p.links act) (participant_of at num m) false
+
+abbrev pub is_heard_at : (ℕ → Option Record) → ℕ → ℕ → Act → Outcome → Bool
+is_heard_at at num m act outcome =
+    option_map_or (λ (p : ParticipantRecord). nat_le (level (Some outcome)) (level (heard_by p act))) (participant_of at num m) false
+
+-- Down
+
+-- a participant of it, or of what is nested in it at most 7 levels down, shows a status that passes the test
+abbrev pub some_shows_at : (MemberStatus → Bool) → (ℕ → Option Record) → ℕ → Bool
+some_shows_at test at num = list_any (shows_within 7 test at (want_at at num)) (members_at at num)
+
+-- it wants something, and each participant under it is final
+abbrev pub is_ended_at : (ℕ → Option Record) → ℕ → Bool
+is_ended_at at num = is_some (want_at at num) && not (some_shows_at is_open at num)
+
+abbrev pub shown_at : (ℕ → Option Record) → ℕ → LraStatus
+shown_at at num =
+    shown (want_at at num) (is_ended_at at num) (some_shows_at (same_member_status FailedToComplete) at num) (some_shows_at (same_member_status FailedToCompensate) at num)
+
+-- Deadlines
+
+-- its number is one that a fact can have, its deadline has passed, and it wants nothing
+abbrev pub is_overdue_at : (ℕ → Option Record) → ℕ → Record → Bool
+is_overdue_at at now r = is_fact_number r.num && (is_past r.deadline now && is_none (want_at at r.num))
+
+-- the LRA of a home with the first record that is: records are in order of their numbers
+abbrev pub first_overdue : ℕ → (ℕ → Option Record) → ℕ → List Record → Option Id
+first_overdue home at now records = option_map_or (λ (r : Record). Some (record { home = home; num = r.num })) (find (is_overdue_at at now) records) None
+
+-- Roots
+
+-- there is a record of it, which names no parent
+abbrev pub is_root_at : (ℕ → Option Record) → ℕ → Bool
+is_root_at at num = option_map_or (λ (r : Record). is_none r.parent) (at num) false
+
+-- a root is met among the first 8 of its chain, and that is ended
+abbrev pub is_over_at : (ℕ → Option Record) → ℕ → Bool
+is_over_at at num = list_any (λ (r : Record). is_none r.parent && is_ended_at at r.num) (records_up 8 at num)
+
+-- the LRA with the first number is met among the first 8 of the chain of the LRA with the second
+abbrev pub is_under_at : (ℕ → Option Record) → (above num : ℕ) → Bool
+is_under_at at above num = list_any (λ (r : Record). r.num == above) (records_up 8 at num)
+
+-- the record's LRA has a number that a fact can have, and is the one with this number or nested in it
+abbrev pub is_below : (ℕ → Option Record) → ℕ → Record → Bool
+is_below at num r = is_fact_number r.num && is_under_at at num r.num
+
+-- those of these records
+abbrev pub ids_below : (ℕ → Option Record) → ℕ → List Record → List Id
+ids_below at num records = map id_of (filter (is_below at num) records)
+
+-- Forgetting
+
+-- a participant of the LRA with this record is to be told that it may forget
+abbrev pub is_owed : (ℕ → Option Record) → Record → ParticipantRecord → Bool
+is_owed at r p =
+    is_over_at at r.num && (is_some p.links.forget && (not p.forgotten && has_to_forget (is_some r.parent) (status_in (want_at at r.num) p)))
+
+abbrev pub is_owed_at : (ℕ → Option Record) → ℕ → ℕ → Bool
+is_owed_at at num m = option_map_or (λ (r : Record). option_map_or (is_owed at r) (participant_of at num m) false) (at num) false
+
+-- the participant with a member number was told
+abbrev pub is_told_at : (ℕ → Option Record) → ℕ → ℕ → Bool
+is_told_at at num m = option_map_or (λ (p : ParticipantRecord). p.forgotten) (participant_of at num m) false
+
+-- the member is a participant that is to be told
+abbrev pub is_owed_member : (ℕ → Option Record) → Record → Member → Bool
+is_owed_member at r (Participant p) = is_owed at r p
+is_owed_member at r (Nested num) = false
+is_owed_member at r Left = false
+
+-- the first of these members that is, where they are numbered from k
+abbrev pub first_owed : (ℕ → Option Record) → Record → ℕ → List Member → Option Due
+first_owed at r k [] = None
+first_owed at r k (m ∷ ms) = if is_owed_member at r m then Some (record { lra = id_of r; member = k }) else first_owed at r (k + 1) ms
+
+-- of the participants of a record, if its LRA is the one with this number or nested in it
+abbrev pub owed_below : (ℕ → Option Record) → ℕ → Record → Option Due
+owed_below at num r = if is_below at num r then first_owed at r 1 r.members else None
+
+-- records are in order of their numbers: the first is the least
+abbrev pub least_owed_of : (ℕ → Option Record) → ℕ → List Record → Option Due
+least_owed_of at num [] = None
+least_owed_of at num (r ∷ rs) = option_map_or (λ due. Some due) (owed_below at num r) (least_owed_of at num rs)

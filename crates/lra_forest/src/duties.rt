@@ -1,0 +1,482 @@
+// What is due of the participants of a home: to compensate in saga order, to complete, and to forget.
+ghost use Rattle.std.specs.Prelude.{◌≡◌, ◌↔◌, ◌++◌, ℕ, List, Err, None, Some, false, IfOk, OnOk, find, is_some, slice_get};
+ghost use Rattle.std.specs.List.{AllByRecursion};
+ghost use Rattle.std.specs.Option.{option_map_or};
+ghost use Rattle.lra_id.specs.Ids.{Id};
+ghost use Rattle.lra_facts.specs.declared.fact.Fact.{Fact};
+ghost use Rattle.lra_facts.specs.declared.refusal.Refusal.TheVariants.{NotHeld};
+ghost use Rattle.lra_facts.specs.Duties.{has_to_forget, is_compensation_due, is_forget_duty, is_pending};
+ghost use Rattle.lra_facts.specs.Sets.{IsNumbered};
+ghost use Rattle.lra_forest.specs.Dues.{AreAll, IsDueAt, IsShare, is_before, is_complete_duty, is_topmost, is_topmost_before};
+ghost use Rattle.lra_forest.specs.Forests.{is_of};
+ghost use Rattle.lra_forest.specs.Owings.{IsLastRoot, completing_by, duty_of, forgetting_at, owed_by, owes, owes_at, owing_at};
+ghost use Rattle.lra_forest.specs.Participants.{answered_of};
+ghost use Rattle.lra_forest.specs.Said.{is_ended_at, is_over_at, is_owed_at, is_told_at, is_under_at, least_owed_of, owed_below, participant_of};
+ghost use Rattle.lra_forest.specs.Shape.{found_at};
+ghost use Rattle.lra_forest.specs.Standing.{IsNested, IsSeated, IsWhole, Stands};
+ghost use Rattle.lra_forest.specs.Wants.{wants_cancel};
+ghost use Rattle.lra_forest.specs.Walks.{last_of, pending_within};
+
+use crate::answers::participant_at;
+use crate::forest::MOST_DEPTH;
+use crate::seen::status_of;
+use crate::{Forest, Member, Members, Participant, Place, Record};
+use lra_facts::Refusal;
+use lra_id::LraId;
+use lra_states::{MemberStatus, Outcome, Verdict};
+use std::alloc::{AllocError, Global};
+
+/// A participant of which something is due, by its LRA and its member number.
+#[derive(Clone, Copy, Debug, PartialEq, Eq)]
+pub struct Due {
+    pub lra: LraId,
+    pub member: u8,
+}
+
+/// What a participant is called for when its LRA did not fail: to complete, or to forget.
+#[derive(Clone, Copy)]
+enum Errand {
+    Complete,
+    Forget,
+}
+
+/// What the participants of an LRA may owe: nothing, to complete, or to forget, by what is wanted and whether it is nested.
+#[derive(Clone, Copy)]
+enum Owing {
+    Nothing,
+    Completion,
+    Forgetting(Option<Verdict>, bool),
+}
+
+/// The root that was asked last whether it is ended, and whether it is.
+#[derive(Clone, Copy)]
+struct LastRoot {
+    root: u64,
+    ended: bool,
+}
+
+/// Whether no outcome that ends an act was heard.
+fn is_pending(heard: Option<Outcome>) -> bool
+    ensures { result ≡ is_pending heard }
+{
+    match heard {
+        None | Some(Outcome::Busy) => true,
+        Some(Outcome::Done) | Some(Outcome::Failed) => false,
+    }
+}
+
+/// Whether this is to be cancelled.
+fn is_cancel(want: Option<Verdict>) -> bool
+    ensures { result ≡ wants_cancel want }
+{
+    matches!(want, Some(Verdict::Cancel))
+}
+
+/// What the participants of an LRA that wants this may owe, where they are called to complete.
+fn completing(want: Option<Verdict>) -> Owing
+    ensures { result ≡ completing_by want }
+{
+    match want {
+        Some(Verdict::Close) => Owing::Completion,
+        _ => Owing::Nothing,
+    }
+}
+
+/// Whether one with this status has something to forget.
+fn has_to_forget(nested: bool, status: MemberStatus) -> bool
+    ensures { result ≡ has_to_forget nested status }
+{
+    match status {
+        MemberStatus::FailedToComplete | MemberStatus::FailedToCompensate => true,
+        MemberStatus::Completed => nested,
+        _ => false,
+    }
+}
+
+/// Whether a participant owes it.
+fn owes(owing: Owing, participant: &Participant) -> bool
+    ensures { result ≡ owes owing participant.now }
+{
+    match owing {
+        Owing::Nothing => false,
+        Owing::Completion => {
+            participant.links.complete.is_some() && is_pending(participant.completed)
+        }
+        Owing::Forgetting(want, nested) => {
+            participant.links.forget.is_some()
+                && !participant.forgotten
+                && has_to_forget(nested, status_of(want, participant))
+        }
+    }
+}
+
+/// Whether a member is a participant that owes it.
+fn owes_at(owing: Owing, member: &Member) -> bool
+    ensures { result ≡ owes_at owing member.now }
+{
+    match member {
+        Member::Participant(participant) => owes(owing, participant),
+        _ => false,
+    }
+}
+
+/// Adds those of the members of an LRA that owe it.
+fn add_owed(
+    owing: Owing,
+    lra: LraId,
+    members: &Members,
+    dues: &mut Vec<Due>,
+) -> Result<(), AllocError>
+    ensures { OnOk result (dues.new.items ≡ dues.old.items ++ owed_by owing lra 1 members.now) }
+{
+    let mut member = 0;
+    for kept in members.as_slice() {
+        member += 1;
+        if owes_at(owing, kept) {
+            dues.push(Due { lra, member })?;
+        }
+    }
+    Ok(())
+}
+
+/// The first of the members of an LRA that owes it.
+fn first_owed(owing: Owing, lra: LraId, members: &Members) -> Option<Due>
+    ensures { result ≡ slice_get (owed_by owing lra 1 members.now) 0 }
+{
+    let mut member = 0;
+    for kept in members.as_slice() {
+        member += 1;
+        if owes_at(owing, kept) {
+            return Some(Due { lra, member });
+        }
+    }
+    None
+}
+
+impl Forest {
+    /// The last participant whose compensation is pending: a member, or one nested in it to this depth.
+    #[cycle(walk)]
+    fn pending_in(&self, number: u64, slot: u8, member: &Member, levels: u8) -> Option<Place>
+        ensures { result ≡ pending_within levels self.now number slot member.now }
+    {
+        match member {
+            Member::Nested(child) => {
+                let Some(record) = self.numbered(*child) else {
+                    return None;
+                };
+                if levels == 0 {
+                    return None;
+                }
+                self.last_pending(*child, &record.members, levels - 1)
+            }
+            Member::Participant(participant) => {
+                if is_pending(participant.compensated) {
+                    Some(Place { number, slot })
+                } else {
+                    None
+                }
+            }
+            Member::Left => None,
+        }
+    }
+
+    /// The last participant whose compensation is pending, of the members of an LRA and those nested in them to this depth.
+    /// It goes from the greatest member number down.
+    #[cycle(walk)]
+    fn last_pending(&self, number: u64, members: &Members, levels: u8) -> Option<Place>
+        ensures { result ≡ last_of (pending_within levels self.now number) 1 members.now }
+    {
+        let members = members.as_slice();
+        let mut left = members.len();
+        'down: while left > 0 {
+            left -= 1;
+            let slot = (left + 1) as u8;
+            if let Some(found) = self.pending_in(number, slot, &members[left], levels) {
+                return Some(found);
+            }
+        }
+        None
+    }
+
+    /// Whether the LRA of this record is cancelled, and none that it is nested in is.
+    fn is_topmost_cancelled(&self, kept: &Record) -> bool
+        ensures { (nodes : ℕ) (S : List Fact) → IsWhole S → IsNested S → Stands nodes self.now.home S self.now.records →
+            let l : Id = record { home = self.now.home; num = kept.now.num } in
+            find (is_of l) self.now.records ≡ Some kept.now → result ≡ is_topmost S l }
+    {
+        if !is_cancel(kept.decision) {
+            return false;
+        }
+        match kept.parent {
+            None => true,
+            Some(place) => !is_cancel(self.wanted(place.number)),
+        }
+    }
+
+    /// The participant under the LRA of this record that is to compensate next, if the LRA is the topmost cancelled one of its
+    /// chain.
+    fn compensation_under(&self, kept: &Record) -> Option<Due>
+        ensures { (nodes : ℕ) (S : List Fact) → IsWhole S → IsSeated S → IsNested S → AllByRecursion IsNumbered S →
+            Stands nodes self.now.home S self.now.records →
+            find (is_of (record { home = self.now.home; num = kept.now.num })) self.now.records ≡ Some kept.now →
+            IsShare self.now.home S kept.now.num result }
+    {
+        if !self.is_topmost_cancelled(kept) {
+            return None;
+        }
+        let Some(place) = self.last_pending(kept.num, &kept.members, MOST_DEPTH - 1) else {
+            return None;
+        };
+        let Ok(lra) = LraId::new(self.home(), place.number) else {
+            return None;
+        };
+        Some(Due {
+            lra,
+            member: place.slot,
+        })
+    }
+
+    /// The compensations that are due: under each LRA that is cancelled, and that is nested in no cancelled one, at most one,
+    /// by the number of that LRA. It looks up the records under these LRAs, each at most once.
+    pub fn next_compensations(&self, alloc: Global) -> Result<Vec<Due>, AllocError>
+        ensures { (nodes : ℕ) (S : List Fact) → IsWhole S → IsSeated S → IsNested S → AllByRecursion IsNumbered S →
+            Stands nodes self.now.home S self.now.records →
+            IfOk result (λ dues. AreAll (IsDueAt self.now.home S is_compensation_due) (is_topmost_before S) dues.items) }
+    {
+        let mut dues = Vec::new(alloc);
+        let records = self.records();
+        for kept in records {
+            if let Some(due) = self.compensation_under(kept) {
+                dues.push(due)?;
+            }
+        }
+        Ok(dues)
+    }
+
+    /// Whether the LRA with the second number is the one with the first, or nested in it, by its chain of parents.
+    pub(crate) fn is_under(&self, above: u64, num: u64) -> bool
+        ensures { result ≡ is_under_at (found_at self.now.home self.now.records) above num }
+    {
+        let mut at = num;
+        for _ in 0..MOST_DEPTH {
+            let Some(record) = self.numbered(at) else {
+                return false;
+            };
+            if record.num == above {
+                return true;
+            }
+            let Some(place) = record.parent else {
+                return false;
+            };
+            at = place.number;
+        }
+        false
+    }
+
+    /// Whether the LRA with this number is ended.
+    fn is_ended(&self, num: u64) -> bool
+        ensures { result ≡ is_ended_at (found_at self.now.home self.now.records) num }
+    {
+        let Some(kept) = self.numbered(num) else {
+            return false;
+        };
+        let want = self.wanted(num);
+        let seen = self.seen(want, kept.members.as_slice(), MOST_DEPTH - 1);
+        seen.is_ended(want)
+    }
+
+    /// The number of the root of the LRA with this number, by its chain of parents.
+    fn root_of(&self, num: u64) -> Option<u64>
+        ensures { let at = found_at self.now.home self.now.records in is_over_at at num ≡ option_map_or (is_ended_at at) result false }
+    {
+        let mut at = num;
+        for _ in 0..MOST_DEPTH {
+            let Some(record) = self.numbered(at) else {
+                return None;
+            };
+            let Some(place) = record.parent else {
+                return Some(at);
+            };
+            at = place.number;
+        }
+        None
+    }
+
+    /// Whether the root of the LRA with this number is ended. It looks up the records of the root's whole tree.
+    fn is_over(&self, num: u64) -> bool
+        ensures { result ≡ is_over_at (found_at self.now.home self.now.records) num }
+    {
+        match self.root_of(num) {
+            Some(root) => self.is_ended(root),
+            None => false,
+        }
+    }
+
+    /// The same, where a root that was asked last is not asked again.
+    fn is_over_since(&self, num: u64, last: &mut Option<LastRoot>) -> bool
+        requires { IsLastRoot (found_at self.now.home self.now.records) last.old }
+        ensures over { result ≡ is_over_at (found_at self.now.home self.now.records) num }
+        ensures last { IsLastRoot (found_at self.now.home self.now.records) last.new }
+    {
+        let Some(root) = self.root_of(num) else {
+            return false;
+        };
+        if let Some(asked) = *last {
+            if asked.root == root {
+                return asked.ended;
+            }
+        }
+        let ended = self.is_ended(root);
+        *last = Some(LastRoot { root, ended });
+        ended
+    }
+
+    /// What the participants of the LRA of this record may have to forget once its root is ended.
+    fn forgetting(&self, kept: &Record) -> Owing
+        ensures { result ≡ forgetting_at (found_at self.now.home self.now.records) kept.now }
+    {
+        Owing::Forgetting(self.wanted(kept.num), kept.parent.is_some())
+    }
+
+    /// What the participants of the LRA of this record have to forget. Where none may have anything to forget, the root is
+    /// not asked whether it is ended.
+    fn forgetting_since(&self, lra: LraId, kept: &Record, last: &mut Option<LastRoot>) -> Owing
+        requires { IsLastRoot (found_at self.now.home self.now.records) last.old }
+        ensures owed { owed_by result lra 1 kept.now.members
+            ≡ owed_by (owing_at Errand.Forget (found_at self.now.home self.now.records) kept.now) lra 1 kept.now.members }
+        ensures last { IsLastRoot (found_at self.now.home self.now.records) last.new }
+    {
+        let owing = self.forgetting(kept);
+        if first_owed(owing, lra, &kept.members).is_none() {
+            return Owing::Nothing;
+        }
+        if !self.is_over_since(kept.num, last) {
+            return Owing::Nothing;
+        }
+        owing
+    }
+
+    /// What the participants of the LRA of this record owe of an errand.
+    fn owing_since(
+        &self,
+        errand: Errand,
+        lra: LraId,
+        kept: &Record,
+        last: &mut Option<LastRoot>,
+    ) -> Owing
+        requires { IsLastRoot (found_at self.now.home self.now.records) last.old }
+        ensures owed { owed_by result lra 1 kept.now.members
+            ≡ owed_by (owing_at errand (found_at self.now.home self.now.records) kept.now) lra 1 kept.now.members }
+        ensures last { IsLastRoot (found_at self.now.home self.now.records) last.new }
+    {
+        match errand {
+            Errand::Complete => completing(self.wanted(kept.num)),
+            Errand::Forget => self.forgetting_since(lra, kept, last),
+        }
+    }
+
+    /// The duties of an errand, by the numbers of their LRAs and their member numbers.
+    fn duties(&self, alloc: Global, errand: Errand) -> Result<Vec<Due>, AllocError>
+        ensures { (nodes : ℕ) (S : List Fact) → IsWhole S → IsSeated S → IsNested S → AllByRecursion IsNumbered S →
+            Stands nodes self.now.home S self.now.records →
+            IfOk result (λ dues. AreAll (IsDueAt self.now.home S (duty_of errand)) is_before dues.items) }
+    {
+        let mut dues = Vec::new(alloc);
+        let mut last = None;
+        let records = self.records();
+        for kept in records {
+            let Ok(lra) = LraId::new(self.home(), kept.num) else {
+                continue;
+            };
+            let owing = self.owing_since(errand, lra, kept, &mut last);
+            add_owed(owing, lra, &kept.members, &mut dues)?;
+        }
+        Ok(dues)
+    }
+
+    /// The participants that are to be called to complete, by the numbers of their LRAs and their member numbers.
+    pub fn complete_duties(&self, alloc: Global) -> Result<Vec<Due>, AllocError>
+        ensures { (nodes : ℕ) (S : List Fact) → IsWhole S → IsSeated S → IsNested S → AllByRecursion IsNumbered S →
+            Stands nodes self.now.home S self.now.records →
+            IfOk result (λ dues. AreAll (IsDueAt self.now.home S is_complete_duty) is_before dues.items) }
+    {
+        self.duties(alloc, Errand::Complete)
+    }
+
+    /// The participants that are to be told that they may forget, by the numbers of their LRAs and their member numbers.
+    pub fn forget_duties(&self, alloc: Global) -> Result<Vec<Due>, AllocError>
+        ensures { (nodes : ℕ) (S : List Fact) → IsWhole S → IsSeated S → IsNested S → AllByRecursion IsNumbered S →
+            Stands nodes self.now.home S self.now.records →
+            IfOk result (λ dues. AreAll (IsDueAt self.now.home S is_forget_duty) is_before dues.items) }
+    {
+        self.duties(alloc, Errand::Forget)
+    }
+
+    /// Whether the participant of an LRA with this member number is to be told that it may forget.
+    pub fn is_to_forget(&self, id: LraId, member: u8) -> Result<bool, Refusal>
+        ensures says { let at = found_at id.home self.now.records in
+            result ≡ answered_of (is_some (at id.num)) (is_some (participant_of at id.num member)) (is_owed_at at id.num member) }
+        ensures refused { result ≡ Err NotHeld ↔ (find (is_of id) self.now.records ≡ None) }
+    {
+        let Some(record) = self.get(id) else {
+            return Err(Refusal::NotHeld);
+        };
+        let Some(participant) = participant_at(record.members.get(member)) else {
+            return Err(Refusal::UnknownMember);
+        };
+        if !owes(self.forgetting(record), participant) {
+            return Ok(false);
+        }
+        Ok(self.is_over(record.num))
+    }
+
+    /// Whether the participant of an LRA with this member number was told that it may forget.
+    pub fn has_forgotten(&self, id: LraId, member: u8) -> Result<bool, Refusal>
+        ensures says { let at = found_at id.home self.now.records in
+            result ≡ answered_of (is_some (at id.num)) (is_some (participant_of at id.num member)) (is_told_at at id.num member) }
+        ensures refused { result ≡ Err NotHeld ↔ (find (is_of id) self.now.records ≡ None) }
+    {
+        let Some(record) = self.get(id) else {
+            return Err(Refusal::NotHeld);
+        };
+        let Some(participant) = participant_at(record.members.get(member)) else {
+            return Err(Refusal::UnknownMember);
+        };
+        Ok(participant.forgotten)
+    }
+
+    /// The first participant of the LRA of this record that is to be told to forget, if the LRA is this one or nested in it.
+    fn first_to_forget(
+        &self,
+        above: LraId,
+        kept: &Record,
+        last: &mut Option<LastRoot>,
+    ) -> Option<Due>
+        requires { IsLastRoot (found_at self.now.home self.now.records) last.old }
+        ensures due { result ≡ owed_below (found_at self.now.home self.now.records) above.num kept.now }
+        ensures last { IsLastRoot (found_at self.now.home self.now.records) last.new }
+    {
+        if !self.is_under(above.num(), kept.num) {
+            return None;
+        }
+        let Ok(lra) = LraId::new(kept.home, kept.num) else {
+            return None;
+        };
+        first_owed(self.forgetting_since(lra, kept, last), lra, &kept.members)
+    }
+
+    /// Of the participants of an LRA of this home and of what is nested in it, the least that is still to be told to forget.
+    /// The root is asked at most once whether it is ended.
+    pub fn least_forget_duty(&self, above: LraId) -> Option<Due>
+        ensures { result ≡ least_owed_of (found_at self.now.home self.now.records) above.num self.now.records }
+    {
+        let mut last = None;
+        let records = self.records();
+        for kept in records {
+            if let Some(due) = self.first_to_forget(above, kept, &mut last) {
+                return Some(due);
+            }
+        }
+        None
+    }
+}

@@ -1,0 +1,50 @@
+// The LRAs that are removed with a root.
+ghost use Rattle.std.specs.Prelude.{◌≡◌, ◌↔◌, Err, None, Some, IfOk, find, if◌then◌else◌, is_some};
+ghost use Rattle.lra_facts.specs.declared.refusal.Refusal.TheVariants.{NotHeld};
+ghost use Rattle.lra_forest.specs.Forests.{id_of, is_of};
+ghost use Rattle.lra_forest.specs.Said.{ids_below, is_below, is_root_at};
+ghost use Rattle.lra_forest.specs.Shape.{found_at};
+ghost use Rattle.lra_forest.specs.Standing.{answered};
+
+use crate::{Forest, Record};
+use lra_facts::Refusal;
+use lra_id::LraId;
+use std::alloc::{AllocError, Global};
+
+impl Forest {
+    /// Whether an LRA is a root, and not nested in another.
+    pub fn is_root(&self, id: LraId) -> Result<bool, Refusal>
+        ensures says { let at = found_at id.home self.now.records in result ≡ answered (is_some (at id.num)) (is_root_at at id.num) }
+        ensures refused { result ≡ Err NotHeld ↔ (find (is_of id) self.now.records ≡ None) }
+    {
+        let Some(record) = self.get(id) else {
+            return Err(Refusal::NotHeld);
+        };
+        Ok(record.parent.is_none())
+    }
+
+    /// The LRA of this record, if it is this one or nested in it.
+    fn if_under(&self, above: LraId, kept: &Record) -> Option<LraId>
+        ensures { result ≡ (if is_below (found_at self.now.home self.now.records) above.num kept.now then Some (id_of kept.now) else None) }
+    {
+        if !self.is_under(above.num(), kept.num) {
+            return None;
+        }
+        LraId::new(kept.home, kept.num).ok()
+    }
+
+    /// An LRA of this home and all that is nested in it, by number. It looks at each of the home's records once, and climbs
+    /// from it.
+    pub fn tree(&self, alloc: Global, above: LraId) -> Result<Vec<LraId>, AllocError>
+        ensures { IfOk result (λ ids. ids.items ≡ ids_below (found_at self.now.home self.now.records) above.num self.now.records) }
+    {
+        let mut ids = Vec::new(alloc);
+        let records = self.records();
+        for kept in records {
+            if let Some(id) = self.if_under(above, kept) {
+                ids.push(id)?;
+            }
+        }
+        Ok(ids)
+    }
+}

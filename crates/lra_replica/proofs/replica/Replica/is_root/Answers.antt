@@ -1,0 +1,19 @@
+use Rattle.std.proofs.Common.{◌∙◌, List, Option, Err, is_some, sym, ap}
+use Rattle.lra_forest.specs.declared.record.Record.{Record}
+use Rattle.lra_forest.specs.Standing.{answered}
+use Rattle.lra_forest.specs.Said.{is_root_at}
+use Rattle.lra_forest.specs.Shape.{found_at}
+use Rattle.lra_replica.specs.Readings.{by_view}
+use Rattle.lra_replica.specs.Replicas.{view_of}
+use Rattle.lra_replica.proofs.replica.Replica.is_root.Goals as goal
+
+pub returns-in-Ok : goal.returns-in-Ok
+returns-in-Ok c =
+    let l = c.args.id in
+    c.is_root.ensures.says ∙ ap (λ (rs : List Record). let at = found_at l.home rs in answered (is_some (at l.num)) (is_root_at at l.num)) c.in-Ok.ensures.records
+
+pub returns-in-Err : goal.returns-in-Err
+returns-in-Err c =
+    let l = c.args.id in
+    let t = by_view (view_of c.args.self.now) in
+    ap (λ r. Err r) c.in-Err.ensures.refused ∙ ap (λ (o : Option Record). answered (is_some o) (t.root l)) (sym c.in-Err.ensures.nowhere)

@@ -1,0 +1,211 @@
+-- What happens in a world.
+use Rattle.std.proofs.Common.{◌≡◌, ◌⊎◌, ◌+◌, zero, suc, inl, inr, [], ◌∷◌, ◌++◌, append_assoc, take, ◌≤◌, ◌<◌, ◌-◌, ◌==◌, ◌&&◌, ℕ, List, refl, sym, ap, subst, ◌∙◌, Bool, true, false, cond, arith, Option, None, Some, length, nat_le, slice_get}
+use Rattle.std.proofs.Math.Seq.{take-append_seam}
+use Rattle.std.proofs.lemmas.Bool.Decides.{nat_tests}
+use Rattle.std.proofs.lemmas.Option.{slice_get_past}
+use Rattle.lra_id.specs.Ids.{Id}
+use Rattle.std.proofs.lemmas.List.{length-append}
+use Rattle.lra_id.specs.Fronts.{IsBelow}
+use Rattle.lra_facts.specs.declared.refusal.Refusal.{Refusal}
+use Rattle.lra_facts.specs.declared.refusal.Refusal.TheVariants.{BadText, Gap}
+use Rattle.lra_replica.specs.declared.command.Command.{Command}
+use Rattle.lra_replica.specs.declared.command.Command.TheVariants.{Decide}
+use Rattle.lra_replica.specs.declared.command.CommandReply.{CommandReply}
+use Rattle.lra_states.specs.declared.outcome.Verdict.TheVariants.{Cancel}
+use Rattle.lra_forest.specs.Overdue.{IsLeastOverdue}
+use Rattle.lra_replica.specs.Growth.{IsSettled}
+use Rattle.lra_replica.proofs.Histories.{closed_settled}
+use Rattle.lra_replica.specs.Histories.{History, IsClosed, IsLawful, facts}
+use Rattle.lra_replica.specs.Replicas.{Kept, view_of}
+use Rattle.lra_replica.specs.Views.{StandsFor}
+use Rattle.lra_world.specs.declared.event.Event.{Event}
+use Rattle.lra_world.specs.declared.event.Event.TheVariants.{Act, Deliver, Restart, Send, Tick}
+use Rattle.lra_world.specs.declared.event.Reply.{Reply}
+use Rattle.lra_world.specs.declared.event.Reply.TheVariants.{Answered, Quiet, Refused, Restarted, Sent}
+use Rattle.lra_world.specs.Headline.{IsNode}
+use Rattle.lra_world.specs.Machines.{Happens, IsChanged, IsExpired, IsWorldOf, LeadsTo, Machine, StopsIn}
+use Rattle.lra_world.specs.Worlds.{Acts, Comes, SentFrame, IfNode, IsSpelled, IsWorld, Runs, Sends, State, Stays, Steps, Ticks, after_command, expired, frame_at, front_of, is_node, nodes_of, set_of}
+use Rattle.lra_world.proofs.Delivering.{at_node}
+use Rattle.lra_world.proofs.Agreeing.{nodes_agree}
+use Rattle.lra_world.proofs.Moving.{kept_posted, run_keeps}
+use Rattle.lra_world.proofs.Parting.{no_split}
+use Rattle.lra_world.proofs.Standing.{ActsSo, acted_world, still_world, with_so}
+
+-- there is such a node
+pub node_there : (s : State) (m : Machine) (node : ℕ) → IsWorldOf s m → 1 ≤ node → nat_le node (length m.replicas) ≡ true → IsNode s node
+node_there s m node w some e = let there : node ≤ length m.replicas = grind (arith, nat_tests) in record { some = some; there = omega (arith, there, w.nodes) }
+
+pub node_within : (m : Machine) (node : ℕ) → nat_le node (length m.replicas) ≡ true → node ≤ length m.replicas
+node_within m node e = grind (arith, nat_tests)
+
+-- where there is none, nothing happens
+not_node : (s : State) (m : Machine) (node : ℕ) → IsWorldOf s m → nat_le node (length m.replicas) ≡ false → is_node s node ≡ false
+not_node s m node w e = both (nat_le 1 node) (nat_le node (nodes_of s)) (ap (λ (n : ℕ). nat_le node n) (sym w.nodes) ∙ e)
+  where
+    both : (a b : Bool) → b ≡ false → (a && b) ≡ false
+    both true b h = h
+    both false b h = refl
+
+pub nowhere : (s : State) (m : Machine) (node : ℕ) (happens : Type 0) → IsWorldOf s m → nat_le node (length m.replicas) ≡ false → IfNode (is_node s node) s happens (Refused BadText) s
+nowhere s m node happens w e = subst (λ (b : Bool). IfNode b s happens (Refused BadText) s) (sym (not_node s m node w e)) (refl, refl)
+
+pub act_happens : (s : State) (old new : Machine) (node : ℕ) (c : Command) (reply : CommandReply) → IsWorldOf s old → IsNode s node → IsChanged old new node (ActsSo node c reply) → Happens s (Act node c) (Answered reply) new
+act_happens s old new node c reply w is change =
+    let acted = acted_world s old new node c reply w is change in (
+      after_command s node c,
+      at_node s (after_command s node c) node (Acts s node c (Answered reply) (after_command s node c)) (Answered reply) is (ap Answered acted.0, refl),
+      acted.1,
+    )
+
+pub restart_happens : (s : State) (old new : Machine) (node : ℕ) (reply : Reply) → IsWorldOf s old → IsNode s node
+    → IsChanged old new node (λ was now. (h : History) (v : List ℕ) → IsLawful h → IsClosed h v → StandsFor (facts h v) (view_of was) → was.front ≡ v → (reply ≡ Restarted) × (view_of now ≡ view_of was))
+    → Happens s (Restart node) reply new
+restart_happens s old new node reply w is change =
+    let view = w.views node change.was is.some change.at in
+    let same = change.so s.history (front_of s node) w.world.lawful (w.world.current node is.some is.there).closed view.stands view.counts in
+    (s, at_node s s node (Stays s Restarted reply s) reply is (same.0, refl), still_world s old new node w is (with_so old new node change same.1))
+
+-- a frame that was never sent
+pub never_sent : (s : State) (m : Machine) (number node kept : ℕ) → IsWorldOf s m → IsNode s node → frame_at s number ≡ None → Happens s (Deliver number node kept) (Refused BadText) m
+never_sent s m number node kept w is none = (
+  s,
+  at_node s s node (Comes s node (frame_at s number) kept (Refused BadText) s) (Refused BadText) is
+      (subst (λ (f : Option SentFrame). Comes s node f kept (Refused BadText) s) (sym none) (refl, refl)),
+  w,
+)
+
+pub beyond_none : (s : State) (m : Machine) (number : ℕ) → IsWorldOf s m → length m.sent < number → frame_at s number ≡ None
+beyond_none s m number w beyond = by (number == 0)
+  where
+    by : (b : Bool) → cond b None (slice_get s.sent (number - 1)) ≡ None
+    by true = refl
+    by false = slice_get_past s.sent (number - 1) (omega (arith, beyond, w.count))
+
+-- a node's set is settled, and its replica stands for it
+pub own_set : (s : State) (m : Machine) (node : ℕ) (kept : Kept) → IsWorldOf s m → IsNode s node → slice_get m.replicas (node - 1) ≡ Some kept → IsSettled (set_of s node) × StandsFor (set_of s node) (view_of kept)
+own_set s m node kept w is at = (
+  closed_settled s.history w.world.lawful (front_of s node) (w.world.current node is.some is.there).closed,
+  (w.views node kept is.some at).stands,
+)
+
+-- an LRA that is overdue expires
+pub expire_happens : (s : State) (old new : Machine) (node : ℕ) (l : Id) (reply : CommandReply) → IsWorldOf s old → IsNode s node → IsChanged old new node (ActsSo node (Decide l Cancel) reply) → IsExpired s node l (expired l reply) new
+expire_happens s old new node l reply w is change =
+    let acted = acted_world s old new node (Decide l Cancel) reply w is change in
+    (after_command s node (Decide l Cancel), (ap (expired l) acted.0, refl), acted.1)
+
+pub tick_happens : (s : State) (new : Machine) (node now : ℕ) (l : Id) (reply : Reply) → IsNode s node → IsLeastOverdue (set_of s node) node now (Some l) → IsExpired s node l reply new → Happens s (Tick node now) reply new
+tick_happens s new node now l reply is least e =
+    (e.0, at_node s e.0 node (Ticks s node now reply e.0) reply is (Some l, least, e.1), e.2)
+
+pub quiet_happens : (s : State) (m : Machine) (node now : ℕ) → IsWorldOf s m → IsNode s node → IsLeastOverdue (set_of s node) node now None → Happens s (Tick node now) Quiet m
+quiet_happens s m node now w is none =
+    (s, at_node s s node (Ticks s node now Quiet s) Quiet is (None, none, (refl, refl)), w)
+
+-- Runs
+
+run_more : (s t u : State) (events : List Event) (replies : List Reply) (event : Event) (reply : Reply) → Runs s events replies t → Steps t event reply u → Runs s (events ++ event ∷ []) (replies ++ reply ∷ []) u
+run_more s t u [] [] event reply h step = (u, subst (λ (x : State). Steps x event reply u) h step, refl)
+run_more s t u [] (r ∷ replies) event reply h step = absurd h
+run_more s t u (e ∷ events) [] event reply h step = absurd h
+run_more s t u (e ∷ events) (r ∷ replies) event reply h step = (h.0, h.1, run_more h.0 t u events replies event reply h.2 step)
+
+-- a run that has come so far: these events are left
+pub record IsRunning (s : State) (all left : List Event) (replies : List Reply) (m : Machine) : Type 0 where
+  pub done : List Event
+  pub parted : all ≡ done ++ left
+  pub state : State
+  pub runs : Runs s done replies state
+  pub stands : IsWorldOf state m
+
+pub running_none : (s : State) (all : List Event) (m : Machine) → IsWorldOf s m → IsRunning s all all [] m
+running_none s all m w = record { done = []; parted = refl; state = s; runs = refl; stands = w }
+
+pub running_still : (s : State) (all left : List Event) (replies : List Reply) (old new : Machine) (r : IsRunning s all left replies old) → IsWorldOf r.state new → IsRunning s all left replies new
+running_still s all left replies old new r w = record { done = r.done; parted = r.parted; state = r.state; runs = r.runs; stands = w }
+
+pub running_more : (s : State) (all left : List Event) (event : Event) (replies : List Reply) (reply : Reply) (old new : Machine) (r : IsRunning s all (event ∷ left) replies old) → Happens r.state event reply new → IsRunning s all left (replies ++ reply ∷ []) new
+running_more s all left event replies reply old new r h =
+    record {
+      done = r.done ++ event ∷ [];
+      parted = r.parted ∙ sym (append_assoc r.done (event ∷ []) left);
+      state = h.0;
+      runs = run_more s r.state h.0 r.done replies event reply r.runs h.1;
+      stands = h.2;
+    }
+
+-- the headline holds of each run
+pub leads : (s t : State) (events : List Event) (replies : List Reply) (m : Machine) → IsWorld s → Runs s events replies t → IsWorldOf t m → LeadsTo s events replies m
+leads s t events replies m world runs w =
+    let kept = run_keeps s t events replies world runs in
+    record {
+      state = t;
+      runs = runs;
+      stands = w;
+      converges = record { world = kept.world; agree = λ one other took. nodes_agree t one other kept.world took; whole = no_split s t world kept };
+    }
+
+pub running_stops : (s : State) (all left : List Event) (replies : List Reply) (m : Machine) → IsWorld s → IsRunning s all left replies m → StopsIn s all m
+running_stops s all left replies m world r =
+    record {
+      done = length r.done;
+      replies = replies;
+      leads = subst (λ (events : List Event). LeadsTo s events replies m) (sym (ap (take (length r.done)) r.parted ∙ take-append_seam r.done left))
+          (leads s r.state r.done replies m world r.runs r.stands);
+    }
+
+pub running_ends : (s : State) (all left : List Event) (replies : List Reply) (m : Machine) → IsWorld s → IsRunning s all left replies m → left ≡ [] → LeadsTo s all replies m
+running_ends s all left replies m world r none =
+    subst (λ (events : List Event). LeadsTo s events replies m) (sym (r.parted ∙ ap (λ (l : List Event). r.done ++ l) none ∙ no_more r.done))
+    (leads s r.state r.done replies m world r.runs r.stands)
+  where
+    no_more : (xs : List Event) → xs ++ [] ≡ xs
+    no_more [] = refl
+    no_more (x ∷ xs) = ap (λ (l : List Event). x ∷ l) (no_more xs)
+
+-- A frame that is sent
+
+last_or_old : (fs : List SentFrame) (bs : List (List ℕ)) (f : SentFrame) (b : List ℕ) (place : ℕ) (frame : SentFrame) (bytes : List ℕ) → length bs ≡ length fs → slice_get (fs ++ f ∷ []) place ≡ Some frame → slice_get (bs ++ b ∷ []) place ≡ Some bytes
+    → ((slice_get fs place ≡ Some frame) × (slice_get bs place ≡ Some bytes)) ⊎ ((f ≡ frame) × (b ≡ bytes))
+last_or_old [] [] f b zero frame bytes same at spelt = let one : f ≡ frame = cc in let other : b ≡ bytes = cc in inr (one, other)
+last_or_old [] [] f b (suc place) frame bytes same at spelt = absurd cc
+last_or_old [] (y ∷ bs) f b place frame bytes same at spelt = absurd (omega (arith, same))
+last_or_old (x ∷ fs) [] f b place frame bytes same at spelt = absurd (omega (arith, same))
+last_or_old (x ∷ fs) (y ∷ bs) f b zero frame bytes same at spelt = inl (at, spelt)
+last_or_old (x ∷ fs) (y ∷ bs) f b (suc place) frame bytes same at spelt = last_or_old fs bs f b place frame bytes (omega (arith, same)) at spelt
+
+pub send_happens : (s : State) (m : Machine) (node : ℕ) (base bytes : List ℕ) → IsWorldOf s m → IsNode s node → length base ≡ length m.replicas → IsBelow base (front_of s node)
+    → IsSpelled s.history (record { base = base; front = front_of s node }) bytes
+    → Happens s (Send node base) (Sent (length m.sent + 1)) (record { replicas = m.replicas; sent = m.sent ++ bytes ∷ [] })
+send_happens s m node base bytes w is nodes below spelled =
+    let frame : SentFrame = record { base = base; front = front_of s node } in
+    let t : State = record s { sent = s.sent ++ frame ∷ [] } in
+    let counts : length base ≡ nodes_of s = nodes ∙ w.nodes in
+    let kept = kept_posted s node base w.world is counts below in (
+      t,
+      at_node s t node (Sends s node base (Sent (length m.sent + 1)) t) (Sent (length m.sent + 1)) is
+          (inr (inr (counts, below, ap (λ (n : ℕ). Sent (n + 1)) w.count, refl))),
+      record {
+        world = kept.world;
+        nodes = w.nodes;
+        views = w.views;
+        count = length-append m.sent (bytes ∷ []) ∙ ap (λ (n : ℕ). n + 1) w.count ∙ sym (length-append s.sent (frame ∷ []));
+        frames = λ place f b at spelt. elim (last_or_old s.sent m.sent frame bytes place f b w.count at spelt) [
+          | inl old ↦ w.frames place f b old.0 old.1
+          | inr new ↦ subst (λ (x : SentFrame). IsSpelled s.history x b) new.0 (subst (λ (x : List ℕ). IsSpelled s.history frame x) new.1 spelled)
+        ];
+      },
+    )
+
+pub gap_happens : (s : State) (m : Machine) (node : ℕ) (base : List ℕ) (refusal : Refusal) → IsWorldOf s m → IsNode s node → length base ≡ length m.replicas → refusal ≡ Gap (front_of s node) → (IsBelow base (front_of s node) → ⊥)
+    → Happens s (Send node base) (Refused refusal) m
+gap_happens s m node base refusal w is nodes gap beyond = (
+  s,
+  at_node s s node (Sends s node base (Refused refusal) s) (Refused refusal) is
+      (inr (inl (nodes ∙ w.nodes, beyond, (ap Refused gap, refl)))),
+  w,
+)
+
+pub other_nodes : (s : State) (m : Machine) (node : ℕ) (base : List ℕ) → IsWorldOf s m → IsNode s node → (length base ≡ length m.replicas → ⊥) → Happens s (Send node base) (Refused BadText) m
+other_nodes s m node base w is others =
+    (s, at_node s s node (Sends s node base (Refused BadText) s) (Refused BadText) is (inl (λ e. others (e ∙ sym w.nodes), (refl, refl))), w)

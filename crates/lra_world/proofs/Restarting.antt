@@ -1,0 +1,102 @@
+-- A view that is taken whole by that of no facts stays as it is.
+use Rattle.std.proofs.Common.{◌≡◌, ◌-◌, inl, ℕ, zero, suc, List, [], ◌∷◌, refl, sym, ap, subst, ◌∙◌, arith, get_or, length, max, replicate}
+use Rattle.std.proofs.lemmas.List.{length-replicate}
+use Rattle.lra_id.specs.Fronts.{IsBelow, join_fronts}
+use Rattle.lra_facts.specs.declared.fact.Fact.{Fact}
+use Rattle.lra_facts.specs.Lists.{In}
+use Rattle.lra_replica.specs.Histories.{History, IsClosed, IsLawful, facts}
+use Rattle.lra_replica.specs.Replicas.{empty_view}
+use Rattle.lra_replica.specs.Views.{StandsFor, View}
+use Rattle.lra_replica.proofs.Counting.{empty_stands}
+use Rattle.lra_replica.proofs.Histories.{entry_of, made_from_at}
+use Rattle.lra_replica.proofs.Uniqueness.{one_view}
+use Rattle.lra_delta.specs.Frames.{frame_of}
+use Rattle.lra_delta.specs.Rules.{IsDelta}
+use Rattle.lra_delta.specs.Spelling.{spelling}
+use Rattle.lra_delta.proofs.OfSets.{frame_stands}
+use Rattle.lra_world.specs.declared.event.Reply.{Reply}
+use Rattle.lra_world.specs.declared.event.Reply.TheVariants.{Took}
+use Rattle.lra_world.specs.Machines.{IsFrom, TakesBytes, TakesFrame}
+use Rattle.lra_world.specs.Worlds.{IsViewOf}
+use Rattle.lra_world.proofs.Delivering.{all_read}
+
+zero_at : (n i : ℕ) → get_or {A = ℕ} (replicate n 0) i 0 ≡ 0
+zero_at zero i = refl
+zero_at (suc n) zero = refl
+zero_at (suc n) (suc i) = zero_at n i
+
+zeros_closed : (h : History) → IsClosed h (replicate (length h) 0)
+zeros_closed h =
+    record {
+      kept = λ e m bound. absurd (omega (arith, bound, (made_from_at 1 h e m).1, zero_at (length h) (e.fact.origin - 1)));
+      nodes = length-replicate {A = ℕ} (length h) 0;
+      within = λ node. omega (arith, zero_at (length h) (node - 1));
+    }
+
+none_in : (S : List Fact) → ((f : Fact) → In f S → ⊥) → S ≡ []
+none_in [] none = refl
+none_in (f ∷ S) none = absurd (none f (inl refl))
+
+zeros_count_none : (h : History) → facts h (replicate (length h) 0) ≡ []
+zeros_count_none h = none_in (facts h (replicate (length h) 0)) (λ f m.
+    let e = entry_of h (replicate (length h) 0) f m in
+    omega (arith, e.3, zero_at (length h) (f.origin - 1), (made_from_at 1 h e.0 e.1).1, ap (λ (g : Fact). g.num) e.2))
+
+join_zeros : (v : List ℕ) → join_fronts (replicate (length v) 0) v ≡ v
+join_zeros [] = refl
+join_zeros (a ∷ v) = let here : max 0 a ≡ a = omega arith in ap (λ n. n ∷ join_fronts (replicate (length v) 0) v) here ∙ ap (λ r. a ∷ r) (join_zeros v)
+
+-- the view of no facts is that of the front of zeros
+pub zeros_stand : (h : History) → StandsFor (facts h (replicate (length h) 0)) (empty_view (length h))
+zeros_stand h = subst (λ (S : List Fact). StandsFor S (empty_view (length h))) (sym (zeros_count_none h)) (empty_stands (length h))
+
+pub zeros_are_closed : (h : History) → IsClosed h (replicate (length h) 0)
+zeros_are_closed h = zeros_closed h
+
+-- what stands for the union with no facts is the view itself
+pub joined_none : (h : History) (v : List ℕ) (a b : View) → IsClosed h v → a.front ≡ v → length b.front ≡ length a.front → StandsFor (facts h v) a → StandsFor (facts h (join_fronts (replicate (length h) 0) v)) b → b ≡ a
+joined_none h v a b closed front nodes own joined =
+    let same : join_fronts (replicate (length h) 0) v ≡ v = ap (λ (n : ℕ). join_fronts (replicate n 0) v) (sym closed.nodes) ∙ join_zeros v in
+    one_view (facts h v) b a nodes (subst (λ (u : List ℕ). StandsFor (facts h u) b) same joined) own
+
+-- the front of zeros is below each
+pub zeros_below : (n : ℕ) (v : List ℕ) → IsBelow (replicate n 0) v
+zeros_below n v node = omega (arith, zero_at n (node - 1))
+
+-- In a lawful history the whole frame of a view comes to the view of no facts
+from_none : (h : History) (v : List ℕ) (own : View) → IsLawful h → IsClosed h v → IsViewOf h v own → IsFrom h (replicate (length h) 0) v (empty_view (length h)) (frame_of own (replicate (length h) 0))
+from_none h v own lawful closed is =
+    record {
+      lawful = lawful;
+      receiver = zeros_closed h;
+      sender = closed;
+      own = record { stands = zeros_stand h; counts = refl };
+      told = frame_stands (facts h v) own (replicate (length h) 0) is.stands;
+      counts = is.counts;
+    }
+
+-- so it becomes the view again
+pub taken_again : (h : History) (v zeros bytes : List ℕ) (own fresh new : View) (n : ℕ) (reply : Reply) → IsLawful h → IsClosed h v → IsViewOf h v own → n ≡ length own.front → zeros ≡ replicate n 0 → fresh ≡ empty_view n
+    → IsDelta (frame_of own zeros) → bytes ≡ spelling (frame_of own zeros) → TakesBytes fresh bytes (length bytes) reply new → (reply ≡ Took) × (new ≡ own)
+taken_again h v zeros bytes own fresh new n reply lawful closed is nodes none empty rules spells takes =
+    let count : n ≡ length h = nodes ∙ ap (λ (u : List ℕ). length u) is.counts ∙ closed.nodes in
+    let zeros_is : zeros ≡ replicate (length h) 0 = none ∙ ap (λ (k : ℕ). replicate k 0) count in
+    let fresh_is : fresh ≡ empty_view (length h) = empty ∙ ap empty_view count in
+    let all : TakesFrame fresh (frame_of own zeros) reply new = all_read (frame_of own zeros) bytes reply fresh new rules spells takes in
+    let whole : TakesFrame (empty_view (length h)) (frame_of own (replicate (length h) 0)) reply new =
+    subst (λ (a : View). TakesFrame a (frame_of own (replicate (length h) 0)) reply new) fresh_is
+    (subst (λ (z : List ℕ). TakesFrame fresh (frame_of own z) reply new) zeros_is all) in
+    let took = (whole h (replicate (length h) 0) v (from_none h v own lawful closed is)).0 (zeros_below (length h) (replicate (length h) 0)) in
+    let same : join_fronts (replicate (length h) 0) v ≡ v = ap (λ (k : ℕ). join_fronts (replicate k 0) v) (sym closed.nodes) ∙ join_zeros v in
+    (took.0, joined_none h v own new closed is.counts (ap (λ (u : List ℕ). length u) (took.1.counts ∙ same ∙ sym is.counts)) is.stands took.1.stands)
+
+-- the same by what a sender's bytes are in each lawful history
+pub retaken : (zeros items bytes nodes_front : List ℕ) (own fresh new : View) (nodes len vec : ℕ) (reply : Reply)
+    → ((h : History) (v : List ℕ) → IsLawful h → IsClosed h v → IsViewOf h v own → IsBelow zeros v × IsDelta (frame_of own zeros) × (items ≡ spelling (frame_of own zeros)))
+    → nodes ≡ length nodes_front → nodes_front ≡ own.front → zeros ≡ replicate nodes 0 → fresh ≡ empty_view nodes → bytes ≡ items → length bytes ≡ vec → len ≡ vec
+    → TakesBytes fresh bytes len reply new → (h : History) (v : List ℕ) → IsLawful h → IsClosed h v → StandsFor (facts h v) own → own.front ≡ v → (reply ≡ Took) × (new ≡ own)
+retaken zeros items bytes nodes_front own fresh new nodes len vec reply sends count front none empty same many whole takes h v lawful closed stands counts =
+    let is : IsViewOf h v own = record { stands = stands; counts = counts } in
+    let sent = sends h v lawful closed is in
+    taken_again h v zeros bytes own fresh new nodes reply lawful closed is (count ∙ ap (λ (u : List ℕ). length u) front) none empty sent.1 (same ∙ sent.2)
+    (subst (λ (k : ℕ). TakesBytes fresh bytes k reply new) (whole ∙ sym many) takes)

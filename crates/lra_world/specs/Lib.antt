@@ -1,0 +1,3 @@
+pub mod Headline
+pub mod Machines
+pub mod Worlds

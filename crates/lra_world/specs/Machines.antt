@@ -1,0 +1,130 @@
+-- What a world keeps in memory, and when that stands for a state.
+use Rattle.std.specs.Prelude.{◌≡◌, ◌⊎◌, ◌≤◌, ◌<◌, ◌-◌, ℕ, Option, Some, None, List, length, slice_get, map, slice_set, take, Result, Err, Vec}
+use Rattle.std.specs.declared.alloc.Global.{Global}
+use Rattle.lra_id.specs.Fronts.{IsBelow, join_fronts}
+use Rattle.lra_id.specs.Ids.{Id}
+use Rattle.lra_facts.specs.declared.fact.Fact.{Fact}
+use Rattle.lra_facts.specs.declared.refusal.Refusal.{Refusal}
+use Rattle.lra_facts.specs.declared.refusal.Refusal.TheVariants.{BadFrame, BadText, Gap}
+use Rattle.lra_replica.specs.declared.command.Command.{Command}
+use Rattle.lra_replica.specs.declared.command.CommandReply.{CommandReply}
+use Rattle.lra_replica.specs.Growth.{IsMore}
+use Rattle.lra_replica.specs.Histories.{History, IsClosed, IsLawful, facts}
+use Rattle.lra_replica.specs.Replicas.{Change, Kept, empty_view, patched, raised, view_of}
+use Rattle.lra_replica.specs.Replies.{Judgement, Denied, Old, Taken, judge, next_fact, reply_of}
+use Rattle.lra_replica.specs.Views.{StandsFor, View}
+use Rattle.lra_delta.specs.declared.input.Stop.TheVariants.{Fault}
+use Rattle.lra_delta.specs.Frames.{Frame, IsFrame}
+use Rattle.lra_delta.specs.Reading.{frame_in}
+use Rattle.lra_delta.specs.Rules.{IsDelta}
+use Rattle.lra_delta.specs.Spelling.{spelling}
+use Rattle.lra_world.specs.declared.event.Event.{Event}
+use Rattle.lra_world.specs.declared.event.Reply.{Reply}
+use Rattle.lra_world.specs.declared.event.Reply.TheVariants.{Refused, Took}
+use Rattle.lra_world.specs.Headline.{Converges}
+use Rattle.lra_world.specs.Worlds.{SentFrame, IsSpelled, IsViewOf, IsWorld, Expires, Runs, State, Steps, front_of, nodes_of}
+
+-- a replica for each node, and the bytes of each frame that was sent
+pub record Machine : Type 0 where
+  pub replicas : List Kept
+  pub sent : List (List ℕ)
+
+-- each replica counts the facts of as many nodes as there are
+pub record IsMachine (m : Machine) : Type 0 where
+  pub fronts : (place : ℕ) (kept : Kept) → slice_get m.replicas place ≡ Some kept → length kept.front ≡ length m.replicas
+
+-- It stands for the state: each node's replica is the view of what the node holds, and the bytes spell the frames
+pub record IsWorldOf (s : State) (m : Machine) : Type 0 where
+  pub world : IsWorld s
+  pub nodes : length m.replicas ≡ nodes_of s
+  pub views : (node : ℕ) (kept : Kept) → 1 ≤ node → slice_get m.replicas (node - 1) ≡ Some kept →
+      IsViewOf s.history (front_of s node) (view_of kept)
+  pub count : length m.sent ≡ length s.sent
+  pub frames : (place : ℕ) (frame : SentFrame) (bytes : List ℕ) → slice_get s.sent place ≡ Some frame →
+      slice_get m.sent place ≡ Some bytes → IsSpelled s.history frame bytes
+
+-- one replica is changed so, and nothing else
+pub record IsChanged (old new : Machine) (node : ℕ) (So : Kept → Kept → Type 0) : Type 0 where
+  pub was : Kept
+  pub now : Kept
+  pub at : slice_get old.replicas (node - 1) ≡ Some was
+  pub replicas : new.replicas ≡ slice_set old.replicas (node - 1) now
+  pub sent : new.sent ≡ old.sent
+  pub so : So was now
+
+-- Commands
+
+-- the view after a patch, if there is one
+abbrev pub with_patch : Option Change → View → View
+with_patch None view = view
+with_patch (Some change) view = patched change view
+
+-- only a command that is taken changes a view: then it stands for the set with the command's fact
+abbrev pub Becomes : Judgement → List Fact → View → ℕ → Command → View → Type 0
+Becomes (Denied r) S old me c new = new ≡ old
+Becomes Old S old me c new = new ≡ old
+Becomes Taken S old me c new =
+    (new.front ≡ raised old.front me) × ((T : List Fact) → IsMore (next_fact S old.front me c) S T → StandsFor T new)
+
+-- what a node makes of a command, over a set that its view stands for
+abbrev pub IsActed : List Fact → View → ℕ → Command → CommandReply → View → Type 0
+IsActed S old me c reply new = (reply ≡ reply_of S old.front me c) × Becomes (judge S old.front me c) S old me c new
+
+-- Frames
+
+-- In a lawful history a frame comes to the view of one closed set from one that held another
+pub record IsFrom (h : History) (v w : List ℕ) (old : View) (frame : Frame) : Type 0 where
+  pub lawful : IsLawful h
+  pub receiver : IsClosed h v
+  pub sender : IsClosed h w
+  pub own : IsViewOf h v old
+  pub told : IsFrame (facts h w) frame.base frame
+  pub counts : frame.front ≡ w
+
+-- From whatever history it comes: it is taken where the view counts its base, and the view is that of the union then; else
+-- the gap is told and nothing changes
+abbrev pub TakesFrame : View → Frame → Reply → View → Type 0
+TakesFrame old frame reply new =
+    (h : History) (v w : List ℕ) → IsFrom h v w old frame →
+    (IsBelow frame.base v → (reply ≡ Took) × IsViewOf h (join_fronts v w) new)
+    × ((IsBelow frame.base v → ⊥) → (reply ≡ Refused (Gap v)) × (new ≡ old))
+
+-- of the bytes of a frame so many come: more than there are, or some that spell no frame, or some that spell one
+abbrev pub TakesBytes : View → List ℕ → ℕ → Reply → View → Type 0
+TakesBytes old bytes kept reply new =
+    ((length bytes < kept) × (reply ≡ Refused BadText) × (new ≡ old))
+    ⊎ ((kept ≤ length bytes) × ((place : ℕ) × (frame_in (take kept bytes) ≡ Err (Fault place)) × (reply ≡ Refused (BadFrame place)) × (new ≡ old)))
+    ⊎ ((kept ≤ length bytes) × ((frame : Frame) × IsDelta frame × (take kept bytes ≡ spelling frame) × TakesFrame old frame reply new))
+
+-- What happens
+
+-- the event may happen in state s, with this reply, and the world stands for the state after it
+abbrev pub Happens : State → Event → Reply → Machine → Type 0
+Happens s event reply m = (t : State) × Steps s event reply t × IsWorldOf t m
+
+-- the bytes of each frame
+abbrev pub bytes_of : List (Vec ℕ Global) → List (List ℕ)
+bytes_of = map (λ (bytes : Vec ℕ Global). bytes.items)
+
+-- the LRA is cancelled in state s, and the world stands for the state after it
+abbrev pub IsExpired : State → ℕ → Id → Reply → Machine → Type 0
+IsExpired s node l reply m = (t : State) × Expires s node (Some l) reply t × IsWorldOf t m
+
+-- A run: the events happen from state s, and lead to a state that the world stands for; and the headline holds from the one
+-- to the other
+pub record LeadsTo (s : State) (events : List Event) (replies : List Reply) (m : Machine) : Type 0 where
+  pub state : State
+  pub runs : Runs s events replies state
+  pub stands : IsWorldOf state m
+  pub converges : Converges s state
+
+-- a run that stopped after the first so many events
+pub record StopsIn (s : State) (events : List Event) (m : Machine) : Type 0 where
+  pub done : ℕ
+  pub replies : List Reply
+  pub leads : LeadsTo s (take done events) replies m
+
+-- so many replicas, which are views of no facts of these nodes
+pub record AreEmpty (nodes count : ℕ) (replicas : List Kept) : Type 0 where
+  pub many : length replicas ≡ count
+  pub views : (place : ℕ) (kept : Kept) → slice_get replicas place ≡ Some kept → view_of kept ≡ empty_view nodes

@@ -1,0 +1,184 @@
+-- The world: what all nodes entered, what each of them counts, and the frames that were sent; what may happen next, and
+-- what is replied. No record is spoken of.
+use Rattle.std.specs.Prelude.{◌≡◌, ◌⊎◌, ◌≤◌, ◌<◌, ◌+◌, ◌-◌, ◌==◌, ◌&&◌, ℕ, Bool, true, false, Option, Some, None, List, [], ◌∷◌, ◌++◌, Err, get_or, if◌then◌else◌, length, nat_le, replicate, slice_get, slice_set, take}
+use Rattle.lra_id.specs.Fronts.{IsBelow, join_fronts}
+use Rattle.lra_id.specs.Ids.{Id}
+use Rattle.lra_states.specs.declared.outcome.Verdict.TheVariants.{Cancel}
+use Rattle.lra_facts.specs.declared.fact.Fact.{Fact}
+use Rattle.lra_facts.specs.declared.refusal.Refusal.TheVariants.{BadFrame, BadText, Gap}
+use Rattle.lra_facts.specs.Lists.{In}
+use Rattle.lra_forest.specs.Overdue.{IsLeastOverdue}
+use Rattle.lra_replica.specs.declared.command.Command.{Command}
+use Rattle.lra_replica.specs.declared.command.Command.TheVariants.{Decide}
+use Rattle.lra_replica.specs.declared.command.CommandReply.{CommandReply}
+use Rattle.lra_replica.specs.declared.command.CommandReply.TheVariants.{Refused as NotEntered}
+use Rattle.lra_replica.specs.Histories.{History, IsClosed, IsLawful, facts, with_entry}
+use Rattle.lra_replica.specs.Laws.{IsCurrent, entry_for}
+use Rattle.lra_replica.specs.Replicas.{raised}
+use Rattle.lra_replica.specs.Replies.{Judgement, Denied, Old, Taken, judge, reply_of}
+use Rattle.lra_replica.specs.Views.{StandsFor, View}
+use Rattle.lra_delta.specs.declared.input.Stop.TheVariants.{Fault}
+use Rattle.lra_delta.specs.Frames.{frame_of}
+use Rattle.lra_delta.specs.Reading.{frame_in}
+use Rattle.lra_delta.specs.Rules.{IsDelta}
+use Rattle.lra_delta.specs.Spelling.{spelling}
+use Rattle.lra_world.specs.declared.event.Event.{Event}
+use Rattle.lra_world.specs.declared.event.Event.TheVariants.{Act, Deliver, Restart, Send, Tick}
+use Rattle.lra_world.specs.declared.event.Reply.{Reply}
+use Rattle.lra_world.specs.declared.event.Reply.TheVariants.{Answered, Expired, Quiet, Refused, Restarted, Sent, Took}
+
+-- States
+
+-- a frame that was sent: the base that it counts from, and the front of its sender then
+pub record SentFrame : Type 0 where
+  pub base : List ℕ
+  pub front : List ℕ
+
+-- what all nodes entered, the front of each node, and the frames that were sent, the first one first
+pub record State : Type 0 where
+  pub history : History
+  pub fronts : List (List ℕ)
+  pub sent : List SentFrame
+
+abbrev pub nodes_of : State → ℕ
+nodes_of s = length s.history
+
+abbrev pub is_node : State → ℕ → Bool
+is_node s node = nat_le 1 node && nat_le node (nodes_of s)
+
+-- the front of a node
+abbrev pub front_of : State → ℕ → List ℕ
+front_of s node = get_or s.fronts (node - 1) []
+
+-- the facts that a node holds: those that its front counts
+abbrev pub set_of : State → ℕ → List Fact
+set_of s node = facts s.history (front_of s node)
+
+-- frames are numbered from 1
+abbrev pub frame_at : State → ℕ → Option SentFrame
+frame_at s number = if number == 0 then None else slice_get s.sent (number - 1)
+
+-- nothing was entered and nothing was sent
+abbrev pub start : ℕ → State
+start nodes = record { history = replicate nodes []; fronts = replicate nodes (replicate nodes 0); sent = [] }
+
+-- the sender's front was closed, and counted the base
+pub record IsSent (h : History) (frame : SentFrame) : Type 0 where
+  pub closed : IsClosed h frame.front
+  pub below : IsBelow frame.base frame.front
+  pub nodes : length frame.base ≡ length h
+
+-- What every state keeps. The history is lawful, and each node holds a closed set with all that the node entered
+pub record IsWorld (s : State) : Type 0 where
+  pub lawful : IsLawful s.history
+  pub nodes : length s.fronts ≡ nodes_of s
+  pub current : (node : ℕ) → 1 ≤ node → node ≤ nodes_of s → IsCurrent s.history node (front_of s node)
+  pub sent : (frame : SentFrame) → In frame s.sent → IsSent s.history frame
+
+-- Frames as bytes
+
+-- the view of what a node holds that has this front
+pub record IsViewOf (h : History) (front : List ℕ) (view : View) : Type 0 where
+  pub stands : StandsFor (facts h front) view
+  pub counts : view.front ≡ front
+
+-- the bytes spell the frame since its base, of the view of what its sender held
+pub record IsSpelled (h : History) (frame : SentFrame) (bytes : List ℕ) : Type 0 where
+  pub view : View
+  pub sender : IsViewOf h frame.front view
+  pub rules : IsDelta (frame_of view frame.base)
+  pub spells : bytes ≡ spelling (frame_of view frame.base)
+
+-- What happens
+
+-- nothing but a reply
+abbrev pub Stays : State → Reply → Reply → State → Type 0
+Stays s is reply t = (reply ≡ is) × (t ≡ s)
+
+-- the node's front is another
+abbrev pub with_front : State → ℕ → List ℕ → State
+with_front s node front = record s { fronts = slice_set s.fronts (node - 1) front }
+
+-- what a command asks is the node's next entry, with the node's front, which counts it from then on
+abbrev pub with_command : State → ℕ → Command → State
+with_command s node c =
+    record {
+      history = with_entry s.history node (entry_for s.history (front_of s node) c);
+      fronts = slice_set s.fronts (node - 1) (raised (front_of s node) node);
+      sent = s.sent;
+    }
+
+-- only a command that is taken enters something
+abbrev pub if_taken : Judgement → (before after : State) → State
+if_taken (Denied r) before after = before
+if_taken Old before after = before
+if_taken Taken before after = after
+
+-- What a node makes of a command
+abbrev pub reply_at : State → ℕ → Command → CommandReply
+reply_at s node c = reply_of (set_of s node) (front_of s node) node c
+
+-- and the state after it
+abbrev pub after_command : State → ℕ → Command → State
+after_command s node c = if_taken (judge (set_of s node) (front_of s node) node c) s (with_command s node c)
+
+-- a node is asked to enter something
+abbrev pub Acts : State → ℕ → Command → Reply → State → Type 0
+Acts s node c reply t = (reply ≡ Answered (reply_at s node c)) × (t ≡ after_command s node c)
+
+-- a node sends a frame: its base counts as many nodes, and no more than the node does
+abbrev pub Sends : State → ℕ → List ℕ → Reply → State → Type 0
+Sends s node base reply t =
+    ((length base ≡ nodes_of s → ⊥) × Stays s (Refused BadText) reply t)
+    ⊎ ((length base ≡ nodes_of s) × (IsBelow base (front_of s node) → ⊥) × Stays s (Refused (Gap (front_of s node))) reply t)
+    ⊎ ((length base ≡ nodes_of s) × IsBelow base (front_of s node) × (reply ≡ Sent (length s.sent + 1))
+    × (t ≡ record s { sent = s.sent ++ record { base = base; front = front_of s node } ∷ [] }))
+
+-- Of a frame that is spelled by these bytes so many come to a node: more than there are, or fewer, or all. All are taken
+-- where the node counts the base: then it holds what it held and what the sender held
+abbrev pub Takes : State → ℕ → SentFrame → List ℕ → ℕ → Reply → State → Type 0
+Takes s node frame bytes kept reply t =
+    ((length bytes < kept) × Stays s (Refused BadText) reply t)
+    ⊎ ((kept < length bytes) × ((place : ℕ) × (frame_in (take kept bytes) ≡ Err (Fault place)) × Stays s (Refused (BadFrame place)) reply t))
+    ⊎ ((kept ≡ length bytes) × (IsBelow frame.base (front_of s node) → ⊥) × Stays s (Refused (Gap (front_of s node))) reply t)
+    ⊎ ((kept ≡ length bytes) × IsBelow frame.base (front_of s node) × (reply ≡ Took)
+    × (t ≡ with_front s node (join_fronts (front_of s node) frame.front)))
+
+-- a frame comes to a node
+abbrev pub Comes : State → ℕ → Option SentFrame → ℕ → Reply → State → Type 0
+Comes s node None kept reply t = Stays s (Refused BadText) reply t
+Comes s node (Some frame) kept reply t = (bytes : List ℕ) × IsSpelled s.history frame bytes × Takes s node frame bytes kept reply t
+
+-- an LRA was cancelled since its deadline had passed, or that was refused
+abbrev pub expired : Id → CommandReply → Reply
+expired l (NotEntered r) = Refused r
+expired l _ = Expired l
+
+-- a node is told the time, and this LRA is overdue, or none is
+abbrev pub Expires : State → ℕ → Option Id → Reply → State → Type 0
+Expires s node None reply t = Stays s Quiet reply t
+Expires s node (Some l) reply t = (reply ≡ expired l (reply_at s node (Decide l Cancel))) × (t ≡ after_command s node (Decide l Cancel))
+
+-- of the LRAs of the node that are overdue, the one with the least number is cancelled
+abbrev pub Ticks : State → ℕ → ℕ → Reply → State → Type 0
+Ticks s node now reply t = (found : Option Id) × IsLeastOverdue (set_of s node) node now found × Expires s node found reply t
+
+-- where there is such a node, this happens, and else nothing
+abbrev pub IfNode : Bool → State → Type 0 → Reply → State → Type 0
+IfNode true s happens reply t = happens
+IfNode false s happens reply t = Stays s (Refused BadText) reply t
+
+-- One step: in state s the event is replied so, and leaves state t
+abbrev pub Steps : State → Event → Reply → State → Type 0
+Steps s (Act node c) reply t = IfNode (is_node s node) s (Acts s node c reply t) reply t
+Steps s (Send node base) reply t = IfNode (is_node s node) s (Sends s node base reply t) reply t
+Steps s (Deliver number node kept) reply t = IfNode (is_node s node) s (Comes s node (frame_at s number) kept reply t) reply t
+Steps s (Restart node) reply t = IfNode (is_node s node) s (Stays s Restarted reply t) reply t
+Steps s (Tick node now) reply t = IfNode (is_node s node) s (Ticks s node now reply t) reply t
+
+-- A run: from state s the events are replied so, one after another, and leave state t
+abbrev pub Runs : State → List Event → List Reply → State → Type 0
+Runs s [] [] t = t ≡ s
+Runs s (event ∷ events) (reply ∷ replies) t = (mid : State) × Steps s event reply mid × Runs mid events replies t
+Runs s [] (reply ∷ replies) t = ⊥
+Runs s (event ∷ events) [] t = ⊥

@@ -1,0 +1,14 @@
+//! All nodes as one machine: what they hold, and the frames that were sent.
+#![tactic(auto)]
+
+mod event;
+pub mod laws;
+mod node;
+#[cfg(test)]
+mod tests;
+#[cfg(test)]
+mod tests_played;
+mod world;
+
+pub use event::{Event, Reply};
+pub use world::World;

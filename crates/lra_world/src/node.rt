@@ -1,0 +1,173 @@
+// What one node makes of an event.
+ghost use Rattle.std.specs.Prelude.{◌≡◌, ◌⊎◌, ◌≤◌, ℕ, List, Some, None, IfErr, IfOk, IfSome, OnErr, length};
+ghost use Rattle.lra_facts.specs.declared.fact.Fact.{Fact};
+ghost use Rattle.lra_replica.specs.Growth.{IsSettled};
+ghost use Rattle.lra_replica.specs.Histories.{History, IsClosed, IsLawful, facts};
+ghost use Rattle.lra_replica.specs.Prepared.{HasRoom, IsPrepared};
+ghost use Rattle.lra_replica.specs.Replicas.{Fits, view_of};
+ghost use Rattle.lra_replica.specs.Views.{StandsFor};
+ghost use Rattle.lra_id.specs.Fronts.{IsBelow};
+ghost use Rattle.lra_facts.specs.declared.refusal.Refusal.TheVariants.{Gap, NoMemory};
+ghost use Rattle.lra_delta.specs.Frames.{frame_of};
+ghost use Rattle.lra_delta.specs.Rules.{IsDelta};
+ghost use Rattle.lra_delta.specs.Spelling.{spelling};
+ghost use Rattle.lra_world.specs.Worlds.{IsViewOf};
+ghost use Rattle.lra_world.specs.Machines.{IsActed, TakesBytes, TakesFrame, with_patch};
+ghost use Rattle.lra_world.specs.declared.event.Reply.TheVariants.{Restarted};
+
+use crate::Reply;
+use lra_delta::{Delta, encode, prepare};
+use lra_facts::Refusal;
+use lra_id::{Front, NodeId};
+use lra_replica::{Command, CommandReply, Prepared, Replica};
+use std::alloc::{AllocError, Global};
+
+/// Prepares what a command asks, which changes nothing yet.
+fn prepare_command(
+    alloc: Global,
+    replica: &mut Replica,
+    me: NodeId,
+    command: Command,
+) -> Result<Prepared, Refusal>
+    requires { me ≤ length replica.old.front }
+    ensures view { view_of replica.new ≡ view_of replica.old }
+    ensures room { HasRoom result replica.new }
+    ensures prepared { (S : List Fact) → IsSettled S → StandsFor S (view_of replica.old) → IsPrepared S (view_of replica.old) me command result }
+{
+    match command {
+        Command::Begin { parent, deadline } => replica.begin(alloc, me, parent, deadline),
+        Command::Join { id, links } => replica.join(alloc, me, id, links),
+        Command::Leave { id, member } => replica.leave(alloc, me, id, member),
+        Command::Decide { id, verdict } => replica.decide(alloc, me, id, verdict),
+        Command::Report {
+            id,
+            member,
+            act,
+            outcome,
+        } => replica.report(alloc, me, id, member, act, outcome),
+        Command::Forgot { id, member } => replica.forgot(alloc, me, id, member),
+        Command::Purge { root } => replica.purge(alloc, me, root),
+    }
+}
+
+/// Makes the changes of what was prepared, and answers its reply.
+fn enter(replica: &mut Replica, prepared: Prepared) -> CommandReply
+    requires { IfSome prepared.patch (λ change. Fits change replica.old) }
+    ensures reply { result ≡ prepared.reply }
+    ensures view { view_of replica.new ≡ with_patch prepared.patch (view_of replica.old) }
+    ensures nodes { length replica.new.front ≡ length replica.old.front }
+{
+    let Prepared { reply, patch } = prepared;
+    if let Some(patch) = patch {
+        replica.apply(patch);
+    }
+    reply
+}
+
+/// A node enters what a command asks, or refuses it. Want of memory enters nothing.
+pub fn act(
+    alloc: Global,
+    replica: &mut Replica,
+    me: NodeId,
+    command: Command,
+) -> Result<CommandReply, AllocError>
+    requires { me ≤ length replica.old.front }
+    ensures nodes { length replica.new.front ≡ length replica.old.front }
+    ensures acted { (S : List Fact) → IsSettled S → StandsFor S (view_of replica.old) →
+        IfOk result (λ reply. IsActed S (view_of replica.old) me command reply (view_of replica.new)) }
+    ensures err { OnErr result (view_of replica.new ≡ view_of replica.old) }
+{
+    match prepare_command(alloc, replica, me, command) {
+        Ok(prepared) => Ok(enter(replica, prepared)),
+        Err(refusal) => {
+            if refusal == Refusal::NoMemory {
+                return Err(AllocError);
+            }
+            Ok(CommandReply::Refused(refusal))
+        }
+    }
+}
+
+/// A node takes a frame, or refuses it. Want of memory takes nothing.
+pub fn take_frame(alloc: Global, replica: &mut Replica, delta: Delta) -> Result<Reply, AllocError>
+    ensures nodes { length replica.new.front ≡ length replica.old.front }
+    ensures taken { IfOk result (λ reply. TakesFrame (view_of replica.old) delta reply (view_of replica.new)) }
+    ensures err { OnErr result (view_of replica.new ≡ view_of replica.old) }
+{
+    match prepare(alloc, replica, delta) {
+        Ok(patch) => {
+            replica.apply(patch);
+            Ok(Reply::Took)
+        }
+        Err(refusal) => {
+            if refusal == Refusal::NoMemory {
+                return Err(AllocError);
+            }
+            Ok(Reply::Refused(refusal))
+        }
+    }
+}
+
+/// Of the bytes of a frame so many come to a node, which takes what they spell, or refuses it.
+pub fn take_bytes(
+    alloc: Global,
+    replica: &mut Replica,
+    bytes: &[u8],
+    kept: usize,
+) -> Result<Reply, AllocError>
+    ensures nodes { length replica.new.front ≡ length replica.old.front }
+    ensures taken { IfOk result (λ reply. TakesBytes (view_of replica.old) bytes.now kept reply (view_of replica.new)) }
+    ensures err { OnErr result (view_of replica.new ≡ view_of replica.old) }
+{
+    if kept > bytes.len() {
+        return Ok(Reply::Refused(Refusal::BadText));
+    }
+    match Delta::decode(alloc, &bytes[..kept]) {
+        Ok(delta) => take_frame(alloc, replica, delta),
+        Err(refusal) => {
+            if refusal == Refusal::NoMemory {
+                return Err(AllocError);
+            }
+            Ok(Reply::Refused(refusal))
+        }
+    }
+}
+
+/// The bytes of what a node tells another that has the facts of a base. E15 where the node doesn't count the base.
+pub fn bytes_since(alloc: Global, replica: &Replica, base: &Front) -> Result<Vec<u8>, Refusal>
+    requires { length base.now ≡ length replica.now.front }
+    ensures sent { (h : History) (v : List ℕ) → IsLawful h → IsClosed h v → IsViewOf h v (view_of replica.now) →
+        IfOk result (λ bytes. IsBelow base.now v × IsDelta (frame_of (view_of replica.now) base.now)
+        × (bytes.items ≡ spelling (frame_of (view_of replica.now) base.now))) }
+    ensures refused { IfErr result (λ refusal. (refusal ≡ NoMemory)
+        ⊎ ((refusal ≡ Gap replica.now.front) × (IsBelow base.now replica.now.front → ⊥))) }
+{
+    let delta = Delta::since(alloc, replica, base)?;
+    Ok(encode(alloc, &delta)?)
+}
+
+/// A node starts again from the bytes of its own frame since the front of zeros, which has all that it holds.
+pub fn restart(alloc: Global, replica: &mut Replica) -> Result<Reply, AllocError>
+    ensures nodes { length replica.new.front ≡ length replica.old.front }
+    ensures same { (h : History) (v : List ℕ) → IsLawful h → IsClosed h v → StandsFor (facts h v) (view_of replica.old) → replica.old.front ≡ v →
+        IfOk result (λ reply. (reply ≡ Restarted) × (view_of replica.new ≡ view_of replica.old)) }
+    ensures err { OnErr result (view_of replica.new ≡ view_of replica.old) }
+{
+    let nodes = replica.front().nodes();
+    let Ok(bytes) = bytes_since(alloc, replica, &Front::zero(nodes)) else {
+        return Err(AllocError);
+    };
+    let Ok(mut fresh) = Replica::new(alloc, nodes) else {
+        return Err(AllocError);
+    };
+    match take_bytes(alloc, &mut fresh, &bytes, bytes.len()) {
+        Ok(reply) => {
+            if reply != Reply::Took {
+                return Ok(reply);
+            }
+            *replica = fresh;
+            Ok(Reply::Restarted)
+        }
+        Err(error) => Err(error),
+    }
+}

@@ -1,0 +1,362 @@
+// The world: a replica for each node, and the frames that were sent.
+ghost use Rattle.std.specs.Prelude.{◌≡◌, ◌≤◌, ◌<◌, ◌+◌, ◌↔◌, ◌⊎◌, ◌∷◌, ◌++◌, ◌==◌, ◌-◌, ℕ, List, [], Some, None, Err, if◌then◌else◌, IfErr, IfOk, IsOk, IsTrue, OnOk, OnErr, length, nat_le, option_map, slice_get};
+ghost use Rattle.lra_facts.specs.declared.fact.Fact.{Fact};
+ghost use Rattle.lra_forest.specs.Overdue.{IsLeastOverdue};
+ghost use Rattle.lra_replica.specs.Growth.{IsSettled};
+ghost use Rattle.lra_replica.specs.Histories.{History, IsClosed, IsLawful, facts};
+ghost use Rattle.lra_replica.specs.Replicas.{view_of};
+ghost use Rattle.lra_replica.specs.Views.{StandsFor};
+ghost use Rattle.lra_world.specs.declared.event.Event.TheVariants.{Act, Deliver, Restart, Send, Tick};
+ghost use Rattle.lra_world.specs.declared.event.Reply.{Reply as Replies};
+ghost use Rattle.lra_world.specs.declared.event.Reply.TheVariants.{Restarted, Sent};
+ghost use Rattle.lra_world.specs.Machines.{AreEmpty, Happens, IsActed, IsChanged, IsExpired, IsWorldOf, LeadsTo, StopsIn, TakesBytes};
+ghost use Rattle.lra_world.specs.Worlds.{IsSpelled, IsViewOf, State, expired, front_of, set_of, start};
+ghost use Rattle.lra_id.specs.Fronts.{IsBelow};
+ghost use Rattle.lra_facts.specs.declared.refusal.Refusal.TheVariants.{BadText, Gap, NoMemory};
+
+use crate::node::{act, bytes_since, restart, take_bytes};
+use crate::{Event, Reply};
+use lra_facts::Refusal;
+use lra_id::{Front, LraId, NodeId};
+use lra_replica::{Command, CommandReply, Replica};
+use lra_states::Verdict;
+use std::alloc::{AllocError, Global};
+use std::marker::Model;
+
+/// All nodes, and the frames that were sent.
+#[derive(Drop)]
+pub struct World {
+    replicas: Vec<Replica>,
+    frames: Vec<Vec<u8>>,
+}
+
+impl Model for World {
+    ghost use Rattle.lra_world.specs.Machines.{IsMachine, Machine, bytes_of};
+
+    ghost Value = { Machine };
+
+    ghost view = { λ w. record { replicas = w.replicas.items; sent = bytes_of w.frames.items } };
+
+    ghost invariant = { λ w. IsMachine (record { replicas = w.replicas.items; sent = bytes_of w.frames.items }) };
+}
+
+impl World {
+    /// A world of so many nodes, 1 to 8, that has no facts. Another count of nodes is E1.
+    pub fn new(alloc: Global, nodes: usize) -> Result<World, Refusal>
+        ensures start { IfOk result (λ world. IsWorldOf (start nodes) world) }
+        ensures refused { result ≡ Err BadText ↔ ((nodes < 1) ⊎ (8 < nodes)) }
+        ensures cause { IfErr result (λ refusal. (refusal ≡ BadText) ⊎ (refusal ≡ NoMemory)) }
+    {
+        if nodes < 1 || nodes > 8 {
+            return Err(Refusal::BadText);
+        }
+        match empty_replicas(alloc, nodes) {
+            Ok(replicas) => Ok(World {
+                replicas,
+                frames: Vec::new(alloc),
+            }),
+            Err(_) => Err(Refusal::NoMemory),
+        }
+    }
+
+    /// How many nodes there are.
+    pub fn nodes(&self) -> usize
+        ensures { result ≡ length self.now.replicas }
+    {
+        self.replicas.len()
+    }
+
+    /// How many bytes a frame has. None was sent of another number.
+    pub fn frame_len(&self, frame: usize) -> Option<usize>
+        ensures { result ≡ (if frame == 0 then None else option_map length (slice_get self.now.sent (frame - 1))) }
+    {
+        if frame == 0 {
+            return None;
+        }
+        let bytes = self.frames.get(frame - 1)?;
+        Some(bytes.len())
+    }
+
+    /// What a node holds.
+    pub fn replica(&self, node: NodeId) -> &Replica
+        requires { node ≤ length self.now.replicas }
+        ensures view { (s : State) → IsWorldOf s self.now → IsViewOf s.history (front_of s node) (view_of result.now) }
+    {
+        let place = usize::from(node.number()) - 1;
+        &self.replicas[place]
+    }
+
+    /// Whether there is such a node.
+    fn has(&self, node: NodeId) -> bool
+        ensures value { result ≡ nat_le node (length self.now.replicas) }
+        ensures some { 1 ≤ node }
+    {
+        usize::from(node.number()) <= self.replicas.len()
+    }
+
+    /// Whether a frame of this number was sent.
+    fn was_sent(&self, frame: usize) -> bool
+        ensures { IsTrue result ↔ ((1 ≤ frame) × (frame ≤ length self.now.sent)) }
+    {
+        1 <= frame && frame <= self.frames.len()
+    }
+
+    /// A node enters what a command asks, or refuses it.
+    fn act_at(
+        &mut self,
+        alloc: Global,
+        node: NodeId,
+        command: Command,
+    ) -> Result<CommandReply, AllocError>
+        requires { node ≤ length self.old.replicas }
+        ensures acted { IfOk result (λ reply. IsChanged self.old self.new node (λ was now.
+            (S : List Fact) → IsSettled S → StandsFor S (view_of was) → IsActed S (view_of was) node command reply (view_of now))) }
+        ensures err { OnErr result (IsChanged self.old self.new node (λ was now. view_of now ≡ view_of was)) }
+    {
+        let place = usize::from(node.number()) - 1;
+        act(alloc, &mut self.replicas[place], node, command)
+    }
+
+    /// A node starts again.
+    fn restart_at(&mut self, alloc: Global, node: NodeId) -> Result<Reply, AllocError>
+        requires { node ≤ length self.old.replicas }
+        ensures same { IfOk result (λ reply. IsChanged self.old self.new node (λ was now.
+            (h : History) (v : List ℕ) → IsLawful h → IsClosed h v → StandsFor (facts h v) (view_of was) → was.front ≡ v →
+            (reply ≡ Restarted) × (view_of now ≡ view_of was))) }
+        ensures err { OnErr result (IsChanged self.old self.new node (λ was now. view_of now ≡ view_of was)) }
+    {
+        let place = usize::from(node.number()) - 1;
+        restart(alloc, &mut self.replicas[place])
+    }
+
+    /// Of a frame that was sent so many bytes come to a node.
+    fn deliver_at(
+        &mut self,
+        alloc: Global,
+        frame: usize,
+        node: NodeId,
+        kept: usize,
+    ) -> Result<Reply, AllocError>
+        requires node { node ≤ length self.old.replicas }
+        requires frame { frame < length self.old.sent }
+        ensures taken { IfOk result (λ reply. IsChanged self.old self.new node (λ was now.
+            (bytes : List ℕ) → slice_get self.old.sent frame ≡ Some bytes → TakesBytes (view_of was) bytes kept reply (view_of now))) }
+        ensures err { OnErr result (IsChanged self.old self.new node (λ was now. view_of now ≡ view_of was)) }
+    {
+        let place = usize::from(node.number()) - 1;
+        take_bytes(alloc, &mut self.replicas[place], &self.frames[frame], kept)
+    }
+
+    /// Of the LRAs of a node that are overdue, the one with the least number.
+    fn overdue(&self, node: NodeId, now: u64) -> Option<LraId>
+        requires { node ≤ length self.now.replicas }
+        ensures { (s : State) → IsWorldOf s self.now → IsLeastOverdue (set_of s node) node now result }
+    {
+        let place = usize::from(node.number()) - 1;
+        self.replicas[place].expire(node, now)
+    }
+
+    /// A node is asked to enter something.
+    fn act(&mut self, alloc: Global, node: NodeId, command: Command) -> Result<Reply, AllocError>
+        ensures step { (s : State) → IsWorldOf s self.old → IfOk result (λ reply. Happens s (Act node command) reply self.new) }
+        ensures err { (s : State) → IsWorldOf s self.old → OnErr result (IsWorldOf s self.new) }
+    {
+        if !self.has(node) {
+            return Ok(Reply::Refused(Refusal::BadText));
+        }
+        match self.act_at(alloc, node, command) {
+            Ok(reply) => Ok(Reply::Answered(reply)),
+            Err(error) => Err(error),
+        }
+    }
+
+    /// A frame comes to a node, or the first so many bytes of it.
+    fn deliver(
+        &mut self,
+        alloc: Global,
+        frame: usize,
+        node: NodeId,
+        kept: usize,
+    ) -> Result<Reply, AllocError>
+        ensures step { (s : State) → IsWorldOf s self.old → IfOk result (λ reply. Happens s (Deliver frame node kept) reply self.new) }
+        ensures err { (s : State) → IsWorldOf s self.old → OnErr result (IsWorldOf s self.new) }
+    {
+        if !self.has(node) || !self.was_sent(frame) {
+            return Ok(Reply::Refused(Refusal::BadText));
+        }
+        match self.deliver_at(alloc, frame - 1, node, kept) {
+            Ok(reply) => Ok(reply),
+            Err(error) => Err(error),
+        }
+    }
+
+    /// A node starts again.
+    fn restart(&mut self, alloc: Global, node: NodeId) -> Result<Reply, AllocError>
+        ensures step { (s : State) → IsWorldOf s self.old → IfOk result (λ reply. Happens s (Restart node) reply self.new) }
+        ensures err { (s : State) → IsWorldOf s self.old → OnErr result (IsWorldOf s self.new) }
+    {
+        if !self.has(node) {
+            return Ok(Reply::Refused(Refusal::BadText));
+        }
+        match self.restart_at(alloc, node) {
+            Ok(reply) => Ok(reply),
+            Err(error) => Err(error),
+        }
+    }
+
+    /// One event happens. Want of memory leaves the world as it was.
+    pub fn step(&mut self, alloc: Global, event: Event) -> Result<Reply, AllocError>
+        ensures step { (s : State) → IsWorldOf s self.old → IfOk result (λ reply. Happens s event reply self.new) }
+        ensures err { (s : State) → IsWorldOf s self.old → OnErr result (IsWorldOf s self.new) }
+    {
+        match event {
+            Event::Act { node, command } => self.act(alloc, node, command),
+            Event::Send { node, base } => self.send(alloc, node, base),
+            Event::Deliver { frame, node, kept } => self.deliver(alloc, frame, node, kept),
+            Event::Restart { node } => self.restart(alloc, node),
+            Event::Tick { node, now } => self.tick(alloc, node, now),
+        }
+    }
+
+    /// Many events happen, one after another. Want of memory leaves the world as it was after the last whole step.
+    pub fn run(&mut self, alloc: Global, events: &[Event]) -> Result<Vec<Reply>, AllocError>
+        ensures headline { (s : State) → IsWorldOf s self.old →
+            IfOk result (λ replies. LeadsTo s events.now replies.items self.new) }
+        ensures err { (s : State) → IsWorldOf s self.old → OnErr result (StopsIn s events.now self.new) }
+    {
+        let mut replies = Vec::new(alloc);
+        for event in events {
+            let Ok(()) = self.step_on(alloc, event, &mut replies) else {
+                return Err(AllocError);
+            };
+        }
+        Ok(replies)
+    }
+
+    /// One event happens, and its reply is put at the end.
+    fn step_on(
+        &mut self,
+        alloc: Global,
+        event: &Event,
+        replies: &mut Vec<Reply>,
+    ) -> Result<(), AllocError>
+        ensures ok { (s : State) → IsWorldOf s self.old →
+            OnOk result ((reply : Replies) × Happens s event.now reply self.new × (replies.new.items ≡ replies.old.items ++ reply ∷ [])) }
+        ensures err { (s : State) → IsWorldOf s self.old →
+            OnErr result (IsWorldOf s self.new ⊎ ((reply : Replies) × Happens s event.now reply self.new)) }
+    {
+        // Without a value of this type here the toolchain's borrow checker can't build its plan for a `Reply`.
+        let _ = CommandReply::Refused(Refusal::NoMemory);
+        let event = event.clone()?;
+        keep(replies, self.step(alloc, event))
+    }
+
+    /// A node is told the time.
+    fn tick(&mut self, alloc: Global, node: NodeId, now: u64) -> Result<Reply, AllocError>
+        ensures step { (s : State) → IsWorldOf s self.old → IfOk result (λ reply. Happens s (Tick node now) reply self.new) }
+        ensures err { (s : State) → IsWorldOf s self.old → OnErr result (IsWorldOf s self.new) }
+    {
+        if !self.has(node) {
+            return Ok(Reply::Refused(Refusal::BadText));
+        }
+        match self.overdue(node, now) {
+            Some(id) => self.expire(alloc, node, id),
+            None => Ok(Reply::Quiet),
+        }
+    }
+
+    /// An LRA that is overdue is cancelled.
+    fn expire(&mut self, alloc: Global, node: NodeId, id: LraId) -> Result<Reply, AllocError>
+        requires { node ≤ length self.old.replicas }
+        ensures step { (s : State) → IsWorldOf s self.old → IfOk result (λ reply. IsExpired s node id reply self.new) }
+        ensures err { (s : State) → IsWorldOf s self.old → OnErr result (IsWorldOf s self.new) }
+    {
+        let verdict = Verdict::Cancel;
+        let _ = node.number();
+        match self.act_at(alloc, node, Command::Decide { id, verdict }) {
+            Ok(reply) => Ok(expired(id, reply)),
+            Err(error) => Err(error),
+        }
+    }
+
+    /// A node sends what it has since a base.
+    fn send(&mut self, alloc: Global, node: NodeId, base: Front) -> Result<Reply, AllocError>
+        ensures step { (s : State) → IsWorldOf s self.old → IfOk result (λ reply. Happens s (Send node base) reply self.new) }
+        ensures err { (s : State) → IsWorldOf s self.old → OnErr result (IsWorldOf s self.new) }
+    {
+        if !self.has(node) || base.nodes() != self.replicas.len() {
+            return Ok(Reply::Refused(Refusal::BadText));
+        }
+        match self.frame_since(alloc, node, &base) {
+            Ok(bytes) => self.post(bytes),
+            Err(refusal) => {
+                if refusal == Refusal::NoMemory {
+                    return Err(AllocError);
+                }
+                Ok(Reply::Refused(refusal))
+            }
+        }
+    }
+
+    /// The bytes of the frame of a node since a base.
+    fn frame_since(&self, alloc: Global, node: NodeId, base: &Front) -> Result<Vec<u8>, Refusal>
+        requires node { node ≤ length self.now.replicas }
+        requires base { length base.now ≡ length self.now.replicas }
+        ensures sent { (s : State) → IsWorldOf s self.now → IfOk result (λ bytes. IsBelow base.now (front_of s node) ×
+            IsSpelled s.history (record { base = base.now; front = front_of s node }) bytes.items) }
+        ensures refused { (s : State) → IsWorldOf s self.now → IfErr result (λ refusal. (refusal ≡ NoMemory)
+            ⊎ ((refusal ≡ Gap (front_of s node)) × (IsBelow base.now (front_of s node) → ⊥))) }
+    {
+        let place = usize::from(node.number()) - 1;
+        bytes_since(alloc, &self.replicas[place], base)
+    }
+
+    /// Keeps the bytes of a frame that is sent.
+    fn post(&mut self, bytes: Vec<u8>) -> Result<Reply, AllocError>
+        ensures posted { IfOk result (λ reply. (reply ≡ Sent (length self.old.sent + 1)) ×
+            (self.new ≡ record { replicas = self.old.replicas; sent = self.old.sent ++ bytes.items ∷ [] })) }
+        ensures err { OnErr result (self.new ≡ self.old) }
+    {
+        self.frames.push(bytes)?;
+        Ok(Reply::Sent(self.frames.len()))
+    }
+}
+
+/// So many replicas of as many nodes, that have no facts.
+fn empty_replicas(alloc: Global, nodes: usize) -> Result<Vec<Replica>, AllocError>
+    requires { (1 ≤ nodes) × (nodes ≤ 8) }
+    ensures { IfOk result (λ replicas. AreEmpty nodes nodes replicas.items) }
+{
+    let mut replicas = Vec::new(alloc);
+    for _ in 0..nodes {
+        let Ok(replica) = Replica::new(alloc, nodes) else {
+            return Err(AllocError);
+        };
+        replicas.push(replica)?;
+    }
+    Ok(replicas)
+}
+
+/// What is replied to a tick that found this LRA overdue, by the reply to its cancelling.
+fn expired(id: LraId, reply: CommandReply) -> Reply
+    ensures { result ≡ expired id reply }
+{
+    match reply {
+        CommandReply::Refused(refusal) => Reply::Refused(refusal),
+        _ => Reply::Expired(id),
+    }
+}
+
+/// Puts an item at the end. It is generic, since of a `Reply` the toolchain's borrow checker can't build this.
+fn keep<T: Drop>(items: &mut Vec<T>, item: Result<T, AllocError>) -> Result<(), AllocError>
+    ensures ok { OnOk result (IfOk item (λ one. items.new.items ≡ items.old.items ++ one ∷ [])) }
+    ensures was { OnOk result (IsOk item) }
+{
+    match item {
+        Ok(item) => {
+            items.push(item)?;
+            Ok(())
+        }
+        Err(error) => Err(error),
+    }
+}
