@@ -6,8 +6,6 @@ mod duty;
 pub mod laws;
 mod message;
 mod request;
-#[cfg(test)]
-mod tests;
 
 pub use answer::{Answer, Body, Heard, Kind, hear};
 pub use duty::{Duties, Duty, act_wanted, pick};

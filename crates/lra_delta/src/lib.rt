@@ -19,14 +19,6 @@ mod preparing;
 mod record_fields;
 mod record_spelling;
 mod since;
-#[cfg(test)]
-mod tests;
-#[cfg(test)]
-mod tests_of_changes;
-#[cfg(test)]
-mod tests_of_places;
-#[cfg(test)]
-mod tests_of_round_trips;
 
 pub use buffer::Buffer;
 pub use bytes::Bytes;

@@ -128,7 +128,7 @@ within_made h x m =
 -- Fronts over the longer history
 
 -- the raised front counts no less
-below_raised : (v : List ℕ) (node : ℕ) → IsBelow v (raised v node)
+pub below_raised : (v : List ℕ) (node : ℕ) → IsBelow v (raised v node)
 below_raised v node = λ n. by v (node - 1) (n - 1)
   where
     by : (v : List ℕ) (i k : ℕ) → get_or v k 0 ≤ get_or (slice_set v i (get_or v i 0 + 1)) k 0

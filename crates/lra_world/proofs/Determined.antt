@@ -1,11 +1,9 @@
 -- An event has one reply, and leaves one state.
-use Rattle.std.proofs.Common.{◌≡◌, ◌⊎◌, inl, inr, ◌≤◌, ◌<◌, ℕ, List, refl, sym, ap, subst, ◌∙◌, Bool, true, false, arith, Option, None, Some, Result, Ok, Err, length, nat_lt, take}
+use Rattle.std.proofs.Common.{◌≡◌, ◌⊎◌, inl, inr, ◌≤◌, ◌<◌, ℕ, List, refl, sym, ap, subst, ◌∙◌, Bool, true, false, arith, Option, None, Some, Result, Ok, Err, nat_lt, take}
 use Rattle.std.proofs.lemmas.Bool.Decides.{nat_tests}
 use Rattle.lra_id.specs.Ids.{Id}
 use Rattle.lra_facts.specs.declared.fact.Fact.{Fact}
-use Rattle.lra_states.specs.declared.outcome.Verdict.TheVariants.{Cancel}
 use Rattle.lra_forest.specs.Overdue.{IsLeastOverdue, is_overdue}
-use Rattle.lra_replica.specs.declared.command.Command.TheVariants.{Decide}
 use Rattle.lra_replica.specs.Histories.{History}
 use Rattle.lra_replica.specs.Views.{View}
 use Rattle.lra_world.specs.declared.event.Event.{Event}

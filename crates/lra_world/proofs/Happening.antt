@@ -29,6 +29,7 @@ use Rattle.lra_world.proofs.Delivering.{at_node}
 use Rattle.lra_world.proofs.Agreeing.{nodes_agree}
 use Rattle.lra_world.proofs.Moving.{kept_posted, run_keeps}
 use Rattle.lra_world.proofs.Parting.{no_split}
+use Rattle.lra_world.proofs.Rising.{statuses_rise}
 use Rattle.lra_world.proofs.Standing.{ActsSo, acted_world, still_world, with_so}
 
 -- there is such a node
@@ -142,7 +143,7 @@ leads s t events replies m world runs w =
       state = t;
       runs = runs;
       stands = w;
-      converges = record { world = kept.world; agree = λ one other took. nodes_agree t one other kept.world took; whole = no_split s t world kept };
+      converges = record { world = kept.world; agree = λ one other took. nodes_agree t one other kept.world took; whole = no_split s t world kept; rising = statuses_rise s t world kept };
     }
 
 pub running_stops : (s : State) (all left : List Event) (replies : List Reply) (m : Machine) → IsWorld s → IsRunning s all left replies m → StopsIn s all m

@@ -9,6 +9,7 @@ pub mod Happening
 pub mod Moving
 pub mod Parting
 pub mod Restarting
+pub mod Rising
 pub mod Standing
 pub mod Starting
 mod Taking

@@ -16,7 +16,7 @@ use Rattle.lra_replica.specs.Laws.{IsCurrent, entry_for}
 use Rattle.lra_replica.specs.Replicas.{raised}
 use Rattle.lra_replica.specs.Replies.{Judgement, Denied, Old, Taken, judge}
 use Rattle.lra_replica.proofs.Basics.{same_or_not}
-use Rattle.lra_replica.proofs.Entries.{closed_with, lawful_with, length_with, own_with, taken_lawful}
+use Rattle.lra_replica.proofs.Entries.{below_raised, closed_with, lawful_with, length_with, own_with, taken_lawful}
 use Rattle.lra_replica.proofs.Extending.{empty_view_in}
 use Rattle.lra_replica.proofs.Unions.{closed_join, count_join}
 use Rattle.lra_world.specs.declared.event.Event.{Event}
@@ -103,9 +103,20 @@ step_moves s t (Tick node now) reply h =
 pub record IsKeptBy (s t : State) : Type 0 where
   pub world : IsWorld t
   pub grown : IsGrown s.history t.history
+  pub risen : (node : ℕ) → IsNode s node → IsBelow (front_of s node) (front_of t node)
 
-kept_still : (s : State) → IsWorld s → IsKeptBy s s
-kept_still s w = record { world = w; grown = grown_none s.history }
+pub kept_still : (s : State) → IsWorld s → IsKeptBy s s
+kept_still s w = record { world = w; grown = grown_none s.history; risen = λ node is n. omega arith }
+
+-- one front is changed, and it rises
+risen_at : (fronts : List (List ℕ)) (place : ℕ) (new : List ℕ) → place < length fronts → IsBelow (get_or fronts place []) new
+    → (other : ℕ) → IsBelow (get_or fronts other []) (get_or (slice_set fronts place new) other [])
+risen_at fronts place new at up other = elim (same_or_not other place) [
+  | inl same ↦
+      subst (λ (k : ℕ). IsBelow (get_or fronts k []) (get_or (slice_set fronts place new) k [])) (sym same)
+      (subst (IsBelow (get_or fronts place [])) (sym (get_or-set_same fronts place new [] at)) up)
+  | inr apart ↦ subst (IsBelow (get_or fronts other [])) (sym (get_or-set_other fronts place other new [] apart)) (λ n. omega arith)
+]
 
 -- a node that enters a command that it takes
 pub kept_entered : (s : State) (node : ℕ) (c : Command) → IsWorld s → IsNode s node → judge (set_of s node) (front_of s node) node c ≡ Taken → IsKeptBy s (with_command s node c)
@@ -118,6 +129,7 @@ kept_entered s node c w is taken =
         sent = λ frame m. sent_still h longer grown frame (w.sent frame m);
       };
       grown = grown;
+      risen = λ n there. risen_at s.fronts (node - 1) (raised v node) at (below_raised v node) (n - 1);
     }
   where
     h : History
@@ -178,6 +190,7 @@ kept_joined s node frame w is m =
         sent = w.sent;
       };
       grown = grown_none h;
+      risen = λ n there. risen_at s.fronts (node - 1) both at (λ k. omega (arith, count_join v frame.front k)) (n - 1);
     }
   where
     h : History
@@ -233,6 +246,7 @@ kept_posted s node base w is nodes below =
         ];
       };
       grown = grown_none s.history;
+      risen = λ n there k. omega arith;
     }
   where
     added : SentFrame
@@ -258,7 +272,13 @@ run_keeps s t (event ∷ events) [] w h = absurd h
 run_keeps s t (event ∷ events) (reply ∷ replies) w h =
     let first = step_keeps s h.0 event reply w h.1 in
     let rest = run_keeps h.0 t events replies first.world h.2 in
-    record { world = rest.world; grown = grown_more s.history h.0.history t.history first.grown rest.grown }
+    record {
+      world = rest.world;
+      grown = grown_more s.history h.0.history t.history first.grown rest.grown;
+      risen = λ node is k.
+          let there : IsNode h.0 node = record { some = is.some; there = omega (arith, is.there, first.grown.nodes) } in
+          omega (arith, first.risen node is k, rest.risen node there k);
+    }
 
 -- The first state
 

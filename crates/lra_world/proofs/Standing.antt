@@ -19,8 +19,8 @@ use Rattle.lra_world.specs.Headline.{IsNode}
 use Rattle.lra_world.specs.Machines.{Becomes, IsActed, IsChanged, IsWorldOf, Machine}
 use Rattle.lra_world.specs.Worlds.{SentFrame, IsSpelled, IsViewOf, State, after_command, front_of, if_taken, nodes_of, reply_at, set_of, with_command}
 use Rattle.lra_world.proofs.Changing.{get_set_other, get_set_same}
-use Rattle.lra_world.proofs.Growing.{IsGrown, grown_none}
-use Rattle.lra_world.proofs.Moving.{IsKeptBy, kept_entered}
+use Rattle.lra_world.proofs.Growing.{IsGrown}
+use Rattle.lra_world.proofs.Moving.{IsKeptBy, kept_entered, kept_still}
 
 -- the view of a closed front is that in a longer history
 view_still : (h k : History) (front : List ℕ) (view : View) → IsGrown h k → IsClosed h front → IsViewOf h front view → IsViewOf k front view
@@ -74,7 +74,7 @@ changed_world s t old new node w kept sent is others c =
 -- a world whose views are the same stands for the same state
 pub still_world : (s : State) (old new : Machine) (node : ℕ) → IsWorldOf s old → IsNode s node → IsChanged old new node (λ was now. view_of now ≡ view_of was) → IsWorldOf s new
 still_world s old new node w is c =
-    changed_world s s old new node w (record { world = w.world; grown = grown_none s.history }) refl is (λ n some other. refl)
+    changed_world s s old new node w (kept_still s w.world) refl is (λ n some other. refl)
     (record {
       was = c.was;
       now = c.now;

@@ -1,15 +1,13 @@
 -- What a node makes of a frame that is not taken, and of the bytes of one that it sends.
-use Rattle.std.proofs.Common.{◌≡◌, ◌∙◌, ℕ, List, Result, Ok, Err, ap, length, subst, sym}
-use Rattle.std.specs.Prelude.{MatchResult}
-use Rattle.lra_id.specs.Fronts.{IsBelow, join_fronts}
+use Rattle.std.proofs.Common.{◌≡◌, ◌∙◌, ℕ, List, Result, Err, ap, length, subst, sym}
+use Rattle.lra_id.specs.Fronts.{IsBelow}
 use Rattle.lra_facts.specs.declared.refusal.Refusal.{Refusal}
 use Rattle.lra_facts.specs.declared.refusal.Refusal.TheVariants.{Gap, NoMemory}
 use Rattle.lra_replica.specs.Histories.{History, IsClosed, IsLawful, facts}
 use Rattle.lra_replica.specs.Views.{StandsFor, View}
 use Rattle.lra_delta.specs.Frames.{Frame, IsFrame}
-use Rattle.lra_world.specs.declared.event.Reply.{Reply}
 use Rattle.lra_world.specs.declared.event.Reply.TheVariants.{Refused}
-use Rattle.lra_world.specs.Machines.{IsFrom, TakesFrame}
+use Rattle.lra_world.specs.Machines.{TakesFrame}
 
 same_refusal : {X : Type 0} (r s : Refusal) → ◌≡◌ {A = Result X Refusal} (Err r) (Err s) → r ≡ s
 same_refusal r s e = cc

@@ -1,10 +1,9 @@
 -- What a world keeps in memory, and when that stands for a state.
-use Rattle.std.specs.Prelude.{◌≡◌, ◌⊎◌, ◌≤◌, ◌<◌, ◌-◌, ℕ, Option, Some, None, List, length, slice_get, map, slice_set, take, Result, Err, Vec}
+use Rattle.std.specs.Prelude.{◌≡◌, ◌⊎◌, ◌≤◌, ◌<◌, ◌-◌, ℕ, Option, Some, None, List, length, slice_get, map, slice_set, take, Err, Vec}
 use Rattle.std.specs.declared.alloc.Global.{Global}
 use Rattle.lra_id.specs.Fronts.{IsBelow, join_fronts}
 use Rattle.lra_id.specs.Ids.{Id}
 use Rattle.lra_facts.specs.declared.fact.Fact.{Fact}
-use Rattle.lra_facts.specs.declared.refusal.Refusal.{Refusal}
 use Rattle.lra_facts.specs.declared.refusal.Refusal.TheVariants.{BadFrame, BadText, Gap}
 use Rattle.lra_replica.specs.declared.command.Command.{Command}
 use Rattle.lra_replica.specs.declared.command.CommandReply.{CommandReply}

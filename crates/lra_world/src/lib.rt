@@ -4,10 +4,6 @@
 mod event;
 pub mod laws;
 mod node;
-#[cfg(test)]
-mod tests;
-#[cfg(test)]
-mod tests_played;
 mod world;
 
 pub use event::{Event, Reply};

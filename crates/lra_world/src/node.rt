@@ -3,7 +3,6 @@ ghost use Rattle.std.specs.Prelude.{◌≡◌, ◌⊎◌, ◌≤◌, ℕ, List, 
 ghost use Rattle.lra_facts.specs.declared.fact.Fact.{Fact};
 ghost use Rattle.lra_replica.specs.Growth.{IsSettled};
 ghost use Rattle.lra_replica.specs.Histories.{History, IsClosed, IsLawful, facts};
-ghost use Rattle.lra_replica.specs.Prepared.{HasRoom, IsPrepared};
 ghost use Rattle.lra_replica.specs.Replicas.{Fits, view_of};
 ghost use Rattle.lra_replica.specs.Views.{StandsFor};
 ghost use Rattle.lra_id.specs.Fronts.{IsBelow};
@@ -21,34 +20,6 @@ use lra_facts::Refusal;
 use lra_id::{Front, NodeId};
 use lra_replica::{Command, CommandReply, Prepared, Replica};
 use std::alloc::{AllocError, Global};
-
-/// Prepares what a command asks, which changes nothing yet.
-fn prepare_command(
-    alloc: Global,
-    replica: &mut Replica,
-    me: NodeId,
-    command: Command,
-) -> Result<Prepared, Refusal>
-    requires { me ≤ length replica.old.front }
-    ensures view { view_of replica.new ≡ view_of replica.old }
-    ensures room { HasRoom result replica.new }
-    ensures prepared { (S : List Fact) → IsSettled S → StandsFor S (view_of replica.old) → IsPrepared S (view_of replica.old) me command result }
-{
-    match command {
-        Command::Begin { parent, deadline } => replica.begin(alloc, me, parent, deadline),
-        Command::Join { id, links } => replica.join(alloc, me, id, links),
-        Command::Leave { id, member } => replica.leave(alloc, me, id, member),
-        Command::Decide { id, verdict } => replica.decide(alloc, me, id, verdict),
-        Command::Report {
-            id,
-            member,
-            act,
-            outcome,
-        } => replica.report(alloc, me, id, member, act, outcome),
-        Command::Forgot { id, member } => replica.forgot(alloc, me, id, member),
-        Command::Purge { root } => replica.purge(alloc, me, root),
-    }
-}
 
 /// Makes the changes of what was prepared, and answers its reply.
 fn enter(replica: &mut Replica, prepared: Prepared) -> CommandReply
@@ -77,7 +48,7 @@ pub fn act(
         IfOk result (λ reply. IsActed S (view_of replica.old) me command reply (view_of replica.new)) }
     ensures err { OnErr result (view_of replica.new ≡ view_of replica.old) }
 {
-    match prepare_command(alloc, replica, me, command) {
+    match replica.prepare(alloc, me, command) {
         Ok(prepared) => Ok(enter(replica, prepared)),
         Err(refusal) => {
             if refusal == Refusal::NoMemory {

@@ -1,4 +1,4 @@
-use Rattle.std.proofs.Common.{◌≡◌, ◌∙◌, ◌-◌, ◌≤◌, ◌<◌, ℕ, List, Result, Ok, Err, ap, sym, subst, arith, length, slice_set}
+use Rattle.std.proofs.Common.{◌≡◌, ◌∙◌, ◌-◌, ◌≤◌, ◌<◌, ℕ, List, Result, Ok, Err, ap, subst, arith, length, slice_set}
 use Rattle.std.proofs.lemmas.Result.{IfOk-weaker, on_err_weaker}
 use Rattle.std.specs.Prelude.{IfOk}
 use Rattle.std.specs.declared.alloc.AllocError.{AllocError}

@@ -2,7 +2,7 @@
 ghost use Rattle.std.specs.List.{AllByRecursion};
 ghost use Rattle.lra_facts.specs.Sets.{IsNumbered, NamesEarlier};
 
-use crate::{Body, Fact, Link, Links, Refusal, plain};
+use lra_facts::{Body, Fact, Link, Links, Refusal, plain};
 use lra_id::{Front, LraId, NodeId};
 use lra_states::{Act, LraStatus, MemberStatus, Outcome, Verdict};
 use std::alloc::Global;

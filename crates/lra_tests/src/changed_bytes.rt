@@ -1,6 +1,6 @@
 // Each byte of a worked frame changed in turn, and what a slow decoder of plain numbers says of it.
-use crate::Delta;
-use crate::tests_of_places::FIRST;
+use crate::places::FIRST;
+use lra_delta::Delta;
 use lra_facts::Refusal;
 use std::alloc::Global;
 use std::test::Fail;

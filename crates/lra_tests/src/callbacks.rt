@@ -1,5 +1,5 @@
 // Callbacks of small trees: what is called for, what is heard, and the text of a request.
-use crate::{Answer, Body, Heard, Kind, hear, pick, request_of, request_text};
+use lra_callback::{Answer, Body, Heard, Kind, hear, pick, request_of, request_text};
 use lra_facts::Links;
 use lra_id::{LraId, NodeId};
 use lra_replica::{Command, Replica};

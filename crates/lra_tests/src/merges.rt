@@ -1,9 +1,9 @@
 // Replicas that are merged: two parts of one history, a merge that is refused, many nodes in several orders.
-use crate::played::prepared;
-use crate::{Command, Prepared, Replica, Row, Taken};
+use crate::commands::prepared;
 use lra_facts::{Links, Refusal};
 use lra_forest::{Forest, Told};
 use lra_id::{Front, LraId, NodeId};
+use lra_replica::{Command, Prepared, Replica, Row, Taken};
 use lra_states::{Act, LraStatus, Outcome, Verdict};
 use std::alloc::Global;
 use std::test::Fail;

@@ -1,6 +1,6 @@
 // Pages, comparisons and copies, each once where memory is ample.
-use crate::{MOST_ROWS, Replica, Row};
 use lra_id::{LraId, NodeId};
+use lra_replica::{MOST_ROWS, Replica, Row};
 use lra_states::LraStatus;
 use std::alloc::Global;
 use std::test::Fail;

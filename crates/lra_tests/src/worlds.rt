@@ -1,9 +1,9 @@
 // Runs with ample memory: what is replied, and what the nodes show.
-use crate::{Event, Reply, World};
 use lra_facts::{Links, Refusal};
 use lra_id::{Front, LraId, NodeId};
 use lra_replica::{Command, CommandReply};
 use lra_states::{Act, LraStatus, Outcome, Verdict};
+use lra_world::{Event, Reply, World};
 use std::alloc::Global;
 use std::test::Fail;
 

@@ -1,5 +1,5 @@
 // Two worked frames, and the place of the first fault of each of many changes of the first.
-use crate::{Delta, decode_record, encode, encode_record, prepare};
+use lra_delta::{Delta, decode_record, encode, encode_record, prepare};
 use lra_facts::Refusal;
 use lra_id::{Front, LraId, NodeId};
 use lra_replica::Replica;

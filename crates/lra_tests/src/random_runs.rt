@@ -1,9 +1,9 @@
 // Many events at random, after which what the nodes show is compared with the slow evaluators over the facts of each.
-use crate::{Event, Reply, World};
 use lra_facts::{Body, Fact, Links, Refusal, plain};
 use lra_id::{Front, LraId, NodeId};
 use lra_replica::{Command, CommandReply};
 use lra_states::{Act, Outcome as Heard, Verdict};
+use lra_world::{Event, Reply, World};
 use std::alloc::{AllocError, Global};
 use std::test::Fail;
 
@@ -166,6 +166,16 @@ impl Game {
         Ok(())
     }
 
+    /// What two nodes both count.
+    fn common(&self, node: NodeId, other: NodeId) -> Result<Front, Fail> {
+        let one = self.front(node)?;
+        let another = self.front(other)?;
+        if one.nodes() != another.nodes() {
+            return Err("fronts of different lengths")?;
+        }
+        Ok(one.meet(&another))
+    }
+
     /// A node sends what it has beyond what some node has, or beyond nothing.
     fn send(&mut self) -> Result<(), Fail> {
         let node = self.node()?;
@@ -173,7 +183,7 @@ impl Game {
         let base = if self.roll(2) == 0 {
             Front::zero(self.world.nodes().clamp(1, 8))
         } else {
-            self.front(other)?.meet(&self.front(node)?)
+            self.common(node, other)?
         };
         if let Came::Sent(frame) = self.happen(Event::Send { node, base })? {
             self.sent = frame as u64;
@@ -259,11 +269,17 @@ impl Game {
     }
 }
 
+fn came_of_command(reply: CommandReply) -> Came {
+    match reply {
+        CommandReply::Known | CommandReply::Refused(_) => Came::Other,
+        CommandReply::Joined(_, member) => Came::Entered(member),
+        _ => Came::Entered(0),
+    }
+}
+
 fn came_of(reply: Reply) -> Came {
     match reply {
-        Reply::Answered(CommandReply::Known | CommandReply::Refused(_)) => Came::Other,
-        Reply::Answered(CommandReply::Joined(_, member)) => Came::Entered(member),
-        Reply::Answered(_) => Came::Entered(0),
+        Reply::Answered(reply) => came_of_command(reply),
         Reply::Expired(id) => Came::Expired(id),
         Reply::Sent(frame) => Came::Sent(frame),
         _ => Came::Other,

@@ -1,49 +1,12 @@
 // Frames of replicas of every kind: read again, spelled again and taken.
-ghost use Rattle.std.specs.Prelude.{◌≡◌, ◌≤◌, IfOk, Ok, length};
-ghost use Rattle.lra_replica.specs.Prepared.{HasRoom};
-ghost use Rattle.lra_replica.specs.Replicas.{view_of};
-
-use crate::{Delta, encode, prepare};
+use crate::commands::prepared;
+use lra_delta::{Delta, encode, prepare};
 use lra_facts::{LINK_LIMIT, Links};
 use lra_id::{Front, LraId, NodeId};
 use lra_replica::{Command, CommandReply, Prepared, Replica};
 use lra_states::{Act, Outcome, Verdict};
 use std::alloc::Global;
 use std::test::Fail;
-
-/// Has a node that there is prepare a command.
-fn prepared(
-    replica: &mut Replica,
-    alloc: Global,
-    me: NodeId,
-    command: &Command,
-) -> Result<Prepared, Fail>
-    requires { me ≤ length replica.old.front }
-    ensures view { view_of replica.new ≡ view_of replica.old }
-    ensures room { IfOk result (λ prepared. HasRoom (Ok prepared) replica.new) }
-{
-    let answer = match command {
-        Command::Begin { parent, deadline } => replica.begin(alloc, me, *parent, *deadline),
-        Command::Join { id, links } => replica.join(alloc, me, *id, links.clone()?),
-        Command::Leave { id, member } => replica.leave(alloc, me, *id, *member),
-        Command::Decide { id, verdict } => replica.decide(alloc, me, *id, *verdict),
-        Command::Report {
-            id,
-            member,
-            act,
-            outcome,
-        } => replica.report(alloc, me, *id, *member, *act, *outcome),
-        Command::Forgot { id, member } => replica.forgot(alloc, me, *id, *member),
-        Command::Purge { root } => replica.purge(alloc, me, *root),
-    };
-    match answer {
-        Ok(prepared) => Ok(prepared),
-        Err(refusal) => Ok(Prepared {
-            reply: CommandReply::Refused(refusal),
-            patch: None,
-        }),
-    }
-}
 
 /// Has a node enter a command.
 fn enter(replica: &mut Replica, alloc: Global, node: u8, command: Command) -> Result<(), Fail> {

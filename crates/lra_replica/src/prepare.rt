@@ -1,0 +1,45 @@
+// Any command as a prepared patch.
+ghost use Rattle.std.specs.Prelude.{◌≡◌, ◌≤◌, List, length};
+ghost use Rattle.lra_facts.specs.declared.fact.Fact.{Fact};
+ghost use Rattle.lra_replica.specs.Growth.{IsSettled};
+ghost use Rattle.lra_replica.specs.Next.{IsNext};
+ghost use Rattle.lra_replica.specs.Prepared.{HasRoom, IsPrepared};
+ghost use Rattle.lra_replica.specs.Replicas.{KeepsRoom, view_of};
+ghost use Rattle.lra_replica.specs.Views.{StandsFor};
+
+use crate::{Command, Prepared, Replica};
+use lra_facts::Refusal;
+use lra_id::NodeId;
+use std::alloc::Global;
+
+impl Replica {
+    /// Prepares what a command asks of a node, by the function of that command.
+    pub fn prepare(
+        &mut self,
+        alloc: Global,
+        me: NodeId,
+        command: Command,
+    ) -> Result<Prepared, Refusal>
+        requires { me ≤ length self.old.front }
+        ensures view { view_of self.new ≡ view_of self.old }
+        ensures room { HasRoom result self.new }
+        ensures stays { KeepsRoom self.old self.new }
+        ensures next { IsNext (view_of self.old) me command result }
+        ensures prepared { (S : List Fact) → IsSettled S → StandsFor S (view_of self.old) → IsPrepared S (view_of self.old) me command result }
+    {
+        match command {
+            Command::Begin { parent, deadline } => self.begin(alloc, me, parent, deadline),
+            Command::Join { id, links } => self.join(alloc, me, id, links),
+            Command::Leave { id, member } => self.leave(alloc, me, id, member),
+            Command::Decide { id, verdict } => self.decide(alloc, me, id, verdict),
+            Command::Report {
+                id,
+                member,
+                act,
+                outcome,
+            } => self.report(alloc, me, id, member, act, outcome),
+            Command::Forgot { id, member } => self.forgot(alloc, me, id, member),
+            Command::Purge { root } => self.purge(alloc, me, root),
+        }
+    }
+}
