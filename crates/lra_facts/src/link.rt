@@ -1,5 +1,6 @@
 // One link, and the text that is kept of it.
-ghost use Rattle.std.specs.Prelude.{◌≡◌, ◌≤◌, IfOk, None, Some, true, if◌then◌else◌, length, string_bytes};
+ghost use Rattle.std.specs.Prelude.{◌≡◌, ◌≤◌, ◌<◌, Err, IfOk, None, Some, true, if◌then◌else◌, length, string_bytes};
+ghost use Rattle.lra_facts.specs.declared.refusal.Refusal.TheVariants.{BadText};
 ghost use Rattle.lra_facts.specs.LinkTexts.{Reads, is_kept, is_link, kept_text};
 
 use crate::Refusal;
@@ -39,9 +40,11 @@ fn is_link(url: &Url) -> bool
 }
 
 impl Link {
-    /// Reads a link, and keeps the text that the URL is serialised to. That text is read as itself again.
+    /// Reads a link, and keeps the text that the URL is serialised to. That text is read as itself again. What is no link is
+    /// E1, and needs no memory where it has more than 127 bytes.
     pub fn read(alloc: Global, text: &str) -> Result<Link, Refusal>
         ensures answer { Reads (kept_text text.now) result }
+        ensures long { 127 < length text.now → result ≡ Err BadText }
         ensures kept { IfOk result (λ link. kept_text link ≡ Some link) }
     {
         if text.len() > LINK_LIMIT {

@@ -16,6 +16,8 @@ mod forest;
 #[cfg(test)]
 mod frames;
 #[cfg(test)]
+mod limits;
+#[cfg(test)]
 mod merges;
 #[cfg(test)]
 mod pages;
