@@ -1,5 +1,5 @@
 -- only what changes is put and removed, each once
-use Rattle.std.proofs.Common.{◌≡◌, ◌<◌, ◌+◌, ◌&&◌, ◌==◌, ◌∷◌, ℕ, zero, suc, List, [], inl, inr, filter, map, refl, sym, ap, subst, ◌∙◌, Bool, true, false, cond, arith, Option, Some, None, nat_le, is_some, is_none}
+use Rattle.std.proofs.Common.{◌≡◌, ◌<◌, ◌+◌, ◌==◌, ◌∷◌, ℕ, zero, suc, List, [], inl, inr, filter, map, refl, sym, ap, subst, ◌∙◌, Bool, true, false, cond, arith, Option, Some, None, nat_le, is_some, is_none}
 use Rattle.std.specs.List.{AllByRecursion, slice_index}
 use Rattle.std.specs.List.Sorted.{IsStrictlyIncreasing}
 use Rattle.std.proofs.lemmas.Bool.Decides.{nat_tests}
@@ -8,7 +8,7 @@ use Rattle.lra_facts.specs.Lists.{In}
 use Rattle.lra_forest.specs.declared.record.Record.{Record}
 use Rattle.lra_forest.specs.Forests.{AreOf, IsAscending, id_of}
 use Rattle.lra_forest.specs.Merging.{brought, is_gone}
-use Rattle.lra_forest.specs.OnlyChanges.{AreOnlyChanges, IsPut, ids_gone}
+use Rattle.lra_forest.specs.OnlyChanges.{AreOnlyChanges, IsPut, ids_lost, is_lost}
 use Rattle.lra_forest.specs.Shape.{found_at}
 use Rattle.lra_forest.proofs.Bools.{all_from, all_in, and_left}
 use Rattle.lra_forest.proofs.Removals.{filter_are_of}
@@ -54,7 +54,7 @@ not_put held (Some r) covered is = absurd (let no = is.0 in cc)
 
 pub only_changes : (home told mine : ℕ) (held : Option (List ℕ)) (own theirs put : List Record) (removed : List Id) → AreOf home own → AreOf home put
     → ((num : ℕ) → IsRight home mine own theirs put num)
-    → removed ≡ ids_gone home told held theirs own → AreOnlyChanges home own removed put
+    → removed ≡ ids_lost home told held theirs own → AreOnlyChanges home own removed put
 only_changes home told mine held own theirs put removed h order is gone =
     record {
       order = order;
@@ -66,7 +66,7 @@ only_changes home told mine held own theirs put removed h order is gone =
     }
   where
     test : Record → Bool
-    test r = is_none (found_at home theirs r.num) && is_gone told held r.num
+    test = is_lost home told held theirs
 
     other : (r : Record) → In r put → found_at home own r.num ≡ Some r → ⊥
     other r i = (subst (IsPut (found_at home own r.num) (brought (nat_le r.num mine) (found_at home own r.num) (found_at home theirs r.num))) (found_self home put r order i) (is r.num)).1

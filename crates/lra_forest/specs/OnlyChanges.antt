@@ -1,5 +1,5 @@
 -- What is put and removed where another node's records are taken: only what changes, each once.
-use Rattle.std.specs.Prelude.{◌≡◌, ◌⊎◌, ◌&&◌, ℕ, true, Option, Some, None, List, filter, is_none, is_some, map}
+use Rattle.std.specs.Prelude.{◌≡◌, ◌⊎◌, ◌&&◌, ℕ, Bool, true, Option, Some, None, List, filter, is_none, is_some, map}
 use Rattle.std.specs.List.{AllByRecursion}
 use Rattle.std.specs.List.Sorted.{IsStrictlyIncreasing}
 use Rattle.lra_id.specs.Ids.{Id}
@@ -13,10 +13,13 @@ abbrev pub IsPut : (held kept put : Option Record) → Type 0
 IsPut held kept (Some r) = (kept ≡ Some r) × (held ≡ Some r → ⊥)
 IsPut held kept None = (kept ≡ None) ⊎ (kept ≡ held)
 
--- of these records, the LRAs of which the other has no record and that it holds no more
-abbrev pub ids_gone : (home told : ℕ) → Option (List ℕ) → (theirs records : List Record) → List Id
-ids_gone home told held theirs records =
-    map id_of (filter (λ r. is_none (found_at home theirs r.num) && is_gone told held r.num) records)
+-- the other has no record of the LRA of this record, and holds it no more
+abbrev pub is_lost : (home told : ℕ) → Option (List ℕ) → (theirs : List Record) → Record → Bool
+is_lost home told held theirs r = is_none (found_at home theirs r.num) && is_gone told held r.num
+
+-- the LRAs of those of these records
+abbrev pub ids_lost : (home told : ℕ) → Option (List ℕ) → (theirs records : List Record) → List Id
+ids_lost home told held theirs records = map id_of (filter (is_lost home told held theirs) records)
 
 -- What is to be changed in a home's records: the records that are put are in order, each once, and none is there as it is. The
 -- LRAs that are removed are in order, each once. Each has a record there, and none that is put

@@ -1,10 +1,10 @@
 // What a home's records become when another node's are taken.
-ghost use Rattle.std.specs.Prelude.{◌≡◌, ◌==◌, ◌&&◌, ℕ, Some, None, false, IfOk, OnOk, if◌then◌else◌, is_none, nat_le};
+ghost use Rattle.std.specs.Prelude.{◌≡◌, ◌==◌, ℕ, Some, None, false, IfOk, OnOk, if◌then◌else◌, nat_le};
 ghost use Rattle.std.specs.Option.{option_copied};
 ghost use Rattle.lra_id.specs.Ids.{Id};
 ghost use Rattle.lra_forest.specs.Forests.{AreOf, id_of};
 ghost use Rattle.lra_forest.specs.Merging.{brought, changed_by, held_numbers, home_stamp, is_gone, is_unlisted, linked, merged_member, merged_members, merged_participant, merged_record, taken};
-ghost use Rattle.lra_forest.specs.OnlyChanges.{AreOnlyChanges, IsPut, ids_gone};
+ghost use Rattle.lra_forest.specs.OnlyChanges.{AreOnlyChanges, IsPut, ids_lost, is_lost};
 ghost use Rattle.lra_forest.specs.Shape.{found_at};
 
 use crate::{Forest, Member, Members, Participant, Record};
@@ -131,9 +131,9 @@ impl Told {
         }
     }
 
-    /// The LRA of this record, if it has no record here and was purged at the other, which has this many of the home's facts.
+    /// The LRA of this record, if the other has no record of it and holds it no more. The other has this many of the home's facts.
     fn gone(&self, told: u64, own: &Record) -> Option<LraId>
-        ensures { result ≡ (if is_none (found_at self.now.records.home self.now.records.records own.now.num) && is_gone told (held_numbers self.now.held) own.now.num
+        ensures { result ≡ (if is_lost self.now.records.home told (held_numbers self.now.held) self.now.records.records own.now
             then Some (id_of own.now) else None) }
     {
         let num = own.num;
@@ -152,7 +152,7 @@ fn all_gone(
     other: &Told,
 ) -> Result<Vec<LraId>, AllocError>
     ensures { IfOk result (λ removed. removed.items
-        ≡ ids_gone other.now.records.home told (held_numbers other.now.held) other.now.records.records own.now) }
+        ≡ ids_lost other.now.records.home told (held_numbers other.now.held) other.now.records.records own.now) }
 {
     let mut removed = Vec::new(alloc);
     for record in own {

@@ -1,10 +1,10 @@
 use Rattle.std.proofs.Common.{◌≡◌, ◌++◌, drop}
 use Rattle.lra_forest.specs.Merging.{held_numbers}
-use Rattle.lra_forest.specs.OnlyChanges.{ids_gone}
+use Rattle.lra_forest.specs.OnlyChanges.{ids_lost}
 use Rattle.lra_forest.proofs.merging.all_gone.Given as goal
 
 -- those so far, and those of the records that are left
 abbrev pub invariant-loop-record : goal.invariant-loop-record
 invariant-loop-record l =
-    let those = ids_gone l.other.records.home l.told (held_numbers l.other.held) l.other.records.records in
+    let those = ids_lost l.other.records.home l.told (held_numbers l.other.held) l.other.records.records in
     l.removed.items ++ those (drop l.record-index l.own) ≡ those l.own

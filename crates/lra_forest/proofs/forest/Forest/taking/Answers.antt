@@ -2,20 +2,20 @@ use Rattle.std.proofs.Common.{◌≡◌, ◌∙◌, ◌&&◌, ℕ, ap, sym, List
 use Rattle.lra_id.specs.Ids.{Id}
 use Rattle.lra_forest.specs.declared.record.Record.{Record}
 use Rattle.lra_forest.specs.Merging.{held_numbers, is_gone}
-use Rattle.lra_forest.specs.OnlyChanges.{AreOnlyChanges, ids_gone}
+use Rattle.lra_forest.specs.OnlyChanges.{AreOnlyChanges, ids_lost}
 use Rattle.lra_forest.specs.Shape.{found_at}
 use Rattle.lra_forest.proofs.Changing.{changes_are_of}
 use Rattle.lra_forest.proofs.OnlyChanges.{only_changes}
 use Rattle.lra_forest.proofs.Takes.{AreGone, ids_are_gone, takes}
 use Rattle.lra_forest.proofs.forest.Forest.taking.Goals as goal
 
-gone_is : (c : goal.Joined-other-3) → c.in_ok-removed.removed.items ≡ ids_gone c.args.self.now.home c.args.told (held_numbers c.args.other.held) c.args.other.records.records c.args.self.now.records
+gone_is : (c : goal.Joined-other-3) → c.in_ok-removed.removed.items ≡ ids_lost c.args.self.now.home c.args.told (held_numbers c.args.other.held) c.args.other.records.records c.args.self.now.records
 gone_is c =
     let held = held_numbers c.args.other.held in
     let other = c.args.other.records.records in
     c.in_ok-removed.ensures
-    ∙ ap (λ (rs : List Record). ids_gone c.args.other.records.home c.args.told held other rs) c.records-own.ensures.records
-    ∙ ap (λ (h : ℕ). ids_gone h c.args.told held other c.args.self.now.records) c.requires
+    ∙ ap (λ (rs : List Record). ids_lost c.args.other.records.home c.args.told held other rs) c.records-own.ensures.records
+    ∙ ap (λ (h : ℕ). ids_lost h c.args.told held other c.args.self.now.records) c.requires
 
 only_is : (c : goal.Joined-other-3) → AreOnlyChanges c.args.self.now.home c.args.self.now.records c.in_ok-removed.removed.items c.in_ok-records.records.records
 only_is c =
