@@ -52,16 +52,29 @@ not_put : (held put : Option Record) (covered : Bool) → IsPut held (brought co
 not_put held None covered is = refl
 not_put held (Some r) covered is = absurd (let no = is.0 in cc)
 
+-- the LRAs of the records that pass a test are those of records that are there, in order
+pub ids_alone : (home : ℕ) (test : Record → Bool) (own : List Record) → AreOf home own → AreOnlyChanges home own (map id_of (filter test own)) []
+ids_alone home test own h =
+    record {
+      order = record { homes = tt; ascending = tt };
+      others = tt;
+      homes = all_ids (λ (l : Id). l.home ≡ home) test own (λ r i e. all_in (λ (x : Record). x.home ≡ home) own h.homes r i);
+      rising = rising (filter test own) (filter_are_of test home own h).ascending;
+      there = all_ids (λ (l : Id). is_some (found_at home own l.num) ≡ true) test own (λ r i e. ap is_some (found_self home own r h i));
+      apart = all_ids (λ (l : Id). found_at home [] l.num ≡ None) test own (λ r i e. refl);
+    }
+
 pub only_changes : (home told mine : ℕ) (held : Option (List ℕ)) (own theirs put : List Record) (removed : List Id) → AreOf home own → AreOf home put
     → ((num : ℕ) → IsRight home mine own theirs put num)
     → removed ≡ ids_lost home told held theirs own → AreOnlyChanges home own removed put
 only_changes home told mine held own theirs put removed h order is gone =
+    let alone = subst (λ (ls : List Id). AreOnlyChanges home own ls []) (sym gone) (ids_alone home test own h) in
     record {
       order = order;
       others = all_from (λ r. found_at home own r.num ≡ Some r → ⊥) put other;
-      homes = subst (AllByRecursion (λ (l : Id). l.home ≡ home)) (sym gone) (all_ids (λ (l : Id). l.home ≡ home) test own (λ r i e. all_in (λ (x : Record). x.home ≡ home) own h.homes r i));
-      rising = subst (λ (ls : List Id). IsStrictlyIncreasing (map (λ (l : Id). l.num) ls)) (sym gone) (rising (filter test own) (filter_are_of test home own h).ascending);
-      there = subst (AllByRecursion (λ (l : Id). is_some (found_at home own l.num) ≡ true)) (sym gone) (all_ids (λ (l : Id). is_some (found_at home own l.num) ≡ true) test own (λ r i e. ap is_some (found_self home own r h i)));
+      homes = alone.homes;
+      rising = alone.rising;
+      there = alone.there;
       apart = subst (AllByRecursion (λ (l : Id). found_at home put l.num ≡ None)) (sym gone) (all_ids (λ (l : Id). found_at home put l.num ≡ None) test own (λ r i e. none r.num (found_at home theirs r.num) refl (and_left (is_none (found_at home theirs r.num)) (is_gone told held r.num) e)));
     }
   where
