@@ -22,7 +22,7 @@ pub struct Told {
 }
 
 /// What is to be changed in the records of a home: LRAs whose records are taken out, and records that are then put in their
-/// places. Each stands in it once, in order of their numbers.
+/// places. Each stands there once, in order of the numbers.
 #[derive(Debug, Drop)]
 pub struct Changes {
     pub removed: Vec<LraId>,

@@ -123,8 +123,8 @@ impl Replica {
     /// record, the two are merged. One that the other alone has is taken, unless the own front counts its begin, since then it
     /// was purged here. One that is held here alone is removed where the other tells all that it holds at that home and its
     /// front counts the begin, since then it was purged there. The greater of each node's counts and last purges are kept. E16
-    /// at place 0 where the view would lose its shape. The patch has only what changes, each once: a record that stays as it
-    /// is isn't put again. It costs what `Forest::taking` and `fits_with` cost at each home.
+    /// at place 0 where the view would lose its shape. The patch has only what changes, each once: a record that is kept as
+    /// it was isn't put again. It costs what `Forest::taking` and `fits_with` cost at each home.
     pub fn absorb(&mut self, alloc: Global, taken: Taken) -> Result<Patch, Refusal>
         requires { length self.old.front ≡ length taken.front }
         ensures view { view_of self.new ≡ view_of self.old }
