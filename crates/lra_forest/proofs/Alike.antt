@@ -245,6 +245,10 @@ record_own a =
     (all_true (same_decision a.decision a.decision) _ (option_own of_verdicts.ghosts.eq verdict_own a.decision)
     (all_true (of_fronts.ghosts.eq a.stamps a.stamps) _ (front_own a.stamps) ((members_decide a.members a.members).1 refl))))))
 
+-- `==` of two records says whether they are one
+pub record_decides : (a b : Record) → Decides (of_records.ghosts.eq a b) (a ≡ b)
+record_decides a b = decided of_records.ghosts.eq record_same record_own a b
+
 -- `==` of two lists of records says whether they are one
 pub records_decide : (a b : List Record) → Decides (pointwise of_records.ghosts.eq a b) (a ≡ b)
 records_decide a b = pointwise_decides (decided of_records.ghosts.eq record_same record_own) a b

@@ -13,6 +13,7 @@ pub mod Fitting
 pub mod Giving
 pub mod Makings
 pub mod MemberMerges
+pub mod OnlyChanges
 pub mod Overdue
 pub mod Places
 pub mod Puts

@@ -1,19 +1,18 @@
 -- what is taken of another node's records
-use Rattle.std.proofs.Common.{◌≡◌, ◌<◌, ◌&&◌, ◌||◌, ◌==◌, ◌∷◌, ◌++◌, ℕ, List, [], length, get_or, refl, sym, ap, subst, ◌∙◌, Bool, true, false, cond, arith, Option, Some, None, nat_le, is_some, is_none}
+use Rattle.std.proofs.Common.{◌≡◌, ◌<◌, ◌+◌, ◌&&◌, ◌||◌, ◌==◌, ◌∷◌, ◌++◌, ℕ, List, [], inl, inr, append_assoc, drop, filter, length, get_or, map, refl, sym, ap, subst, ◌∙◌, Bool, true, false, cond, arith, Option, Some, None, nat_le, is_some, is_none}
 use mathlib.Core.Bool.{not}
 use Rattle.std.specs.List.{AllByRecursion, list_any}
 use Rattle.std.specs.Option.{option_or}
 use Rattle.std.proofs.lemmas.Bool.Decides.{nat_tests}
-use Rattle.std.proofs.lemmas.List.Folds.{find-append}
 use Rattle.lra_id.specs.Ids.{Id}
+use Rattle.lra_facts.proofs.Chains.{drop_at}
 use Rattle.lra_forest.specs.declared.record.Record.{Record}
-use Rattle.lra_forest.specs.Forests.{AreOf, is_of}
-use Rattle.lra_forest.specs.Merging.{brought, changed_by, home_stamp, is_gone, merged_record, taken, without}
+use Rattle.lra_forest.specs.Forests.{AreOf, id_of, is_of}
+use Rattle.lra_forest.specs.Merging.{brought, changed_by, home_stamp, is_gone, merged_record, taken}
+use Rattle.lra_forest.specs.OnlyChanges.{IsPut}
 use Rattle.lra_forest.specs.Places.{put_record}
 use Rattle.lra_forest.specs.Shape.{found_at}
-use Rattle.lra_forest.proofs.Bools.{all_at, all_more}
 use Rattle.lra_forest.proofs.Changing.{found_changed, found_kept, found_own, keep, none_after, stays}
-use Rattle.lra_forest.proofs.Makings.{any_last}
 use Rattle.lra_forest.proofs.Puts.{put_find}
 
 abbrev at : ℕ → ℕ → Id
@@ -32,10 +31,14 @@ merged_id r t = by (nat_le (home_stamp t) (home_stamp r)) refl
     by true e = rw e (refl, refl)
     by false e = rw e (refl, refl)
 
--- what is kept is the record of the same LRA
-pub kept_is : (home : ℕ) (own : List Record) (covered : Bool) (heard next : Record) → AreOf home own → heard.home ≡ home
-    → Some next ≡ brought covered (found_at home own heard.num) (Some heard) → (next.home ≡ home) × (next.num ≡ heard.num)
-kept_is home own covered heard next h of e = by covered (found_at home own heard.num) refl e
+-- what is put of an LRA, held or not, where the other has this record and the receiver counts its begin or not
+abbrev pub IsNews : (home : ℕ) → List Record → (covered : Bool) → Record → Option Record → Type 0
+IsNews home own covered heard put = IsPut (found_at home own heard.num) (brought covered (found_at home own heard.num) (Some heard)) put
+
+-- it is a record of the same LRA
+pub news_of : (home : ℕ) (own : List Record) (covered : Bool) (heard next : Record) → heard.home ≡ home
+    → IsNews home own covered heard (Some next) → (next.home ≡ home) × (next.num ≡ heard.num)
+news_of home own covered heard next of put = by covered (found_at home own heard.num) refl (sym put.0)
   where
     by : (c : Bool) (o : Option Record) → found_at home own heard.num ≡ o → Some next ≡ brought c o (Some heard) → (next.home ≡ home) × (next.num ≡ heard.num)
     by true None f e = absurd cc
@@ -46,40 +49,37 @@ kept_is home own covered heard next h of e = by covered (found_at home own heard
         let id = merged_id r heard in
         (ap (λ (x : Record). x.home) same ∙ id.0 ∙ is.0, ap (λ (x : Record). x.num) same ∙ id.1 ∙ is.1)
 
--- with it put, it is found, and the others as before
-pub kept_found : (home mine : ℕ) (own old : List Record) (heard next : Record) → AreOf home own → AreOf home old → heard.home ≡ home
-    → Some next ≡ brought (nat_le heard.num mine) (found_at home own heard.num) (Some heard) → (num : ℕ)
-    → found_at home (put_record next old) num ≡ cond (heard.num == num) (brought (nat_le num mine) (found_at home own num) (Some heard)) (found_at home old num)
-kept_found home mine own old heard next h order of e num =
-    let is = kept_is home own (nat_le heard.num mine) heard next h of e in
-    put_find home next old (at home num) is.0 order
-    ∙ ap (λ b. cond b (Some next) (found_at home old num)) (by_number home num next is.0 ∙ ap (λ n. n == num) is.1)
-    ∙ by (heard.num == num) refl
-  where
-    by : (b : Bool) → (heard.num == num) ≡ b → cond b (Some next) (found_at home old num) ≡ cond b (brought (nat_le num mine) (found_at home own num) (Some heard)) (found_at home old num)
-    by true t =
-        let number : heard.num ≡ num = grind (arith, nat_tests, t) in
-        e ∙ ap (λ n. brought (nat_le n mine) (found_at home own n) (Some heard)) number
-    by false t = refl
+-- once it is put, it is found, and the others as before
+pub news_found : (home : ℕ) (old : List Record) (next : Record) (num n : ℕ) (b : Bool) → AreOf home old → next.home ≡ home → next.num ≡ num → (num == n) ≡ b
+    → found_at home (put_record next old) n ≡ cond b (Some next) (found_at home old n)
+news_found home old next num n b order of is e =
+    put_find home next old (at home n) of order
+    ∙ ap (λ c. cond c (Some next) (found_at home old n)) (by_number home n next of ∙ ap (λ k. k == n) is ∙ e)
+
+-- what is to be put of an LRA of which there may be news
+abbrev pub IsRight : (home mine : ℕ) → (own all records : List Record) → ℕ → Type 0
+IsRight home mine own all records num = IsPut (found_at home own num) (brought (nat_le num mine) (found_at home own num) (found_at home all num)) (found_at home records num)
 
 -- Of all that the other has, what is left is still to be brought, and the records are those of what was brought
 pub record IsBringing (home mine : ℕ) (own all rest records : List Record) : Type 0 where
   pub order : AreOf home records
   pub left : AreOf home rest
   pub last : (num : ℕ) → is_some (found_at home rest num) ≡ true → found_at home all num ≡ found_at home rest num
-  pub there : (num : ℕ) → found_at home records num ≡ cond (is_some (found_at home rest num)) None (brought (nat_le num mine) (found_at home own num) (found_at home all num))
+  pub later : (num : ℕ) → is_some (found_at home rest num) ≡ true → found_at home records num ≡ None
+  pub there : (num : ℕ) → is_some (found_at home rest num) ≡ false → IsRight home mine own all records num
 
 pub bringing_none : (home mine : ℕ) (own all : List Record) → AreOf home all → IsBringing home mine own all all []
 bringing_none home mine own all h = record {
   order = record { homes = tt; ascending = tt };
   left = h;
   last = λ num e. refl;
-  there = λ num. by (nat_le num mine) (found_at home own num) (found_at home all num);
+  later = λ num e. refl;
+  there = λ num e. inl (by (nat_le num mine) (found_at home own num) (found_at home all num) e);
 }
   where
-    by : (c : Bool) (o a : Option Record) → None ≡ cond (is_some a) None (brought c o a)
-    by c o None = refl
-    by c o (Some t) = refl
+    by : (c : Bool) (o a : Option Record) → is_some a ≡ false → brought c o a ≡ None
+    by c o None e = refl
+    by c o (Some t) e = absurd cc
 
 -- the next is not there yet
 pub not_yet : (home mine : ℕ) (own all rest records : List Record) (t : Record) → IsBringing home mine own all (t ∷ rest) records → found_at home records t.num ≡ None
@@ -87,17 +87,19 @@ not_yet home mine own all rest records t h =
     let test : (t.num == t.num) ≡ true = grind (arith, nat_tests) in
     let here : is_of (at home t.num) t ≡ true = by_number home t.num t h.left.homes.0 ∙ test in
     let some : is_some (found_at home (t ∷ rest) t.num) ≡ true = rw here refl in
-    h.there t.num ∙ ap (λ b. cond b None (brought (nat_le t.num mine) (found_at home own t.num) (found_at home all t.num))) some
+    h.later t.num some
 
 -- one more is brought
 pub bringing_more : (home mine : ℕ) (own all rest records new : List Record) (t : Record) → IsBringing home mine own all (t ∷ rest) records → AreOf home new
-    → ((num : ℕ) → found_at home new num ≡ cond (t.num == num) (brought (nat_le num mine) (found_at home own num) (Some t)) (found_at home records num))
+    → IsNews home own (nat_le t.num mine) t (found_at home new t.num)
+    → ((num : ℕ) → (t.num == num) ≡ false → found_at home new num ≡ found_at home records num)
     → IsBringing home mine own all rest new
-bringing_more home mine own all rest records new t h order is = record {
+bringing_more home mine own all rest records new t h order put others = record {
   order = order;
   left = record { homes = h.left.homes.1; ascending = h.left.ascending.1 };
   last = λ num e. last num e (t.num == num) refl;
-  there = λ num. is num ∙ there num (t.num == num) refl;
+  later = λ num e. later num e (t.num == num) refl;
+  there = λ num e. there num e (t.num == num) refl;
 }
   where
     none_left : (num : ℕ) → (t.num == num) ≡ true → found_at home rest num ≡ None
@@ -110,13 +112,21 @@ bringing_more home mine own all rest records new t h order is = record {
     last num e true t = absurd (let none = none_left num t in let no : is_some (found_at home rest num) ≡ false = ap is_some none in cc)
     last num e false t = let same = first num false t in h.last num (ap is_some same ∙ e) ∙ same
 
-    there : (num : ℕ) (b : Bool) → (t.num == num) ≡ b → cond b (brought (nat_le num mine) (found_at home own num) (Some t)) (found_at home records num) ≡ cond (is_some (found_at home rest num)) None (brought (nat_le num mine) (found_at home own num) (found_at home all num))
-    there num true e =
-        let none = none_left num e in
-        let same = first num true e in
+    later : (num : ℕ) → is_some (found_at home rest num) ≡ true → (b : Bool) → (t.num == num) ≡ b → found_at home new num ≡ None
+    later num e true t = absurd (let none = none_left num t in let no : is_some (found_at home rest num) ≡ false = ap is_some none in cc)
+    later num e false s = let same = first num false s in others num s ∙ h.later num (ap is_some same ∙ e)
+
+    there : (num : ℕ) → is_some (found_at home rest num) ≡ false → (b : Bool) → (t.num == num) ≡ b → IsRight home mine own all new num
+    there num e true s =
+        let number : t.num ≡ num = grind (arith, nat_tests, s) in
+        let same = first num true s in
         let some : found_at home all num ≡ Some t = h.last num (ap is_some same) ∙ same in
-        rw (none, some) refl
-    there num false e = h.there num ∙ ap (λ o. cond (is_some o) None (brought (nat_le num mine) (found_at home own num) (found_at home all num))) (first num false e)
+        subst (λ (o : Option Record). IsPut (found_at home own num) (brought (nat_le num mine) (found_at home own num) o) (found_at home new num)) (sym some)
+        (subst (λ (n : ℕ). IsPut (found_at home own n) (brought (nat_le n mine) (found_at home own n) (Some t)) (found_at home new n)) number put)
+    there num e false s =
+        let same = first num false s in
+        subst (λ (o : Option Record). IsPut (found_at home own num) (brought (nat_le num mine) (found_at home own num) (found_at home all num)) o) (sym (others num s))
+        (h.there num (ap is_some same ∙ e))
 
 -- What is gone
 
@@ -129,62 +139,62 @@ pub refused : {X : Type 0} (b : Bool) (y : X) → None ≡ cond b (Some y) None 
 refused true y e = absurd cc
 refused false y e = refl
 
--- what was read among records of a home is of it
-pub read_own : (home : ℕ) (rs : List Record) (i : ℕ) (r : Record) → AllByRecursion (λ (x : Record). x.home ≡ home) rs → i < length rs → r ≡ get_or rs i r → r.home ≡ home
-read_own home rs i r h few is = ap (λ (y : Record). y.home) is ∙ all_at (λ (x : Record). x.home ≡ home) rs i r h few
+-- those so far, and those of the records that are left
+ids_left : (test : Record → Bool) (rs : List Record) (i : ℕ) (r : Record) (b : Bool) → i < length rs → r ≡ get_or rs i r → test r ≡ b
+    → map id_of (filter test (drop i rs)) ≡ cond b (id_of r ∷ map id_of (filter test (drop (i + 1) rs))) (map id_of (filter test (drop (i + 1) rs)))
+ids_left test rs i r b within is passes = ap (λ (xs : List Record). map id_of (filter test xs)) (drop_at rs i r within is) ∙ by b passes
+  where
+    by : (b : Bool) → test r ≡ b → map id_of (filter test (r ∷ drop (i + 1) rs)) ≡ cond b (id_of r ∷ map id_of (filter test (drop (i + 1) rs))) (map id_of (filter test (drop (i + 1) rs)))
+    by true e = rw e refl
+    by false e = rw e refl
 
-pub all_last : (home : ℕ) (ls new : List Id) (l : Id) → AllByRecursion (λ (x : Id). x.home ≡ home) ls → l.home ≡ home → new ≡ ls ++ l ∷ [] → AllByRecursion (λ (x : Id). x.home ≡ home) new
-all_last home ls new l h own is = subst (AllByRecursion (λ (x : Id). x.home ≡ home)) (sym is) (all_more (λ (x : Id). x.home ≡ home) ls l h own)
+pub one_id : (test : Record → Bool) (rs : List Record) (i : ℕ) (r : Record) (done new all : List Id) (id : Id) → i < length rs → r ≡ get_or rs i r
+    → Some id ≡ cond (test r) (Some (id_of r)) None → new ≡ done ++ id ∷ []
+    → done ++ map id_of (filter test (drop i rs)) ≡ all → new ++ map id_of (filter test (drop (i + 1) rs)) ≡ all
+one_id test rs i r done new all id within is e added so =
+    let passed = tested (test r) id (id_of r) e in
+    ap (λ ls. ls ++ map id_of (filter test (drop (i + 1) rs))) added
+    ∙ append_assoc done (id ∷ []) (map id_of (filter test (drop (i + 1) rs)))
+    ∙ ap (λ (l : Id). done ++ l ∷ map id_of (filter test (drop (i + 1) rs))) passed.1
+    ∙ ap (λ ls. done ++ ls) (sym (ids_left test rs i r true within is passed.0))
+    ∙ so
 
--- Of the first own records, those that pass the test are listed
+pub no_id : (test : Record → Bool) (rs : List Record) (i : ℕ) (r : Record) (done new all : List Id) → i < length rs → r ≡ get_or rs i r
+    → None ≡ cond (test r) (Some (id_of r)) None → new ≡ done
+    → done ++ map id_of (filter test (drop i rs)) ≡ all → new ++ map id_of (filter test (drop (i + 1) rs)) ≡ all
+no_id test rs i r done new all within is e same so =
+    ap (λ ls. ls ++ map id_of (filter test (drop (i + 1) rs))) same
+    ∙ ap (λ ls. done ++ ls) (sym (ids_left test rs i r false within is (refused (test r) (id_of r) e)))
+    ∙ so
+
+-- those of which there is a record that passes the test
 abbrev pub AreGone : (ℕ → Bool) → ℕ → List Record → List Id → Type 0
-AreGone test home done removed = (num : ℕ) → list_any (λ (l : Id). l.num == num) removed ≡ (is_some (found_at home done num) && test num)
+AreGone test home own removed = (num : ℕ) → list_any (λ (l : Id). l.num == num) removed ≡ (is_some (found_at home own num) && test num)
 
-one_later : (home num : ℕ) (done : List Record) (r : Record) → r.home ≡ home → is_some (found_at home (done ++ r ∷ []) num) ≡ (is_some (found_at home done num) || (r.num == num))
-one_later home num done r own =
-    ap is_some (find-append (is_of (at home num)) done (r ∷ []))
-    ∙ ap (λ b. is_some (option_or (found_at home done num) (cond b (Some r) None))) (by_number home num r own)
-    ∙ by (found_at home done num) (r.num == num)
+pub ids_are_gone : (test : ℕ → Bool) (home : ℕ) (own : List Record) → AllByRecursion (λ (r : Record). r.home ≡ home) own → AreGone test home own (map id_of (filter (λ r. test r.num) own))
+ids_are_gone test home [] homes num = refl
+ids_are_gone test home (r ∷ rs) homes num =
+    by (test r.num) refl (r.num == num) refl (ids_are_gone test home rs homes.1 num)
   where
-    by : (o : Option Record) (b : Bool) → is_some (option_or o (cond b (Some r) None)) ≡ (is_some o || b)
-    by None true = refl
-    by None false = refl
-    by (Some q) b = refl
+    own : (c : Bool) → (r.num == num) ≡ c → is_some (found_at home (r ∷ rs) num) ≡ is_some (cond c (Some r) (found_at home rs num))
+    own c e = ap (λ b. is_some (cond b (Some r) (found_at home rs num))) (by_number home num r homes.0 ∙ e)
 
-pub gone_more : (test : ℕ → Bool) (home : ℕ) (done : List Record) (removed : List Id) (r : Record) (id : Id) → AreGone test home done removed → r.home ≡ home → test r.num ≡ true → id.num ≡ r.num → AreGone test home (done ++ r ∷ []) (removed ++ id ∷ [])
-gone_more test home done removed r id h own e same num =
-    any_last (λ (l : Id). l.num == num) removed id
-    ∙ ap (λ b. b || (id.num == num)) (h num)
-    ∙ ap (λ n. (is_some (found_at home done num) && test num) || (n == num)) same
-    ∙ by (is_some (found_at home done num)) (r.num == num) (test num) number
-    ∙ ap (λ b. b && test num) (sym (one_later home num done r own))
-  where
-    number : (r.num == num) ≡ true → test num ≡ true
-    number t = let n : r.num ≡ num = grind (arith, nat_tests, t) in ap test (sym n) ∙ e
+    passes : (b : Bool) → test r.num ≡ b → (r.num == num) ≡ true → test num ≡ b
+    passes b e t = let n : r.num ≡ num = grind (arith, nat_tests, t) in ap test (sym n) ∙ e
 
-    by : (a b c : Bool) → (b ≡ true → c ≡ true) → ((a && c) || b) ≡ ((a || b) && c)
-    by true true true h = refl
-    by true true false h = absurd (let no = h refl in cc)
-    by true false true h = refl
-    by true false false h = refl
-    by false true true h = refl
-    by false true false h = absurd (let no = h refl in cc)
-    by false false c h = refl
+    none : (a : Bool) → (a && false) ≡ false
+    none true = refl
+    none false = refl
 
-pub gone_same : (test : ℕ → Bool) (home : ℕ) (done : List Record) (removed : List Id) (r : Record) → AreGone test home done removed → r.home ≡ home → test r.num ≡ false → AreGone test home (done ++ r ∷ []) removed
-gone_same test home done removed r h own e num =
-    h num
-    ∙ by (is_some (found_at home done num)) (r.num == num) (test num) number
-    ∙ ap (λ b. b && test num) (sym (one_later home num done r own))
-  where
-    number : (r.num == num) ≡ true → test num ≡ false
-    number t = let n : r.num ≡ num = grind (arith, nat_tests, t) in ap test (sym n) ∙ e
-
-    by : (a b c : Bool) → (b ≡ true → c ≡ false) → (a && c) ≡ ((a || b) && c)
-    by true b c h = refl
-    by false false c h = refl
-    by false true true h = absurd (let no = h refl in cc)
-    by false true false h = refl
+    by : (b : Bool) → test r.num ≡ b → (c : Bool) → (r.num == num) ≡ c
+        → list_any (λ (l : Id). l.num == num) (map id_of (filter (λ q. test q.num) rs)) ≡ (is_some (found_at home rs num) && test num)
+        → list_any (λ (l : Id). l.num == num) (map id_of (cond b (r ∷ filter (λ q. test q.num) rs) (filter (λ q. test q.num) rs))) ≡ (is_some (found_at home (r ∷ rs) num) && test num)
+    by true e true t rest = ap (λ a. a || list_any (λ (l : Id). l.num == num) (map id_of (filter (λ q. test q.num) rs))) t ∙ sym (passes true e t) ∙ ap (λ a. a && test num) (sym (own true t))
+    by true e false t rest = ap (λ a. a || list_any (λ (l : Id). l.num == num) (map id_of (filter (λ q. test q.num) rs))) t ∙ rest ∙ ap (λ a. a && test num) (sym (own false t))
+    by false e true t rest =
+        rest ∙ ap (λ a. is_some (found_at home rs num) && a) (passes false e t) ∙ none (is_some (found_at home rs num))
+        ∙ sym (passes false e t) ∙ ap (λ a. a && test num) (sym (own true t))
+    by false e false t rest = rest ∙ ap (λ a. a && test num) (sym (own false t))
 
 -- What is changed
 
@@ -196,35 +206,36 @@ listed home (l ∷ ls) r h own = ap (λ b. b || list_any (λ l. is_of l r) ls) (
     here : home ≡ l.home → is_of l r ≡ (l.num == r.num)
     here at = grind (arith, nat_tests, own, at)
 
--- The four rules: what was brought is put, what is gone is taken out, and the rest stays
+-- The four rules: what is put is put, what is gone is taken out, and the rest stays
 pub takes : (home told : ℕ) (covered : Bool) (held : Option (List ℕ)) (removed : List Id) (changed own other : List Record) (num : ℕ) → AreOf home changed → AreOf home own
     → AllByRecursion (λ l. l.home ≡ home) removed
     → AreGone (λ n. is_none (found_at home other n) && is_gone told held n) home own removed
-    → found_at home changed num ≡ brought covered (found_at home own num) (found_at home other num)
+    → IsPut (found_at home own num) (brought covered (found_at home own num) (found_at home other num)) (found_at home changed num)
     → found_at home (changed_by removed changed own) num ≡ taken covered (is_gone told held num) (found_at home own num) (found_at home other num)
-takes home told covered held removed changed own other num c h homes gone found =
+takes home told covered held removed changed own other num c h homes gone put =
     found_changed home removed changed own num c h
-    ∙ ap (λ o. option_or o (found_at home (without removed own) num)) found
-    ∙ ap (option_or (brought covered (found_at home own num) (found_at home other num))) (found_kept home removed own num h)
-    ∙ by (found_at home own num) refl (found_at home other num) refl
+    ∙ ap (option_or (found_at home changed num)) (found_kept home removed own num h)
+    ∙ by (found_at home own num) refl (found_at home other num) refl (found_at home changed num) put
   where
-    by : (o : Option Record) → found_at home own num ≡ o → (n : Option Record) → found_at home other num ≡ n
-        → option_or (brought covered o n) (keep (stays removed) o) ≡ taken covered (is_gone told held num) o n
-    by None e None f = refl
-    by None e (Some t) f = flat covered
-      where
-        flat : (b : Bool) → option_or (cond b None (Some t)) None ≡ cond b None (Some t)
-        flat true = refl
-        flat false = refl
-    by (Some r) e None f =
+    among : (r : Record) (n : Option Record) → found_at home own num ≡ Some r → found_at home other num ≡ n → list_any (λ l. is_of l r) removed ≡ (is_none n && is_gone told held num)
+    among r n e f =
         let is = found_own home num own r e in
-        let test : list_any (λ l. is_of l r) removed ≡ is_gone told held num =
         listed home removed r homes is.0 ∙ ap (λ k. list_any (λ (l : Id). l.num == k) removed) is.1 ∙ gone num
         ∙ ap (λ q. is_some q && (is_none (found_at home other num) && is_gone told held num)) e
-        ∙ ap (λ q. is_none q && is_gone told held num) f in
-        ap (λ b. cond (not b) (Some r) None) test ∙ flip (is_gone told held num)
-      where
-        flip : (b : Bool) → cond (not b) (Some r) None ≡ cond b None (Some r)
-        flip true = refl
-        flip false = refl
-    by (Some r) e (Some t) f = refl
+        ∙ ap (λ q. is_none q && is_gone told held num) f
+
+    flip : (r : Record) (b : Bool) → cond (not b) (Some r) None ≡ cond b None (Some r)
+    flip r true = refl
+    flip r false = refl
+
+    by : (o : Option Record) → found_at home own num ≡ o → (n : Option Record) → found_at home other num ≡ n → (p : Option Record) → IsPut o (brought covered o n) p
+        → option_or p (keep (stays removed) o) ≡ taken covered (is_gone told held num) o n
+    by o e None f (Some x) put = absurd (let no = put.0 in cc)
+    by None e (Some t) f (Some x) put = sym put.0
+    by (Some r) e (Some t) f (Some x) put = sym put.0
+    by None e None f None put = refl
+    by (Some r) e None f None put = ap (λ b. cond (not b) (Some r) None) (among r None e f) ∙ flip r (is_gone told held num)
+    by None e (Some t) f None (inl none) = sym none
+    by None e (Some t) f None (inr none) = sym none
+    by (Some r) e (Some t) f None (inl none) = absurd cc
+    by (Some r) e (Some t) f None (inr same) = ap (λ b. cond (not b) (Some r) None) (among r (Some t) e f) ∙ sym same

@@ -1,6 +1,7 @@
 pub mod Gathering
 pub mod Merging
 pub mod Numbers
+pub mod OnlyChanges
 pub mod Overdue
 pub mod Owings
 pub mod Participants

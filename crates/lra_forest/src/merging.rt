@@ -1,10 +1,10 @@
 // What a home's records become when another node's are taken.
-ghost use Rattle.std.specs.Prelude.{◌≡◌, ◌==◌, ◌&&◌, ℕ, Some, None, IfOk, OnOk, if◌then◌else◌, is_none, is_some, nat_le};
-ghost use Rattle.std.specs.List.{AllByRecursion, list_any};
+ghost use Rattle.std.specs.Prelude.{◌≡◌, ◌==◌, ℕ, Some, None, false, IfOk, OnOk, if◌then◌else◌, nat_le};
 ghost use Rattle.std.specs.Option.{option_copied};
 ghost use Rattle.lra_id.specs.Ids.{Id};
-ghost use Rattle.lra_forest.specs.Forests.{AreOf};
+ghost use Rattle.lra_forest.specs.Forests.{AreOf, id_of};
 ghost use Rattle.lra_forest.specs.Merging.{brought, changed_by, held_numbers, home_stamp, is_gone, is_unlisted, linked, merged_member, merged_members, merged_participant, merged_record, taken};
+ghost use Rattle.lra_forest.specs.OnlyChanges.{AreOnlyChanges, IsPut, ids_lost, is_lost};
 ghost use Rattle.lra_forest.specs.Shape.{found_at};
 
 use crate::{Forest, Member, Members, Participant, Record};
@@ -22,7 +22,7 @@ pub struct Told {
 }
 
 /// What is to be changed in the records of a home: LRAs whose records are taken out, and records that are then put in their
-/// places.
+/// places. Each stands there once, in order of the numbers.
 #[derive(Debug, Drop)]
 pub struct Changes {
     pub removed: Vec<LraId>,
@@ -131,16 +131,16 @@ impl Told {
         }
     }
 
-    /// The LRA of the home with this number, if it has no record here and was purged at the other, which has this many of
-    /// the home's facts.
-    fn gone(&self, told: u64, num: u64) -> Option<LraId>
-        ensures { result ≡ (if is_none (found_at self.now.records.home self.now.records.records num) && is_gone told (held_numbers self.now.held) num
-            then Some (record { home = self.now.records.home; num = num }) else None) }
+    /// The LRA of this record, if the other has no record of it and holds it no more. The other has this many of the home's facts.
+    fn gone(&self, told: u64, own: &Record) -> Option<LraId>
+        ensures { result ≡ (if is_lost self.now.records.home told (held_numbers self.now.held) self.now.records.records own.now
+            then Some (id_of own.now) else None) }
     {
+        let num = own.num;
         if num > told || self.records.numbered(num).is_some() || !self.is_unlisted(num) {
             return None;
         }
-        LraId::new(self.records.home(), num).ok()
+        LraId::new(own.home, num).ok()
     }
 }
 
@@ -151,37 +151,40 @@ fn all_gone(
     told: u64,
     other: &Told,
 ) -> Result<Vec<LraId>, AllocError>
-    requires { AreOf other.now.records.home own.now }
-    ensures homes { IfOk result (λ removed. AllByRecursion (λ l. l.home ≡ other.now.records.home) removed.items) }
-    ensures gone { IfOk result (λ removed. (num : ℕ) → let home = other.now.records.home in
-        list_any (λ l. l.num == num) removed.items
-        ≡ (is_some (found_at home own.now num)
-        && (is_none (found_at home other.now.records.records num) && is_gone told (held_numbers other.now.held) num))) }
+    ensures { IfOk result (λ removed. removed.items
+        ≡ ids_lost other.now.records.home told (held_numbers other.now.held) other.now.records.records own.now) }
 {
     let mut removed = Vec::new(alloc);
     for record in own {
-        if let Some(id) = other.gone(told, record.num) {
+        if let Some(id) = other.gone(told, record) {
             removed.push(id)?;
         }
     }
     Ok(removed)
 }
 
+/// A record that is to be kept, unless it is the one that is there.
+fn unless_there(next: Record, own: &Record) -> Option<Record>
+    ensures { IsPut (Some own.now) (Some next) result }
+{
+    if next == *own { None } else { Some(next) }
+}
+
 impl Forest {
-    /// What is kept of an LRA of which the other has this record: both records merged, or where it is missing here the
-    /// other's, unless the begin is counted here. Then it was purged here.
-    fn kept(&self, mine: u64, heard: Record) -> Result<Option<Record>, AllocError>
-        ensures { IfOk result (λ kept. kept
-            ≡ brought (nat_le heard.num mine) (found_at self.now.home self.now.records heard.num) (Some heard)) }
+    /// What is put of an LRA of which the other has this record: both records merged, or where it is missing here the other's,
+    /// unless the begin is counted here. Then it was purged here. Nothing where that is the record that is here.
+    fn news(&self, mine: u64, heard: Record) -> Result<Option<Record>, AllocError>
+        ensures { IfOk result (λ put. let own = found_at self.now.home self.now.records heard.num in
+            IsPut own (brought (nat_le heard.num mine) own (Some heard)) put) }
     {
         match self.numbered(heard.num) {
-            Some(own) => Ok(Some(merged(own, heard)?)),
+            Some(own) => Ok(unless_there(merged(own, heard)?, own)),
             None if heard.num <= mine => Ok(None),
             None => Ok(Some(heard)),
         }
     }
 
-    /// Puts what is kept of an LRA of which the other has this record among records that are to be changed.
+    /// Puts the news of an LRA of which the other has this record among records that are to be changed.
     fn bring(&self, mine: u64, heard: Record, records: &mut Forest) -> Result<(), AllocError>
         requires heard { heard.home ≡ self.now.home }
         requires home { records.old.home ≡ self.now.home }
@@ -190,11 +193,12 @@ impl Forest {
         requires missing { found_at self.now.home records.old.records heard.num ≡ None }
         ensures home { OnOk result (records.new.home ≡ self.now.home) }
         ensures order { OnOk result (AreOf self.now.home records.new.records) }
-        ensures found { OnOk result ((num : ℕ) → found_at self.now.home records.new.records num
-            ≡ (if heard.num == num then brought (nat_le num mine) (found_at self.now.home self.now.records num) (Some heard)
-            else found_at self.now.home records.old.records num)) }
+        ensures put { OnOk result (let own = found_at self.now.home self.now.records heard.num in
+            IsPut own (brought (nat_le heard.num mine) own (Some heard)) (found_at self.now.home records.new.records heard.num)) }
+        ensures others { OnOk result ((num : ℕ) → (heard.num == num) ≡ false →
+            found_at self.now.home records.new.records num ≡ found_at self.now.home records.old.records num) }
     {
-        if let Some(next) = self.kept(mine, heard)? {
+        if let Some(next) = self.news(mine, heard)? {
             records.reserve(1)?;
             records.put(next);
         }
@@ -208,8 +212,8 @@ impl Forest {
         requires order { AreOf self.now.home other.records }
         ensures home { IfOk result (λ records. records.home ≡ self.now.home) }
         ensures order { IfOk result (λ records. AreOf self.now.home records.records) }
-        ensures found { IfOk result (λ records. (num : ℕ) → found_at self.now.home records.records num
-            ≡ brought (nat_le num mine) (found_at self.now.home self.now.records num) (found_at self.now.home other.records num)) }
+        ensures put { IfOk result (λ records. (num : ℕ) → let own = found_at self.now.home self.now.records num in
+            IsPut own (brought (nat_le num mine) own (found_at self.now.home other.records num)) (found_at self.now.home records.records num)) }
     {
         let mut records = Forest::new(alloc, self.home());
         for heard in other.into_records() {
@@ -222,8 +226,9 @@ impl Forest {
     /// has, told how many the other has. An LRA of which both have a record gets the two merged. One of which the other alone
     /// has a record gets that, unless mine counts its begin: since then it was purged here. One of which these alone have a
     /// record is taken out if the other tells all LRAs of the home that it holds and this is none of them, though told counts
-    /// its begin: since then it was purged there. Else it stays. It looks up each record among the other's by halving, goes
-    /// over the numbers that are told for each one that the other lacks, and takes memory for what is to be changed.
+    /// its begin: since then it was purged there. Else it stays. A record that would be put as it is here is no change, and
+    /// each change stands there once. It looks up each record among the other's by halving, goes over the numbers that are told
+    /// for each one that the other lacks, and takes memory for what is to be changed and for one record that is merged.
     pub fn taking(
         &self,
         alloc: Global,
@@ -233,7 +238,8 @@ impl Forest {
     ) -> Result<Changes, AllocError>
         requires { other.records.home ≡ self.now.home }
         ensures home { IfOk result (λ changes. changes.records.home ≡ self.now.home) }
-        ensures removed { IfOk result (λ changes. AllByRecursion (λ l. l.home ≡ self.now.home) changes.removed.items) }
+        ensures only { IfOk result (λ changes.
+            AreOnlyChanges self.now.home self.now.records changes.removed.items changes.records.records) }
         ensures order { IfOk result (λ changes.
             AreOf self.now.home (changed_by changes.removed.items changes.records.records self.now.records)) }
         ensures taken { IfOk result (λ changes. (num : ℕ) →

@@ -10,12 +10,13 @@ use Rattle.lra_forest.specs.declared.merging.Told.{Told}
 use Rattle.lra_forest.specs.declared.record.Record.{Record}
 use Rattle.lra_forest.specs.Forests.{AreOf, HomeRecords, is_of}
 use Rattle.lra_forest.specs.Merging.{changed_by, held_numbers, is_gone, put_all, taken, without}
+use Rattle.lra_forest.specs.OnlyChanges.{AreOnlyChanges}
 use Rattle.lra_forest.specs.Places.{put_record}
 use Rattle.lra_forest.specs.Shape.{AreInShape, found_at}
 use Rattle.lra_forest.proofs.Uniqueness.{same_records}
-use Rattle.lra_replica.specs.Absorbing.{AreTaken, AreTakenAt, IsChangeAt, IsGrown, IsTakenTo, after_at, ids_of, records_of}
+use Rattle.lra_replica.specs.Absorbing.{AreTaken, AreTakenAt, IsChangeAt, IsGrown, IsTakenTo, after_at}
 use Rattle.lra_replica.specs.Merging.{AreToldFrom, IsAbsorbed, IsTelling, Telling, told_held, told_records}
-use Rattle.lra_replica.specs.Replicas.{Change, Fits, IsKept, Kept, count_of_home, patched, put_at_home, put_each, spare_at, take_each, taken_out, view_of}
+use Rattle.lra_replica.specs.Replicas.{Change, Fits, HoldsOnlyChanges, IsKept, Kept, count_of_home, ids_of, patched, put_at_home, put_each, records_of, spare_at, take_each, taken_out, view_of}
 use Rattle.lra_replica.specs.Shape.{HasShape}
 use Rattle.lra_replica.specs.Views.{View, records_at}
 use Rattle.lra_replica.proofs.Basics.{at_most, equal_from, equal_itself}
@@ -26,7 +27,7 @@ use Rattle.lra_replica.proofs.Unions.{length_join}
 -- Elements of one home
 
 -- with another test that the elements meet
-all_weaker : {X : Type 0} (P Q : X → Type 0) (xs : List X) → ((x : X) → P x → Q x) → AllByRecursion P xs → AllByRecursion Q xs
+pub all_weaker : {X : Type 0} (P Q : X → Type 0) (xs : List X) → ((x : X) → P x → Q x) → AllByRecursion P xs → AllByRecursion Q xs
 all_weaker P Q [] h all = tt
 all_weaker P Q (x ∷ xs) h all = (h x all.0, all_weaker P Q xs h all.1)
 
@@ -42,14 +43,14 @@ equal_not a b n = by (a == b) refl
     by false e = refl
 
 -- all are of this home
-home_all : {X : Type 0} (h : X → ℕ) (home : ℕ) (xs : List X) → AllByRecursion (λ x. h x ≡ home) xs → filter (λ x. h x == home) xs ≡ xs
+pub home_all : {X : Type 0} (h : X → ℕ) (home : ℕ) (xs : List X) → AllByRecursion (λ x. h x ≡ home) xs → filter (λ x. h x == home) xs ≡ xs
 home_all h home [] all = refl
 home_all h home (x ∷ xs) all =
     let here : (h x == home) ≡ true = ap (λ (n : ℕ). n == home) all.0 ∙ equal_itself home in
     rw here (ap (λ zs. x ∷ zs) (home_all h home xs all.1))
 
 -- none is of this home
-home_none : {X : Type 0} (h : X → ℕ) (home : ℕ) (xs : List X) → AllByRecursion (λ x. h x ≡ home → ⊥) xs → filter (λ x. h x == home) xs ≡ []
+pub home_none : {X : Type 0} (h : X → ℕ) (home : ℕ) (xs : List X) → AllByRecursion (λ x. h x ≡ home → ⊥) xs → filter (λ x. h x == home) xs ≡ []
 home_none h home [] all = refl
 home_none h home (x ∷ xs) all = let here = equal_not (h x) home all.0 in rw here (home_none h home xs all.1)
 
@@ -177,12 +178,13 @@ module _ (kept : Kept) (told : Told) (reach mine : ℕ) (front : List ℕ) (own 
       subst (λ (rs : List Record). AreInShape front told.records.home (changed_by ids more rs)) own_records
       (subst (λ (n : ℕ). AreInShape front n (changed_by ids more own.records)) home shape)
 
-  pub changed_there : AllByRecursion (λ l. l.home ≡ own.home) ids → AllByRecursion (λ r. r.home ≡ own.home) more → AreInShape front own.home (changed_by ids more own.records) → IsChangeAt (view_of kept) told reach front ids more
-  changed_there of_ids of_more shape =
+  pub changed_there : AreOnlyChanges own.home own.records ids more → AreInShape front own.home (changed_by ids more own.records) → IsChangeAt (view_of kept) told reach front ids more
+  changed_there only shape =
       record {
         some = some;
-        of_ids = subst (λ (n : ℕ). AllByRecursion (λ (l : Id). l.home ≡ n) ids) home of_ids;
-        of_more = subst (λ (n : ℕ). AllByRecursion (λ (r : Record). r.home ≡ n) more) home of_more;
+        only =
+            subst (λ (rs : List Record). AreOnlyChanges told.records.home rs ids more) own_records
+            (subst (λ (n : ℕ). AreOnlyChanges n own.records ids more) home only);
         taken = taken_there;
         shape = shape_there shape;
       }
@@ -197,12 +199,26 @@ module _ (kept : Kept) (told : Told) (reach mine : ℕ) (front : List ℕ) (own 
 
 -- Home by home
 
+-- no change holds only what changes
+pub no_changes : (home : ℕ) (own : List Record) → AreOnlyChanges home own [] []
+no_changes home own = record {
+  order = record { homes = tt; ascending = tt };
+  others = tt;
+  homes = tt;
+  rising = λ k within. absurd (omega (arith, within));
+  there = tt;
+  apart = tt;
+}
+
 -- nothing is taken yet
 pub taken_none : (a : View) (telling : Telling) (homes : List HomeRecords) (change : Change) → change.removed ≡ [] → change.records ≡ [] → IsTakenTo a telling homes change 0
 taken_none a telling homes change ids records =
     record {
       of_ids = subst (λ (xs : List Id). AllByRecursion (λ (l : Id). (1 ≤ l.home) × (l.home ≤ 0)) xs) (sym ids) tt;
       of_records = subst (λ (xs : List Record). AllByRecursion (λ (r : Record). (1 ≤ r.home) × (r.home ≤ 0)) xs) (sym records) tt;
+      only = λ home.
+          subst (λ (ls : List Id). AreOnlyChanges home (records_at a.records home) (ids_of home ls) (records_of home change.records)) (sym ids)
+          (subst (λ (rs : List Record). AreOnlyChanges home (records_at a.records home) [] (records_of home rs)) (sym records) (no_changes home (records_at a.records home)));
       taken = λ home low high. absurd (omega (arith, low, high));
       shape = λ home low high. absurd (omega (arith, low, high));
       room = λ home low. omega (arith, ap (λ (xs : List Record). count_of_home home xs) records);
@@ -213,23 +229,48 @@ module _ (a : View) (telling : Telling) (told : Told) (reach k : ℕ) (homes roo
     (so : IsTakenTo a telling homes old k) (grown : IsGrown a told reach rooms old new)
     (next : told.records.home ≡ k + 1) (at : slice_get telling.homes k ≡ Some told) (far : reach ≡ count telling.front (k + 1))
     (front : new.front ≡ old.front) (kept : (home : ℕ) → 1 ≤ home → spare_at homes home ≤ spare_at rooms home) where
+  ids_here : ids_of told.records.home new.removed ≡ grown.ids
+  ids_here =
+      ap (ids_of told.records.home) grown.removed
+      ∙ home_new (λ (l : Id). l.home) told.records.home old.removed grown.ids (all_weaker (λ (l : Id). (1 ≤ l.home) × (l.home ≤ k)) (λ (l : Id). l.home < told.records.home) old.removed (λ l h. omega (arith, h.1, next)) so.of_ids) grown.is.only.homes
+
+  records_here : records_of told.records.home new.records ≡ grown.more
+  records_here =
+      ap (records_of told.records.home) grown.records
+      ∙ home_new (λ (r : Record). r.home) told.records.home old.records grown.more (all_weaker (λ (r : Record). (1 ≤ r.home) × (r.home ≤ k)) (λ (r : Record). r.home < told.records.home) old.records (λ r h. omega (arith, h.1, next)) so.of_records) grown.is.only.order.homes
+
+  ids_there : (home : ℕ) → (told.records.home ≡ home → ⊥) → ids_of home new.removed ≡ ids_of home old.removed
+  ids_there home other = ap (ids_of home) grown.removed ∙ home_other (λ (l : Id). l.home) home told.records.home old.removed grown.ids other grown.is.only.homes
+
+  records_there : (home : ℕ) → (told.records.home ≡ home → ⊥) → records_of home new.records ≡ records_of home old.records
+  records_there home other = ap (records_of home) grown.records ∙ home_other (λ (r : Record). r.home) home told.records.home old.records grown.more other grown.is.only.order.homes
+
   earlier : (home : ℕ) → home ≤ k → after_at new a home ≡ after_at old a home
   earlier home low =
       let other : told.records.home ≡ home → ⊥ = λ e. omega (arith, e, next, low) in
-      ap (λ ids. changed_by (ids_of home ids) (records_of home new.records) (records_at a.records home)) grown.removed
-      ∙ ap (λ ids. changed_by ids (records_of home new.records) (records_at a.records home)) (home_other (λ (l : Id). l.home) home told.records.home old.removed grown.ids other grown.is.of_ids)
-      ∙ ap (λ rs. changed_by (ids_of home old.removed) (records_of home rs) (records_at a.records home)) grown.records
-      ∙ ap (λ rs. changed_by (ids_of home old.removed) rs (records_at a.records home)) (home_other (λ (r : Record). r.home) home told.records.home old.records grown.more other grown.is.of_more)
+      ap (λ ids. changed_by ids (records_of home new.records) (records_at a.records home)) (ids_there home other)
+      ∙ ap (λ rs. changed_by (ids_of home old.removed) rs (records_at a.records home)) (records_there home other)
 
   latest : after_at new a told.records.home ≡ changed_by grown.ids grown.more (records_at a.records told.records.home)
   latest =
-      let home = told.records.home in
-      ap (λ ids. changed_by (ids_of home ids) (records_of home new.records) (records_at a.records home)) grown.removed
-      ∙ ap (λ ids. changed_by ids (records_of home new.records) (records_at a.records home))
-      (home_new (λ (l : Id). l.home) home old.removed grown.ids (all_weaker (λ (l : Id). (1 ≤ l.home) × (l.home ≤ k)) (λ (l : Id). l.home < home) old.removed (λ l h. omega (arith, h.1, next)) so.of_ids) grown.is.of_ids)
-      ∙ ap (λ rs. changed_by grown.ids (records_of home rs) (records_at a.records home)) grown.records
-      ∙ ap (λ rs. changed_by grown.ids rs (records_at a.records home))
-      (home_new (λ (r : Record). r.home) home old.records grown.more (all_weaker (λ (r : Record). (1 ≤ r.home) × (r.home ≤ k)) (λ (r : Record). r.home < home) old.records (λ r h. omega (arith, h.1, next)) so.of_records) grown.is.of_more)
+      ap (λ ids. changed_by ids (records_of told.records.home new.records) (records_at a.records told.records.home)) ids_here
+      ∙ ap (λ rs. changed_by grown.ids rs (records_at a.records told.records.home)) records_here
+
+  only_changes : HoldsOnlyChanges a new
+  only_changes home = by (told.records.home == home) refl
+    where
+      of_lists : (h : ℕ) (ids ls : List Id) (rs ps : List Record) → ls ≡ ids → ps ≡ rs → AreOnlyChanges h (records_at a.records h) ids rs → AreOnlyChanges h (records_at a.records h) ls ps
+      of_lists h ids ls rs ps e f only =
+          subst (λ (xs : List Id). AreOnlyChanges h (records_at a.records h) xs ps) (sym e)
+          (subst (λ (xs : List Record). AreOnlyChanges h (records_at a.records h) ids xs) (sym f) only)
+
+      by : (b : Bool) → (told.records.home == home) ≡ b → AreOnlyChanges home (records_at a.records home) (ids_of home new.removed) (records_of home new.records)
+      by true e =
+          subst (λ (h : ℕ). AreOnlyChanges h (records_at a.records h) (ids_of h new.removed) (records_of h new.records)) (equal_from told.records.home home e)
+          (of_lists told.records.home grown.ids (ids_of told.records.home new.removed) grown.more (records_of told.records.home new.records) ids_here records_here grown.is.only)
+      by false e =
+          let other : told.records.home ≡ home → ⊥ = λ s. (let clash : true ≡ false = sym (ap (λ (n : ℕ). n == home) s ∙ equal_itself home) ∙ e in cc) in
+          of_lists home (ids_of home old.removed) (ids_of home new.removed) (records_of home old.records) (records_of home new.records) (ids_there home other) (records_there home other) (so.only home)
 
   told_here : slice_get telling.homes (told.records.home - 1) ≡ Some told
   told_here = let place : told.records.home - 1 ≡ k = omega (arith, next) in ap (slice_get telling.homes) place ∙ at
@@ -262,13 +303,13 @@ module _ (a : View) (telling : Telling) (told : Told) (reach k : ℕ) (homes roo
           let same : told.records.home ≡ home = equal_from told.records.home home e in
           let mine : records_of home (old.records ++ grown.more) ≡ grown.more =
           home_new (λ (r : Record). r.home) home old.records grown.more (all_weaker (λ (r : Record). (1 ≤ r.home) × (r.home ≤ k)) (λ (r : Record). r.home < home) old.records (λ r h. omega (arith, h.1, next, same)) so.of_records)
-          (all_weaker (λ (r : Record). r.home ≡ told.records.home) (λ (r : Record). r.home ≡ home) grown.more (λ r f. f ∙ same) grown.is.of_more) in
+          (all_weaker (λ (r : Record). r.home ≡ told.records.home) (λ (r : Record). r.home ≡ home) grown.more (λ r f. f ∙ same) grown.is.only.order.homes) in
           let many : count_of_home home (old.records ++ grown.more) ≡ length grown.more = ap (λ (rs : List Record). length rs) mine in
           let spare : spare_at rooms told.records.home ≡ spare_at rooms home = ap (spare_at rooms) same in
           omega (arith, size, many, spare, grown.room)
       by false e size =
           let other : told.records.home ≡ home → ⊥ = λ s. (let clash : true ≡ false = sym (ap (λ (n : ℕ). n == home) s ∙ equal_itself home) ∙ e in cc) in
-          let many : count_of_home home (old.records ++ grown.more) ≡ count_of_home home old.records = ap (λ (rs : List Record). length rs) (home_other (λ (r : Record). r.home) home told.records.home old.records grown.more other grown.is.of_more) in
+          let many : count_of_home home (old.records ++ grown.more) ≡ count_of_home home old.records = ap (λ (rs : List Record). length rs) (home_other (λ (r : Record). r.home) home told.records.home old.records grown.more other grown.is.only.order.homes) in
           let before = so.room home low in
           let room = kept home low in
           omega (arith, size, many, before, room)
@@ -280,12 +321,13 @@ module _ (a : View) (telling : Telling) (told : Told) (reach k : ℕ) (homes roo
             subst (λ (xs : List Id). AllByRecursion (λ (l : Id). (1 ≤ l.home) × (l.home ≤ k + 1)) xs) (sym grown.removed)
             (all_both (λ (l : Id). (1 ≤ l.home) × (l.home ≤ k + 1)) old.removed grown.ids
             (all_weaker (λ (l : Id). (1 ≤ l.home) × (l.home ≤ k)) (λ (l : Id). (1 ≤ l.home) × (l.home ≤ k + 1)) old.removed (λ l h. (h.0, omega (arith, h.1))) so.of_ids)
-            (all_weaker (λ (l : Id). l.home ≡ told.records.home) (λ (l : Id). (1 ≤ l.home) × (l.home ≤ k + 1)) grown.ids (λ l e. (omega (arith, e, next), omega (arith, e, next))) grown.is.of_ids));
+            (all_weaker (λ (l : Id). l.home ≡ told.records.home) (λ (l : Id). (1 ≤ l.home) × (l.home ≤ k + 1)) grown.ids (λ l e. (omega (arith, e, next), omega (arith, e, next))) grown.is.only.homes));
         of_records =
             subst (λ (xs : List Record). AllByRecursion (λ (r : Record). (1 ≤ r.home) × (r.home ≤ k + 1)) xs) (sym grown.records)
             (all_both (λ (r : Record). (1 ≤ r.home) × (r.home ≤ k + 1)) old.records grown.more
             (all_weaker (λ (r : Record). (1 ≤ r.home) × (r.home ≤ k)) (λ (r : Record). (1 ≤ r.home) × (r.home ≤ k + 1)) old.records (λ r h. (h.0, omega (arith, h.1))) so.of_records)
-            (all_weaker (λ (r : Record). r.home ≡ told.records.home) (λ (r : Record). (1 ≤ r.home) × (r.home ≤ k + 1)) grown.more (λ r e. (omega (arith, e, next), omega (arith, e, next))) grown.is.of_more));
+            (all_weaker (λ (r : Record). r.home ≡ told.records.home) (λ (r : Record). (1 ≤ r.home) × (r.home ≤ k + 1)) grown.more (λ r e. (omega (arith, e, next), omega (arith, e, next))) grown.is.only.order.homes));
+        only = only_changes;
         taken = λ home low high. elim (at_most home k) [
           | inl near ↦
               subst (λ (rs : List Record). AreTaken home (count a.front home) (count telling.front home) (told_held telling home) (told_records telling home) (records_at a.records home) rs) (sym (earlier home near))

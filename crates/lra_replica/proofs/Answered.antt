@@ -484,7 +484,7 @@ view_is_next S view me c plain one there settled stands = by (judge S view.front
               (adds.1.2 (entered S view.front me c) (more_entered S view.front me c stands.front one))),
         )
 
-is_plain : (nodes me : ℕ) (c : Command) → 1 ≤ me → me ≤ nodes → IsPlain nodes me c
+pub is_plain : (nodes me : ℕ) (c : Command) → 1 ≤ me → me ≤ nodes → IsPlain nodes me c
 is_plain nodes me (Begin parent deadline) one there = (one, there)
 is_plain nodes me (Join l links) one there = tt
 is_plain nodes me (Leave l m) one there = tt

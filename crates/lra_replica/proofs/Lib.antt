@@ -28,6 +28,7 @@ pub mod MergedMembers
 pub mod MergedRecords
 pub mod More
 pub mod Nesting
+pub mod OnlyChanges
 pub mod Paging
 pub mod Parted
 pub mod Placed

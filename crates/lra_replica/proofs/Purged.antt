@@ -78,7 +78,7 @@ id_of q = record { home = q.home; num = q.num }
 abbrev pub without : List Fact → Id → List Record → List Record
 without S r records = filter (λ q. not (is_under S r (id_of q))) records
 
-all_kept : (P : Record → Type 0) (keep : Record → Bool) (records : List Record) → AllByRecursion P records → AllByRecursion P (filter keep records)
+pub all_kept : (P : Record → Type 0) (keep : Record → Bool) (records : List Record) → AllByRecursion P records → AllByRecursion P (filter keep records)
 all_kept P keep [] h = tt
 all_kept P keep (q ∷ records) h = by (keep q) (all_kept P keep records h.1)
   where
@@ -86,7 +86,7 @@ all_kept P keep (q ∷ records) h = by (keep q) (all_kept P keep records h.1)
     by true rest = (h.0, rest)
     by false rest = rest
 
-ascending_kept : (keep : Record → Bool) (records : List Record) → IsAscending records → IsAscending (filter keep records)
+pub ascending_kept : (keep : Record → Bool) (records : List Record) → IsAscending records → IsAscending (filter keep records)
 ascending_kept keep [] h = tt
 ascending_kept keep (q ∷ records) h = by (keep q) (ascending_kept keep records h.1)
   where

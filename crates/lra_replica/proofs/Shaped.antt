@@ -144,7 +144,7 @@ module _ (S : List Fact) (view : View) (settled : IsSettled S) (stands : StandsF
           ap (λ (k : ℕ). is_shallow levels k (records_at view.records k) p.num) (sym home) ∙ rest p (held_parent S l p settled.whole held up) (omega (arith, deep, above))
 
   -- a record of the view has its place in it
-  fitted : (l : Id) (r : Record) → 1 ≤ l.home → record_at view l ≡ Some r → IsFitted view.front l.home (records_at view.records l.home) l.num r
+  pub fitted : (l : Id) (r : Record) → 1 ≤ l.home → record_at view l ≡ Some r → IsFitted view.front l.home (records_at view.records l.home) l.num r
   fitted l r some at =
       let found = found_record S view l r stands some at in
       let stamps : r.stamps ≡ map (stamp S l) (nodes_to (length view.front)) = ap (λ (x : Record). x.stamps) found.is in

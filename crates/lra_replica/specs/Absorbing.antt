@@ -1,5 +1,5 @@
 -- A patch as it grows home by home, when what another node tells is taken.
-use Rattle.std.specs.Prelude.{◌≡◌, ◌≤◌, ◌==◌, ℕ, Option, List, ◌++◌, filter, length, nat_le}
+use Rattle.std.specs.Prelude.{◌≡◌, ◌≤◌, ℕ, Option, List, ◌++◌, length, nat_le}
 use Rattle.std.specs.List.{AllByRecursion}
 use Rattle.lra_id.specs.Ids.{Id}
 use Rattle.lra_id.specs.Fronts.{count}
@@ -7,9 +7,10 @@ use Rattle.lra_forest.specs.declared.merging.Told.{Told}
 use Rattle.lra_forest.specs.declared.record.Record.{Record}
 use Rattle.lra_forest.specs.Forests.{AreOf, HomeRecords}
 use Rattle.lra_forest.specs.Merging.{changed_by, held_numbers, is_gone, taken}
+use Rattle.lra_forest.specs.OnlyChanges.{AreOnlyChanges}
 use Rattle.lra_forest.specs.Shape.{AreInShape, found_at}
 use Rattle.lra_replica.specs.Merging.{Telling, told_held, told_records}
-use Rattle.lra_replica.specs.Replicas.{Change, count_of_home, spare_at}
+use Rattle.lra_replica.specs.Replicas.{Change, HoldsOnlyChanges, count_of_home, ids_of, records_of, spare_at}
 use Rattle.lra_replica.specs.Views.{View, records_at}
 
 -- After are the records of a home, in order, when what another tells of it is taken: it has reach of the home's facts, tells
@@ -24,11 +25,10 @@ AreTakenAt a told reach after =
     AreTaken told.records.home (count a.front told.records.home) reach (held_numbers told.held) told.records.records
     (records_at a.records told.records.home) after
 
--- What is changed at a home, which has its shape then: these are taken out, and these records put in their places
+-- What is changed at a home, each once, which has its shape then: these are taken out, and these records put in their places
 pub record IsChangeAt (a : View) (told : Told) (reach : ℕ) (front : List ℕ) (ids : List Id) (more : List Record) : Type 0 where
   pub some : 1 ≤ told.records.home
-  pub of_ids : AllByRecursion (λ l. l.home ≡ told.records.home) ids
-  pub of_more : AllByRecursion (λ r. r.home ≡ told.records.home) more
+  pub only : AreOnlyChanges told.records.home (records_at a.records told.records.home) ids more
   pub taken : AreTakenAt a told reach (changed_by ids more (records_at a.records told.records.home))
   pub shape : AreInShape front told.records.home (changed_by ids more (records_at a.records told.records.home))
 
@@ -41,14 +41,7 @@ pub record IsGrown (a : View) (told : Told) (reach : ℕ) (homes : List HomeReco
   pub records : new.records ≡ old.records ++ more
   pub room : length more ≤ spare_at homes told.records.home
 
--- what a patch changes at a home
-
-abbrev pub ids_of : ℕ → List Id → List Id
-ids_of home ids = filter (λ l. l.home == home) ids
-
-abbrev pub records_of : ℕ → List Record → List Record
-records_of home records = filter (λ r. r.home == home) records
-
+-- the records of a home with what a patch changes there
 abbrev pub after_at : Change → View → ℕ → List Record
 after_at change a home = changed_by (ids_of home change.removed) (records_of home change.records) (records_at a.records home)
 
@@ -56,6 +49,7 @@ after_at change a home = changed_by (ids_of home change.removed) (records_of hom
 pub record IsTakenTo (a : View) (telling : Telling) (homes : List HomeRecords) (change : Change) (k : ℕ) : Type 0 where
   pub of_ids : AllByRecursion (λ l. (1 ≤ l.home) × (l.home ≤ k)) change.removed
   pub of_records : AllByRecursion (λ r. (1 ≤ r.home) × (r.home ≤ k)) change.records
+  pub only : HoldsOnlyChanges a change
   pub taken : (home : ℕ) → 1 ≤ home → home ≤ k →
       AreTaken home (count a.front home) (count telling.front home) (told_held telling home) (told_records telling home)
       (records_at a.records home) (after_at change a home)

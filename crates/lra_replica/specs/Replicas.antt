@@ -10,6 +10,7 @@ use Rattle.lra_facts.specs.Lists.{In}
 use Rattle.lra_facts.specs.Sets.{is_under}
 use Rattle.lra_forest.specs.declared.record.Record.{Record}
 use Rattle.lra_forest.specs.Forests.{AreOf, HomeRecords, is_of}
+use Rattle.lra_forest.specs.OnlyChanges.{AreOnlyChanges}
 use Rattle.lra_forest.specs.Places.{put_record}
 use Rattle.lra_replica.specs.Views.{View, record_at, records_at}
 
@@ -74,6 +75,19 @@ take_each (l ∷ ids) homes = take_each ids (taken_out l homes)
 abbrev pub patched : Change → View → View
 patched change view =
     record { front = change.front; purges = change.purges; records = put_each change.records (take_each change.removed view.records) }
+
+-- what a patch removes and puts at a home
+abbrev pub ids_of : ℕ → List Id → List Id
+ids_of home ids = filter (λ l. l.home == home) ids
+
+abbrev pub records_of : ℕ → List Record → List Record
+records_of home records = filter (λ r. r.home == home) records
+
+-- A patch of a view has only what changes, each once: at each home the records that it puts are in order, and the view has none
+-- of them as it is. The LRAs that it removes are in order, the view has a record of each, and none of them is put
+abbrev pub HoldsOnlyChanges : View → Change → Type 0
+HoldsOnlyChanges view change =
+    (home : ℕ) → AreOnlyChanges home (records_at view.records home) (ids_of home change.removed) (records_of home change.records)
 
 -- how many records there is room for at a home
 abbrev pub spare_at : List HomeRecords → ℕ → ℕ

@@ -7,7 +7,7 @@ ghost use Rattle.lra_forest.specs.Shape.{AreInShape};
 ghost use Rattle.lra_replica.specs.Absorbing.{AreTakenAt, IsChangeAt, IsGrown, IsTakenTo};
 ghost use Rattle.lra_replica.specs.Histories.{History, IsClosed, IsLawful, facts};
 ghost use Rattle.lra_replica.specs.Merging.{IsAbsorbed, IsMerged, merged};
-ghost use Rattle.lra_replica.specs.Replicas.{Fits, KeepsRoom, patched, view_of};
+ghost use Rattle.lra_replica.specs.Replicas.{Fits, HoldsOnlyChanges, KeepsRoom, patched, view_of};
 ghost use Rattle.lra_replica.specs.Shape.{HasShape};
 ghost use Rattle.lra_replica.specs.Views.{IsInOrder, StandsFor, View};
 
@@ -61,8 +61,6 @@ impl Replica {
             unreachable!();
         };
         let changes = own.taking(alloc, self.front().count(home), reach, told)?;
-        // What this ensures is needed: the records are of the home.
-        let _ = changes.records.records();
         if !own.fits_with(&changes, front) {
             return Err(Refusal::BadFrame(0));
         }
@@ -125,7 +123,8 @@ impl Replica {
     /// record, the two are merged. One that the other alone has is taken, unless the own front counts its begin, since then it
     /// was purged here. One that is held here alone is removed where the other tells all that it holds at that home and its
     /// front counts the begin, since then it was purged there. The greater of each node's counts and last purges are kept. E16
-    /// at place 0 where the view would lose its shape. It costs what `Forest::taking` and `fits_with` cost at each home.
+    /// at place 0 where the view would lose its shape. The patch has only what changes, each once: a record that is kept as
+    /// it was isn't put again. It costs what `Forest::taking` and `fits_with` cost at each home.
     pub fn absorb(&mut self, alloc: Global, taken: Taken) -> Result<Patch, Refusal>
         requires { length self.old.front ≡ length taken.front }
         ensures view { view_of self.new ≡ view_of self.old }
@@ -134,6 +133,7 @@ impl Replica {
         ensures stays { KeepsRoom self.old self.new }
         ensures absorbed { IfOk result (λ patch. IsAbsorbed (view_of self.old) taken (patched patch (view_of self.old))) }
         ensures shape { IfOk result (λ patch. HasShape (patched patch (view_of self.old))) }
+        ensures only { IfOk result (λ patch. HoldsOnlyChanges (view_of self.old) patch) }
         ensures refused { IfErr result (λ refusal. (refusal ≡ NoMemory) ⊎
             ((refusal ≡ BadFrame 0) × ((c : View) → IsAbsorbed (view_of self.old) taken c → HasShape c → ⊥))) }
     {

@@ -12,10 +12,10 @@ ghost use Rattle.lra_replica.specs.declared.command.Command.{Command};
 ghost use Rattle.lra_replica.specs.Growth.{IsMore, IsSettled};
 ghost use Rattle.lra_replica.specs.Histories.{Entry, History, IsClosed, IsLawful, facts, with_entry};
 ghost use Rattle.lra_replica.specs.Laws.{IsCurrent, IsViewIn, entry_for};
-ghost use Rattle.lra_replica.specs.Next.{next_view, reply_on};
+ghost use Rattle.lra_replica.specs.Next.{change_on, judge_on, next_view, reply_on};
 ghost use Rattle.lra_replica.specs.Prepared.{AddsFact};
-ghost use Rattle.lra_replica.specs.Replicas.{Change, empty_view, patched, raised};
-ghost use Rattle.lra_replica.specs.Replies.{after, reply_of};
+ghost use Rattle.lra_replica.specs.Replicas.{Change, HoldsOnlyChanges, empty_view, patched, raised};
+ghost use Rattle.lra_replica.specs.Replies.{Taken, after, reply_of};
 ghost use Rattle.lra_replica.specs.Views.{IsCounted, StandsFor, View};
 
 pub mod rising;
@@ -57,6 +57,12 @@ pub fn a_patch_adds_exactly_its_fact()
         IsViewIn (with_entry h node (entry_for h v c)) node (raised v node) (patched change view) }
     ensures front { (h : History) (node : ℕ) (v : List ℕ) (view : View) (c : Command) (change : Change) →
         view.front ≡ v → AddsFact (facts h v) view node c (Some change) → change.front ≡ raised v node }
+{}
+
+/// The patch of a command holds only what changes, each once: what it puts isn't there as it is, and what it removes is.
+pub fn a_patch_holds_only_changes()
+    ensures { (S : List Fact) (view : View) (me : ℕ) (c : Command) → 1 ≤ me → me ≤ length view.front →
+        IsSettled S → StandsFor S view → judge_on view me c ≡ Taken → HoldsOnlyChanges view (change_on view me c) }
 {}
 
 /// A purge removes a tree: with one more fact, which purges a root, just those LRAs are held that were held before and are

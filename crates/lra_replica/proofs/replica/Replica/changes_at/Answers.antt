@@ -1,7 +1,5 @@
-use Rattle.std.proofs.Common.{◌≡◌, ◌-◌, ◌∙◌, ℕ, true, false, inr, refl, sym, ap, arith, slice_get, subst}
-use Rattle.std.specs.List.{AllByRecursion}
+use Rattle.std.proofs.Common.{◌≡◌, ◌-◌, ◌∙◌, ℕ, true, false, inr, refl, sym, ap, arith, slice_get}
 use Rattle.lra_id.specs.Fronts.{count}
-use Rattle.lra_forest.specs.declared.record.Record.{Record}
 use Rattle.lra_replica.proofs.Absorbed.{changed_there, only_there}
 use Rattle.lra_replica.proofs.replica.Replica.changes_at.Goals as goal
 
@@ -26,4 +24,4 @@ returns-clause-changes c =
     let mine = c.count.ensures ∙ ap (λ v. count v c.home-home.result) c.front.ensures ∙ ap (count c.args.self.now.front) at in
     changed_there c.args.self.now c.args.told c.args.reach c.count.result c.args.front.now c.in-Some.own.now c.in_ok-changes.changes.removed.items c.in_ok-changes.changes.records.records
     (omega (arith, c.in-Some.ensures.some, at)) (c.in-Some.ensures.found ∙ at) mine place c.in_ok-changes.ensures.order c.in_ok-changes.ensures.taken
-    c.in_ok-changes.ensures.removed (subst (λ (n : ℕ). AllByRecursion (λ (r : Record). r.home ≡ n) c.in_ok-changes.changes.records.records) c.in_ok-changes.ensures.home c.records.ensures.order.homes) (c.fits_with.ensures.0 c.if-not-fits_with.false)
+    c.in_ok-changes.ensures.only (c.fits_with.ensures.0 c.if-not-fits_with.false)

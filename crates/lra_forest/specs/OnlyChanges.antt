@@ -1,0 +1,32 @@
+-- What is put and removed where another node's records are taken: only what changes, each once.
+use Rattle.std.specs.Prelude.{◌≡◌, ◌⊎◌, ◌&&◌, ℕ, Bool, true, Option, Some, None, List, filter, is_none, is_some, map}
+use Rattle.std.specs.List.{AllByRecursion}
+use Rattle.std.specs.List.Sorted.{IsStrictlyIncreasing}
+use Rattle.lra_id.specs.Ids.{Id}
+use Rattle.lra_forest.specs.declared.record.Record.{Record}
+use Rattle.lra_forest.specs.Forests.{AreOf, id_of}
+use Rattle.lra_forest.specs.Merging.{is_gone}
+use Rattle.lra_forest.specs.Shape.{found_at}
+
+-- Of an LRA this is held, and that is to be held: it is put where it is another record, and else nothing is
+abbrev pub IsPut : (held kept put : Option Record) → Type 0
+IsPut held kept (Some r) = (kept ≡ Some r) × (held ≡ Some r → ⊥)
+IsPut held kept None = (kept ≡ None) ⊎ (kept ≡ held)
+
+-- the other has no record of the LRA of this record, and holds it no more
+abbrev pub is_lost : (home told : ℕ) → Option (List ℕ) → (theirs : List Record) → Record → Bool
+is_lost home told held theirs r = is_none (found_at home theirs r.num) && is_gone told held r.num
+
+-- the LRAs of those of these records
+abbrev pub ids_lost : (home told : ℕ) → Option (List ℕ) → (theirs records : List Record) → List Id
+ids_lost home told held theirs records = map id_of (filter (is_lost home told held theirs) records)
+
+-- What is to be changed in a home's records: the records that are put are in order, each once, and none is there as it is. The
+-- LRAs that are removed are in order, each once. Each has a record there, and none that is put
+pub record AreOnlyChanges (home : ℕ) (own : List Record) (removed : List Id) (put : List Record) : Type 0 where
+  pub order : AreOf home put
+  pub others : AllByRecursion (λ r. found_at home own r.num ≡ Some r → ⊥) put
+  pub homes : AllByRecursion (λ l. l.home ≡ home) removed
+  pub rising : IsStrictlyIncreasing (map (λ l. l.num) removed)
+  pub there : AllByRecursion (λ l. is_some (found_at home own l.num) ≡ true) removed
+  pub apart : AllByRecursion (λ l. found_at home put l.num ≡ None) removed
