@@ -1,5 +1,5 @@
 -- The values of the fields with a name, and numbers.
-use Rattle.std.proofs.Common.{◌≡◌, ℕ, ◌+◌, ◌*◌, ◌<◌, ◌≤◌, Bool, true, false, cond, List, [], ◌∷◌, ◌++◌, length, take, get_or, map, min, sym, ◌∙◌, ap, refl, arith, subst, ◌-◌, Some, None, take_all, append-nil, ◌&&◌, nat_lt}
+use Rattle.std.proofs.Common.{◌≡◌, ℕ, suc, ◌+◌, ◌*◌, ◌<◌, ◌≤◌, Bool, true, false, cond, List, [], ◌∷◌, ◌++◌, length, take, drop, get_or, map, min, sym, ◌∙◌, ap, refl, arith, subst, ◌-◌, Some, None, take_all, append-nil, ◌&&◌, nat_lt}
 use Rattle.std.proofs.lemmas.List.{take_more, map-append}
 use Rattle.std.proofs.lemmas.Slice.Eq.{bytes_eq-Decides}
 use Rattle.std.proofs.lemmas.Int.Digits.{digits_value_more}
@@ -14,7 +14,9 @@ use Rattle.httparse.specs.Spans.{header_bytes, span_bytes}
 use Rattle.httparse.specs.declared.spans.HeaderSpan.{HeaderSpan}
 use Rattle.lra_http.specs.declared.fields.Found.{Found}
 use Rattle.lra_http.specs.Fields.{IsFound}
-use Rattle.lra_http.specs.Fields.{values, is_named, is_number}
+use Rattle.std.proofs.Math.Seq.{drop-cons}
+use Rattle.lra_http.specs.declared.message.Field.{Field}
+use Rattle.lra_http.specs.Fields.{values, field_bytes, first_value, is_named, is_number}
 
 -- one more field
 pub values_push : (name : List ℕ) (fields : List (List ℕ × List ℕ)) (field : List ℕ × List ℕ) (b : Bool) → is_named name field ≡ b
@@ -91,3 +93,35 @@ digits_of_number text h = (and_true (nat_lt 0 (length text)) (list_all is_ascii_
 pub number_whole : (text : List ℕ) (i n most : ℕ) → length text ≤ i → is_number text ≡ true → n ≡ min (digits_value 10 (take i text)) most
     → Some n ≡ cond (is_number text) (Some (min (digits_value 10 text) most)) None
 number_whole text i n most long is e = rw is (ap Some (e ∙ ap (λ (t : List ℕ). min (digits_value 10 t) most) (take_all i text long)))
+
+-- ---- the first value with a name
+
+first_of : (name : List ℕ) (field : Field) (fields : List Field) (b : Bool) → is_named name (field_bytes field) ≡ b
+    → first_value name (map field_bytes (field ∷ fields)) ≡ cond b (Some field.value) (first_value name (map field_bytes fields))
+first_of name field fields b e = ap (λ (t : Bool). cond t (Some field.value) (first_value name (map field_bytes fields))) e
+
+-- the field at a place, before those that are left
+at_place : (items fields : List Field) (i : ℕ) (field : Field) → items ≡ fields → i < length items → field ≡ get_or items i field
+    → drop i fields ≡ field ∷ drop (i + 1) fields
+at_place items fields i field same below is =
+    let within : i < length fields = subst (λ (l : List Field). i < length l) same below in
+    let here : field ≡ get_or fields i field = is ∙ ap (λ (l : List Field). get_or l i field) same in
+    let next : suc i ≡ i + 1 = omega arith in
+    drop-cons fields i field within ∙ ap (λ (n : ℕ). get_or fields i field ∷ drop n fields) next ∙ ap (λ (f : Field). f ∷ drop (i + 1) fields) (sym here)
+
+pub value_hit : (name : List ℕ) (items fields : List Field) (i : ℕ) (field : Field) (own text : List ℕ) → items ≡ fields → i < length items
+    → field ≡ get_or items i field → own ≡ field.name → map to_ascii_lowercase own ≡ map to_ascii_lowercase name → text ≡ field.value
+    → first_value name (map field_bytes (drop i fields)) ≡ first_value name (map field_bytes fields)
+    → Some text ≡ first_value name (map field_bytes fields)
+value_hit name items fields i field own text equal below is own_is same text_is known =
+    ap Some text_is
+    ∙ sym (first_of name field (drop (i + 1) fields) true (named name (field_bytes field) (ap (map to_ascii_lowercase) (sym own_is) ∙ same)))
+    ∙ ap (λ (l : List Field). first_value name (map field_bytes l)) (sym (at_place items fields i field equal below is)) ∙ known
+
+pub value_miss : (name : List ℕ) (items fields : List Field) (i : ℕ) (field : Field) (own : List ℕ) → items ≡ fields → i < length items
+    → field ≡ get_or items i field → own ≡ field.name → ¬ (map to_ascii_lowercase own ≡ map to_ascii_lowercase name)
+    → first_value name (map field_bytes (drop i fields)) ≡ first_value name (map field_bytes fields)
+    → first_value name (map field_bytes (drop (i + 1) fields)) ≡ first_value name (map field_bytes fields)
+value_miss name items fields i field own equal below is own_is other known =
+    sym (first_of name field (drop (i + 1) fields) false (not_named name (field_bytes field) (λ e. other (ap (map to_ascii_lowercase) own_is ∙ e))))
+    ∙ ap (λ (l : List Field). first_value name (map field_bytes l)) (sym (at_place items fields i field equal below is)) ∙ known

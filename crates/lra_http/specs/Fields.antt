@@ -1,5 +1,5 @@
 -- What the fields of a head say of the body.
-use Rattle.std.specs.Prelude.{◌≡◌, ℕ, ◌≤◌, List, [], ◌∷◌, length, map, Bool, ◌==◌, ◌&&◌, ◌||◌, nat_lt, not, if◌then◌else◌, codes, Result, Ok, Err}
+use Rattle.std.specs.Prelude.{◌≡◌, ℕ, ◌≤◌, List, [], ◌∷◌, length, map, Bool, ◌==◌, ◌&&◌, ◌||◌, nat_lt, not, if◌then◌else◌, codes, Option, Some, None, Result, Ok, Err}
 use Rattle.std.specs.List.{list_all}
 use Rattle.std.specs.Str.{bytes_eq}
 use Rattle.std.specs.Char.{is_ascii_digit, to_ascii_lowercase}
@@ -29,6 +29,11 @@ abbrev pub values : List ℕ → List (List ℕ × List ℕ) → List (List ℕ)
 values name [] = []
 values name (field ∷ fields) =
     if is_named name field then field.1 ∷ values name fields else values name fields
+
+-- the value of the first field with this name
+abbrev pub first_value : List ℕ → List (List ℕ × List ℕ) → Option (List ℕ)
+first_value name [] = None
+first_value name (field ∷ fields) = if is_named name field then Some field.1 else first_value name fields
 
 -- one digit or more and nothing else
 abbrev pub is_number : List ℕ → Bool

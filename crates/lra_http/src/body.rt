@@ -8,6 +8,9 @@ ghost use Rattle.lra_http.specs.declared.fault.Fault.TheVariants.{Cut, ReadFault
 use crate::{CallError, Fault, MOST_INTERRUPTED, Source};
 use std::alloc::Global;
 
+/// The most bytes of a body, where the caller has no other limit.
+pub const BODY_LIMIT: usize = 65_536;
+
 /// Reads at most as many bytes as fit, and none only at the end or where none fits. `interrupted` counts the interrupted
 /// calls of the message.
 fn read_piece<S: Source>(

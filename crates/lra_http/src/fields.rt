@@ -1,10 +1,10 @@
 // The fields of a head that say how long its body is.
-ghost use Rattle.std.specs.Prelude.{◌≡◌, ◌<◌, ◌≤◌, ◌^◌, ℕ, List, [], ◌∷◌, ◌++◌, length, map, min, All, IfOk, IfErr, Some, None, if◌then◌else◌};
+ghost use Rattle.std.specs.Prelude.{◌≡◌, ◌<◌, ◌≤◌, ◌^◌, ℕ, List, [], ◌∷◌, ◌++◌, length, map, min, All, IfOk, IfErr, Some, None, option_map, if◌then◌else◌};
 ghost use Rattle.std.specs.List.{list_all};
 ghost use Rattle.std.specs.Char.{is_ascii_digit};
 ghost use Rattle.std.specs.Str.Parse.{digits_value};
 ghost use Rattle.httparse.specs.Spans.{IsHeaderWithin, header_bytes};
-ghost use Rattle.lra_http.specs.Fields.{IsFound, values, is_number, field_bytes, response_length, request_length};
+ghost use Rattle.lra_http.specs.Fields.{IsFound, first_value, values, is_number, field_bytes, response_length, request_length};
 ghost use Rattle.lra_http.specs.declared.fault.Fault.TheVariants.{NoMemory};
 
 use crate::{Bytes, Fault, Field, Fields};
@@ -131,6 +131,20 @@ pub fn request_size(
             Some(n) if n > limit => Err(Fault::BodyTooLong),
             Some(n) => Ok(n),
         },
+    }
+}
+
+impl Fields {
+    /// The value of the first field with this name, in whichever case.
+    pub fn value(&self, name: &[u8]) -> Option<&[u8]>
+        ensures { option_map (λ v. v.now) result ≡ first_value name.now (map field_bytes self.now) }
+    {
+        for field in self.as_slice() {
+            if field.name.as_slice().eq_ignore_ascii_case(name) {
+                return Some(field.value.as_slice());
+            }
+        }
+        None
     }
 }
 

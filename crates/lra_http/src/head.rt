@@ -11,6 +11,12 @@ use httparse::spans::{HeaderSpan, parse_request, parse_response};
 use httparse::{Error, Status};
 use std::alloc::Global;
 
+/// The most bytes of a message's head, or of all heads of a response together.
+pub const HEAD_LIMIT: usize = 16_384;
+
+/// The most field lines of a message's head, or of all heads of a response together.
+pub const LINE_LIMIT: usize = 64;
+
 /// The two kinds of message.
 #[derive(Clone, Copy, Debug, PartialEq, Eq)]
 pub enum Kind {

@@ -19,9 +19,11 @@ ghost use Rattle.std.specs.Prelude.{◌≡◌, ℕ, ◌+◌, ◌≤◌, List, Op
 ghost use Rattle.std.specs.Io.KnownBytes.{ReadConsumes, WriteAppends};
 ghost use Rattle.lra_http.specs.Streams.{failed_calls, interrupted_calls};
 
+pub use body::BODY_LIMIT;
 pub use bytes::{MOST_INTERRUPTED, ReadFault, WriteFault, read_byte, write_all};
 pub use count::Count;
 pub use fault::Fault;
+pub use head::{HEAD_LIMIT, LINE_LIMIT};
 pub use message::{Bytes, CallRequest, Field, Fields, Request, Response, Text};
 pub use over::{OverRead, OverWrite};
 pub use request::read_request;

@@ -1,8 +1,9 @@
 // A whole request.
-ghost use Rattle.std.specs.Prelude.{◌≡◌, ◌⊎◌, ℕ, ◌+◌, ◌<◌, ◌≤◌, ◌^◌, List, length, IfOk, IfErr, IfSome, OnOk, IsUtf8};
+ghost use Rattle.std.specs.Prelude.{◌≡◌, ◌⊎◌, ℕ, ◌+◌, ◌<◌, ◌≤◌, ◌^◌, List, length, IfOk, IfErr, IfSome, OnOk, IsUtf8, codes, map, option_map};
 ghost use Rattle.std.specs.Io.KnownBytes.{IsAtEnd};
 ghost use Rattle.httparse.specs.Grammar.{IsToken, RequestHead};
 ghost use Rattle.lra_http.specs.Streams.{IsLost, most_interrupted};
+ghost use Rattle.lra_http.specs.Fields.{field_bytes, first_value};
 ghost use Rattle.lra_http.specs.Heads.{IsHead};
 ghost use Rattle.lra_http.specs.Requests.{IsRequest, IsTaken, Refuses, ArePartsOf};
 ghost use Rattle.lra_http.specs.declared.fault.Fault.TheVariants.{Cut, NoMemory, ReadFault};
@@ -10,13 +11,23 @@ ghost use Rattle.lra_http.specs.declared.head.Kind.TheVariants.{Request as OfReq
 
 use crate::body::read_body;
 use crate::fields::{fields_of, request_size};
-use crate::head::{Kind, read_head};
+use crate::head::{HEAD_LIMIT, Kind, LINE_LIMIT, read_head};
 use crate::{Bytes, Fault, Request, Source, Text};
 use http::Method;
 use http::method::MethodError;
 use httparse::Status;
 use httparse::spans::{EMPTY_HEADER_SPAN, HeaderSpan, RequestSpans, parse_request};
 use std::alloc::Global;
+
+impl Request {
+    /// The value of its Host field: the host, and a port behind a colon where one is named. A request of version 1.0 may
+    /// have none.
+    pub fn host(&self) -> Option<&[u8]>
+        ensures { option_map (λ v. v.now) result ≡ first_value (codes "host") (map field_bytes self.now.fields) }
+    {
+        self.fields.value(b"host")
+    }
+}
 
 /// Where the parts of this head are.
 fn parts_of(head: &[u8], headers: &mut [HeaderSpan]) -> RequestSpans
@@ -76,13 +87,13 @@ pub fn read_request<S: Source>(
     ensures few_interrupted { OnOk result (S.interrupted source.new < S.interrupted source.old + most_interrupted) }
 {
     let mut interrupted = 0;
-    let mut headers = [EMPTY_HEADER_SPAN; 64];
+    let mut headers = [EMPTY_HEADER_SPAN; LINE_LIMIT];
     let head = read_head(
         alloc,
         source,
         Kind::Request,
         &mut headers,
-        16_384,
+        HEAD_LIMIT,
         &mut interrupted,
     )?;
     let spans = parts_of(&head, &mut headers);

@@ -11,17 +11,12 @@ ghost use Rattle.lra_http.specs.declared.head.Kind.TheVariants.{Response as OfRe
 
 use crate::body::read_body;
 use crate::fields::{fields_of, response_size};
-use crate::head::{Kind, read_head};
+use crate::head::{HEAD_LIMIT, Kind, LINE_LIMIT, read_head};
 use crate::{Bytes, Fault, Response, Source};
 use http::StatusCode;
 use httparse::Status;
 use httparse::spans::{EMPTY_HEADER_SPAN, HeaderSpan, ResponseSpans, parse_response};
 use std::alloc::Global;
-
-/// The most bytes and field lines of all heads of a message.
-const HEAD_LIMIT: usize = 16_384;
-
-const LINE_LIMIT: usize = 64;
 
 /// Where the parts of this head are.
 fn parts_of(head: &[u8], headers: &mut [HeaderSpan]) -> ResponseSpans
