@@ -1,11 +1,11 @@
 -- Interim heads before a response's final head.
-use Rattle.std.proofs.Common.{◌++◌, ◌≡◌, ℕ, ◌+◌, inl, inr, List, [], ◌∷◌, length, Bool, true, false, sym, ◌∙◌, ap, refl, arith, Option, Some, None, subst, IsTrue, IsFalse, append_assoc}
-use Rattle.httparse.specs.Grammar.{NeverHasResponse, MayBecomeResponse, ResponseHead, ReadsResponse, print_response, status_code}
+use Rattle.std.proofs.Common.{◌≡◌, ℕ, ◌+◌, inl, inr, List, [], ◌∷◌, length, Bool, true, false, sym, ◌∙◌, ap, refl, arith, Option, Some, None, subst, IsTrue, IsFalse}
+use Rattle.httparse.specs.Grammar.{ResponseHead, ReadsResponse, print_response, status_code}
 use Rattle.httparse.proofs.GrammarLemmas.{response_unique}
 use Rattle.lra_http.specs.declared.fault.Fault.{Fault}
 use Rattle.lra_http.specs.declared.fault.Fault.TheVariants.{Cut, ReadFault, WriteFault, HeadTooLong, BodyTooLong, BadHead, LengthNeeded, NotOffered, NoMemory}
 use Rattle.lra_http.specs.declared.head.Kind.TheVariants.{Response}
-use Rattle.lra_http.specs.Heads.{HasNoHead, RefusesHead}
+use Rattle.lra_http.specs.Heads.{RefusesHead}
 use Rattle.lra_http.specs.Responses.{Room, head_room, is_interim, is_switch, Skips, bytes_of, lines_of, Behind, Begins, HasFinal, HasNoFinal, IsUnfinished, IsHopeless, IsSwitched, IsOver, RefusesHeads}
 
 -- no test holds and fails
@@ -155,23 +155,3 @@ continues_more room left input middle next known i = record {
   refuses = λ fault h. known.refuses fault (refuses_more room left middle next i fault h);
   begins = λ h rest has. known.begins h rest (behind_more room left middle next (Begins h rest) i has.0, has.1);
 }
-
--- ---- a head that is cut could have come, and a bad one never
-
-apart : (input : List ℕ) (cut bad : List ResponseHead) (m n front rest : List ℕ) → Skips cut input m → Skips bad input n → n ≡ front ++ rest
-    → NeverHasResponse front → HasNoHead Response m → MayBecomeResponse m → ⊥
-apart input [] [] m n front rest here there whole never none (more, h, reads) =
-    let same : m ++ more ≡ front ++ (rest ++ more) =
-    ap (λ (t : List ℕ). t ++ more) (sym here ∙ there ∙ whole) ∙ append_assoc front rest more in
-    never (rest ++ more) h [] (subst (λ (t : List ℕ). ReadsResponse t h []) same reads)
-apart input [] (j ∷ bad) m n front rest here (next, reads, interim, plain, there) whole never none may =
-    none j next (subst (λ (t : List ℕ). ReadsResponse t j next) here reads)
-apart input (i ∷ cut) [] m n front rest (next, reads, interim, plain, here) there whole never none may =
-    never rest i next (subst (λ (t : List ℕ). ReadsResponse t i next) (there ∙ whole) reads)
-apart input (i ∷ cut) (j ∷ bad) m n front rest (next, reads, interim, plain, here) (other, read, between, simple, there) whole never none may =
-    let same = response_unique input j i other next read reads in
-    apart next cut bad m n front rest here (subst (λ (t : List ℕ). Skips bad t n) same.1 there) whole never none may
-
-pub cut_is_not_bad : (room : Room) (input : List ℕ) → Behind room IsUnfinished input → Behind room IsHopeless input → ⊥
-cut_is_not_bad room input a b =
-    apart input a.skipped b.skipped a.middle b.middle b.holds.front b.holds.rest a.skips b.skips b.holds.whole b.holds.never a.holds.0 a.holds.1

@@ -11,7 +11,7 @@ use Rattle.lra_http.specs.declared.fault.Fault.{Fault}
 use Rattle.lra_http.specs.declared.fault.Fault.TheVariants.{Cut, ReadFault, WriteFault, HeadTooLong, BodyTooLong, BadHead, LengthNeeded, NotOffered, NoMemory}
 use Rattle.lra_http.specs.declared.message.Response.{Response as Answer}
 use Rattle.lra_http.specs.Bodies.{RefusesBody}
-use Rattle.lra_http.specs.Fields.{field_bytes, values, is_number, is_bare, stated_length, response_length}
+use Rattle.lra_http.specs.Fields.{field_bytes, values, is_number, is_bare, without_body, stated_length, response_length}
 use Rattle.lra_http.specs.Responses.{Room, head_room, is_interim, is_switch, Skips, bytes_of, lines_of, Behind, Begins, HasFinal, stated, IsResponse, HasNoResponse, IsHopeless, IsSwitched, RefusesHeads, HasFault, Refuses, IsTaken, ArePartsOf, IsFinalRead}
 use Rattle.lra_http.proofs.Interims.{not_both, Interim, final_less, front_of}
 
@@ -119,11 +119,13 @@ IsFieldFault HeadTooLong = ⊥
 IsFieldFault NoMemory = ⊥
 IsFieldFault WriteFault = ⊥
 
-number_fault : (n : ℕ) (a b : Bool) → IfErr (cond a (cond b (Err BodyTooLong) (Ok n)) (Err BadHead)) IsFieldFault
-number_fault n true true = tt
-number_fault n true false = tt
-number_fault n false true = tt
-number_fault n false false = tt
+number_fault : (n : ℕ) (bare a b : Bool) → IfErr (without_body bare (cond a (cond b (Err BodyTooLong) (Ok n)) (Err BadHead))) IsFieldFault
+number_fault n true true true = tt
+number_fault n true true false = tt
+number_fault n true false b = tt
+number_fault n false true true = tt
+number_fault n false true false = tt
+number_fault n false false b = tt
 
 absent_fault : (bare : Bool) → IfErr {T = ℕ} (cond bare (Ok 0) (Err LengthNeeded)) IsFieldFault
 absent_fault true = tt
@@ -131,7 +133,7 @@ absent_fault false = tt
 
 length_fault : (limit : ℕ) (bare : Bool) (texts : List (List ℕ)) → IfErr (stated_length limit bare texts) IsFieldFault
 length_fault limit bare [] = absent_fault bare
-length_fault limit bare (text ∷ []) = number_fault _ (is_number text) _
+length_fault limit bare (text ∷ []) = number_fault _ bare (is_number text) _
 length_fault limit bare (a ∷ b ∷ texts) = tt
 
 field_fault_of : (limit : ℕ) (bare : Bool) (texts : List (List ℕ)) (a b : Bool)

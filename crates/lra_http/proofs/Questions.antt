@@ -69,7 +69,7 @@ refuses_fields limit input NoMemory f h = absurd f
 refuses_fields limit input WriteFault f h = absurd f
 
 refuses_head : (limit : ℕ) (input : List ℕ) (fault : Fault) → RefusesHead Request 16384 64 input fault → Refuses limit input fault
-refuses_head limit input Cut (none, may, short) = (λ h body rest whole. none h (body ++ rest) whole.0.reads, inl (may, short))
+refuses_head limit input Cut (none, may, short) = (λ h body rest whole. none h (body ++ rest) whole.0.reads, inl (none, may, short))
 refuses_head limit input BadHead h = inl h
 refuses_head limit input HeadTooLong h = h
 refuses_head limit input ReadFault h = tt

@@ -1,8 +1,9 @@
--- The names of faults, which are their texts.
-use Rattle.std.specs.Prelude.{ℕ, List, codes}
+-- Faults.
+use Rattle.std.specs.Prelude.{◌≢◌, ℕ, List, codes}
 use Rattle.lra_http.specs.declared.fault.Fault.{Fault}
 use Rattle.lra_http.specs.declared.fault.Fault.TheVariants.{Cut, ReadFault, WriteFault, HeadTooLong, BodyTooLong, BadHead, LengthNeeded, NotOffered, NoMemory}
 
+-- their names, which are their texts
 abbrev pub fault_name : Fault → List ℕ
 fault_name Cut = codes "Cut"
 fault_name ReadFault = codes "ReadFault"
@@ -13,3 +14,7 @@ fault_name BadHead = codes "BadHead"
 fault_name LengthNeeded = codes "LengthNeeded"
 fault_name NotOffered = codes "NotOffered"
 fault_name NoMemory = codes "NoMemory"
+
+-- it lies in the bytes that came, and not in a call or the memory
+abbrev pub IsOfBytes : Fault → Type 0
+IsOfBytes fault = (fault ≢ ReadFault) × (fault ≢ NoMemory)

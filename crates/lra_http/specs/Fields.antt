@@ -1,5 +1,5 @@
 -- What the fields of a head say of the body.
-use Rattle.std.specs.Prelude.{◌≡◌, ℕ, ◌≤◌, List, [], ◌∷◌, length, map, Bool, ◌==◌, ◌&&◌, ◌||◌, nat_lt, not, if◌then◌else◌, codes, Option, Some, None, Result, Ok, Err}
+use Rattle.std.specs.Prelude.{◌≡◌, ℕ, ◌≤◌, List, [], ◌∷◌, length, map, Bool, true, false, ◌==◌, ◌&&◌, ◌||◌, nat_lt, not, if◌then◌else◌, codes, Option, Some, None, Result, Ok, Err}
 use Rattle.std.specs.List.{list_all}
 use Rattle.std.specs.Str.{bytes_eq}
 use Rattle.std.specs.Char.{is_ascii_digit, to_ascii_lowercase}
@@ -39,17 +39,26 @@ first_value name (field ∷ fields) = if is_named name field then Some field.1 e
 abbrev pub is_number : List ℕ → Bool
 is_number text = nat_lt 0 (length text) && list_all is_ascii_digit text
 
+-- the length that a Content-Length field states
+abbrev pub length_in : ℕ → List ℕ → Result ℕ Fault
+length_in limit text =
+    if is_number text then (if nat_lt limit (digits_value 10 text) then Err BodyTooLong else Ok (digits_value 10 text))
+    else Err BadHead
+
 -- a response of this code has no body
 abbrev pub is_bare : ℕ → Bool
 is_bare code = code == 204 || code == 304
 
+-- no body, whatever its length, where it is bare
+abbrev pub without_body : Bool → Result ℕ Fault → Result ℕ Fault
+without_body true (Ok size) = Ok 0
+without_body true (Err fault) = Err fault
+without_body false length = length
+
 -- the length that the Content-Length fields of a response state
 abbrev pub stated_length : ℕ → Bool → List (List ℕ) → Result ℕ Fault
 stated_length limit bare [] = if bare then Ok 0 else Err LengthNeeded
-stated_length limit bare (text ∷ []) =
-    if is_number text then (if nat_lt limit (digits_value 10 text) then Err BodyTooLong
-    else Ok (if bare then 0 else digits_value 10 text))
-    else Err BadHead
+stated_length limit bare (text ∷ []) = without_body bare (length_in limit text)
 stated_length limit bare (_ ∷ _ ∷ _) = Err BadHead
 
 -- the length of the body behind a final head, or its first fault: a code below 100 is no status (RFC 9110, section 15)
@@ -62,9 +71,7 @@ response_length limit code fields =
 -- the length that the Content-Length fields of a request state: 0 where there is none
 abbrev pub asked_length : ℕ → List (List ℕ) → Result ℕ Fault
 asked_length limit [] = Ok 0
-asked_length limit (text ∷ []) =
-    if is_number text then (if nat_lt limit (digits_value 10 text) then Err BodyTooLong else Ok (digits_value 10 text))
-    else Err BadHead
+asked_length limit (text ∷ []) = length_in limit text
 asked_length limit (_ ∷ _ ∷ _) = Err BadHead
 
 -- a request of version 1.1 has one Host field, and one of version 1.0 at most one

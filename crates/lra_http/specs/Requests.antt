@@ -1,6 +1,6 @@
 -- A whole request: a head, and the body that its fields state.
 use Rattle.std.specs.Prelude.{◌≡◌, ℕ, ◌<◌, ◌≤◌, ◌⊎◌, List, ◌++◌, length, map, Option, Some, Result, Ok, Err}
-use Rattle.httparse.specs.Grammar.{RequestHead, ReadsRequest, MayBecomeRequest, print_request}
+use Rattle.httparse.specs.Grammar.{RequestHead, ReadsRequest, NeverHasRequest, EndsInTarget, print_request}
 use Rattle.httparse.specs.Spans.{name_and_value, IsRequestAt, IsRequestWithin}
 use Rattle.httparse.specs.declared.spans.HeaderSpan.{HeaderSpan}
 use Rattle.httparse.specs.declared.spans.RequestSpans.{RequestSpans}
@@ -40,7 +40,7 @@ IsCutInBody limit input =
 
 -- where each fault comes
 abbrev pub Refuses : ℕ → List ℕ → Fault → Type 0
-Refuses limit input Cut = HasNoRequest limit input × ((MayBecomeRequest input × (length input ≤ 16384)) ⊎ IsCutInBody limit input)
+Refuses limit input Cut = HasNoRequest limit input × (RefusesHead Request 16384 64 input Cut ⊎ IsCutInBody limit input)
 Refuses limit input BadHead = RefusesHead Request 16384 64 input BadHead ⊎ HasFault limit input BadHead
 Refuses limit input HeadTooLong = RefusesHead Request 16384 64 input HeadTooLong
 Refuses limit input BodyTooLong = HasFault limit input BodyTooLong
@@ -49,6 +49,10 @@ Refuses limit input LengthNeeded = ⊥
 Refuses limit input WriteFault = ⊥
 Refuses limit input ReadFault = Unit {0}
 Refuses limit input NoMemory = Unit {0}
+
+-- what came of a target so far can still be a text
+abbrev pub IsTextSoFar : List ℕ → Type 0
+IsTextSoFar input = (front rest : List ℕ) → input ≡ front ++ rest → EndsInTarget front → ¬ (NeverHasRequest front)
 
 -- the input began with this whole request, and the rest is left
 pub record IsTaken (limit : ℕ) (input : List ℕ) (left : Option (List ℕ)) (question : Question) : Type 0 where

@@ -92,9 +92,13 @@ abbrev pub IsSwitched : Room → List ℕ → Type 0
 IsSwitched room bytes =
     (h : ResponseHead) × (rest : List ℕ) × Begins h rest room bytes × IsTrue (is_switch (status_code h))
 
+-- more field lines than the room allows
+abbrev pub IsCrowded : Room → List ℕ → Type 0
+IsCrowded room bytes = Exceeds Response room.lines bytes
+
 -- more bytes or field lines than the room allows
 abbrev pub IsOver : Room → List ℕ → Type 0
-IsOver room bytes = IsLong Response room.bytes bytes ⊎ Exceeds Response room.lines bytes
+IsOver room bytes = IsLong Response room.bytes bytes ⊎ IsCrowded room bytes
 
 -- where each fault of the heads comes
 abbrev pub RefusesHeads : Room → List ℕ → Fault → Type 0

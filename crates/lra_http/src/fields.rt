@@ -4,7 +4,7 @@ ghost use Rattle.std.specs.List.{list_all};
 ghost use Rattle.std.specs.Char.{is_ascii_digit};
 ghost use Rattle.std.specs.Str.Parse.{digits_value};
 ghost use Rattle.httparse.specs.Spans.{IsHeaderWithin, header_bytes};
-ghost use Rattle.lra_http.specs.Fields.{IsFound, first_value, values, is_number, field_bytes, response_length, request_length};
+ghost use Rattle.lra_http.specs.Fields.{IsFound, first_value, length_in, values, is_number, field_bytes, response_length, request_length};
 ghost use Rattle.lra_http.specs.declared.fault.Fault.TheVariants.{NoMemory};
 
 use crate::{Bytes, Fault, Field, Fields};
@@ -72,6 +72,18 @@ fn number(text: &[u8], most: usize) -> Option<usize>
     Some(n)
 }
 
+/// The length that the value of a Content-Length field states.
+fn length_in(text: &[u8], limit: usize) -> Result<usize, Fault>
+    requires { limit < 2 ^ 31 }
+    ensures { result ≡ length_in limit text.now }
+{
+    match number(text, limit + 1) {
+        None => Err(Fault::BadHead),
+        Some(n) if n > limit => Err(Fault::BodyTooLong),
+        Some(n) => Ok(n),
+    }
+}
+
 /// The length of the body behind a final head with this code, or its first fault.
 pub fn response_size(
     bytes: &[u8],
@@ -95,11 +107,9 @@ pub fn response_size(
         Found::Absent if bare => Ok(0),
         Found::Absent => Err(Fault::LengthNeeded),
         Found::Several => Err(Fault::BadHead),
-        Found::Sole(text) => match number(text, limit + 1) {
-            None => Err(Fault::BadHead),
-            Some(n) if n > limit => Err(Fault::BodyTooLong),
-            Some(_) if bare => Ok(0),
-            Some(n) => Ok(n),
+        Found::Sole(text) => match length_in(text, limit) {
+            Ok(_) if bare => Ok(0),
+            sized => sized,
         },
     }
 }
@@ -126,11 +136,7 @@ pub fn request_size(
     match sole(bytes, headers, b"content-length") {
         Found::Absent => Ok(0),
         Found::Several => Err(Fault::BadHead),
-        Found::Sole(text) => match number(text, limit + 1) {
-            None => Err(Fault::BadHead),
-            Some(n) if n > limit => Err(Fault::BodyTooLong),
-            Some(n) => Ok(n),
-        },
+        Found::Sole(text) => length_in(text, limit),
     }
 }
 

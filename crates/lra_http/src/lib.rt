@@ -7,6 +7,7 @@ mod count;
 mod fault;
 mod fields;
 mod head;
+pub mod laws;
 mod message;
 mod over;
 mod request;
@@ -27,7 +28,7 @@ pub use head::{HEAD_LIMIT, LINE_LIMIT};
 pub use message::{Bytes, CallRequest, Field, Fields, Request, Response, Text};
 pub use over::{OverRead, OverWrite};
 pub use request::read_request;
-pub use response::{a_cut_head_is_no_bad_head, read_response};
+pub use response::read_response;
 pub use text::{write_request, write_response};
 
 /// Why a call moved no byte.

@@ -5,7 +5,7 @@ ghost use Rattle.http.specs.StatusCode.{IsStatusCode};
 ghost use Rattle.httparse.specs.Grammar.{ResponseHead};
 ghost use Rattle.lra_http.specs.Streams.{HasCause, IsLost, most_interrupted};
 ghost use Rattle.lra_http.specs.Heads.{IsHead};
-ghost use Rattle.lra_http.specs.Responses.{Room, Behind, IsUnfinished, IsHopeless, head_room, is_interim, IsResponse, IsTaken, Refuses, RefusesHeads, ArePartsOf, IsFinalRead};
+ghost use Rattle.lra_http.specs.Responses.{head_room, is_interim, IsResponse, IsTaken, Refuses, RefusesHeads, ArePartsOf, IsFinalRead};
 ghost use Rattle.lra_http.specs.declared.fault.Fault.TheVariants.{Cut, NoMemory, ReadFault};
 ghost use Rattle.lra_http.specs.declared.head.Kind.TheVariants.{Response as OfResponse};
 
@@ -120,8 +120,3 @@ pub fn read_response<S: Source>(
         body: Bytes::new(body),
     })
 }
-
-/// An input whose head is cut is no input of a bad head.
-pub fn a_cut_head_is_no_bad_head()
-    ensures { (room : Room) (input : List ℕ) → Behind room IsUnfinished input → ¬ (Behind room IsHopeless input) }
-{}

@@ -134,7 +134,7 @@ fn a_writer_that_fails_leaves_a_front(rt: HostRuntime) -> Result<(), Fail> {
             Err(Fault::WriteFault)
         );
         assert!(rt; sink.into_inner().taken.as_slice() == &ANSWER[..n]);
-        moves += 1;
+        moves = moves.saturating_add(1);
     }
     let request = call(alloc)?;
     let mut moves = 0;
@@ -145,7 +145,7 @@ fn a_writer_that_fails_leaves_a_front(rt: HostRuntime) -> Result<(), Fail> {
             Err(Fault::WriteFault)
         );
         assert!(rt; sink.into_inner().taken.as_slice() == &CALL[..n]);
-        moves += 1;
+        moves = moves.saturating_add(1);
     }
     Ok(())
 }
