@@ -110,7 +110,7 @@ impl Fields {
 }
 
 /// A request that was read. The Host field stands among the fields.
-#[derive(Drop)]
+#[derive(Debug, Drop)]
 pub struct Request {
     pub method: Method,
     pub target: Text,
@@ -119,7 +119,7 @@ pub struct Request {
 }
 
 /// A response.
-#[derive(Drop)]
+#[derive(Debug, Drop)]
 pub struct Response {
     pub status: StatusCode,
     pub fields: Fields,
@@ -127,7 +127,7 @@ pub struct Response {
 }
 
 /// A request that is to be written. The host stands apart from the other fields.
-#[derive(Drop)]
+#[derive(Debug, Drop)]
 pub struct CallRequest {
     pub method: Method,
     pub target: Text,
