@@ -5,20 +5,19 @@ use Rattle.std.proofs.lemmas.List.{take-append-le, take-append-drop, length-take
 use Rattle.std.proofs.lemmas.Bool.Decides.{leb_tells}
 use Rattle.std.proofs.lemmas.List.Folds.{list_all-append}
 use Rattle.std.specs.List.{list_all}
-use Rattle.std.proofs.KnownBytes.{Consumes-whole, Consumes-trans}
-use Rattle.std.specs.Io.KnownBytes.{Consumes, IsAtEnd}
+use Rattle.std.proofs.KnownBytes.{Consumes-trans}
+use Rattle.std.specs.Io.KnownBytes.{Consumes}
 use Rattle.httparse.specs.Ascii.{line_feed, space}
 use Rattle.httparse.specs.Grammar.{LineEnd, crlf, lf, print_end, RequestHead, ResponseHead, print_request, print_response}
 use Rattle.httparse.specs.Spans.{IsRequestOf, IsResponseOf, IsRequestWithin, IsResponseWithin}
 use Rattle.httparse.specs.declared.spans.HeaderSpan.{HeaderSpan}
 use Rattle.httparse.specs.declared.spans.RequestSpans.{RequestSpans}
 use Rattle.httparse.specs.declared.spans.ResponseSpans.{ResponseSpans}
-use Rattle.lra_http.specs.declared.fault.Fault.{Fault}
 use Rattle.lra_http.specs.declared.head.Kind.{Kind}
 use Rattle.lra_http.specs.declared.head.Kind.TheVariants.{Request, Response}
 use Rattle.lra_http.specs.declared.head.Step.{Step}
 use Rattle.lra_http.specs.declared.head.Step.TheVariants.{Whole, Long}
-use Rattle.lra_http.specs.Heads.{IsStep, IsHead, HasNoHead, NeverHasHead, MayBecomeHead, Exceeds, Overflows, HasHead, HasNoHeadWithin, IsHeadRead, IsNoHead, IsHeadTooLong, IsOpen, RefusesHead}
+use Rattle.lra_http.specs.Heads.{IsStep, IsHead, HasNoHead, NeverHasHead, MayBecomeHead, Exceeds, Overflows, HasHead, HasNoHeadWithin, IsHeadRead, IsNoHead, IsHeadTooLong, IsOpen}
 
 -- ---- the two kinds as one
 
@@ -183,12 +182,6 @@ none_lacked kind false head items byte e none others other = none_unspaced kind 
 
 -- ---- what was read
 
--- the input ended: what was read is the input
-pub end_head : (kind : Kind) (most room : ℕ) (old new : Option (List ℕ)) (head : List ℕ) (fault : Fault) → Consumes old new head → IsAtEnd new
-    → RefusesHead kind most room head fault → IfSome old (λ input. RefusesHead kind most room input fault)
-end_head kind most room old new head fault taken end refuses =
-    Consumes-whole old new head (λ (input : List ℕ). RefusesHead kind most room input fault) taken end refuses
-
 pub no_head_within : (kind : Kind) (most room : ℕ) (bytes : List ℕ) → HasNoHead kind bytes → HasNoHeadWithin kind most room bytes
 no_head_within kind most room bytes none = λ text rest lines is same fits few. none_of kind bytes text rest lines none is same
 
@@ -197,9 +190,6 @@ pub at_end : (kind : Kind) (most room : ℕ) (bytes : List ℕ) → HasNoHead ki
     → ((most < length bytes) × IsOpen kind bytes) ⊎ (Exceeds kind room bytes × Overflows kind room bytes) → IsHeadTooLong kind most room bytes
 at_end kind most room bytes none short (inl (long, may)) = absurd (omega (arith, short, long))
 at_end kind most room bytes none short (inr (exceeds, over)) = (inr exceeds, no_head_within kind most room bytes none)
-
-pub not_whole : (kind : Kind) (room : ℕ) (bytes : List ℕ) → HasNoHead kind bytes → HasHead kind room bytes → ⊥
-not_whole kind room bytes none (text, rest, lines, is, same, few) = none_of kind bytes text rest lines none is same
 
 pub bad_head : (kind : Kind) (most : ℕ) (old new : Option (List ℕ)) (head items : List ℕ) (byte : ℕ) → items ≡ head ++ byte ∷ []
     → Consumes old new items → length head ≤ most → NeverHasHead kind items → IfSome old (IsNoHead kind most)

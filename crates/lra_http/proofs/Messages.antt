@@ -296,26 +296,3 @@ pub exit_found : (limit : ℕ) (old : Option (List ℕ)) (fault : Fault) → IfS
     → IfSome old (λ input. (h : ResponseHead) (body rest : List ℕ) → IsResponse head_room limit input h body rest → (fault ≡ ReadFault) ⊎ (fault ≡ NoMemory))
 exit_found limit None fault h = tt
 exit_found limit (Some input) fault refuses = λ h body rest whole. no_fault limit input fault h body rest refuses whole
-
--- a fault of a whole input, save of reading and of memory, says that no response stands there
-pub none_where : (limit : ℕ) (old : Option (List ℕ)) (fault : Fault) → IfSome old (λ input. Refuses head_room limit input fault)
-    → (fault ≡ ReadFault → ⊥) → (fault ≡ NoMemory → ⊥) → IfSome old (HasNoResponse head_room limit)
-none_where limit None fault h read memory = tt
-none_where limit (Some input) fault refuses read memory = λ h body rest whole. settle (no_fault limit input fault h body rest refuses whole)
-  where
-    settle : (fault ≡ ReadFault) ⊎ (fault ≡ NoMemory) → ⊥
-    settle (inl e) = read e
-    settle (inr e) = memory e
-
--- why no code came of what was read
-pub read_broken : (limit : ℕ) (old : Option (List ℕ)) (fault : Fault) (Cause : Type 0) → IfSome old (λ input. Refuses head_room limit input fault)
-    → (fault ≡ ReadFault → Cause) → (fault ≡ NoMemory → ⊥) → Cause ⊎ IfSome old (HasNoResponse head_room limit)
-read_broken limit old ReadFault Cause refuses read memory = inl (read refl)
-read_broken limit old WriteFault Cause refuses read memory = inr (none_where limit old WriteFault refuses (λ e. absurd (cc)) memory)
-read_broken limit old NoMemory Cause refuses read memory = absurd (memory refl)
-read_broken limit old Cut Cause refuses read memory = inr (none_where limit old Cut refuses (λ e. absurd (cc)) memory)
-read_broken limit old HeadTooLong Cause refuses read memory = inr (none_where limit old HeadTooLong refuses (λ e. absurd (cc)) memory)
-read_broken limit old BodyTooLong Cause refuses read memory = inr (none_where limit old BodyTooLong refuses (λ e. absurd (cc)) memory)
-read_broken limit old BadHead Cause refuses read memory = inr (none_where limit old BadHead refuses (λ e. absurd (cc)) memory)
-read_broken limit old LengthNeeded Cause refuses read memory = inr (none_where limit old LengthNeeded refuses (λ e. absurd (cc)) memory)
-read_broken limit old NotOffered Cause refuses read memory = inr (none_where limit old NotOffered refuses (λ e. absurd (cc)) memory)

@@ -11,6 +11,13 @@ use Rattle.lra_http.specs.declared.head.Kind.TheVariants.{Request, Response}
 use Rattle.lra_http.specs.declared.head.Step.{Step}
 use Rattle.lra_http.specs.declared.head.Step.TheVariants.{More, Whole, Bad, Long}
 
+-- the most bytes and field lines of a message's heads
+abbrev pub most_bytes : ℕ
+most_bytes = 16384
+
+abbrev pub most_lines : ℕ
+most_lines = 64
+
 -- the text is a head of this kind, with so many field lines
 abbrev pub IsHead : Kind → List ℕ → ℕ → Type 0
 IsHead Request text lines = (h : RequestHead) × IsRequestHead h × (text ≡ print_request h) × (lines ≡ length h.fields)

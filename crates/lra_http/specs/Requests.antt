@@ -8,7 +8,7 @@ use Rattle.lra_http.specs.declared.fault.Fault.{Fault}
 use Rattle.lra_http.specs.declared.fault.Fault.TheVariants.{Cut, ReadFault, WriteFault, HeadTooLong, BodyTooLong, BadHead, LengthNeeded, NotOffered, NoMemory}
 use Rattle.lra_http.specs.declared.head.Kind.TheVariants.{Request}
 use Rattle.lra_http.specs.declared.message.Request.{Request as Question}
-use Rattle.lra_http.specs.Heads.{RefusesHead}
+use Rattle.lra_http.specs.Heads.{RefusesHead, most_bytes, most_lines}
 use Rattle.lra_http.specs.Fields.{field_bytes, request_length}
 
 -- what the fields of a head state
@@ -18,8 +18,8 @@ stated limit h = request_length limit h.minor (map name_and_value h.fields)
 -- the input begins with this head, which is within the limits
 pub record HasHead (input : List ℕ) (h : RequestHead) (rest : List ℕ) : Type 0 where
   pub reads : ReadsRequest input h rest
-  pub bytes : length (print_request h) ≤ 16384
-  pub lines : length h.fields ≤ 64
+  pub bytes : length (print_request h) ≤ most_bytes
+  pub lines : length h.fields ≤ most_lines
 
 -- the input is a whole request and then rest
 abbrev pub IsRequest : ℕ → List ℕ → RequestHead → List ℕ → List ℕ → Type 0
@@ -40,9 +40,9 @@ IsCutInBody limit input =
 
 -- where each fault comes
 abbrev pub Refuses : ℕ → List ℕ → Fault → Type 0
-Refuses limit input Cut = HasNoRequest limit input × (RefusesHead Request 16384 64 input Cut ⊎ IsCutInBody limit input)
-Refuses limit input BadHead = RefusesHead Request 16384 64 input BadHead ⊎ HasFault limit input BadHead
-Refuses limit input HeadTooLong = RefusesHead Request 16384 64 input HeadTooLong
+Refuses limit input Cut = HasNoRequest limit input × (RefusesHead Request most_bytes most_lines input Cut ⊎ IsCutInBody limit input)
+Refuses limit input BadHead = RefusesHead Request most_bytes most_lines input BadHead ⊎ HasFault limit input BadHead
+Refuses limit input HeadTooLong = RefusesHead Request most_bytes most_lines input HeadTooLong
 Refuses limit input BodyTooLong = HasFault limit input BodyTooLong
 Refuses limit input NotOffered = HasFault limit input NotOffered
 Refuses limit input LengthNeeded = ⊥

@@ -8,7 +8,7 @@ use Rattle.lra_http.specs.declared.fault.Fault.{Fault}
 use Rattle.lra_http.specs.declared.fault.Fault.TheVariants.{Cut, ReadFault, WriteFault, HeadTooLong, BodyTooLong, BadHead, LengthNeeded, NotOffered, NoMemory}
 use Rattle.lra_http.specs.declared.head.Kind.TheVariants.{Response}
 use Rattle.lra_http.specs.declared.message.Response.{Response as Answer}
-use Rattle.lra_http.specs.Heads.{HasNoHead, IsNoHead, IsLong, Exceeds}
+use Rattle.lra_http.specs.Heads.{HasNoHead, IsNoHead, IsLong, Exceeds, most_bytes, most_lines}
 use Rattle.lra_http.specs.Fields.{field_bytes, response_length}
 
 -- how many bytes and field lines heads may have
@@ -18,7 +18,7 @@ pub record Room : Type 0 where
 
 -- those of all heads of a message
 abbrev pub head_room : Room
-head_room = record { bytes = 16384; lines = 64 }
+head_room = record { bytes = most_bytes; lines = most_lines }
 
 -- an interim head is skipped, save the one that switches protocols
 abbrev pub is_interim : ℕ → Bool
@@ -160,5 +160,5 @@ pub record IsFinalRead (old new : Option (List ℕ)) (bytes : List ℕ) : Type 0
   pub head : ResponseHead
   pub valid : IsResponseHead head
   pub whole : bytes ≡ print_response head
-  pub few : length head.fields ≤ 64
+  pub few : length head.fields ≤ most_lines
   pub first : IfSome old (λ input. (rest : List ℕ) × (new ≡ Some rest) × HasFinal head_room input head rest)

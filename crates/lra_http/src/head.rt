@@ -3,7 +3,7 @@ ghost use Rattle.std.specs.Prelude.{◌≡◌, ◌≢◌, ℕ, ◌+◌, ◌<◌,
 ghost use Rattle.std.specs.Io.KnownBytes.{IsAtEnd};
 ghost use Rattle.httparse.specs.Ascii.{space};
 ghost use Rattle.lra_http.specs.Streams.{HasCause, most_interrupted};
-ghost use Rattle.lra_http.specs.Heads.{IsStep, HasNoHead, MayLack, IsHeadRead, RefusesHead};
+ghost use Rattle.lra_http.specs.Heads.{IsStep, HasNoHead, MayLack, IsHeadRead, RefusesHead, most_bytes};
 ghost use Rattle.lra_http.specs.declared.fault.Fault.TheVariants.{Cut, ReadFault};
 
 use crate::{Fault, Source, read_byte};
@@ -115,7 +115,7 @@ pub fn read_head<S: Source>(
     interrupted: &mut u16,
 ) -> Result<Vec<u8>, Fault>
     requires below { interrupted.old < most_interrupted }
-    requires most { most ≤ 16384 }
+    requires most { most ≤ most_bytes }
     ensures head { IfOk result (λ head. IsHeadRead kind most (length headers.old) (S.left source.old) (S.left source.new) head.items) }
     ensures fault { IfErr result (λ fault. IfSome (S.left source.old) (λ input. RefusesHead kind most (length headers.old) input fault)) }
     ensures ended { IfErr result (λ fault. fault ≡ Cut → IfSome (S.left source.old) (λ _. IsAtEnd (S.left source.new))) }

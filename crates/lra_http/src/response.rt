@@ -86,7 +86,9 @@ fn read_final_head<S: Source>(
     }
 }
 
-/// The response that the source gives next, whose body has at most `limit` bytes. The bytes behind it are left.
+/// Reads the next response (RFC 9112): interim heads, which are skipped, the final head, and the body that its Content-Length
+/// states, of at most `limit` bytes. What is behind it is left unread, for which heads are read one byte a call: over a socket
+/// a buffered reader goes below. Errors: each `Fault` but `WriteFault`.
 pub fn read_response<S: Source>(
     alloc: Global,
     source: &mut S,

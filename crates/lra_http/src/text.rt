@@ -105,7 +105,7 @@ fn write_parts<W: Sink>(sink: &mut W, head: &[u8], body: &[u8]) -> Result<(), Wr
 }
 
 /// Writes a response: its text, or a part from the front of it before a fault. The length of the body stands in the text
-/// only if it is among the fields.
+/// only if it is among the fields. Errors: `WriteFault`, and `NoMemory` before anything is written.
 pub fn write_response<W: Sink>(
     alloc: Global,
     sink: &mut W,
@@ -128,7 +128,7 @@ pub fn write_response<W: Sink>(
 }
 
 /// Writes a request: its text, or a part from the front of it before a fault. The length of the body stands in the text
-/// only if it is among the fields.
+/// only if it is among the fields. Errors: `WriteFault`, and `NoMemory` before anything is written.
 pub fn write_request<W: Sink>(
     alloc: Global,
     sink: &mut W,
