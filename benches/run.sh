@@ -1,12 +1,13 @@
 #!/bin/sh
-# Runs a benchmark: `benches/run.sh status`, `prepare`, `duties`, `merge`, `frame` or `world`. It copies the repository to a folder of its own,
-# adds the program of that name there, proves it and runs it.
+# Runs a benchmark: `benches/run.sh status`, `prepare`, `duties`, `merge`, `frame`, `world` or `http`. It copies the repository to a
+# folder of its own, adds the program of that name there, proves it and runs it.
 #   status   what an LRA shows, by the records of its home and by the slow evaluators over the same facts
 #   prepare  a join that is prepared and applied, at homes of 16, 64 and 256 LRAs
 #   duties   the list of duties of a home of 16, 64 and 256 LRAs, as roots and as one tree of depth 8, by participants
 #   merge    the merge of two replicas of a home, each with news of the other, and the union of the lists of their facts
 #   frame    frames of 16, 64 and 256 records that are spelled and read, and one of a changed record that is taken
 #   world    runs of a world of 2 and 8 nodes, at homes of 16 and 256 LRAs
+#   http     requests of 200 bytes, 1 KiB and 64 KiB that are read, from memory and through a buffer, and their parser alone
 set -eu
 name=$1
 top=$(cd "$(dirname "$0")/.." && pwd)
@@ -15,5 +16,7 @@ trap 'rm -rf "$copy"' EXIT
 cp -r "$top/crates" "$top/crates.txt" "$top/HANDLES" "$copy/"
 mkdir -p "$copy/crates/bench_$name/src"
 cp "$top/benches/$name/main.rt.txt" "$copy/crates/bench_$name/src/main.rt"
-echo "bench_$name: lra_id lra_states lra_facts lra_forest lra_replica lra_delta lra_world lra_callback anyhow" >> "$copy/crates.txt"
+uses="lra_id lra_states lra_facts lra_forest lra_replica lra_delta lra_world lra_callback anyhow"
+if [ "$name" = http ]; then uses="lra_http httparse anyhow"; fi
+echo "bench_$name: $uses" >> "$copy/crates.txt"
 cd "$copy" && git init -q . && cd "crates/bench_$name" && rt run

@@ -1,5 +1,5 @@
 -- What known bytes grow by, in two steps.
-use Rattle.std.proofs.Common.{◌≡◌, ℕ, ◌+◌, ◌-◌, List, ◌++◌, Option, None, Some, length, take, drop, ap, sym, ◌∙◌, append_assoc, take-add, arith, length-drop}
+use Rattle.std.proofs.Common.{◌≡◌, ℕ, ◌+◌, ◌-◌, Result, Ok, Err, OnErr, List, ◌++◌, Option, None, Some, length, take, drop, ap, sym, ◌∙◌, append_assoc, take-add, arith, length-drop}
 use Rattle.std.specs.Io.KnownBytes.{Appends, Keeps}
 use Rattle.std.proofs.lemmas.List.{take_all, take-append-drop}
 use Rattle.lra_http.specs.Streams.{AppendsPart}
@@ -30,3 +30,21 @@ Keeps-appends (Some x) (Some y) (Some z) a p q = q ∙ p
 -- what was written so far is a front, where a call kept it
 pub part_kept : (old mid new : Option (List ℕ)) (n : ℕ) (bs : List ℕ) → Appends old mid (take n bs) → Keeps mid new → AppendsPart old new bs
 part_kept old mid new n bs p q = part_of_take old new n bs (Keeps-appends old mid new (take n bs) p q)
+
+-- a part of what comes first is a part of the whole
+pub part_before : {A E : Type 0} (result : Result A E) (old new : Option (List ℕ)) (head body : List ℕ) → AppendsPart old new head
+    → OnErr result (AppendsPart old new (head ++ body))
+part_before (Ok a) old new head body p = tt
+part_before (Err e) old new head body (front, rest, whole, h) =
+    (front, rest ++ body, ap (λ (l : List ℕ). l ++ body) whole ∙ append_assoc front rest body, h)
+
+-- all of what comes first, and a part of what follows
+pub part_after : {A E : Type 0} (result : Result A E) (old mid new : Option (List ℕ)) (head body : List ℕ) → Appends old mid head
+    → OnErr result (AppendsPart mid new body) → OnErr result (AppendsPart old new (head ++ body))
+part_after (Ok a) old mid new head body p q = tt
+part_after (Err e) old mid new head body p (front, rest, whole, h) = (
+  head ++ front,
+  rest,
+  ap (λ (l : List ℕ). head ++ l) whole ∙ sym (append_assoc head front rest),
+  Appends-trans old mid new head front p h,
+)

@@ -1,5 +1,5 @@
 -- What one call of a source or a sink came to, and why many of them ended in a fault.
-use Rattle.std.specs.Prelude.{◌≡◌, ℕ, ◌<◌, ◌⊎◌, List, ◌++◌, Option, Result, Ok, Err}
+use Rattle.std.specs.Prelude.{◌≡◌, ℕ, ◌+◌, ◌<◌, ◌⊎◌, List, ◌++◌, Option, Result, Ok, Err}
 use Rattle.std.specs.Io.KnownBytes.{Appends}
 use Rattle.lra_http.specs.declared.CallError.{CallError}
 use Rattle.lra_http.specs.declared.CallError.TheVariants.{Interrupted, Failed}
@@ -27,3 +27,8 @@ HasCause failed_before failed_after interrupted = (failed_before < failed_after)
 -- known bytes grow by a front of bs
 abbrev pub AppendsPart : Option (List ℕ) → Option (List ℕ) → List ℕ → Type 0
 AppendsPart old new bs = (front rest : List ℕ) × (bs ≡ front ++ rest) × Appends old new front
+
+-- a call failed, or the interrupted ones of the message are the most that there may be
+abbrev pub IsLost : (failed_before failed_after interrupted_before interrupted_after : ℕ) → Type 0
+IsLost failed_before failed_after interrupted_before interrupted_after =
+    (failed_before < failed_after) ⊎ (interrupted_after ≡ interrupted_before + most_interrupted)

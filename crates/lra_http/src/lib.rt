@@ -1,19 +1,35 @@
-//! Bytes over readers and writers, one call at a time.
+//! HTTP messages over readers and writers, one call at a time.
 #![tactic(auto)]
 
+mod body;
 mod bytes;
 mod count;
+mod fault;
+mod fields;
+mod head;
+pub mod laws;
+mod message;
 mod over;
+mod request;
+mod response;
 #[cfg(test)]
 mod tests;
+mod text;
 
 ghost use Rattle.std.specs.Prelude.{◌≡◌, ℕ, ◌+◌, ◌≤◌, List, Option, length, IfOk};
 ghost use Rattle.std.specs.Io.KnownBytes.{ReadConsumes, WriteAppends};
 ghost use Rattle.lra_http.specs.Streams.{failed_calls, interrupted_calls};
 
+pub use body::BODY_LIMIT;
 pub use bytes::{MOST_INTERRUPTED, ReadFault, WriteFault, read_byte, write_all};
 pub use count::Count;
+pub use fault::Fault;
+pub use head::{HEAD_LIMIT, LINE_LIMIT};
+pub use message::{Bytes, CallRequest, Field, Fields, Request, Response, Text};
 pub use over::{OverRead, OverWrite};
+pub use request::read_request;
+pub use response::read_response;
+pub use text::{write_request, write_response};
 
 /// Why a call moved no byte.
 #[derive(Clone, Copy, Debug, PartialEq, Eq)]

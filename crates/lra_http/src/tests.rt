@@ -1,4 +1,10 @@
 // Runs over readers and writers that are interrupted, slow, full or broken.
+mod limits;
+mod requests;
+mod responses;
+mod streams;
+mod texts;
+
 use super::*;
 use std::alloc::Global;
 use std::io;
@@ -60,6 +66,32 @@ impl Write for Full {
 
     fn flush(&mut self) -> io::Result<()> {
         Ok(())
+    }
+}
+
+/// Whether just these bytes are left.
+fn is_left<S: Source>(source: &mut S, rest: &[u8]) -> bool {
+    for byte in rest {
+        if read_byte(source, &mut 0) != Ok(Some(*byte)) {
+            return false;
+        }
+    }
+    read_byte(source, &mut 0) == Ok(None)
+}
+
+/// Why no request is read from these bytes.
+fn request_fault(alloc: Global, bytes: &[u8]) -> Option<Fault> {
+    match read_request(alloc, &mut OverRead::new(bytes), BODY_LIMIT) {
+        Ok(_) => None,
+        Err(fault) => Some(fault),
+    }
+}
+
+/// Why no response is read from these bytes.
+fn response_fault(alloc: Global, bytes: &[u8]) -> Option<Fault> {
+    match read_response(alloc, &mut OverRead::new(bytes), BODY_LIMIT) {
+        Ok(_) => None,
+        Err(fault) => Some(fault),
     }
 }
 

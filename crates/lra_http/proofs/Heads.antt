@@ -1,0 +1,290 @@
+-- Heads at the front of what was read.
+use Rattle.std.proofs.Common.{◌≡◌, ◌≢◌, ℕ, ◌+◌, ◌<◌, ◌≤◌, ◌⊎◌, inl, inr, List, [], ◌∷◌, ◌++◌, length, take, drop, sym, ◌∙◌, ap, refl, append_assoc, arith, Option, Some, None, length-append, append-nil, IfSome, subst, Bool, true, false, cond, nat_le, IsTrue, IsFalse, not, ◌&&◌, ◌||◌, ◌==◌}
+use Rattle.std.proofs.Math.Seq.{take-append_seam}
+use Rattle.std.proofs.lemmas.List.{take-append-le, take-append-drop, length-take, length-map}
+use Rattle.std.proofs.lemmas.Bool.Decides.{leb_tells}
+use Rattle.std.proofs.lemmas.List.Folds.{list_all-append}
+use Rattle.std.specs.List.{list_all}
+use Rattle.std.proofs.KnownBytes.{Consumes-trans}
+use Rattle.std.specs.Io.KnownBytes.{Consumes}
+use Rattle.httparse.specs.Ascii.{line_feed, space}
+use Rattle.httparse.specs.Grammar.{LineEnd, crlf, lf, print_end, RequestHead, ResponseHead, print_request, print_response}
+use Rattle.httparse.specs.Spans.{IsRequestOf, IsResponseOf, IsRequestWithin, IsResponseWithin}
+use Rattle.httparse.specs.declared.spans.HeaderSpan.{HeaderSpan}
+use Rattle.httparse.specs.declared.spans.RequestSpans.{RequestSpans}
+use Rattle.httparse.specs.declared.spans.ResponseSpans.{ResponseSpans}
+use Rattle.lra_http.specs.declared.head.Kind.{Kind}
+use Rattle.lra_http.specs.declared.head.Kind.TheVariants.{Request, Response}
+use Rattle.lra_http.specs.declared.head.Step.{Step}
+use Rattle.lra_http.specs.declared.head.Step.TheVariants.{Whole, Long}
+use Rattle.lra_http.specs.Heads.{IsStep, IsHead, HasNoHead, NeverHasHead, MayBecomeHead, Exceeds, Overflows, HasHead, HasNoHeadWithin, IsHeadRead, IsNoHead, IsHeadTooLong, IsOpen}
+
+-- ---- the two kinds as one
+
+pub none_of : (kind : Kind) (bytes text rest : List ℕ) (lines : ℕ) → HasNoHead kind bytes → IsHead kind text lines → bytes ≡ text ++ rest → ⊥
+none_of Request bytes text rest lines none (h, valid, e, count) same = none h rest (valid, same ∙ ap (λ (t : List ℕ). t ++ rest) e)
+none_of Response bytes text rest lines none (h, valid, e, count) same = none h rest (valid, same ∙ ap (λ (t : List ℕ). t ++ rest) e)
+
+pub none_from : (kind : Kind) (bytes : List ℕ) → ((text rest : List ℕ) (lines : ℕ) → IsHead kind text lines → bytes ≡ text ++ rest → ⊥) → HasNoHead kind bytes
+none_from Request bytes f = λ h rest reads. f (print_request h) rest (length h.fields) (h, reads.0, refl, refl) reads.1
+none_from Response bytes f = λ h rest reads. f (print_response h) rest (length h.fields) (h, reads.0, refl, refl) reads.1
+
+pub over_of : (kind : Kind) (room : ℕ) (bytes more text rest : List ℕ) (lines : ℕ) → Overflows kind room bytes → IsHead kind text lines
+    → bytes ++ more ≡ text ++ rest → room < lines
+over_of Request room bytes more text rest lines over (h, valid, e, count) same =
+    let many : room < length h.fields = over more h rest (valid, same ∙ ap (λ (t : List ℕ). t ++ rest) e) in
+    omega (arith, count)
+over_of Response room bytes more text rest lines over (h, valid, e, count) same =
+    let many : room < length h.fields = over more h rest (valid, same ∙ ap (λ (t : List ℕ). t ++ rest) e) in
+    omega (arith, count)
+
+pub exceeds_more : (kind : Kind) (room : ℕ) (bytes more : List ℕ) → Exceeds kind room bytes → Exceeds kind room (bytes ++ more)
+exceeds_more Request room bytes more (front, rest, same, h, reads, many) =
+    (front, rest ++ more, ap (λ (t : List ℕ). t ++ more) same ∙ append_assoc front rest more, h, reads, many)
+exceeds_more Response room bytes more (front, rest, same, h, reads, many) =
+    (front, rest ++ more, ap (λ (t : List ℕ). t ++ more) same ∙ append_assoc front rest more, h, reads, many)
+
+-- ---- a head ends in a line feed
+
+abbrev pub EndsInLine : List ℕ → Type 0
+EndsInLine text = (front : List ℕ) × (text ≡ front ++ line_feed ∷ [])
+
+ends_append : (a b : List ℕ) → EndsInLine b → EndsInLine (a ++ b)
+ends_append a b (front, e) = (a ++ front, ap (λ (t : List ℕ). a ++ t) e ∙ sym (append_assoc a front (line_feed ∷ [])))
+
+ends_line : (e : LineEnd) → EndsInLine (print_end e)
+ends_line crlf = (13 ∷ [], refl)
+ends_line lf = ([], refl)
+
+ends_request : (h : RequestHead) → EndsInLine (print_request h)
+unfolding print_request
+ends_request h = search (ends_append, ends_line)
+
+ends_response : (h : ResponseHead) → EndsInLine (print_response h)
+unfolding print_response
+ends_response h = search (ends_append, ends_line)
+
+pub ends_head : (kind : Kind) (text : List ℕ) (lines : ℕ) → IsHead kind text lines → EndsInLine text
+ends_head Request text lines (h, valid, e, count) = subst EndsInLine (sym e) (ends_request h)
+ends_head Response text lines (h, valid, e, count) = subst EndsInLine (sym e) (ends_response h)
+
+pub some_head : (kind : Kind) (text : List ℕ) (lines : ℕ) → IsHead kind text lines → 0 < length text
+some_head kind text lines is =
+    let ends = ends_head kind text lines is in
+    let size : length text ≡ length ends.0 + 1 = ap length ends.1 ∙ length-append ends.0 (line_feed ∷ []) in
+    omega arith
+
+-- ---- one byte more
+
+-- a head of a longer text that is no longer than the front is a head of the front
+pub short_head : (kind : Kind) (front more text rest : List ℕ) (lines : ℕ) → HasNoHead kind front → IsHead kind text lines
+    → front ++ more ≡ text ++ rest → length text ≤ length front → ⊥
+short_head kind front more text rest lines none is e short =
+    let n = length text in
+    let same : text ≡ take n front =
+    sym (take-append_seam text rest) ∙ ap (take n) (sym e) ∙ take-append-le n front more short in
+    none_of kind front text (drop n front) lines none is (sym (take-append-drop n front) ∙ ap (λ (t : List ℕ). t ++ drop n front) (sym same))
+
+pub nothing : (kind : Kind) → HasNoHead kind []
+nothing kind = none_from kind [] (λ text rest lines is e.
+    let some = some_head kind text lines is in
+    let size : 0 ≡ length text + length rest = ap length e ∙ length-append text rest in
+    omega (arith, some, size))
+
+-- a list with no element
+no_element : (xs : List ℕ) → length xs ≡ 0 → xs ≡ []
+no_element [] e = refl
+no_element (x ∷ xs) e = absurd (omega arith)
+
+-- the last elements of equal lists
+same_last : (a b : List ℕ) (x y : ℕ) → a ++ x ∷ [] ≡ b ++ y ∷ [] → x ≡ y
+same_last [] [] x y e = cc
+same_last [] (z ∷ b) x y e = absurd (let n : 1 ≡ length (z ∷ b ++ y ∷ []) = ap length e in omega (arith, n, length-append b (y ∷ [])))
+same_last (z ∷ a) [] x y e = absurd (let n : length (z ∷ a ++ x ∷ []) ≡ 1 = ap length e in omega (arith, n, length-append a (x ∷ [])))
+same_last (z ∷ a) (w ∷ b) x y e = same_last a b x y (cc)
+
+-- a byte that is no line feed ends no head
+pub none_more : (kind : Kind) (head items : List ℕ) (byte : ℕ) → items ≡ head ++ byte ∷ [] → HasNoHead kind head → byte ≢ line_feed → HasNoHead kind items
+none_more kind head items byte e none other = none_from kind items (λ text rest lines is same.
+    let ends = ends_head kind text lines is in
+    let sizes : length head + 1 ≡ length text + length rest =
+    sym (length-append head (byte ∷ [])) ∙ ap length (sym e ∙ same) ∙ length-append text rest in
+    let long : length text ≤ length head → ⊥ = λ le. short_head kind head (byte ∷ []) text rest lines none is (sym e ∙ same) le in
+    let all : length rest ≡ 0 = grind (arith, long, sizes) in
+    let exact : head ++ byte ∷ [] ≡ ends.0 ++ line_feed ∷ [] =
+    sym e ∙ same ∙ ap (λ (r : List ℕ). text ++ r) (no_element rest all) ∙ append-nil text ∙ ends.1 in
+    other (same_last head ends.0 byte line_feed exact))
+
+-- ---- a head has a space
+
+abbrev pub is_other : ℕ → Bool
+is_other b = not (b == space)
+
+-- bytes that have no space
+abbrev pub Unspaced : Bool → List ℕ → Type 0
+Unspaced spaced bytes = IsFalse spaced → list_all is_other bytes ≡ true
+
+abbrev pub HasSpace : List ℕ → Type 0
+HasSpace text = (a b : List ℕ) × (text ≡ a ++ space ∷ b)
+
+space_here : (b : List ℕ) → HasSpace (space ∷ b)
+space_here b = ([], b, refl)
+
+space_left : (a b : List ℕ) → HasSpace a → HasSpace (a ++ b)
+space_left a b (front, rest, e) = (front, rest ++ b, ap (λ (t : List ℕ). t ++ b) e ∙ append_assoc front (space ∷ rest) b)
+
+space_right : (a b : List ℕ) → HasSpace b → HasSpace (a ++ b)
+space_right a b (front, rest, e) = (a ++ front, rest, ap (λ (t : List ℕ). a ++ t) e ∙ sym (append_assoc a front (space ∷ rest)))
+
+space_request : (h : RequestHead) → HasSpace (print_request h)
+unfolding print_request
+space_request h = search (space_here, space_left, space_right)
+
+space_response : (h : ResponseHead) → HasSpace (print_response h)
+unfolding print_response
+space_response h = search (space_here, space_left, space_right)
+
+space_head : (kind : Kind) (text : List ℕ) (lines : ℕ) → IsHead kind text lines → HasSpace text
+space_head Request text lines (h, valid, e, count) = subst HasSpace (sym e) (space_request h)
+space_head Response text lines (h, valid, e, count) = subst HasSpace (sym e) (space_response h)
+
+and_false : (a b : Bool) → ((a && false) && b) ≡ false
+and_false true b = refl
+and_false false b = refl
+
+-- bytes without a space have no head
+none_unspaced : (kind : Kind) (bytes : List ℕ) → list_all is_other bytes ≡ true → HasNoHead kind bytes
+none_unspaced kind bytes others = none_from kind bytes (λ text rest lines is same.
+    let s = space_head kind text lines is in
+    let none : list_all is_other bytes ≡ false =
+    ap (list_all is_other) (same ∙ ap (λ (t : List ℕ). t ++ rest) s.2)
+    ∙ list_all-append is_other (s.0 ++ space ∷ s.1) rest
+    ∙ ap (λ (b : Bool). b && list_all is_other rest) (list_all-append is_other s.0 (space ∷ s.1))
+    ∙ and_false (list_all is_other s.0) (list_all is_other rest) in
+    let clash : true ≡ false = sym others ∙ none in
+    absurd (cc))
+
+-- one byte more
+pub unspaced_more : (before after : Bool) (head items : List ℕ) (byte : ℕ) → after ≡ (before || byte == space) → items ≡ head ++ byte ∷ []
+    → Unspaced before head → Unspaced after items
+unspaced_more true after head items byte is e others = λ none. absurd (let clash : true ≡ false = sym is ∙ none in cc)
+unspaced_more false after head items byte is e others = λ none.
+    let other : (byte == space) ≡ false = sym is ∙ none in
+    ap (list_all is_other) e ∙ list_all-append is_other head (byte ∷ [])
+    ∙ ap (λ (b : Bool). b && list_all is_other (byte ∷ [])) (others refl)
+    ∙ ap (λ (b : Bool). not b && true) other
+
+-- a byte after which the parser isn't asked ends no head
+pub none_lacked : (kind : Kind) (spaced : Bool) (head items : List ℕ) (byte : ℕ) → items ≡ head ++ byte ∷ [] → HasNoHead kind head
+    → Unspaced spaced items → (IsTrue spaced → byte ≢ line_feed) → HasNoHead kind items
+none_lacked kind true head items byte e none others other = none_more kind head items byte e none (other refl)
+none_lacked kind false head items byte e none others other = none_unspaced kind items (others refl)
+
+-- ---- what was read
+
+pub no_head_within : (kind : Kind) (most room : ℕ) (bytes : List ℕ) → HasNoHead kind bytes → HasNoHeadWithin kind most room bytes
+no_head_within kind most room bytes none = λ text rest lines is same fits few. none_of kind bytes text rest lines none is same
+
+-- what the parser says at the end of the input
+pub at_end : (kind : Kind) (most room : ℕ) (bytes : List ℕ) → HasNoHead kind bytes → length bytes ≤ most
+    → ((most < length bytes) × IsOpen kind bytes) ⊎ (Exceeds kind room bytes × Overflows kind room bytes) → IsHeadTooLong kind most room bytes
+at_end kind most room bytes none short (inl (long, may)) = absurd (omega (arith, short, long))
+at_end kind most room bytes none short (inr (exceeds, over)) = (inr exceeds, no_head_within kind most room bytes none)
+
+pub bad_head : (kind : Kind) (most : ℕ) (old new : Option (List ℕ)) (head items : List ℕ) (byte : ℕ) → items ≡ head ++ byte ∷ []
+    → Consumes old new items → length head ≤ most → NeverHasHead kind items → IfSome old (IsNoHead kind most)
+bad_head kind most None new head items byte e taken short never = tt
+bad_head kind most (Some input) None head items byte e taken short never = absurd taken
+bad_head kind most (Some input) (Some left) head items byte e taken short never = record {
+  front = items;
+  rest = left;
+  whole = taken;
+  short = let size : length items ≡ length head + 1 = ap length e ∙ length-append head (byte ∷ []) in omega (arith, size, short);
+  never = never;
+}
+
+-- a head that ends at the last byte, and bytes that may become one
+whole_becomes : (kind : Kind) (bytes text : List ℕ) (lines : ℕ) → IsHead kind text lines → bytes ≡ text → MayBecomeHead kind bytes
+whole_becomes Request bytes text lines (h, valid, e, count) same = inl ([], h, (valid, ap (λ (t : List ℕ). t ++ []) (same ∙ e)))
+whole_becomes Response bytes text lines (h, valid, e, count) same = ([], h, (valid, ap (λ (t : List ℕ). t ++ []) (same ∙ e)))
+
+becomes : (kind : Kind) (head items : List ℕ) (byte : ℕ) → items ≡ head ++ byte ∷ [] → HasNoHead kind head → IsOpen kind items → MayBecomeHead kind items
+becomes kind head items byte e none (inl may) = may
+becomes kind head items byte e none (inr (text, rest, lines, is, same)) =
+    let sizes : length head + 1 ≡ length text + length rest =
+    sym (length-append head (byte ∷ [])) ∙ ap length (sym e ∙ same) ∙ length-append text rest in
+    let long : length text ≤ length head → ⊥ = λ le. short_head kind head (byte ∷ []) text rest lines none is (sym e ∙ same) le in
+    let all : length rest ≡ 0 = grind (arith, long, sizes) in
+    whole_becomes kind items text lines is (same ∙ ap (λ (r : List ℕ). text ++ r) (no_element rest all) ∙ append-nil text)
+
+pub long_head : (kind : Kind) (most room : ℕ) (old new : Option (List ℕ)) (head items : List ℕ) (byte : ℕ) → items ≡ head ++ byte ∷ []
+    → Consumes old new items → HasNoHead kind head → length head ≤ most
+    → ((most < length items) × IsOpen kind items) ⊎ (Exceeds kind room items × Overflows kind room items) → IfSome old (IsHeadTooLong kind most room)
+long_head kind most room None new head items byte e taken none short long = tt
+long_head kind most room (Some input) None head items byte e taken none short long = absurd taken
+long_head kind most room (Some input) (Some left) head items byte e taken none short (inl (long, may)) =
+    let regroup : input ≡ head ++ (byte ∷ left) =
+    taken ∙ ap (λ (t : List ℕ). t ++ left) e ∙ append_assoc head (byte ∷ []) left in
+    let size : length items ≡ length head + 1 = ap length e ∙ length-append head (byte ∷ []) in (
+      inl (record { front = items; rest = left; whole = taken; long = omega (arith, size, long, short); may = becomes kind head items byte e none may }),
+      λ text rest lines is same fits few.
+          short_head kind head (byte ∷ left) text rest lines none is (sym regroup ∙ same) (omega (arith, size, long, fits)),
+    )
+long_head kind most room (Some input) (Some left) head items byte e taken none short (inr (exceeds, over)) = (
+  inr (subst (Exceeds kind room) (sym taken) (exceeds_more kind room items left exceeds)),
+  λ text rest lines is same fits few.
+      let many = over_of kind room items left text rest lines over is (sym taken ∙ same) in
+      omega (arith, many, few),
+)
+
+-- the parser's spans of a whole head
+pub request_whole : (room : ℕ) (bytes : List ℕ) (headers : List HeaderSpan) (spans : RequestSpans) → length headers ≡ room
+    → IsRequestOf bytes headers spans → IsRequestWithin bytes headers spans → HasHead Request room bytes
+request_whole room bytes headers spans size (h, at) within =
+    let count : length (take spans.headers headers) ≡ length h.fields = simp length-map at (ap length at.fields) in (
+      print_request h,
+      drop spans.len bytes,
+      length h.fields,
+      (h, at.reads.0, refl, refl),
+      at.reads.1,
+      omega (arith, size, count, length-take spans.headers headers),
+    )
+
+pub response_whole : (room : ℕ) (bytes : List ℕ) (headers : List HeaderSpan) (spans : ResponseSpans) → length headers ≡ room
+    → IsResponseOf bytes headers spans → IsResponseWithin bytes headers spans → HasHead Response room bytes
+response_whole room bytes headers spans size (h, at) within =
+    let count : length (take spans.headers headers) ≡ length h.fields = simp length-map at (ap length at.fields) in (
+      print_response h,
+      drop spans.len bytes,
+      length h.fields,
+      (h, at.reads.0, refl, refl),
+      at.reads.1,
+      omega (arith, size, count, length-take spans.headers headers),
+    )
+
+pub whole_head : (kind : Kind) (most room : ℕ) (old new : Option (List ℕ)) (head items : List ℕ) (byte : ℕ) → items ≡ head ++ byte ∷ []
+    → Consumes old new items → HasNoHead kind head → HasHead kind room items × (length items ≤ most) → IsHeadRead kind most room old new items
+whole_head kind most room old new head items byte e taken none ((text, rest, lines, is, same, few), fits) =
+    let sizes : length head + 1 ≡ length text + length rest =
+    sym (length-append head (byte ∷ [])) ∙ ap length (sym e ∙ same) ∙ length-append text rest in
+    let long : length text ≤ length head → ⊥ = λ le. short_head kind head (byte ∷ []) text rest lines none is (sym e ∙ same) le in
+    let all : length rest ≡ 0 = grind (arith, long, sizes) in
+    let exact : items ≡ text = same ∙ ap (λ (r : List ℕ). text ++ r) (no_element rest all) ∙ append-nil text in
+    (taken, record { lines = lines; head = subst (λ (t : List ℕ). IsHead kind t lines) (sym exact) is; short = fits; few = few })
+
+pub whole_step : (kind : Kind) (most room : ℕ) (bytes : List ℕ) (step : Step) → step ≡ cond (nat_le (length bytes) most) Whole Long
+    → HasHead kind room bytes → IsStep kind most room bytes step
+whole_step kind most room bytes step e has =
+    whole_by (leb_tells (length bytes) most)
+  where
+    whole_by : ((nat_le (length bytes) most ≡ true) × (length bytes ≤ most)) ⊎ ((nat_le (length bytes) most ≡ false) × (most < length bytes))
+        → IsStep kind most room bytes step
+    whole_by (inl (t, le)) = rw (e, t) (has, le)
+    whole_by (inr (f, lt)) = rw (e, f) (inl (lt, inr (has.0, has.1, has.2, has.3, has.4)))
+
+-- one more byte was taken
+pub takes_byte : (old mid new : Option (List ℕ)) (head items : List ℕ) (found : Option ℕ) (byte : ℕ) → Consumes old mid head
+    → IfSome found (λ b. Consumes mid new (b ∷ [])) → found ≡ Some byte → items ≡ head ++ byte ∷ [] → Consumes old new items
+takes_byte old mid new head items found byte taken next is e =
+    let last : Consumes mid new (byte ∷ []) = subst (λ (o : Option ℕ). IfSome o (λ b. Consumes mid new (b ∷ []))) is next in
+    rw e (Consumes-trans old mid new head (byte ∷ []) taken last)

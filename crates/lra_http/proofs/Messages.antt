@@ -1,0 +1,298 @@
+-- Whole responses at the front of the input.
+use Rattle.std.proofs.Common.{◌≡◌, ℕ, ◌+◌, ◌<◌, ◌⊎◌, inl, inr, Bool, true, false, cond, List, [], ◌∷◌, ◌++◌, length, take, drop, map, sym, ◌∙◌, ap, refl, append-nil, arith, Option, Some, None, length-append, IfSome, IfErr, subst, Result, Ok, Err, codes, IsTrue, IsFalse}
+use Rattle.std.proofs.lemmas.Bool.Decides.{nat_tests}
+use Rattle.std.specs.Io.KnownBytes.{Consumes}
+use Rattle.httparse.specs.Grammar.{ResponseHead, ReadsResponse, print_response, status_code}
+use Rattle.httparse.specs.Spans.{header_bytes, name_and_value}
+use Rattle.httparse.specs.declared.spans.HeaderSpan.{HeaderSpan}
+use Rattle.httparse.specs.declared.spans.ResponseSpans.{ResponseSpans}
+use Rattle.httparse.proofs.GrammarLemmas.{response_unique}
+use Rattle.lra_http.specs.declared.fault.Fault.{Fault}
+use Rattle.lra_http.specs.declared.fault.Fault.TheVariants.{Cut, ReadFault, WriteFault, HeadTooLong, BodyTooLong, BadHead, LengthNeeded, NotOffered, NoMemory}
+use Rattle.lra_http.specs.declared.message.Response.{Response as Answer}
+use Rattle.lra_http.specs.Bodies.{RefusesBody}
+use Rattle.lra_http.specs.Fields.{field_bytes, values, is_number, is_bare, without_body, stated_length, response_length}
+use Rattle.lra_http.specs.Responses.{Room, head_room, is_interim, is_switch, Skips, bytes_of, lines_of, Behind, Begins, HasFinal, stated, IsResponse, HasNoResponse, IsHopeless, IsSwitched, RefusesHeads, HasFault, Refuses, IsTaken, ArePartsOf, IsFinalRead}
+use Rattle.lra_http.proofs.Interims.{not_both, Interim, final_less, front_of}
+
+-- ---- an input has one final head
+
+-- behind heads that may be skipped, the final head is that of the input
+meet : (h : ResponseHead) (rest : List ℕ) (skipped : List ResponseHead) (end : List ℕ) (left room : Room) (input : List ℕ) → Skips skipped input end
+    → bytes_of skipped + left.bytes ≡ room.bytes → lines_of skipped + left.lines ≡ room.lines → HasFinal room input h rest → HasFinal left end h rest
+meet h rest [] end left room input skips bytes lines (b, final) = (
+  record {
+    skipped = b.skipped;
+    middle = b.middle;
+    left = b.left;
+    skips = subst (λ (t : List ℕ). Skips b.skipped t b.middle) skips b.skips;
+    bytes = let own = b.bytes in omega (arith, bytes, own);
+    lines = let own = b.lines in omega (arith, lines, own);
+    holds = b.holds;
+  },
+  final,
+)
+meet h rest (i ∷ skipped) end left room input (next, reads, interim, plain, skips) bytes lines has =
+    let after : Room = record { bytes = bytes_of skipped + left.bytes; lines = lines_of skipped + left.lines } in
+    let here : Interim room after input next = record {
+      head = i;
+      reads = reads;
+      interim = interim;
+      plain = plain;
+      bytes = omega (arith, bytes);
+      lines = omega (arith, lines);
+    } in
+    meet h rest skipped end left after next skips refl refl (final_less room after input next h rest here has)
+
+-- what holds behind some heads holds beside the final head
+record Beside (P : Room → List ℕ → Type 0) (h : ResponseHead) (rest : List ℕ) : Type 0 where
+  left : Room
+  middle : List ℕ
+  holds : P left middle
+  final : HasFinal left middle h rest
+
+beside : (room : Room) (input : List ℕ) (P : Room → List ℕ → Type 0) (h : ResponseHead) (rest : List ℕ) → Behind room P input → HasFinal room input h rest → Beside P h rest
+beside room input P h rest b has = record {
+  left = b.left;
+  middle = b.middle;
+  holds = b.holds;
+  final = meet h rest b.skipped b.middle b.left room input b.skips b.bytes b.lines has;
+}
+
+-- the head at the front is the final one, or an interim one
+data First (k : ResponseHead) (p : List ℕ) (h : ResponseHead) (rest : List ℕ) : Type 0 where
+  the_final : k ≡ h → p ≡ rest → First k p h rest
+  skipped : IsTrue (is_interim (status_code k)) → IsFalse (is_switch (status_code k)) → First k p h rest
+
+first_list : (k : ResponseHead) (p : List ℕ) (h : ResponseHead) (rest input : List ℕ) → ReadsResponse input k p → (heads : List ResponseHead) (end : List ℕ) (q : Room)
+    → Skips heads input end → Begins h rest q end → First k p h rest
+first_list k p h rest input reads [] end q skips begins =
+    let same = response_unique input k h p rest reads (subst (λ (t : List ℕ). ReadsResponse t h rest) (sym skips) begins.reads) in
+    the_final same.0 same.1
+first_list k p h rest input reads (j ∷ heads) end q (next, read, interim, plain, skips) begins =
+    let same = response_unique input j k next p read reads in
+    skipped (subst (λ (i : ResponseHead). IsTrue (is_interim (status_code i))) same.0 interim)
+    (subst (λ (i : ResponseHead). IsFalse (is_switch (status_code i))) same.0 plain)
+
+first_of : (room : Room) (input : List ℕ) (k : ResponseHead) (p : List ℕ) (h : ResponseHead) (rest : List ℕ) → ReadsResponse input k p → HasFinal room input h rest → First k p h rest
+first_of room input k p h rest reads (b, final) = first_list k p h rest input reads b.skipped b.middle b.left b.skips b.holds
+
+pub unique_final : (room : Room) (input : List ℕ) (k : ResponseHead) (p : List ℕ) (h : ResponseHead) (rest : List ℕ)
+    → HasFinal room input k p → HasFinal room input h rest → (k ≡ h) × (p ≡ rest)
+unique_final room input k p h rest (b, last) has =
+    let s = beside room input (Begins k p) h rest b has in
+    settle (first_of s.left s.middle k p h rest s.holds.reads s.final)
+  where
+    settle : First k p h rest → (k ≡ h) × (p ≡ rest)
+    settle (the_final e f) = (e, f)
+    settle (skipped interim plain) = absurd (not_both (is_interim (status_code k)) interim last)
+
+not_hopeless : (room : Room) (input : List ℕ) (h : ResponseHead) (rest : List ℕ) → Behind room IsHopeless input → HasFinal room input h rest → ⊥
+not_hopeless room input h rest b has =
+    let s = beside room input IsHopeless h rest b has in
+    let f = front_of s.left s.middle h rest s.final in
+    s.holds.never s.holds.rest f.head f.rest (subst (λ (t : List ℕ). ReadsResponse t f.head f.rest) s.holds.whole f.begins.reads)
+
+switch_is_interim : (code : ℕ) → IsTrue (is_switch code) → IsFalse (is_interim code) → ⊥
+switch_is_interim code t f = grind (arith, nat_tests)
+
+not_switched : (room : Room) (input : List ℕ) (h : ResponseHead) (rest : List ℕ) → Behind room IsSwitched input → HasFinal room input h rest → ⊥
+not_switched room input h rest b has =
+    let s = beside room input IsSwitched h rest b has in
+    settle s.holds.0 (first_of s.left s.middle s.holds.0 s.holds.1 h rest s.holds.2.reads s.final) s.holds.3
+  where
+    settle : (k : ResponseHead) {p : List ℕ} → First k p h rest → IsTrue (is_switch (status_code k)) → ⊥
+    settle k (the_final e f) is =
+        switch_is_interim (status_code h) (subst (λ (i : ResponseHead). IsTrue (is_switch (status_code i))) e is) has.1
+    settle k (skipped interim plain) is = not_both (is_switch (status_code k)) is plain
+
+-- ---- faults of the fields
+
+abbrev pub IsFieldFault : Fault → Type 0
+IsFieldFault NotOffered = Unit {0}
+IsFieldFault BadHead = Unit {0}
+IsFieldFault BodyTooLong = Unit {0}
+IsFieldFault LengthNeeded = Unit {0}
+IsFieldFault Cut = ⊥
+IsFieldFault ReadFault = ⊥
+IsFieldFault HeadTooLong = ⊥
+IsFieldFault NoMemory = ⊥
+IsFieldFault WriteFault = ⊥
+
+number_fault : (n : ℕ) (bare a b : Bool) → IfErr (without_body bare (cond a (cond b (Err BodyTooLong) (Ok n)) (Err BadHead))) IsFieldFault
+number_fault n true true true = tt
+number_fault n true true false = tt
+number_fault n true false b = tt
+number_fault n false true true = tt
+number_fault n false true false = tt
+number_fault n false false b = tt
+
+absent_fault : (bare : Bool) → IfErr {T = ℕ} (cond bare (Ok 0) (Err LengthNeeded)) IsFieldFault
+absent_fault true = tt
+absent_fault false = tt
+
+length_fault : (limit : ℕ) (bare : Bool) (texts : List (List ℕ)) → IfErr (stated_length limit bare texts) IsFieldFault
+length_fault limit bare [] = absent_fault bare
+length_fault limit bare (text ∷ []) = number_fault _ bare (is_number text) _
+length_fault limit bare (a ∷ b ∷ texts) = tt
+
+field_fault_of : (limit : ℕ) (bare : Bool) (texts : List (List ℕ)) (a b : Bool)
+    → IfErr (cond a (Err BadHead) (cond b (Err NotOffered) (stated_length limit bare texts))) IsFieldFault
+field_fault_of limit bare texts true b = tt
+field_fault_of limit bare texts false true = tt
+field_fault_of limit bare texts false false = length_fault limit bare texts
+
+field_fault : (limit code : ℕ) (fields : List (List ℕ × List ℕ)) (fault : Fault) → response_length limit code fields ≡ Err fault → IsFieldFault fault
+field_fault limit code fields fault e =
+    let any : IfErr (response_length limit code fields) IsFieldFault = field_fault_of limit (is_bare code) (values (codes "content-length") fields) _ _ in
+    subst (λ (r : Result ℕ Fault). IfErr r IsFieldFault) e any
+
+refuses_fields : (limit : ℕ) (input : List ℕ) (fault : Fault) → IsFieldFault fault → HasFault head_room limit input fault → Refuses head_room limit input fault
+refuses_fields limit input NotOffered f h = h
+refuses_fields limit input BadHead f h = inr h
+refuses_fields limit input BodyTooLong f h = h
+refuses_fields limit input LengthNeeded f h = h
+refuses_fields limit input Cut f h = absurd f
+refuses_fields limit input ReadFault f h = absurd f
+refuses_fields limit input HeadTooLong f h = absurd f
+refuses_fields limit input NoMemory f h = absurd f
+refuses_fields limit input WriteFault f h = absurd f
+
+-- ---- faults of the heads and of the body
+
+pub refuses_heads : (limit : ℕ) (input : List ℕ) (fault : Fault) → RefusesHeads head_room input fault → Refuses head_room limit input fault
+refuses_heads limit input Cut (none, b) = (λ h body rest whole. none h (body ++ rest) whole.0, inl b)
+refuses_heads limit input BadHead h = inl h
+refuses_heads limit input HeadTooLong h = h
+refuses_heads limit input ReadFault h = tt
+refuses_heads limit input NoMemory h = tt
+refuses_heads limit input BodyTooLong h = absurd h
+refuses_heads limit input LengthNeeded h = absurd h
+refuses_heads limit input NotOffered h = absurd h
+refuses_heads limit input WriteFault h = absurd h
+
+cut_body : (limit : ℕ) (input : List ℕ) (h : ResponseHead) (rest : List ℕ) (size : ℕ) → HasFinal head_room input h rest → stated limit h ≡ Ok size
+    → length rest < size → HasNoResponse head_room limit input
+cut_body limit input h rest size has is short k body more whole =
+    let same = unique_final head_room input h rest k (body ++ more) has whole.0 in
+    let sizes : Ok size ≡ Ok (length body) = sym is ∙ ap (stated limit) same.0 ∙ whole.1 in
+    let size_is : size ≡ length body = cc in
+    let long : length rest ≡ length body + length more = ap length same.1 ∙ length-append body more in
+    omega (arith, size_is, long, short)
+
+refuses_body : (limit : ℕ) (input : List ℕ) (h : ResponseHead) (rest : List ℕ) (size : ℕ) (fault : Fault) → HasFinal head_room input h rest
+    → stated limit h ≡ Ok size → RefusesBody size rest fault → Refuses head_room limit input fault
+refuses_body limit input h rest size Cut has is f = (cut_body limit input h rest size has is f, inr (h, rest, size, has, is, f))
+refuses_body limit input h rest size ReadFault has is f = tt
+refuses_body limit input h rest size NoMemory has is f = tt
+refuses_body limit input h rest size HeadTooLong has is f = absurd f
+refuses_body limit input h rest size BodyTooLong has is f = absurd f
+refuses_body limit input h rest size BadHead has is f = absurd f
+refuses_body limit input h rest size LengthNeeded has is f = absurd f
+refuses_body limit input h rest size NotOffered has is f = absurd f
+refuses_body limit input h rest size WriteFault has is f = absurd f
+
+-- ---- the reader's exits
+
+-- the final head that was read, with its parts
+record Final (limit : ℕ) (input : List ℕ) (left : Option (List ℕ)) (bytes : List ℕ) (headers : List HeaderSpan) (spans : ResponseSpans) : Type 0 where
+  head : ResponseHead
+  rest : List ℕ
+  left_is : left ≡ Some rest
+  has : HasFinal head_room input head rest
+  stated_is : stated limit head ≡ response_length limit spans.code (map (header_bytes bytes) (take spans.headers headers))
+  code : spans.code ≡ status_code head
+  fields : map (header_bytes bytes) (take spans.headers headers) ≡ map name_and_value head.fields
+
+final_parts : (limit : ℕ) (input : List ℕ) (left : Option (List ℕ)) (bytes : List ℕ) (headers : List HeaderSpan) (spans : ResponseSpans)
+    → IsFinalRead (Some input) left bytes → ArePartsOf bytes headers spans → Final limit input left bytes headers spans
+final_parts limit input left bytes headers spans f p =
+    let h = p.head in
+    let same = response_unique bytes f.head h [] (drop spans.len bytes) (f.valid, f.whole ∙ sym (append-nil (print_response f.head))) p.at.reads in
+    record {
+      head = h;
+      rest = f.first.0;
+      left_is = f.first.1;
+      has = subst (λ (k : ResponseHead). HasFinal head_room input k f.first.0) same.0 f.first.2;
+      stated_is =
+          ap (λ (code : ℕ). response_length limit code (map name_and_value h.fields)) (sym p.at.code)
+          ∙ ap (response_length limit spans.code) (sym p.at.fields);
+      code = p.at.code;
+      fields = p.at.fields;
+    }
+
+pub exit_heads : (limit : ℕ) (old : Option (List ℕ)) (fault : Fault) → IfSome old (λ input. RefusesHeads head_room input fault)
+    → IfSome old (λ input. Refuses head_room limit input fault)
+exit_heads limit None fault h = tt
+exit_heads limit (Some input) fault h = refuses_heads limit input fault h
+
+pub exit_fields : (limit : ℕ) (old left : Option (List ℕ)) (bytes looked : List ℕ) (headers : List HeaderSpan) (spans : ResponseSpans) (fault : Fault)
+    → IsFinalRead old left bytes → looked ≡ bytes → ArePartsOf looked headers spans
+    → response_length limit spans.code (map (header_bytes bytes) (take spans.headers headers)) ≡ Err fault → IfSome old (λ input. Refuses head_room limit input fault)
+exit_fields limit None left bytes looked headers spans fault f same p e = tt
+exit_fields limit (Some input) left bytes looked headers spans fault f same p e =
+    let final = final_parts limit input left bytes headers spans f (subst (λ (b : List ℕ). ArePartsOf b headers spans) same p) in
+    refuses_fields limit input fault (field_fault limit spans.code (map (header_bytes bytes) (take spans.headers headers)) fault e) (final.head, final.rest, final.has, final.stated_is ∙ e)
+
+pub exit_body : (limit : ℕ) (old left : Option (List ℕ)) (bytes looked : List ℕ) (headers : List HeaderSpan) (spans : ResponseSpans) (size : ℕ) (fault : Fault)
+    → IsFinalRead old left bytes → looked ≡ bytes → ArePartsOf looked headers spans
+    → response_length limit spans.code (map (header_bytes bytes) (take spans.headers headers)) ≡ Ok size
+    → IfSome left (λ rest. RefusesBody size rest fault) → IfSome old (λ input. Refuses head_room limit input fault)
+exit_body limit None left bytes looked headers spans size fault f same p e refuses = tt
+exit_body limit (Some input) left bytes looked headers spans size fault f same p e refuses =
+    let final = final_parts limit input left bytes headers spans f (subst (λ (b : List ℕ). ArePartsOf b headers spans) same p) in
+    refuses_body limit input final.head final.rest size fault final.has (final.stated_is ∙ e)
+    (subst (λ (o : Option (List ℕ)). IfSome o (λ rest. RefusesBody size rest fault)) final.left_is refuses)
+
+pub exit_taken : (limit : ℕ) (old left new : Option (List ℕ)) (bytes looked : List ℕ) (headers : List HeaderSpan) (spans : ResponseSpans) (size : ℕ) (answer : Answer) (items : List ℕ)
+    → IsFinalRead old left bytes → looked ≡ bytes → ArePartsOf looked headers spans
+    → response_length limit spans.code (map (header_bytes bytes) (take spans.headers headers)) ≡ Ok size
+    → answer.body ≡ items → length items ≡ size → Consumes left new items → answer.status ≡ spans.code
+    → map field_bytes answer.fields ≡ map (header_bytes bytes) (take spans.headers headers) → IfSome old (λ input. IsTaken head_room limit input new answer)
+exit_taken limit None left new bytes looked headers spans size answer items f same p e body size_is taken code fields = tt
+exit_taken limit (Some input) left new bytes looked headers spans size answer items f same p e body size_is taken code fields =
+    let final = final_parts limit input left bytes headers spans f (subst (λ (b : List ℕ). ArePartsOf b headers spans) same p) in
+    took new final (rw body (subst (λ (o : Option (List ℕ)). Consumes o new items) final.left_is taken))
+  where
+    took : (new : Option (List ℕ)) → (final : Final limit input left bytes headers spans) → Consumes (Some final.rest) new answer.body
+        → IsTaken head_room limit input new answer
+    took None final taken = absurd taken
+    took (Some more) final taken = record {
+      head = final.head;
+      rest = more;
+      whole = (
+        subst (λ (t : List ℕ). HasFinal head_room input final.head t) taken final.has,
+        final.stated_is ∙ e ∙ ap Ok (sym (ap length body ∙ size_is)),
+      );
+      left_is = refl;
+      status = code ∙ final.code;
+      fields = fields ∙ final.fields;
+    }
+
+-- ---- a whole response is never refused
+
+no_field_fault : (limit : ℕ) (input : List ℕ) (fault : Fault) (h : ResponseHead) (body rest : List ℕ) → HasFault head_room limit input fault
+    → IsResponse head_room limit input h body rest → ⊥
+no_field_fault limit input fault h body rest (k, p, has, is) whole =
+    let same = unique_final head_room input k p h (body ++ rest) has whole.0 in
+    let clash : Err fault ≡ Ok (length body) = sym is ∙ ap (stated limit) same.0 ∙ whole.1 in
+    absurd (cc)
+
+no_fault : (limit : ℕ) (input : List ℕ) (fault : Fault) (h : ResponseHead) (body rest : List ℕ) → Refuses head_room limit input fault
+    → IsResponse head_room limit input h body rest → (fault ≡ ReadFault) ⊎ (fault ≡ NoMemory)
+no_fault limit input Cut h body rest (none, b) whole = absurd (none h body rest whole)
+no_fault limit input BadHead h body rest (inl (inl b)) whole = absurd (not_hopeless head_room input h (body ++ rest) b whole.0)
+no_fault limit input BadHead h body rest (inl (inr b)) whole = absurd (not_switched head_room input h (body ++ rest) b whole.0)
+no_fault limit input BadHead h body rest (inr f) whole = absurd (no_field_fault limit input BadHead h body rest f whole)
+no_fault limit input HeadTooLong h body rest (none, b) whole = absurd (none h (body ++ rest) whole.0)
+no_fault limit input BodyTooLong h body rest f whole = absurd (no_field_fault limit input BodyTooLong h body rest f whole)
+no_fault limit input NotOffered h body rest f whole = absurd (no_field_fault limit input NotOffered h body rest f whole)
+no_fault limit input LengthNeeded h body rest f whole = absurd (no_field_fault limit input LengthNeeded h body rest f whole)
+no_fault limit input WriteFault h body rest f whole = absurd f
+no_fault limit input ReadFault h body rest f whole = inl refl
+no_fault limit input NoMemory h body rest f whole = inr refl
+
+pub exit_found : (limit : ℕ) (old : Option (List ℕ)) (fault : Fault) → IfSome old (λ input. Refuses head_room limit input fault)
+    → IfSome old (λ input. (h : ResponseHead) (body rest : List ℕ) → IsResponse head_room limit input h body rest → (fault ≡ ReadFault) ⊎ (fault ≡ NoMemory))
+exit_found limit None fault h = tt
+exit_found limit (Some input) fault refuses = λ h body rest whole. no_fault limit input fault h body rest refuses whole

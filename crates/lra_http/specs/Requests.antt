@@ -1,0 +1,72 @@
+-- A whole request: a head, and the body that its fields state.
+use Rattle.std.specs.Prelude.{◌≡◌, ℕ, ◌<◌, ◌≤◌, ◌⊎◌, List, ◌++◌, length, map, Option, Some, Result, Ok, Err}
+use Rattle.httparse.specs.Grammar.{RequestHead, ReadsRequest, NeverHasRequest, EndsInTarget, print_request}
+use Rattle.httparse.specs.Spans.{name_and_value, IsRequestAt, IsRequestWithin}
+use Rattle.httparse.specs.declared.spans.HeaderSpan.{HeaderSpan}
+use Rattle.httparse.specs.declared.spans.RequestSpans.{RequestSpans}
+use Rattle.lra_http.specs.declared.fault.Fault.{Fault}
+use Rattle.lra_http.specs.declared.fault.Fault.TheVariants.{Cut, ReadFault, WriteFault, HeadTooLong, BodyTooLong, BadHead, LengthNeeded, NotOffered, NoMemory}
+use Rattle.lra_http.specs.declared.head.Kind.TheVariants.{Request}
+use Rattle.lra_http.specs.declared.message.Request.{Request as Question}
+use Rattle.lra_http.specs.Heads.{RefusesHead, most_bytes, most_lines}
+use Rattle.lra_http.specs.Fields.{field_bytes, request_length}
+
+-- what the fields of a head state
+abbrev pub stated : ℕ → RequestHead → Result ℕ Fault
+stated limit h = request_length limit h.minor (map name_and_value h.fields)
+
+-- the input begins with this head, which is within the limits
+pub record HasHead (input : List ℕ) (h : RequestHead) (rest : List ℕ) : Type 0 where
+  pub reads : ReadsRequest input h rest
+  pub bytes : length (print_request h) ≤ most_bytes
+  pub lines : length h.fields ≤ most_lines
+
+-- the input is a whole request and then rest
+abbrev pub IsRequest : ℕ → List ℕ → RequestHead → List ℕ → List ℕ → Type 0
+IsRequest limit input h body rest = HasHead input h (body ++ rest) × (stated limit h ≡ Ok (length body))
+
+abbrev pub HasNoRequest : ℕ → List ℕ → Type 0
+HasNoRequest limit input = (h : RequestHead) (body rest : List ℕ) → ¬ (IsRequest limit input h body rest)
+
+-- the fields of the head have this fault
+abbrev pub HasFault : ℕ → List ℕ → Fault → Type 0
+HasFault limit input fault =
+    (h : RequestHead) × (rest : List ℕ) × HasHead input h rest × (stated limit h ≡ Err fault)
+
+-- the input ends in the body
+abbrev pub IsCutInBody : ℕ → List ℕ → Type 0
+IsCutInBody limit input =
+    (h : RequestHead) × (rest : List ℕ) × (size : ℕ) × HasHead input h rest × (stated limit h ≡ Ok size) × (length rest < size)
+
+-- where each fault comes
+abbrev pub Refuses : ℕ → List ℕ → Fault → Type 0
+Refuses limit input Cut = HasNoRequest limit input × (RefusesHead Request most_bytes most_lines input Cut ⊎ IsCutInBody limit input)
+Refuses limit input BadHead = RefusesHead Request most_bytes most_lines input BadHead ⊎ HasFault limit input BadHead
+Refuses limit input HeadTooLong = RefusesHead Request most_bytes most_lines input HeadTooLong
+Refuses limit input BodyTooLong = HasFault limit input BodyTooLong
+Refuses limit input NotOffered = HasFault limit input NotOffered
+Refuses limit input LengthNeeded = ⊥
+Refuses limit input WriteFault = ⊥
+Refuses limit input ReadFault = Unit {0}
+Refuses limit input NoMemory = Unit {0}
+
+-- what came of a target so far can still be a text
+abbrev pub IsTextSoFar : List ℕ → Type 0
+IsTextSoFar input = (front rest : List ℕ) → input ≡ front ++ rest → EndsInTarget front → ¬ (NeverHasRequest front)
+
+-- the input began with this whole request, and the rest is left
+pub record IsTaken (limit : ℕ) (input : List ℕ) (left : Option (List ℕ)) (question : Question) : Type 0 where
+  pub head : RequestHead
+  pub rest : List ℕ
+  pub whole : IsRequest limit input head question.body rest
+  pub left_is : left ≡ Some rest
+  pub method : question.method ≡ head.method
+  pub target : question.target ≡ head.target
+  pub fields : map field_bytes question.fields ≡ map name_and_value head.fields
+
+-- the bytes are a head, whose parts the spans cover
+pub record ArePartsOf (bytes : List ℕ) (headers : List HeaderSpan) (spans : RequestSpans) : Type 0 where
+  pub head : RequestHead
+  pub at : IsRequestAt bytes headers spans head
+  pub within : IsRequestWithin bytes headers spans
+  pub whole : bytes ≡ print_request head

@@ -1,0 +1,164 @@
+-- A whole response: skipped interim heads, a final head, and the body that its fields state.
+use Rattle.std.specs.Prelude.{◌≡◌, ℕ, ◌+◌, ◌<◌, ◌≤◌, ◌⊎◌, List, [], ◌∷◌, ◌++◌, length, map, Bool, ◌==◌, ◌&&◌, nat_lt, nat_le, Option, Some, IfSome, Result, Ok, Err, IsTrue, IsFalse}
+use Rattle.httparse.specs.Grammar.{ResponseHead, IsResponseHead, ReadsResponse, MayBecomeResponse, print_response, status_code}
+use Rattle.httparse.specs.Spans.{name_and_value, IsResponseAt, IsResponseWithin}
+use Rattle.httparse.specs.declared.spans.HeaderSpan.{HeaderSpan}
+use Rattle.httparse.specs.declared.spans.ResponseSpans.{ResponseSpans}
+use Rattle.lra_http.specs.declared.fault.Fault.{Fault}
+use Rattle.lra_http.specs.declared.fault.Fault.TheVariants.{Cut, ReadFault, WriteFault, HeadTooLong, BodyTooLong, BadHead, LengthNeeded, NotOffered, NoMemory}
+use Rattle.lra_http.specs.declared.head.Kind.TheVariants.{Response}
+use Rattle.lra_http.specs.declared.message.Response.{Response as Answer}
+use Rattle.lra_http.specs.Heads.{HasNoHead, IsNoHead, IsLong, Exceeds, most_bytes, most_lines}
+use Rattle.lra_http.specs.Fields.{field_bytes, response_length}
+
+-- how many bytes and field lines heads may have
+pub record Room : Type 0 where
+  pub bytes : ℕ
+  pub lines : ℕ
+
+-- those of all heads of a message
+abbrev pub head_room : Room
+head_room = record { bytes = most_bytes; lines = most_lines }
+
+-- an interim head is skipped, save the one that switches protocols
+abbrev pub is_interim : ℕ → Bool
+is_interim code = nat_le 100 code && nat_lt code 200
+
+abbrev pub is_switch : ℕ → Bool
+is_switch code = code == 101
+
+-- these interim heads stand at the front, and rest follows
+abbrev pub Skips : List ResponseHead → List ℕ → List ℕ → Type 0
+Skips [] input rest = input ≡ rest
+Skips (h ∷ heads) input rest =
+    (middle : List ℕ) × ReadsResponse input h middle × IsTrue (is_interim (status_code h))
+    × IsFalse (is_switch (status_code h)) × Skips heads middle rest
+
+-- the bytes and the field lines of some heads
+abbrev pub bytes_of : List ResponseHead → ℕ
+bytes_of [] = 0
+bytes_of (h ∷ heads) = length (print_response h) + bytes_of heads
+
+abbrev pub lines_of : List ResponseHead → ℕ
+lines_of [] = 0
+lines_of (h ∷ heads) = length h.fields + lines_of heads
+
+-- behind some interim heads P holds, of the room that they leave and of the bytes that follow
+pub record Behind (room : Room) (P : Room → List ℕ → Type 0) (input : List ℕ) : Type 0 where
+  pub skipped : List ResponseHead
+  pub middle : List ℕ
+  pub left : Room
+  pub skips : Skips skipped input middle
+  pub bytes : bytes_of skipped + left.bytes ≡ room.bytes
+  pub lines : lines_of skipped + left.lines ≡ room.lines
+  pub holds : P left middle
+
+-- the bytes begin with this head, which the room allows
+pub record Begins (h : ResponseHead) (rest : List ℕ) (room : Room) (bytes : List ℕ) : Type 0 where
+  pub reads : ReadsResponse bytes h rest
+  pub short : length (print_response h) ≤ room.bytes
+  pub few : length h.fields ≤ room.lines
+
+-- the final head of the input is h, within the limits
+abbrev pub HasFinal : Room → List ℕ → ResponseHead → List ℕ → Type 0
+HasFinal room input h rest = Behind room (Begins h rest) input × IsFalse (is_interim (status_code h))
+
+-- the length of the body that the final head states, or the first fault of its fields
+abbrev pub stated : ℕ → ResponseHead → Result ℕ Fault
+stated limit h = response_length limit (status_code h) (map name_and_value h.fields)
+
+-- the input is a whole response and then rest
+abbrev pub IsResponse : Room → ℕ → List ℕ → ResponseHead → List ℕ → List ℕ → Type 0
+IsResponse room limit input h body rest =
+    HasFinal room input h (body ++ rest) × (stated limit h ≡ Ok (length body))
+
+abbrev pub HasNoFinal : Room → List ℕ → Type 0
+HasNoFinal room input = (h : ResponseHead) (rest : List ℕ) → ¬ (HasFinal room input h rest)
+
+abbrev pub HasNoResponse : Room → ℕ → List ℕ → Type 0
+HasNoResponse room limit input =
+    (h : ResponseHead) (body rest : List ℕ) → ¬ (IsResponse room limit input h body rest)
+
+-- no head stands there, some bytes can follow that make the bytes one, and the room allows those that are there
+abbrev pub IsUnfinished : Room → List ℕ → Type 0
+IsUnfinished room bytes = HasNoHead Response bytes × MayBecomeResponse bytes × (length bytes ≤ room.bytes)
+
+-- no bytes can follow that make the bytes, or a prefix of them, a head
+abbrev pub IsHopeless : Room → List ℕ → Type 0
+IsHopeless room bytes = IsNoHead Response room.bytes bytes
+
+-- the head switches protocols
+abbrev pub IsSwitched : Room → List ℕ → Type 0
+IsSwitched room bytes =
+    (h : ResponseHead) × (rest : List ℕ) × Begins h rest room bytes × IsTrue (is_switch (status_code h))
+
+-- more field lines than the room allows
+abbrev pub IsCrowded : Room → List ℕ → Type 0
+IsCrowded room bytes = Exceeds Response room.lines bytes
+
+-- more bytes or field lines than the room allows
+abbrev pub IsOver : Room → List ℕ → Type 0
+IsOver room bytes = IsLong Response room.bytes bytes ⊎ IsCrowded room bytes
+
+-- where each fault of the heads comes
+abbrev pub RefusesHeads : Room → List ℕ → Fault → Type 0
+RefusesHeads room input Cut = HasNoFinal room input × Behind room IsUnfinished input
+RefusesHeads room input BadHead = Behind room IsHopeless input ⊎ Behind room IsSwitched input
+RefusesHeads room input HeadTooLong = HasNoFinal room input × Behind room IsOver input
+RefusesHeads room input ReadFault = Unit {0}
+RefusesHeads room input NoMemory = Unit {0}
+RefusesHeads room input BodyTooLong = ⊥
+RefusesHeads room input LengthNeeded = ⊥
+RefusesHeads room input NotOffered = ⊥
+RefusesHeads room input WriteFault = ⊥
+
+-- the fields of the final head have this fault
+abbrev pub HasFault : Room → ℕ → List ℕ → Fault → Type 0
+HasFault room limit input fault =
+    (h : ResponseHead) × (rest : List ℕ) × HasFinal room input h rest × (stated limit h ≡ Err fault)
+
+-- the input ends in the body
+abbrev pub IsCutInBody : Room → ℕ → List ℕ → Type 0
+IsCutInBody room limit input =
+    (h : ResponseHead) × (rest : List ℕ) × (size : ℕ)
+    × HasFinal room input h rest × (stated limit h ≡ Ok size) × (length rest < size)
+
+-- where each fault comes
+abbrev pub Refuses : Room → ℕ → List ℕ → Fault → Type 0
+Refuses room limit input Cut =
+    HasNoResponse room limit input × (Behind room IsUnfinished input ⊎ IsCutInBody room limit input)
+Refuses room limit input BadHead = RefusesHeads room input BadHead ⊎ HasFault room limit input BadHead
+Refuses room limit input HeadTooLong = RefusesHeads room input HeadTooLong
+Refuses room limit input BodyTooLong = HasFault room limit input BodyTooLong
+Refuses room limit input NotOffered = HasFault room limit input NotOffered
+Refuses room limit input LengthNeeded = HasFault room limit input LengthNeeded
+Refuses room limit input WriteFault = ⊥
+Refuses room limit input ReadFault = Unit {0}
+Refuses room limit input NoMemory = Unit {0}
+
+-- the input began with this whole response, and the rest is left
+pub record IsTaken (room : Room) (limit : ℕ) (input : List ℕ) (left : Option (List ℕ)) (answer : Answer) : Type 0 where
+  pub head : ResponseHead
+  pub rest : List ℕ
+  pub whole : IsResponse room limit input head answer.body rest
+  pub left_is : left ≡ Some rest
+  pub status : answer.status ≡ status_code head
+  pub fields : map field_bytes answer.fields ≡ map name_and_value head.fields
+
+-- ---- what the reader's parts give
+
+-- the bytes are a head, whose parts the spans cover
+pub record ArePartsOf (bytes : List ℕ) (headers : List HeaderSpan) (spans : ResponseSpans) : Type 0 where
+  pub head : ResponseHead
+  pub at : IsResponseAt bytes headers spans head
+  pub within : IsResponseWithin bytes headers spans
+  pub whole : bytes ≡ print_response head
+  pub count : spans.headers ≡ length head.fields
+
+-- the final head was taken
+pub record IsFinalRead (old new : Option (List ℕ)) (bytes : List ℕ) : Type 0 where
+  pub head : ResponseHead
+  pub valid : IsResponseHead head
+  pub whole : bytes ≡ print_response head
+  pub few : length head.fields ≤ most_lines
+  pub first : IfSome old (λ input. (rest : List ℕ) × (new ≡ Some rest) × HasFinal head_room input head rest)

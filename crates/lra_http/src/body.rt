@@ -1,0 +1,89 @@
+// The body of a message, read in pieces.
+ghost use Rattle.std.specs.Prelude.{◌≡◌, ℕ, ◌+◌, ◌<◌, ◌≤◌, List, ◌++◌, length, take, IfOk, IfErr, IfSome, OnOk, OnErr};
+ghost use Rattle.std.specs.Io.KnownBytes.{Consumes, IsAtEnd, ReadConsumes};
+ghost use Rattle.lra_http.specs.Streams.{HasCause, most_interrupted};
+ghost use Rattle.lra_http.specs.Bodies.{RefusesBody};
+ghost use Rattle.lra_http.specs.declared.fault.Fault.TheVariants.{Cut, ReadFault};
+
+use crate::{CallError, Fault, MOST_INTERRUPTED, Source};
+use std::alloc::Global;
+
+/// The most bytes of a body, where the caller has no other limit.
+pub const BODY_LIMIT: usize = 65_536;
+
+/// Reads at most as many bytes as fit, and none only at the end or where none fits. `interrupted` counts the interrupted
+/// calls of the message.
+fn read_piece<S: Source>(
+    source: &mut S,
+    buffer: &mut [u8],
+    interrupted: &mut u16,
+) -> Result<usize, crate::ReadFault>
+    requires { interrupted.old < most_interrupted }
+    ensures bound { IfOk result (λ n. n ≤ length buffer.new) }
+    ensures bytes { ReadConsumes (S.left source.old) (S.left source.new) result buffer.new }
+    ensures counted { S.interrupted source.new + interrupted.old ≡ S.interrupted source.old + interrupted.new }
+    ensures below { OnOk result (interrupted.new < most_interrupted) }
+    ensures none_failed { OnOk result (S.failed source.new ≡ S.failed source.old) }
+    ensures fault { OnErr result (HasCause (S.failed source.old) (S.failed source.new) interrupted.new) }
+{
+    while *interrupted < MOST_INTERRUPTED {
+        match source.read_some(buffer) {
+            Ok(n) => return Ok(n),
+            Err(CallError::Interrupted) => *interrupted += 1,
+            Err(CallError::Failed) => return Err(crate::ReadFault),
+        }
+    }
+    Err(crate::ReadFault)
+}
+
+/// Takes at most `most` of the next bytes, one at least, to the end of `body`.
+fn take_piece<S: Source>(
+    source: &mut S,
+    body: &mut Vec<u8>,
+    most: usize,
+    interrupted: &mut u16,
+) -> Result<(), Fault>
+    requires below { interrupted.old < most_interrupted }
+    requires some { 0 < most }
+    ensures ok { OnOk result ((piece : List ℕ) × (body.new.items ≡ body.old.items ++ piece) × (0 < length piece)
+        × (length piece ≤ most) × Consumes (S.left source.old) (S.left source.new) piece) }
+    ensures fault { IfErr result (λ fault. IfSome (S.left source.old) (λ input. RefusesBody 1 input fault)) }
+    ensures ended { IfErr result (λ fault. fault ≡ Cut → IfSome (S.left source.old) (λ _. IsAtEnd (S.left source.new))) }
+    ensures counted { S.interrupted source.new + interrupted.old ≡ S.interrupted source.old + interrupted.new }
+    ensures below { OnOk result (interrupted.new < most_interrupted) }
+    ensures none_failed { OnOk result (S.failed source.new ≡ S.failed source.old) }
+    ensures read_fault { IfErr result (λ fault. fault ≡ ReadFault → HasCause (S.failed source.old) (S.failed source.new) interrupted.new) }
+{
+    let mut piece = [0; 512];
+    let room = most.min(512);
+    let n = read_piece(source, &mut piece[..room], interrupted)?;
+    if n == 0 {
+        return Err(Fault::Cut);
+    }
+    body.extend_from_slice(&piece[..n])?;
+    Ok(())
+}
+
+/// The body of this length.
+pub fn read_body<S: Source>(
+    alloc: Global,
+    source: &mut S,
+    size: usize,
+    interrupted: &mut u16,
+) -> Result<Vec<u8>, Fault>
+    requires below { interrupted.old < most_interrupted }
+    ensures ok { IfOk result (λ body. (length body.items ≡ size) × Consumes (S.left source.old) (S.left source.new) body.items) }
+    ensures fault { IfErr result (λ fault. IfSome (S.left source.old) (λ input. RefusesBody size input fault)) }
+    ensures ended { IfErr result (λ fault. fault ≡ Cut → IfSome (S.left source.old) (λ _. IsAtEnd (S.left source.new))) }
+    ensures counted { S.interrupted source.new + interrupted.old ≡ S.interrupted source.old + interrupted.new }
+    ensures below { OnOk result (interrupted.new < most_interrupted) }
+    ensures none_failed { OnOk result (S.failed source.new ≡ S.failed source.old) }
+    ensures read_fault { IfErr result (λ fault. fault ≡ ReadFault → HasCause (S.failed source.old) (S.failed source.new) interrupted.new) }
+{
+    let mut body = Vec::new(alloc);
+    while body.len() < size {
+        let room = size - body.len();
+        take_piece(source, &mut body, room, interrupted)?;
+    }
+    Ok(body)
+}

@@ -1,0 +1,144 @@
+// The head of a message of either kind, read one byte at a time.
+ghost use Rattle.std.specs.Prelude.{◌≡◌, ◌≢◌, ℕ, ◌+◌, ◌<◌, ◌≤◌, List, length, IfOk, IfErr, IfSome, OnOk, ◌==◌, ◌||◌, if◌then◌else◌};
+ghost use Rattle.std.specs.Io.KnownBytes.{IsAtEnd};
+ghost use Rattle.httparse.specs.Ascii.{space};
+ghost use Rattle.lra_http.specs.Streams.{HasCause, most_interrupted};
+ghost use Rattle.lra_http.specs.Heads.{IsStep, HasNoHead, MayLack, IsHeadRead, RefusesHead, most_bytes};
+ghost use Rattle.lra_http.specs.declared.fault.Fault.TheVariants.{Cut, ReadFault};
+
+use crate::{Fault, Source, read_byte};
+use httparse::spans::{HeaderSpan, parse_request, parse_response};
+use httparse::{Error, Status};
+use std::alloc::Global;
+
+/// The most bytes of a message's head, or of all heads of a response together.
+pub const HEAD_LIMIT: usize = 16_384;
+
+/// The most field lines of a message's head, or of all heads of a response together.
+pub const LINE_LIMIT: usize = 64;
+
+/// The two kinds of message.
+#[derive(Clone, Copy, Debug, PartialEq, Eq)]
+pub enum Kind {
+    Request,
+    Response,
+}
+
+/// What the bytes of a head so far are.
+#[derive(Clone, Copy, Debug, PartialEq, Eq)]
+pub enum Step {
+    More,
+    Whole,
+    Bad,
+    Long,
+}
+
+/// This step, where the limit on bytes is met.
+fn if_within(within: bool, step: Step) -> Step
+    ensures { result ≡ (if within then step else Step.Long) }
+{
+    if within { step } else { Step::Long }
+}
+
+/// What these bytes of a request's head are.
+fn look_at_request(bytes: &[u8], headers: &mut [HeaderSpan], most: usize) -> Step
+    ensures { IsStep Kind.Request most (length headers.old) bytes.now result }
+{
+    match parse_request(bytes, headers) {
+        Err(Error::TooManyHeaders) => Step::Long,
+        Err(_) => Step::Bad,
+        Ok(Status::Complete(_)) => if_within(bytes.len() <= most, Step::Whole),
+        Ok(Status::Partial) => if_within(bytes.len() <= most, Step::More),
+    }
+}
+
+/// What these bytes of a response's head are.
+fn look_at_response(bytes: &[u8], headers: &mut [HeaderSpan], most: usize) -> Step
+    ensures { IsStep Kind.Response most (length headers.old) bytes.now result }
+{
+    match parse_response(bytes, headers) {
+        Err(Error::TooManyHeaders) => Step::Long,
+        Err(_) => Step::Bad,
+        Ok(Status::Complete(_)) => if_within(bytes.len() <= most, Step::Whole),
+        Ok(Status::Partial) => if_within(bytes.len() <= most, Step::More),
+    }
+}
+
+/// What these bytes of a head are, which may have `most` bytes and as many field lines as there are headers.
+fn look(kind: Kind, bytes: &[u8], headers: &mut [HeaderSpan], most: usize) -> Step
+    ensures { IsStep kind most (length headers.old) bytes.now result }
+{
+    match kind {
+        Kind::Request => look_at_request(bytes, headers, most),
+        Kind::Response => look_at_response(bytes, headers, most),
+    }
+}
+
+/// Whether a space has come, once this byte has.
+fn is_spaced(spaced: bool, byte: u8) -> bool
+    ensures { result ≡ (spaced || byte == space) }
+{
+    spaced || byte == b' '
+}
+
+/// Whether the parser is asked after this byte, the last of so many: at the end of a line once a space has come, at
+/// lengths that double, and past the limit. A head has a space behind the empty lines before it, so that a peer that sends
+/// line ends alone is looked at a few times and not after each.
+fn is_due(spaced: bool, byte: u8, size: usize, most: usize) -> bool
+    ensures { MayLack spaced byte size most result }
+{
+    (spaced && byte == b'\n') || size.is_power_of_two() || size > most
+}
+
+/// What is wrong where the input ends behind these bytes, and none of their fronts is a head.
+fn fault_at_end(kind: Kind, bytes: &[u8], headers: &mut [HeaderSpan], most: usize) -> Fault
+    requires none { HasNoHead kind bytes.now }
+    requires most { length bytes.now ≤ most }
+    ensures refuses { RefusesHead kind most (length headers.old) bytes.now result }
+    ensures read { result ≢ ReadFault }
+{
+    match look(kind, bytes, headers, most) {
+        Step::Bad => Fault::BadHead,
+        Step::Long => Fault::HeadTooLong,
+        _ => Fault::Cut,
+    }
+}
+
+/// The bytes of the next head, which is of this kind, has at most `most` bytes and at most as many field lines as there
+/// are headers. The bytes behind it are left.
+pub fn read_head<S: Source>(
+    alloc: Global,
+    source: &mut S,
+    kind: Kind,
+    headers: &mut [HeaderSpan],
+    most: usize,
+    interrupted: &mut u16,
+) -> Result<Vec<u8>, Fault>
+    requires below { interrupted.old < most_interrupted }
+    requires most { most ≤ most_bytes }
+    ensures head { IfOk result (λ head. IsHeadRead kind most (length headers.old) (S.left source.old) (S.left source.new) head.items) }
+    ensures fault { IfErr result (λ fault. IfSome (S.left source.old) (λ input. RefusesHead kind most (length headers.old) input fault)) }
+    ensures ended { IfErr result (λ fault. fault ≡ Cut → IfSome (S.left source.old) (λ _. IsAtEnd (S.left source.new))) }
+    ensures below { OnOk result (interrupted.new < most_interrupted) }
+    ensures counted { S.interrupted source.new + interrupted.old ≡ S.interrupted source.old + interrupted.new }
+    ensures none_failed { OnOk result (S.failed source.new ≡ S.failed source.old) }
+    ensures read_fault { IfErr result (λ fault. fault ≡ ReadFault → HasCause (S.failed source.old) (S.failed source.new) interrupted.new) }
+{
+    let mut head = Vec::new(alloc);
+    let mut spaced = false;
+    loop {
+        let Some(byte) = read_byte(source, interrupted)? else {
+            return Err(fault_at_end(kind, &head, headers, most));
+        };
+        head.push(byte)?;
+        spaced = is_spaced(spaced, byte);
+        if is_due(spaced, byte, head.len(), most) {
+            match look(kind, &head, headers, most) {
+                Step::More => {}
+                Step::Whole => return Ok(head),
+                Step::Bad => return Err(Fault::BadHead),
+                Step::Long => return Err(Fault::HeadTooLong),
+            }
+        }
+    }
+}

@@ -1,0 +1,43 @@
+// What follows of the definitions alone.
+ghost use Rattle.std.specs.Prelude.{◌≡◌, ◌++◌, ◌∷◌, ℕ, List, map};
+ghost use Rattle.httparse.specs.Grammar.{RequestHead, ResponseHead, status_code};
+ghost use Rattle.httparse.specs.Spans.{name_and_value};
+ghost use Rattle.lra_http.specs.Faults.{IsOfBytes};
+ghost use Rattle.lra_http.specs.Fields.{field_bytes};
+ghost use Rattle.lra_http.specs.Heads.{Exceeds, most_lines};
+ghost use Rattle.lra_http.specs.Requests.{IsRequest, IsTextSoFar, Refuses as RefusesRequest};
+ghost use Rattle.lra_http.specs.Responses.{Behind, IsCrowded, IsResponse, Refuses as RefusesResponse, head_room};
+ghost use Rattle.lra_http.specs.Texts.{request_text, response_text};
+ghost use Rattle.lra_http.specs.Written.{IsSound, IsSoundCall, host_field};
+ghost use Rattle.lra_http.specs.declared.fault.Fault.{Fault as TheFault};
+ghost use Rattle.lra_http.specs.declared.head.Kind.TheVariants.{Request as OfRequest};
+ghost use Rattle.lra_http.specs.declared.message.CallRequest.{CallRequest as TheCall};
+ghost use Rattle.lra_http.specs.declared.message.Response.{Response as TheResponse};
+
+/// An input of a request has one fault that lies in its bytes, save where more than 64 field lines came, or where what came
+/// of a target can no longer be a text: there the parser may tell either of two.
+pub fn a_request_has_one_fault()
+    ensures { (limit : ℕ) (input : List ℕ) (a b : TheFault) → IsOfBytes a → IsOfBytes b → ¬ (Exceeds OfRequest most_lines input) → IsTextSoFar input
+        → RefusesRequest limit input a → RefusesRequest limit input b → a ≡ b }
+{}
+
+/// An input of a response has one fault that lies in its bytes, save where more field lines came than heads may have: there
+/// the parser may tell either of two.
+pub fn a_response_has_one_fault()
+    ensures { (limit : ℕ) (input : List ℕ) (a b : TheFault) → IsOfBytes a → IsOfBytes b → ¬ (Behind head_room IsCrowded input)
+        → RefusesResponse head_room limit input a → RefusesResponse head_room limit input b → a ≡ b }
+{}
+
+/// The text of a request with plain fields, which state the length of its body, is a whole request with its parts.
+pub fn a_written_request_is_whole()
+    ensures { (limit : ℕ) (r : TheCall) (rest : List ℕ) → IsSoundCall limit r
+        → (h : RequestHead) × IsRequest limit (request_text r ++ rest) h r.body rest
+        × (h.method ≡ r.method) × (h.target ≡ r.target) × (map name_and_value h.fields ≡ map field_bytes (host_field r.host ∷ r.fields)) }
+{}
+
+/// The text of a response with plain fields, which state the length of its body, is a whole response with its parts.
+pub fn a_written_response_is_whole()
+    ensures { (limit : ℕ) (r : TheResponse) (rest : List ℕ) → IsSound limit r
+        → (h : ResponseHead) × IsResponse head_room limit (response_text r ++ rest) h r.body rest
+        × (status_code h ≡ r.status) × (map name_and_value h.fields ≡ map field_bytes r.fields) }
+{}

@@ -1,0 +1,138 @@
+// Requests and responses.
+ghost use Rattle.std.specs.Prelude.{◌≡◌, string_bytes};
+
+use http::{Method, StatusCode};
+use std::marker::Model;
+
+/// Bytes of a message.
+#[derive(Debug, Drop)]
+pub struct Bytes {
+    bytes: Vec<u8>,
+}
+
+impl Model for Bytes {
+    ghost use Rattle.std.specs.Prelude.{List, ℕ};
+
+    ghost Value = { List ℕ };
+
+    ghost view = { λ b. b.bytes.items };
+}
+
+impl Bytes {
+    /// These bytes.
+    pub fn new(bytes: Vec<u8>) -> Bytes
+        ensures { result ≡ bytes.items }
+    {
+        Bytes { bytes }
+    }
+
+    /// They as a slice.
+    pub fn as_slice(&self) -> &[u8]
+        ensures { result.now ≡ self.now }
+    {
+        &self.bytes
+    }
+
+    /// They as a vector.
+    pub fn into_vec(self) -> Vec<u8>
+        ensures { result.items ≡ self }
+    {
+        self.bytes
+    }
+}
+
+/// A text of a message.
+#[derive(Debug, Drop)]
+pub struct Text {
+    text: String,
+}
+
+impl Model for Text {
+    ghost use Rattle.std.specs.Prelude.{List, ℕ, string_bytes};
+
+    ghost Value = { List ℕ };
+
+    ghost view = { λ t. string_bytes t.text };
+}
+
+impl Text {
+    /// This text.
+    pub fn new(text: String) -> Text
+        ensures { result ≡ string_bytes text }
+    {
+        Text { text }
+    }
+
+    /// It as a text.
+    pub fn as_str(&self) -> &str
+        ensures { result.now ≡ self.now }
+    {
+        self.text.as_str()
+    }
+}
+
+/// A field: its name, and its value without the white space around it (RFC 9110, section 5). Neither is looked at when it is
+/// written: what comes from outside must have no line end.
+#[derive(Debug, Drop)]
+pub struct Field {
+    pub name: Bytes,
+    pub value: Bytes,
+}
+
+/// The fields of a message, in order.
+#[derive(Debug, Drop)]
+pub struct Fields {
+    list: Vec<Field>,
+}
+
+impl Model for Fields {
+    ghost use Rattle.std.specs.Prelude.{List};
+    ghost use Rattle.lra_http.specs.declared.message.Field.{Field};
+
+    ghost Value = { List Field };
+
+    ghost view = { λ f. f.list.items };
+}
+
+impl Fields {
+    /// These fields.
+    pub fn new(list: Vec<Field>) -> Fields
+        ensures { result ≡ list.items }
+    {
+        Fields { list }
+    }
+
+    /// The fields in order.
+    pub fn as_slice(&self) -> &[Field]
+        ensures { result.now ≡ self.now }
+    {
+        &self.list
+    }
+}
+
+/// A request that was read. The Host field stands among the fields.
+#[derive(Debug, Drop)]
+pub struct Request {
+    pub method: Method,
+    pub target: Text,
+    pub fields: Fields,
+    pub body: Bytes,
+}
+
+/// A response.
+#[derive(Debug, Drop)]
+pub struct Response {
+    pub status: StatusCode,
+    pub fields: Fields,
+    pub body: Bytes,
+}
+
+/// A request that is to be written. The host stands apart from the other fields.
+#[derive(Debug, Drop)]
+pub struct CallRequest {
+    pub method: Method,
+    pub target: Text,
+    pub host: Text,
+    pub fields: Fields,
+    pub body: Bytes,
+}

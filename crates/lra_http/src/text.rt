@@ -1,0 +1,151 @@
+// The texts of messages, and writing them.
+ghost use Rattle.std.specs.Prelude.{◌≡◌, ◌⊎◌, ℕ, ◌+◌, ◌<◌, ◌++◌, List, [], IfOk, IfErr, OnOk, OnErr};
+ghost use Rattle.std.specs.Io.KnownBytes.{Appends, Keeps};
+ghost use Rattle.lra_http.specs.Streams.{AppendsPart, IsLost, most_interrupted};
+ghost use Rattle.lra_http.specs.Texts.{field_line, field_lines, host_line, phrase, request_head, request_line, request_text, response_head, response_text, status_line};
+ghost use Rattle.lra_http.specs.declared.fault.Fault.TheVariants.{NoMemory, WriteFault as OnWrite};
+
+use crate::{CallRequest, Fault, Field, Response, Sink, Text, WriteFault, write_all};
+use http::StatusCode;
+use std::alloc::{AllocError, Global};
+
+/// Adds a field's line.
+fn push_field(text: &mut Vec<u8>, field: &Field) -> Result<(), AllocError>
+    ensures { OnOk result (text.new.items ≡ text.old.items ++ field_line field.now) }
+{
+    text.extend_from_slice(field.name.as_slice())?;
+    text.extend_from_slice(b": ")?;
+    text.extend_from_slice(field.value.as_slice())?;
+    text.extend_from_slice(b"\r\n")
+}
+
+/// Adds the lines of the fields.
+fn push_fields(text: &mut Vec<u8>, fields: &[Field]) -> Result<(), AllocError>
+    ensures { OnOk result (text.new.items ≡ text.old.items ++ field_lines fields.now) }
+{
+    for field in fields {
+        push_field(text, field)?;
+    }
+    Ok(())
+}
+
+/// The phrase of a status, empty where it has none.
+#[tactic(auto, unfolding(crate::specs::Texts::phrase))]
+fn phrase_of(status: StatusCode) -> &'static str
+    ensures { result.now ≡ phrase status }
+{
+    status.canonical_reason().unwrap_or("")
+}
+
+/// Adds the status line.
+fn push_status(text: &mut Vec<u8>, status: StatusCode) -> Result<(), AllocError>
+    ensures { OnOk result (text.new.items ≡ text.old.items ++ status_line status) }
+{
+    text.extend_from_slice(b"HTTP/1.1 ")?;
+    text.extend_from_slice(status.as_str().as_bytes())?;
+    text.extend_from_slice(b" ")?;
+    text.extend_from_slice(phrase_of(status).as_bytes())?;
+    text.extend_from_slice(b"\r\n")
+}
+
+/// The head of a response.
+fn head_of_response(alloc: Global, response: &Response) -> Result<Vec<u8>, AllocError>
+    ensures { IfOk result (λ text. text.items ≡ response_head response.now) }
+{
+    let mut text = Vec::new(alloc);
+    push_status(&mut text, response.status)?;
+    push_fields(&mut text, response.fields.as_slice())?;
+    text.extend_from_slice(b"\r\n")?;
+    Ok(text)
+}
+
+/// Adds the request line.
+fn push_request_line(text: &mut Vec<u8>, request: &CallRequest) -> Result<(), AllocError>
+    ensures { OnOk result (text.new.items ≡ text.old.items ++ request_line request.now.method request.now.target) }
+{
+    text.extend_from_slice(request.method.as_str().as_bytes())?;
+    text.extend_from_slice(b" ")?;
+    text.extend_from_slice(request.target.as_str().as_bytes())?;
+    text.extend_from_slice(b" HTTP/1.1")?;
+    text.extend_from_slice(b"\r\n")
+}
+
+/// Adds the line of the host.
+fn push_host(text: &mut Vec<u8>, host: &Text) -> Result<(), AllocError>
+    ensures { OnOk result (text.new.items ≡ text.old.items ++ host_line host.now) }
+{
+    text.extend_from_slice(b"Host: ")?;
+    text.extend_from_slice(host.as_str().as_bytes())?;
+    text.extend_from_slice(b"\r\n")
+}
+
+/// The head of a request.
+fn head_of_request(alloc: Global, request: &CallRequest) -> Result<Vec<u8>, AllocError>
+    ensures { IfOk result (λ text. text.items ≡ request_head request.now) }
+{
+    let mut text = Vec::new(alloc);
+    push_request_line(&mut text, request)?;
+    push_host(&mut text, &request.host)?;
+    push_fields(&mut text, request.fields.as_slice())?;
+    text.extend_from_slice(b"\r\n")?;
+    Ok(text)
+}
+
+/// Writes a head and a body as one message, or a part from their front before a fault.
+fn write_parts<W: Sink>(sink: &mut W, head: &[u8], body: &[u8]) -> Result<(), WriteFault>
+    ensures ok { OnOk result (Appends (W.written sink.old) (W.written sink.new) (head.now ++ body.now)) }
+    ensures part { OnErr result (AppendsPart (W.written sink.old) (W.written sink.new) (head.now ++ body.now)) }
+    ensures none_failed { OnOk result (W.failed sink.new ≡ W.failed sink.old) }
+    ensures few_interrupted { OnOk result (W.interrupted sink.new < W.interrupted sink.old + most_interrupted) }
+    ensures fault { OnErr result (IsLost (W.failed sink.old) (W.failed sink.new) (W.interrupted sink.old) (W.interrupted sink.new)) }
+{
+    let mut interrupted = 0;
+    write_all(sink, head, &mut interrupted)?;
+    write_all(sink, body, &mut interrupted)
+}
+
+/// Writes a response: its text, or a part from the front of it before a fault. The length of the body stands in the text
+/// only if it is among the fields. Errors: `WriteFault`, and `NoMemory` before anything is written.
+pub fn write_response<W: Sink>(
+    alloc: Global,
+    sink: &mut W,
+    response: &Response,
+) -> Result<(), Fault>
+    ensures ok { OnOk result (Appends (W.written sink.old) (W.written sink.new) (response_text response.now)) }
+    ensures part { OnErr result (AppendsPart (W.written sink.old) (W.written sink.new) (response_text response.now)) }
+    ensures cause { IfErr result (λ fault. (fault ≡ OnWrite) ⊎ (fault ≡ NoMemory)) }
+    // Where the memory is refused nothing was written.
+    ensures memory { IfErr result (λ fault. fault ≡ NoMemory → sink.new ≡ sink.old) }
+    // A write fault comes only where a call failed, or 1,024 were interrupted.
+    ensures write_fault { IfErr result (λ fault. fault ≡ OnWrite
+        → IsLost (W.failed sink.old) (W.failed sink.new) (W.interrupted sink.old) (W.interrupted sink.new)) }
+    ensures none_failed { OnOk result (W.failed sink.new ≡ W.failed sink.old) }
+    ensures few_interrupted { OnOk result (W.interrupted sink.new < W.interrupted sink.old + most_interrupted) }
+{
+    let head = head_of_response(alloc, response)?;
+    write_parts(sink, &head, response.body.as_slice())?;
+    Ok(())
+}
+
+/// Writes a request: its text, or a part from the front of it before a fault. The length of the body stands in the text
+/// only if it is among the fields. Errors: `WriteFault`, and `NoMemory` before anything is written.
+pub fn write_request<W: Sink>(
+    alloc: Global,
+    sink: &mut W,
+    request: &CallRequest,
+) -> Result<(), Fault>
+    ensures ok { OnOk result (Appends (W.written sink.old) (W.written sink.new) (request_text request.now)) }
+    ensures part { OnErr result (AppendsPart (W.written sink.old) (W.written sink.new) (request_text request.now)) }
+    ensures cause { IfErr result (λ fault. (fault ≡ OnWrite) ⊎ (fault ≡ NoMemory)) }
+    // Where the memory is refused nothing was written.
+    ensures memory { IfErr result (λ fault. fault ≡ NoMemory → sink.new ≡ sink.old) }
+    // A write fault comes only where a call failed, or 1,024 were interrupted.
+    ensures write_fault { IfErr result (λ fault. fault ≡ OnWrite
+        → IsLost (W.failed sink.old) (W.failed sink.new) (W.interrupted sink.old) (W.interrupted sink.new)) }
+    ensures none_failed { OnOk result (W.failed sink.new ≡ W.failed sink.old) }
+    ensures few_interrupted { OnOk result (W.interrupted sink.new < W.interrupted sink.old + most_interrupted) }
+{
+    let head = head_of_request(alloc, request)?;
+    write_parts(sink, &head, request.body.as_slice())?;
+    Ok(())
+}
