@@ -8,7 +8,8 @@ use Rattle.lra_forest.specs.Forests.{AreOf, id_of}
 use Rattle.lra_forest.specs.Merging.{is_gone}
 use Rattle.lra_forest.specs.Shape.{found_at}
 
--- Of an LRA this is held, and that is to be held: it is put where it is another record, and else nothing is
+-- What is put of an LRA of which one record is held and another, or none, is to be kept: the one to be kept, where it isn't the one
+-- that is held. Nothing where it is, or where none is to be kept
 abbrev pub IsPut : (held kept put : Option Record) → Type 0
 IsPut held kept (Some r) = (kept ≡ Some r) × (held ≡ Some r → ⊥)
 IsPut held kept None = (kept ≡ None) ⊎ (kept ≡ held)
@@ -17,7 +18,7 @@ IsPut held kept None = (kept ≡ None) ⊎ (kept ≡ held)
 abbrev pub is_lost : (home told : ℕ) → Option (List ℕ) → (theirs : List Record) → Record → Bool
 is_lost home told held theirs r = is_none (found_at home theirs r.num) && is_gone told held r.num
 
--- the LRAs of those of these records
+-- the LRAs of the records, among these, that are lost
 abbrev pub ids_lost : (home told : ℕ) → Option (List ℕ) → (theirs records : List Record) → List Id
 ids_lost home told held theirs records = map id_of (filter (is_lost home told held theirs) records)
 
