@@ -34,55 +34,50 @@ fn are_counts(ns: &[u64]) -> bool
 
 /// What the taker has to have.
 #[tactic(auto, unfolding(crate::specs::Fields::vector_at))]
-fn base_of<I: Input>(alloc: Global, nodes: u8, input: &mut I) -> Result<Front, Stop>
+fn base_of<I: Input>(nodes: u8, input: &mut I) -> Result<Front, Stop>
     requires some { 1 ≤ nodes }
     requires few { nodes ≤ 8 }
     ensures gives { Reads (I.seen input.old) (I.seen input.new) (λ x. x) result (vector_at nodes are_counts) }
     ensures nodes { IfOk result (λ x. length x ≡ nodes) }
 {
     let place = input.place();
-    let counts = many_of(alloc, nodes, input)?;
-    if !are_counts(&counts) {
+    let counts = many_of(nodes, input)?;
+    if !are_counts(counts.as_slice()) {
         return Err(Stop::Fault(place));
     }
-    Ok(Front::from_counts(&counts))
+    Ok(counts)
 }
 
 /// How many facts the sender has: none fewer than the base.
 #[tactic(auto, unfolding(crate::specs::Fields::vector_at))]
-fn front_of<I: Input>(alloc: Global, nodes: u8, base: &Front, input: &mut I) -> Result<Front, Stop>
+fn front_of<I: Input>(nodes: u8, base: &Front, input: &mut I) -> Result<Front, Stop>
     requires some { 1 ≤ nodes }
     requires few { nodes ≤ 8 }
     ensures gives { Reads (I.seen input.old) (I.seen input.new) (λ x. x) result (vector_at nodes (is_front base.now)) }
     ensures nodes { IfOk result (λ x. length x ≡ nodes) }
 {
     let place = input.place();
-    let counts = many_of(alloc, nodes, input)?;
-    if !(are_counts(&counts) && at_most(&counts, base.as_slice())) {
+    let counts = many_of(nodes, input)?;
+    if !(are_counts(counts.as_slice()) && at_most(counts.as_slice(), base.as_slice())) {
         return Err(Stop::Fault(place));
     }
-    Ok(Front::from_counts(&counts))
+    Ok(counts)
 }
 
 /// The number of each home's last purge: within the front.
 #[tactic(auto, unfolding(crate::specs::Fields::vector_at))]
-fn purges_of<I: Input>(
-    alloc: Global,
-    nodes: u8,
-    front: &Front,
-    input: &mut I,
-) -> Result<Front, Stop>
+fn purges_of<I: Input>(nodes: u8, front: &Front, input: &mut I) -> Result<Front, Stop>
     requires some { 1 ≤ nodes }
     requires few { nodes ≤ 8 }
     ensures gives { Reads (I.seen input.old) (I.seen input.new) (λ x. x) result (vector_at nodes (at_most front.now)) }
     ensures nodes { IfOk result (λ x. length x ≡ nodes) }
 {
     let place = input.place();
-    let counts = many_of(alloc, nodes, input)?;
-    if !at_most(front.as_slice(), &counts) {
+    let counts = many_of(nodes, input)?;
+    if !at_most(front.as_slice(), counts.as_slice()) {
         return Err(Stop::Fault(place));
     }
-    Ok(Front::from_counts(&counts))
+    Ok(counts)
 }
 
 // ---- live lists
@@ -281,9 +276,7 @@ fn put_last(told: &mut Told, kept: Record) -> Result<(), AllocError>
     ensures held { OnOk result (told.new.held ≡ told.old.held) }
     ensures records { OnOk result (told.new.records.records ≡ told.old.records.records ++ kept ∷ []) }
 {
-    told.records.reserve(1)?;
-    told.records.put(kept);
-    Ok(())
+    told.records.push_last(kept)
 }
 
 /// Puts a record behind those of its home.
@@ -335,9 +328,9 @@ fn body_of<I: Input>(alloc: Global, input: &mut I) -> Result<Delta, Stop>
     ensures { Reads (I.seen input.old) (I.seen input.new) (λ x. x) result body_at }
 {
     let nodes = nodes_of(input)?;
-    let base = base_of(alloc, nodes, input)?;
-    let front = front_of(alloc, nodes, &base, input)?;
-    let purges = purges_of(alloc, nodes, &front, input)?;
+    let base = base_of(nodes, input)?;
+    let front = front_of(nodes, &base, input)?;
+    let purges = purges_of(nodes, &front, input)?;
     let mut homes = each_home(alloc, nodes, &base, &purges, &front, input)?;
     let records = records_of(alloc, &base, &front, &homes, input)?;
     put_all(&mut homes, records)?;
