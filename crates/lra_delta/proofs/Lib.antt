@@ -1,4 +1,5 @@
 pub mod Alone
+pub mod AtHomes
 pub mod Beyond
 pub mod Codes
 pub mod Examples

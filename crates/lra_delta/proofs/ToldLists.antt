@@ -1,15 +1,11 @@
 -- lists of what is told of each home
-use Rattle.std.proofs.Common.{◌≡◌, ◌≤◌, ◌<◌, ◌+◌, ℕ, zero, suc, List, [], ◌∷◌, ◌++◌, refl, sym, ap, ◌∙◌, arith, length, filter, get_or, Option, Some, Result, Ok, Err, Bool, true, false, cond}
+use Rattle.std.proofs.Common.{◌≡◌, ◌≤◌, ◌+◌, ℕ, zero, suc, List, [], ◌∷◌, ◌++◌, refl, sym, ap, ◌∙◌, arith, length, filter, get_or, Option, Some, Result, Ok, Err, Bool, true, false, cond}
 use Rattle.std.specs.Prelude.{◌==◌, OnOk, slice_get, slice_set}
 use Rattle.std.proofs.lemmas.List.{map-append, length-map}
 use Rattle.lra_forest.specs.declared.merging.Told.{Told}
 use Rattle.lra_forest.specs.declared.record.Record.{Record}
 use Rattle.lra_forest.specs.Merging.{held_numbers}
 use Rattle.lra_forest.specs.Records.{nodes_to}
-use Rattle.std.specs.List.{AllByRecursion}
-use Rattle.std.proofs.lemmas.Bool.Decides.{nat_tests}
-use Rattle.std.specs.Prelude.{nat_lt}
-use Rattle.lra_forest.specs.Places.{put_record}
 use Rattle.lra_replica.specs.Merging.{AreToldFrom}
 use Rattle.lra_delta.specs.declared.order.Last.{Last}
 use Rattle.lra_delta.specs.Rules.{after, by_home}
@@ -53,14 +49,6 @@ few_by false n i le = omega arith
 
 pub few_more : (last : Last) (r : Record) (i : ℕ) → last.count ≤ i → (after last r).count ≤ i + 1
 few_more last r i le = few_by (last.home == r.home) last.count i le
-
--- a record that comes after all others is put last
-pub put_behind : (r : Record) (rs : List Record) → AllByRecursion (λ (q : Record). q.num < r.num) rs → put_record r rs ≡ rs ++ r ∷ []
-put_behind r [] all = refl
-put_behind r (q ∷ rs) all = let less : nat_lt q.num r.num ≡ true = less_than q.num r.num all.0 in rw less (ap (λ (qs : List Record). q ∷ qs) (put_behind r rs all.1))
-  where
-    less_than : (a b : ℕ) → a < b → nat_lt a b ≡ true
-    less_than a b e = grind (arith, nat_tests)
 
 -- ---- one of them changes
 

@@ -1,13 +1,15 @@
 -- when records come in the order of a frame
-use Rattle.std.specs.Prelude.{◌≡◌, ◌+◌, ℕ, [], true, List, Option, map, slice_index}
+use Rattle.std.specs.Prelude.{◌≡◌, ◌+◌, ℕ, [], true, List, OnOk, Option, Result, map, slice_index}
 use Rattle.lra_forest.specs.declared.record.Record.{Record}
 use Rattle.lra_forest.specs.declared.merging.Told.{Told}
 use Rattle.lra_forest.specs.Merging.{held_numbers}
 use Rattle.lra_replica.specs.Merging.{AreToldFrom}
 use Rattle.lra_delta.specs.declared.order.Last.{Last}
+use Rattle.lra_delta.specs.declared.input.Stop.{Stop}
 use Rattle.lra_delta.specs.Fields.{Along, Rest, Read}
 use Rattle.lra_delta.specs.Rules.{after, by_home, is_home, is_next}
 use Rattle.lra_delta.specs.Reading.{live_at}
+use Rattle.lra_delta.specs.Seen.{Reads, Seen}
 
 abbrev pub Follows : ℕ → Last → Record → Type 0
 Follows nodes last r = (is_home nodes last.home r.home ≡ true) × (is_next last r.home r.num ≡ true)
@@ -34,3 +36,16 @@ next_place place live = place + 1
 pub record AreEmpty (nodes : ℕ) (homes : List Told) : Type 0 where
   pub numbered : AreToldFrom 1 homes
   pub none : records_told homes ≡ by_home nodes []
+
+-- these records, in their order, each at its home, and the live lists as they were
+pub record ArePut (nodes : ℕ) (old new : List Told) (rs : List Record) : Type 0 where
+  pub told : AreToldFrom 1 new
+  pub held : lists new ≡ lists old
+  pub records : records_told new ≡ by_home nodes rs
+
+-- what was read is records, which were put
+abbrev pub ArePutAs : (nodes : ℕ) (before after : Seen) (old new : List Told) (result : Result (Unit {0}) Stop) → (Rest → Read (List Record)) → Type 0
+ArePutAs nodes before after old new result scan =
+    (rs : List Record)
+    × Reads before after (λ (u : Unit {0}). rs) result scan
+    × OnOk result (ArePut nodes old new rs)

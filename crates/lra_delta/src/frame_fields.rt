@@ -12,7 +12,7 @@ ghost use Rattle.lra_delta.specs.Rules.{are_counts, at_most, by_home, is_frame_l
 ghost use Rattle.lra_delta.specs.Rules.{after as after_lem};
 ghost use Rattle.lra_delta.specs.Reading.{body_at, frame_at, live_at, live_list_at, record_at, records_at};
 ghost use Rattle.lra_delta.specs.Spelling.{magic};
-ghost use Rattle.lra_delta.specs.Order.{AreEmpty, AreInOrder, lists, live_of_place, next_place, records_told};
+ghost use Rattle.lra_delta.specs.Order.{AreEmpty, ArePutAs, lists, live_of_place, next_place, records_told};
 
 use crate::Delta;
 use crate::fields::{byte, four_bytes, number, two_bytes};
@@ -34,55 +34,50 @@ fn are_counts(ns: &[u64]) -> bool
 
 /// What the taker has to have.
 #[tactic(auto, unfolding(crate::specs::Fields::vector_at))]
-fn base_of<I: Input>(alloc: Global, nodes: u8, input: &mut I) -> Result<Front, Stop>
+fn base_of<I: Input>(nodes: u8, input: &mut I) -> Result<Front, Stop>
     requires some { 1 ≤ nodes }
     requires few { nodes ≤ 8 }
     ensures gives { Reads (I.seen input.old) (I.seen input.new) (λ x. x) result (vector_at nodes are_counts) }
     ensures nodes { IfOk result (λ x. length x ≡ nodes) }
 {
     let place = input.place();
-    let counts = many_of(alloc, nodes, input)?;
-    if !are_counts(&counts) {
+    let counts = many_of(nodes, input)?;
+    if !are_counts(counts.as_slice()) {
         return Err(Stop::Fault(place));
     }
-    Ok(Front::from_counts(&counts))
+    Ok(counts)
 }
 
 /// How many facts the sender has: none fewer than the base.
 #[tactic(auto, unfolding(crate::specs::Fields::vector_at))]
-fn front_of<I: Input>(alloc: Global, nodes: u8, base: &Front, input: &mut I) -> Result<Front, Stop>
+fn front_of<I: Input>(nodes: u8, base: &Front, input: &mut I) -> Result<Front, Stop>
     requires some { 1 ≤ nodes }
     requires few { nodes ≤ 8 }
     ensures gives { Reads (I.seen input.old) (I.seen input.new) (λ x. x) result (vector_at nodes (is_front base.now)) }
     ensures nodes { IfOk result (λ x. length x ≡ nodes) }
 {
     let place = input.place();
-    let counts = many_of(alloc, nodes, input)?;
-    if !(are_counts(&counts) && at_most(&counts, base.as_slice())) {
+    let counts = many_of(nodes, input)?;
+    if !(are_counts(counts.as_slice()) && at_most(counts.as_slice(), base.as_slice())) {
         return Err(Stop::Fault(place));
     }
-    Ok(Front::from_counts(&counts))
+    Ok(counts)
 }
 
 /// The number of each home's last purge: within the front.
 #[tactic(auto, unfolding(crate::specs::Fields::vector_at))]
-fn purges_of<I: Input>(
-    alloc: Global,
-    nodes: u8,
-    front: &Front,
-    input: &mut I,
-) -> Result<Front, Stop>
+fn purges_of<I: Input>(nodes: u8, front: &Front, input: &mut I) -> Result<Front, Stop>
     requires some { 1 ≤ nodes }
     requires few { nodes ≤ 8 }
     ensures gives { Reads (I.seen input.old) (I.seen input.new) (λ x. x) result (vector_at nodes (at_most front.now)) }
     ensures nodes { IfOk result (λ x. length x ≡ nodes) }
 {
     let place = input.place();
-    let counts = many_of(alloc, nodes, input)?;
-    if !at_most(front.as_slice(), &counts) {
+    let counts = many_of(nodes, input)?;
+    if !at_most(front.as_slice(), counts.as_slice()) {
         return Err(Stop::Fault(place));
     }
-    Ok(Front::from_counts(&counts))
+    Ok(counts)
 }
 
 // ---- live lists
@@ -227,52 +222,6 @@ fn after(last: Last, r: &Record) -> Last
     }
 }
 
-/// So many records, in order.
-fn each_record<I: Input>(
-    alloc: Global,
-    base: &Front,
-    front: &Front,
-    homes: &[Told],
-    count: u16,
-    input: &mut I,
-) -> Result<Vec<Record>, Stop>
-    ensures gives { Reads (I.seen input.old) (I.seen input.new) (λ x. x.items) result (each_at (record_at (told_context base.now front.now homes.now)) after_lem count start) }
-    ensures order { IfOk result (λ x. AreInOrder (length front.now) start x.items) }
-{
-    let mut list = Vec::new(alloc);
-    let mut last = Last {
-        home: 0,
-        num: 0,
-        count: 0,
-    };
-    'records: for _ in 0..count {
-        let kept = record_of(alloc, base, front, homes, last, input)?;
-        last = after(last, &kept);
-        list.push(kept)?;
-    }
-    Ok(list)
-}
-
-/// A count, and as many records.
-#[tactic(auto, unfolding(crate::specs::Reading::records_at))]
-fn records_of<I: Input>(
-    alloc: Global,
-    base: &Front,
-    front: &Front,
-    homes: &[Told],
-    input: &mut I,
-) -> Result<Vec<Record>, Stop>
-    ensures gives { Reads (I.seen input.old) (I.seen input.new) (λ x. x.items) result (records_at (told_context base.now front.now homes.now)) }
-    ensures order { IfOk result (λ x. AreInOrder (length front.now) start x.items) }
-{
-    let place = input.place();
-    let count = two_bytes(input)?;
-    if !(count as usize <= 256 * front.nodes()) {
-        return Err(Stop::Fault(place));
-    }
-    each_record(alloc, base, front, homes, count, input)
-}
-
 /// Puts a record behind those of its home.
 fn put_last(told: &mut Told, kept: Record) -> Result<(), AllocError>
     requires home { kept.home ≡ told.old.records.home }
@@ -281,9 +230,7 @@ fn put_last(told: &mut Told, kept: Record) -> Result<(), AllocError>
     ensures held { OnOk result (told.new.held ≡ told.old.held) }
     ensures records { OnOk result (told.new.records.records ≡ told.old.records.records ++ kept ∷ []) }
 {
-    told.records.reserve(1)?;
-    told.records.put(kept);
-    Ok(())
+    told.records.push_last(kept)
 }
 
 /// Puts a record behind those of its home.
@@ -299,18 +246,49 @@ fn put_home(homes: &mut Vec<Told>, kept: Record) -> Result<(), AllocError>
     put_last(&mut homes[place], kept)
 }
 
-/// Puts records, in their order, at their homes.
-fn put_all(homes: &mut Vec<Told>, records: Vec<Record>) -> Result<(), AllocError>
-    requires empty { AreEmpty (length homes.old.items) homes.old.items }
-    requires order { AreInOrder (length homes.old.items) start records.items }
-    ensures told { OnOk result (AreToldFrom 1 homes.new.items) }
-    ensures held { OnOk result (lists homes.new.items ≡ lists homes.old.items) }
-    ensures records { OnOk result (records_told homes.new.items ≡ by_home (length homes.old.items) records.items) }
+/// So many records, in order, each put at its home as it is read.
+fn each_record<I: Input>(
+    alloc: Global,
+    base: &Front,
+    front: &Front,
+    homes: &mut Vec<Told>,
+    count: u16,
+    input: &mut I,
+) -> Result<(), Stop>
+    requires { AreEmpty (length front.now) homes.old.items }
+    ensures { ArePutAs (length front.now) (I.seen input.old) (I.seen input.new) homes.old.items homes.new.items result (each_at (record_at (told_context base.now front.now homes.old.items)) after_lem count start) }
 {
-    for kept in records {
+    let mut last = Last {
+        home: 0,
+        num: 0,
+        count: 0,
+    };
+    'records: for _ in 0..count {
+        let kept = record_of(alloc, base, front, homes.as_slice(), last, input)?;
+        last = after(last, &kept);
         put_home(homes, kept)?;
     }
     Ok(())
+}
+
+/// A count, and as many records, each put at its home.
+#[tactic(auto, unfolding(crate::specs::Reading::records_at))]
+fn records_of<I: Input>(
+    alloc: Global,
+    base: &Front,
+    front: &Front,
+    homes: &mut Vec<Told>,
+    input: &mut I,
+) -> Result<(), Stop>
+    requires { AreEmpty (length front.now) homes.old.items }
+    ensures { ArePutAs (length front.now) (I.seen input.old) (I.seen input.new) homes.old.items homes.new.items result (records_at (told_context base.now front.now homes.old.items)) }
+{
+    let place = input.place();
+    let count = two_bytes(input)?;
+    if !(count as usize <= 256 * front.nodes()) {
+        return Err(Stop::Fault(place));
+    }
+    each_record(alloc, base, front, homes, count, input)
 }
 
 // ---- the frame
@@ -335,12 +313,11 @@ fn body_of<I: Input>(alloc: Global, input: &mut I) -> Result<Delta, Stop>
     ensures { Reads (I.seen input.old) (I.seen input.new) (λ x. x) result body_at }
 {
     let nodes = nodes_of(input)?;
-    let base = base_of(alloc, nodes, input)?;
-    let front = front_of(alloc, nodes, &base, input)?;
-    let purges = purges_of(alloc, nodes, &front, input)?;
+    let base = base_of(nodes, input)?;
+    let front = front_of(nodes, &base, input)?;
+    let purges = purges_of(nodes, &front, input)?;
     let mut homes = each_home(alloc, nodes, &base, &purges, &front, input)?;
-    let records = records_of(alloc, &base, &front, &homes, input)?;
-    put_all(&mut homes, records)?;
+    records_of(alloc, &base, &front, &mut homes, input)?;
     Ok(Delta::new(base, front, purges, homes))
 }
 

@@ -255,29 +255,33 @@ fn members_of<I: Input>(alloc: Global, stamp: u64, num: u64, input: &mut I) -> R
 
 // ---- vectors
 
-/// So many numbers.
-fn each_number<I: Input>(alloc: Global, count: u8, input: &mut I) -> Result<Vec<u64>, Stop>
-    ensures gives { Reads (I.seen input.old) (I.seen input.new) (λ x. x.items) result (each_at (λ (s : ℕ). whole_at w64) (λ (s x : ℕ). s) count 0) }
+/// So many numbers, at most as many as there can be nodes.
+fn each_number<I: Input>(count: u8, input: &mut I) -> Result<Front, Stop>
+    requires some { 1 ≤ count }
+    requires few { count ≤ 8 }
+    ensures gives { Reads (I.seen input.old) (I.seen input.new) (λ x. x) result (each_at (λ (s : ℕ). whole_at w64) (λ (s x : ℕ). s) count 0) }
     ensures took { IfOk result (λ _. length (I.seen input.new).taken ≡ length (I.seen input.old).taken + 8 * count) }
 {
-    let mut list = Vec::new(alloc);
-    'numbers: for _ in 0..count {
-        list.push(number(input)?)?;
+    let mut numbers = [0u64; 8];
+    'numbers: for place in 0..count {
+        numbers[usize::from(place)] = number(input)?;
     }
-    Ok(list)
+    Ok(Front::from_counts(&numbers[..usize::from(count)]))
 }
 
 /// A vector of so many numbers: one field.
 #[tactic(auto, unfolding(crate::specs::Fields::many_at))]
-pub(crate) fn many_of<I: Input>(alloc: Global, count: u8, input: &mut I) -> Result<Vec<u64>, Stop>
-    ensures gives { Reads (I.seen input.old) (I.seen input.new) (λ x. x.items) result (many_at count) }
-    ensures count { IfOk result (λ x. length x.items ≡ count) }
+pub(crate) fn many_of<I: Input>(count: u8, input: &mut I) -> Result<Front, Stop>
+    requires some { 1 ≤ count }
+    requires few { count ≤ 8 }
+    ensures gives { Reads (I.seen input.old) (I.seen input.new) (λ x. x) result (many_at count) }
+    ensures count { IfOk result (λ x. length x ≡ count) }
     ensures took { IfOk result (λ _. length (I.seen input.new).taken ≡ length (I.seen input.old).taken + 8 * count) }
 {
     if input.lacks(8 * count as u64) {
         return Err(Stop::Fault(input.place()));
     }
-    each_number(alloc, count, input)
+    each_number(count, input)
 }
 
 /// Whether each number is at most the limit at its place.
@@ -392,7 +396,6 @@ fn are_stamps(base: &Front, front: &Front, home: NodeId, num: u64, stamps: &Fron
 /// The stamps of a record.
 #[tactic(auto, unfolding(crate::specs::Fields::vector_at))]
 fn stamps_of<I: Input>(
-    alloc: Global,
     base: &Front,
     front: &Front,
     home: NodeId,
@@ -402,8 +405,7 @@ fn stamps_of<I: Input>(
     ensures { Reads (I.seen input.old) (I.seen input.new) (λ x. x) result (vector_at (length front.now) (are_stamps (told_context base.now front.now []) home num)) }
 {
     let place = input.place();
-    let counts = many_of(alloc, front.nodes() as u8, input)?;
-    let stamps = Front::from_counts(&counts);
+    let stamps = many_of(front.nodes() as u8, input)?;
     if !are_stamps(base, front, home, num, &stamps) {
         return Err(Stop::Fault(place));
     }
@@ -428,7 +430,7 @@ pub(crate) fn record_of<I: Input>(
     let parent = parent_of(num, input)?;
     let deadline = number(input)?;
     let decision = decision_of(input)?;
-    let stamps = stamps_of(alloc, base, front, home, num, input)?;
+    let stamps = stamps_of(base, front, home, num, input)?;
     let members = members_of(alloc, stamps.count(home), num, input)?;
     Ok(Record {
         home,

@@ -1,5 +1,5 @@
 -- records with one more in its place
-use Rattle.std.proofs.Common.{◌≡◌, ◌≤◌, ◌<◌, ◌+◌, ◌==◌, ◌∷◌, ℕ, zero, suc, List, [], refl, sym, ap, ◌∙◌, Bool, true, false, cond, arith, Some, None, find, length, nat_lt, add-one, slice_get, is_some, set}
+use Rattle.std.proofs.Common.{◌≡◌, ◌≤◌, ◌<◌, ◌+◌, ◌==◌, ◌∷◌, ◌++◌, ℕ, zero, suc, List, [], refl, sym, ap, ◌∙◌, Bool, true, false, cond, arith, Some, None, find, length, nat_lt, add-one, slice_get, is_some, set}
 use Rattle.std.specs.List.{AllByRecursion, insert}
 use Rattle.std.proofs.lemmas.Bool.Decides.{nat_tests}
 use Rattle.lra_id.specs.Ids.{Id}
@@ -70,6 +70,14 @@ put_ascends r (q ∷ qs) h = by (nat_lt q.num r.num) refl (put_ascends r qs h.1)
 -- they are still in order
 pub put_are_of : (home : ℕ) (r : Record) (qs : List Record) → r.home ≡ home → AreOf home qs → AreOf home (put_record r qs)
 put_are_of home r qs at h = record { homes = all_put (λ x. x.home ≡ home) r qs at h.homes; ascending = put_ascends r qs h.ascending }
+
+-- a record that comes after all others is put last
+pub put_behind : (r : Record) (rs : List Record) → AllByRecursion (λ (q : Record). q.num < r.num) rs → put_record r rs ≡ rs ++ r ∷ []
+put_behind r [] all = refl
+put_behind r (q ∷ rs) all = let less : nat_lt q.num r.num ≡ true = less_than q.num r.num all.0 in rw less (ap (λ (qs : List Record). q ∷ qs) (put_behind r rs all.1))
+  where
+    less_than : (a b : ℕ) → a < b → nat_lt a b ≡ true
+    less_than a b e = grind (arith, nat_tests)
 
 -- it is found, and the others as before
 pub put_find : (home : ℕ) (r : Record) (qs : List Record) (l : Id) → r.home ≡ home → AreOf home qs → find (is_of l) (put_record r qs) ≡ cond (is_of l r) (Some r) (find (is_of l) qs)

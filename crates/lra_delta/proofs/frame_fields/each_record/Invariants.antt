@@ -1,15 +1,19 @@
-use Rattle.std.proofs.Common.{◌≡◌, ◌-◌, ◌≤◌, length}
+use Rattle.std.proofs.Common.{◌≡◌, ◌-◌, ◌≤◌, List, length}
+use Rattle.lra_forest.specs.declared.record.Record.{Record}
 use Rattle.lra_delta.specs.Rules.{after, start, told_context}
 use Rattle.lra_delta.specs.Reading.{record_at}
-use Rattle.lra_delta.specs.Order.{AreInOrder}
+use Rattle.lra_delta.specs.Order.{AreInOrder, ArePut}
 use Rattle.lra_delta.proofs.Loop.{SoFar}
 use Rattle.lra_delta.proofs.ToldLists.{last_of}
 use Rattle.lra_delta.proofs.frame_fields.each_record.Given as goal
 
+-- some were read and put, in order, and the others are left
 abbrev pub invariant-records : goal.invariant-records
 invariant-records g l = let seen = g.I.Input.seen in record {
-  so_far : SoFar (record_at (told_context l.base l.front l.homes)) after l.count start (seen l.fn.input) l.list.items (l.count - l.counter) l.last (seen l.input);
+  done : List Record;
+  so_far : SoFar (record_at (told_context l.base l.front l.fn.homes.items)) after l.count start (seen l.fn.input) done (l.count - l.counter) l.last (seen l.input);
   few : l.last.count ≤ l.counter;
-  last : l.last ≡ last_of start l.list.items;
-  order : AreInOrder (length l.front) start l.list.items;
+  last : l.last ≡ last_of start done;
+  order : AreInOrder (length l.front) start done;
+  put : ArePut (length l.front) l.fn.homes.items l.homes.items done;
 }

@@ -1,4 +1,4 @@
-use Rattle.std.proofs.Common.{◌-◌, ◌≡◌, ◌+◌, ◌*◌, length, ℕ}
+use Rattle.std.proofs.Common.{◌-◌, ◌≡◌, ◌+◌, ◌*◌, length, take, ℕ}
 use Rattle.std.specs.Int.{w64}
 use Rattle.lra_delta.specs.Fields.{whole_at}
 use Rattle.lra_delta.proofs.Loop.{SoFar}
@@ -6,6 +6,7 @@ use Rattle.lra_delta.proofs.record_fields.each_number.Given as goal
 
 abbrev pub invariant-numbers : goal.invariant-numbers
 invariant-numbers g l = let seen = g.I.Input.seen in record {
-  took : length (seen l.input).taken ≡ length (seen l.fn.input).taken + 8 * l.counter;
-  so_far : SoFar (λ (s : ℕ). whole_at w64) (λ (s x : ℕ). s) l.count 0 (seen l.fn.input) l.list.items (l.count - l.counter) 0 (seen l.input);
+  all : length l.numbers ≡ 8;
+  took : length (seen l.input).taken ≡ length (seen l.fn.input).taken + 8 * l.place;
+  so_far : SoFar (λ (s : ℕ). whole_at w64) (λ (s x : ℕ). s) l.count 0 (seen l.fn.input) (take l.place l.numbers) (l.count - l.place) 0 (seen l.input);
 }
