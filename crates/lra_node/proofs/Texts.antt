@@ -6,7 +6,7 @@ use Rattle.lra_callback.proofs.Single.{one_list_of_duties}
 use Rattle.lra_world.specs.declared.event.Event.{Event}
 use Rattle.lra_world.specs.declared.event.Event.TheVariants.{Act as ActEvent, Deliver as DeliverEvent, Restart as RestartEvent, Send as SendEvent, Tick as TickEvent}
 use Rattle.lra_world.specs.declared.event.Reply.{Reply}
-use Rattle.lra_world.specs.Worlds.{Comes, SentFrame, IfNode, IsSpelled, State, Steps, frame_at, is_node, set_of}
+use Rattle.lra_world.specs.Worlds.{Comes, SentFrame, IfNode, IsSpelled, State, frame_at, is_node, set_of}
 use Rattle.lra_world.proofs.Determined.{one_spelling, step_once}
 use Rattle.lra_node.specs.declared.ask.Ask.{Ask}
 use Rattle.lra_node.specs.declared.ask.Ask.TheVariants.{Enter, Tick, Send, Deliver, Restart, Show, Member, Duties, Hear, Front, Same, Text, Read}
@@ -51,9 +51,9 @@ coming_once s frame node None n m a x t u e f h k = by (frame_at s frame) refl e
         event_once s (DeliverEvent frame node m) a x t u (subst (λ (i : ℕ). PrintsReply s (DeliverEvent frame node i) a t) same h) k
 
 same_once : (P : Type 0) (a x : List ℕ) → TellsSame P a → TellsSame P x → a ≡ x
-same_once P a x (inl (yes, is)) (inl (also, same)) = is ∙ sym same
-same_once P a x (inl (yes, is)) (inr (no_more, same)) = absurd (no_more yes)
-same_once P a x (inr (never, is)) (inl (yes, same)) = absurd (never yes)
+same_once P a x (inl (told, is)) (inl (also, same)) = is ∙ sym same
+same_once P a x (inl (told, is)) (inr (never, same)) = absurd (never told)
+same_once P a x (inr (never, is)) (inl (told, same)) = absurd (never told)
 same_once P a x (inr (never, is)) (inr (also, same)) = is ∙ sym same
 
 does_once : (s : State) (ask : Ask) (a x : List ℕ) (t u : State) → Does s ask a t → Does s ask x u → AreOne a x t u

@@ -1,5 +1,5 @@
 // What is printed of duties, and of the answers that are heard, and what these do to the world.
-ghost use Rattle.std.specs.Prelude.{◌≡◌, ◌≤◌, ◌×◌, ◌++◌, ℕ, List, [], length, IfOk, OnErr, OnOk, string_bytes, true};
+ghost use Rattle.std.specs.Prelude.{◌≡◌, ◌≤◌, ◌++◌, ℕ, List, [], length, IfOk, OnErr, OnOk, string_bytes, true};
 ghost use Rattle.lra_facts.specs.declared.fact.Fact.{Fact};
 ghost use Rattle.lra_facts.specs.Sets.{is_held, want};
 ghost use Rattle.lra_callback.specs.declared.duty.Duty.{Duty as Call};
@@ -91,7 +91,13 @@ pub fn hear_answer(
     match act_asked(held(world, node), kind, id, member) {
         Ok(act) => {
             let heard = hear(act, kind, answer);
-            enter_heard(alloc, world, node, heard, command_of(id, member, act, heard))
+            enter_heard(
+                alloc,
+                world,
+                node,
+                heard,
+                command_of(id, member, act, heard),
+            )
         }
         Err(refusal) => refusal_line(alloc, refusal),
     }
@@ -172,12 +178,7 @@ fn enter_heard(
 }
 
 /// The line of what was heard, and of the reply to it.
-fn tell_heard(
-    alloc: Global,
-    room: Room,
-    heard: Heard,
-    reply: Reply,
-) -> Result<String, AllocError>
+fn tell_heard(alloc: Global, room: Room, heard: Heard, reply: Reply) -> Result<String, AllocError>
     requires { room ≡ [] }
     ensures ok { IfOk result (λ text. string_bytes text ≡ heard_reply_line heard reply) }
     ensures err { OnErr result (IsNothing reply) }
