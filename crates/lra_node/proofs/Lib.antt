@@ -1,4 +1,5 @@
 pub mod Answering
+pub mod Bases
 pub mod Members
 pub mod Numbers
 pub mod Readings

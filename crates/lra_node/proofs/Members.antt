@@ -5,7 +5,7 @@ use Rattle.lra_id.specs.Ids.{Id, IsId, id_text}
 use Rattle.lra_states.specs.Names.{act_name, outcome_name}
 use Rattle.lra_states.specs.declared.outcome.Verdict.TheVariants.{Close, Cancel}
 use Rattle.lra_node.specs.declared.ask.Ask.{Ask}
-use Rattle.lra_node.specs.declared.ask.Ask.TheVariants.{Enter, Tick, Show, Member, Duties, Hear, Front, Same, Text, Read}
+use Rattle.lra_node.specs.declared.ask.Ask.TheVariants.{Enter, Tick, Send, Deliver, Restart, Show, Member, Duties, Hear, Front, Same, Text, Read}
 use Rattle.lra_replica.specs.declared.command.Command.TheVariants.{Begin, Join, Leave, Decide, Report, Forgot, Purge}
 use Rattle.lra_facts.specs.declared.links.Links.{Links}
 use Rattle.lra_node.specs.Joins.{GivesLinks}
@@ -29,6 +29,9 @@ none_reported nodes words none (Enter node (Report id m act outcome)) _ has fits
 none_reported nodes words none (Enter node (Forgot id m)) verb _ _ = absurd (omega (arith, third _ _ verb))
 none_reported nodes words none (Enter node (Purge root)) verb _ _ = absurd (omega (arith, third _ _ verb))
 none_reported nodes words none (Tick node now) verb _ _ = absurd (omega (arith, third _ _ verb))
+none_reported nodes words none (Send node base) verb _ _ = absurd (omega (arith, third _ _ verb))
+none_reported nodes words none (Deliver frame node kept) verb _ _ = absurd (omega (arith, third _ _ verb))
+none_reported nodes words none (Restart node) verb _ _ = absurd (omega (arith, third _ _ verb))
 none_reported nodes words none (Show node id) verb _ _ = absurd (omega (arith, third _ _ verb))
 none_reported nodes words none (Member node id m) verb _ _ = absurd (omega (arith, third _ _ verb))
 none_reported nodes words none (Duties node) verb _ _ = absurd (omega (arith, third _ _ verb))
@@ -55,6 +58,9 @@ none_joined nodes words rest a b is none (Enter node (Report id m act outcome)) 
 none_joined nodes words rest a b is none (Enter node (Forgot id m)) verb _ _ = absurd (omega (arith, third _ _ verb))
 none_joined nodes words rest a b is none (Enter node (Purge root)) verb _ _ = absurd (omega (arith, third _ _ verb))
 none_joined nodes words rest a b is none (Tick node now) verb _ _ = absurd (omega (arith, third _ _ verb))
+none_joined nodes words rest a b is none (Send node base) verb _ _ = absurd (omega (arith, third _ _ verb))
+none_joined nodes words rest a b is none (Deliver frame node kept) verb _ _ = absurd (omega (arith, third _ _ verb))
+none_joined nodes words rest a b is none (Restart node) verb _ _ = absurd (omega (arith, third _ _ verb))
 none_joined nodes words rest a b is none (Show node id) verb _ _ = absurd (omega (arith, third _ _ verb))
 none_joined nodes words rest a b is none (Member node id m) verb _ _ = absurd (omega (arith, third _ _ verb))
 none_joined nodes words rest a b is none (Duties node) verb _ _ = absurd (omega (arith, third _ _ verb))

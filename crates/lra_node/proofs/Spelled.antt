@@ -1,5 +1,6 @@
 -- A line spells at most one ask: its words tell the form, and the form's words each value.
-use Rattle.std.proofs.Common.{◌≡◌, ℕ, ◌<◌, ◌≤◌, ◌^◌, ◌+◌, ◌*◌, ◌==◌, inl, inr, Bool, true, false, cond, List, [], ◌∷◌, ◌++◌, Option, Some, None, IfSome, if◌then◌else◌, codes, get_or, take, drop, refl, ap, sym, subst, ◌∙◌, arith}
+use Rattle.std.proofs.Common.{◌≡◌, ℕ, suc, ◌<◌, ◌≤◌, ◌^◌, ◌+◌, ◌*◌, ◌==◌, inl, inr, Bool, true, false, cond, List, [], ◌∷◌, ◌++◌, Option, Some, None, IfSome, if◌then◌else◌, codes, get_or, take, drop, refl, ap, sym, subst, ◌∙◌, arith}
+use Rattle.std.specs.Prelude.{All, map}
 use Rattle.std.specs.Fmt.{decimal}
 use Rattle.std.proofs.lemmas.Fmt.{digits_decimal}
 use Rattle.std.specs.Str.Parse.{AllDigits}
@@ -21,8 +22,8 @@ use Rattle.lra_callback.specs.declared.answer.Kind.{Kind}
 use Rattle.lra_callback.specs.declared.answer.Kind.TheVariants.{Complete, Compensate, Status, Forget}
 use Rattle.lra_callback.specs.Names.{kind_name}
 use Rattle.lra_node.specs.declared.ask.Ask.{Ask}
-use Rattle.lra_node.specs.declared.ask.Ask.TheVariants.{Enter, Tick, Show, Member, Duties, Hear, Front, Same, Text, Read}
-use Rattle.lra_node.specs.Asks.{Fits, HasArguments, IsMemberNumber, IsNodeOf, Spells, parent_words, verb_of}
+use Rattle.lra_node.specs.declared.ask.Ask.TheVariants.{Enter, Tick, Send, Deliver, Restart, Show, Member, Duties, Hear, Front, Same, Text, Read}
+use Rattle.lra_node.specs.Asks.{Fits, HasArguments, IsMemberNumber, IsNodeOf, IsNumber, Spells, kept_words, parent_words, verb_of}
 use Rattle.lra_node.specs.Calls.{AnswerFits, GivesAnswer, IsRestOf}
 use Rattle.lra_node.specs.Joins.{GivesLinks}
 use Rattle.lra_node.specs.Parts.{onto_first, parts, words_of}
@@ -155,6 +156,21 @@ parent_same None (Some q) h k e = absurd (none_some (id_text q) [] e)
 parent_same (Some p) None h k e = absurd (none_some (id_text p) [] (sym e))
 parent_same (Some p) (Some q) h k e = ap Some (id_same p q h k (head_same (id_text p) (id_text q) [] [] e))
 
+kept_same : (a b : Option ℕ) → IfSome a IsNumber → IfSome b IsNumber → kept_words a ≡ kept_words b → a ≡ b
+kept_same None None h k e = refl
+kept_same None (Some n) h k e = absurd (none_some (decimal n) [] e)
+kept_same (Some m) None h k e = absurd (none_some (decimal m) [] (sym e))
+kept_same (Some m) (Some n) h k e = ap Some (number_same m n h k (head_same (decimal m) (decimal n) [] [] e))
+
+counts_same : (a b : List ℕ) → All IsNumber a → All IsNumber b → map decimal a ≡ map decimal b → a ≡ b
+counts_same [] [] h k e = refl
+counts_same [] (n ∷ b) h k e = absurd (none_some (decimal n) (map decimal b) e)
+counts_same (m ∷ a) [] h k e = absurd (none_some (decimal m) (map decimal a) (sym e))
+counts_same (m ∷ a) (n ∷ b) h k e =
+    two (λ (x : ℕ) (xs : List ℕ). x ∷ xs)
+    (number_same m n (h 0 m (omega arith)) (k 0 n (omega arith)) (head_same (decimal m) (decimal n) (map decimal a) (map decimal b) e))
+    (counts_same a b (λ i d lt. h (suc i) d (omega (arith, lt))) (λ i d lt. k (suc i) d (omega (arith, lt))) (tail_same (decimal m) (decimal n) (map decimal a) (map decimal b) e))
+
 links_same : (given : List (List ℕ)) (a b : Links) → GivesLinks given a → GivesLinks given b → a ≡ b
 links_same given a b h k = some_same a b (sym h.kept ∙ k.kept)
 
@@ -192,6 +208,9 @@ data Form : Type 0 where
   OfForgot : Form
   OfPurge : Form
   OfTick : Form
+  OfSend : Form
+  OfDeliver : Form
+  OfRestart : Form
   OfShow : Form
   OfMember : Form
   OfDuties : Form
@@ -211,6 +230,9 @@ form_of (Enter node (Report id m act outcome)) = OfReport
 form_of (Enter node (Forgot id m)) = OfForgot
 form_of (Enter node (Purge root)) = OfPurge
 form_of (Tick node now) = OfTick
+form_of (Send node base) = OfSend
+form_of (Deliver frame node kept) = OfDeliver
+form_of (Restart node) = OfRestart
 form_of (Show node id) = OfShow
 form_of (Member node id m) = OfMember
 form_of (Duties node) = OfDuties
@@ -222,14 +244,14 @@ form_of (Read id) = OfRead
 
 -- two bytes tell a verb
 abbrev verb_mark : List ℕ → ℕ
-verb_mark verb = get_or verb 0 0 + 3 * get_or verb 3 0
+verb_mark verb = get_or verb 0 0 + 4 * get_or verb 2 0
 
 abbrev form_at : ℕ → Form
 form_at n =
-    if n == 413 then OfBegin else if n == 436 then OfJoin else if n == 462 then OfLeave else if n == 444 then OfClose
-    else if n == 396 then OfCancel else if n == 447 then OfReport else if n == 411 then OfForgot else if n == 421 then OfPurge
-    else if n == 437 then OfTick else if n == 472 then OfShow else if n == 403 then OfMember else if n == 415 then OfDuties
-    else if n == 454 then OfHear else if n == 432 then OfFront else if n == 418 then OfSame else if n == 464 then OfText else OfRead
+    if n == 510 then OfBegin else if n == 526 then OfJoin else if n == 496 then OfLeave else if n == 543 then OfClose else if n == 539 then OfCancel else
+    if n == 562 then OfReport else if n == 558 then OfForgot else if n == 568 then OfPurge else if n == 512 then OfTick else if n == 555 then OfSend else
+    if n == 532 then OfDeliver else if n == 574 then OfRestart else if n == 559 then OfShow else if n == 545 then OfMember else if n == 564 then OfDuties else
+    if n == 557 then OfHear else if n == 546 then OfFront else if n == 551 then OfSame else if n == 596 then OfText else OfRead
 
 form_told : (a : Ask) → form_at (verb_mark (verb_of a)) ≡ form_of a
 form_told (Enter node (Begin parent deadline)) = refl
@@ -241,6 +263,9 @@ form_told (Enter node (Report id m act outcome)) = refl
 form_told (Enter node (Forgot id m)) = refl
 form_told (Enter node (Purge root)) = refl
 form_told (Tick node now) = refl
+form_told (Send node base) = refl
+form_told (Deliver frame node kept) = refl
+form_told (Restart node) = refl
 form_told (Show node id) = refl
 form_told (Member node id m) = refl
 form_told (Duties node) = refl
@@ -264,6 +289,9 @@ IsLike OfReport b = (node : ℕ) × (id : Id) × (m : ℕ) × (act : Act) × (ou
 IsLike OfForgot b = (node : ℕ) × (id : Id) × (m : ℕ) × (b ≡ Enter node (Forgot id m))
 IsLike OfPurge b = (node : ℕ) × (root : Id) × (b ≡ Enter node (Purge root))
 IsLike OfTick b = (node : ℕ) × (now : ℕ) × (b ≡ Tick node now)
+IsLike OfSend b = (node : ℕ) × (base : List ℕ) × (b ≡ Send node base)
+IsLike OfDeliver b = (frame : ℕ) × (node : ℕ) × (kept : Option ℕ) × (b ≡ Deliver frame node kept)
+IsLike OfRestart b = (node : ℕ) × (b ≡ Restart node)
 IsLike OfShow b = (node : ℕ) × (id : Id) × (b ≡ Show node id)
 IsLike OfMember b = (node : ℕ) × (id : Id) × (m : ℕ) × (b ≡ Member node id m)
 IsLike OfDuties b = (node : ℕ) × (b ≡ Duties node)
@@ -283,6 +311,9 @@ like (Enter node (Report id m act outcome)) = (node, id, m, act, outcome, refl)
 like (Enter node (Forgot id m)) = (node, id, m, refl)
 like (Enter node (Purge root)) = (node, root, refl)
 like (Tick node now) = (node, now, refl)
+like (Send node base) = (node, base, refl)
+like (Deliver frame node kept) = (frame, node, kept, refl)
+like (Restart node) = (node, refl)
 like (Show node id) = (node, id, refl)
 like (Member node id m) = (node, id, m, refl)
 like (Duties node) = (node, refl)
@@ -323,6 +354,12 @@ same_asked nodes words (Enter node (Purge root)) b few (nodez, roots, is) has fi
     by_form nodes words (Enter node (Purge root)) b (Enter nodez (Purge roots)) is (λ are fit. let e = sym has ∙ are in two (λ (x : ℕ) (i : Id). Enter x (Purge i)) (node_same nodes node nodez few fits.0 fit.0 (word 0 _ _ e)) (id_same root roots fits.1 fit.1 (word 1 _ _ e))) also small
 same_asked nodes words (Tick node now) b few (nodez, nows, is) has fits also small =
     by_form nodes words (Tick node now) b (Tick nodez nows) is (λ are fit. let e = sym has ∙ are in two Tick (node_same nodes node nodez few fits.0 fit.0 (word 0 _ _ e)) (number_same now nows fits.1 fit.1 (word 1 _ _ e))) also small
+same_asked nodes words (Send node base) b few (nodez, bases, is) has fits also small =
+    by_form nodes words (Send node base) b (Send nodez bases) is (λ are fit. let e = sym has ∙ are in two Send (node_same nodes node nodez few fits.0 fit.0 (word 0 _ _ e)) (counts_same base bases fits.1.1 fit.1.1 (ap (drop 1) e))) also small
+same_asked nodes words (Deliver frame node kept) b few (frames, nodez, keeps, is) has fits also small =
+    by_form nodes words (Deliver frame node kept) b (Deliver frames nodez keeps) is (λ are fit. let e = sym has ∙ are in three Deliver (number_same frame frames fits.0 fit.0 (word 0 _ _ e)) (node_same nodes node nodez few fits.1 fit.1 (word 1 _ _ e)) (kept_same kept keeps fits.2 fit.2 (ap (drop 2) e))) also small
+same_asked nodes words (Restart node) b few (nodez, is) has fits also small =
+    by_form nodes words (Restart node) b (Restart nodez) is (λ are fit. let e = sym has ∙ are in ap Restart (node_same nodes node nodez few fits fit (word 0 _ _ e))) also small
 same_asked nodes words (Show node id) b few (nodez, ids, is) has fits also small =
     by_form nodes words (Show node id) b (Show nodez ids) is (λ are fit. let e = sym has ∙ are in two Show (node_same nodes node nodez few fits.0 fit.0 (word 0 _ _ e)) (id_same id ids fits.1 fit.1 (word 1 _ _ e))) also small
 same_asked nodes words (Member node id m) b few (nodez, ids, ms, is) has fits also small =

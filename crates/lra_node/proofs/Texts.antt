@@ -1,92 +1,105 @@
 -- A line prints one thing, and a script has one text, but for want of memory.
-use Rattle.std.proofs.Common.{◌≡◌, ℕ, ◌<◌, ◌≤◌, ◌⊎◌, inl, inr, Bool, true, false, List, [], ◌∷◌, ◌++◌, Option, None, Some, length, nat_lt, refl, ap, sym, subst, ◌∙◌, arith}
-use Rattle.std.proofs.lemmas.Bool.Decides.{nat_tests}
-use Rattle.lra_id.specs.Ids.{Id}
-use Rattle.lra_facts.specs.declared.fact.Fact.{Fact}
-use Rattle.lra_forest.specs.Overdue.{IsLeastOverdue, is_overdue}
+use Rattle.std.proofs.Common.{◌≡◌, ℕ, ◌<◌, ◌≤◌, ◌⊎◌, inl, inr, List, [], ◌∷◌, ◌++◌, Option, None, Some, length, refl, ap, sym, subst, ◌∙◌, arith}
+use Rattle.std.specs.Prelude.{IfSome}
 use Rattle.lra_callback.specs.declared.duty.Duty.{Duty}
 use Rattle.lra_callback.proofs.Single.{one_list_of_duties}
+use Rattle.lra_world.specs.declared.event.Event.{Event}
+use Rattle.lra_world.specs.declared.event.Event.TheVariants.{Act as ActEvent, Deliver as DeliverEvent, Restart as RestartEvent, Send as SendEvent, Tick as TickEvent}
+use Rattle.lra_world.specs.declared.event.Reply.{Reply}
+use Rattle.lra_world.specs.Worlds.{Comes, SentFrame, IfNode, IsSpelled, State, frame_at, is_node, set_of}
+use Rattle.lra_world.proofs.Determined.{one_spelling, step_once}
 use Rattle.lra_node.specs.declared.ask.Ask.{Ask}
-use Rattle.lra_node.specs.declared.ask.Ask.TheVariants.{Enter, Tick, Show, Member, Duties, Hear, Front, Same, Text, Read}
+use Rattle.lra_node.specs.declared.ask.Ask.TheVariants.{Enter, Tick, Send, Deliver, Restart, Show, Member, Duties, Hear, Front, Same, Text, Read}
 use Rattle.lra_node.specs.Asks.{Spells}
 use Rattle.lra_node.specs.Calls.{duties_text}
-use Rattle.lra_node.specs.Scripts.{Answers, AnswersInRoom, Does, IsDone, ScriptText, TextInRoom, after_tick, printed, tick_line}
-use Rattle.lra_node.specs.Worlds.{here}
-use Rattle.lra_node.proofs.Spelled.{id_by, one_ask}
-
--- one LRA is overdue with the least number
-less_or_more : (a b : ℕ) → (a < b) ⊎ ((b < a) ⊎ (a ≡ b))
-less_or_more a b = by (nat_lt a b) (nat_lt b a) refl refl
-  where
-    by : (x y : Bool) → nat_lt a b ≡ x → nat_lt b a ≡ y → (a < b) ⊎ ((b < a) ⊎ (a ≡ b))
-    by true y e f = let h : a < b = grind (arith, nat_tests) in inl h
-    by false true e f = let h : b < a = grind (arith, nat_tests) in inr (inl h)
-    by false false e f = let h : b ≤ a = grind (arith, nat_tests) in let k : a ≤ b = grind (arith, nat_tests) in inr (inr (omega (arith, h, k)))
-
-never_both : (b : Bool) → b ≡ true → b ≡ false → ⊥
-never_both true e f = absurd cc
-never_both false e f = absurd cc
-
-least_once : (S : List Fact) (home now : ℕ) (a b : Option Id) → IsLeastOverdue S home now a → IsLeastOverdue S home now b → a ≡ b
-least_once S home now None None h k = refl
-least_once S home now None (Some l) h k = absurd (never_both (is_overdue S now l) k.1 (h l k.0))
-least_once S home now (Some l) None h k = absurd (never_both (is_overdue S now l) h.1 (k l h.0))
-least_once S home now (Some l) (Some m) h k = elim (less_or_more l.num m.num) [
-  | inl less ↦ absurd (never_both (is_overdue S now l) h.1 (k.2 l h.0 less))
-  | inr (inl more) ↦ absurd (never_both (is_overdue S now m) k.1 (h.2 m k.0 more))
-  | inr (inr same) ↦ ap Some (id_by l m (h.0 ∙ sym k.0) same)
-]
+use Rattle.lra_node.specs.Scripts.{Answers, AnswersInRoom, Does, IsDone, PrintsReply, ScriptText, TellsSame, TextInRoom, event_line, printed}
+use Rattle.lra_node.specs.Worlds.{AreComing}
+use Rattle.lra_node.proofs.Spelled.{one_ask}
 
 -- what is asked is done in one way
-abbrev AreOne : (a x : List ℕ) (T U : List Fact) → Type 0
-AreOne a x T U = (a ≡ x) × (T ≡ U)
+abbrev AreOne : (a x : List ℕ) (t u : State) → Type 0
+AreOne a x t u = (a ≡ x) × (t ≡ u)
 
-tick_once : (S : List Fact) (now : ℕ) (a x : List ℕ) (T U : List Fact) (f g : Option Id) → f ≡ g → (a ≡ tick_line S f) × (T ≡ after_tick S f) → (x ≡ tick_line S g) × (U ≡ after_tick S g)
-    → AreOne a x T U
-tick_once S now a x T U f g e h k = (h.0 ∙ ap (tick_line S) e ∙ sym k.0, h.1 ∙ ap (after_tick S) e ∙ sym k.1)
+event_once : (s : State) (event : Event) (a x : List ℕ) (t u : State) → PrintsReply s event a t → PrintsReply s event x u → AreOne a x t u
+event_once s event a x t u (reply, steps, is) (other, goes, also) =
+    let one = step_once s t u event reply other steps goes in
+    (is ∙ ap (λ (r : Reply). event_line r) one.reply_is ∙ sym also, one.state_is)
 
-does_once : (S : List Fact) (ask : Ask) (a x : List ℕ) (T U : List Fact) → Does S ask a T → Does S ask x U → AreOne a x T U
-does_once S (Enter node command) a x T U h k = (h.0 ∙ sym k.0, h.1 ∙ sym k.1)
-does_once S (Tick node now) a x T U (f, least, is, same) (g, other, also, stays) =
-    tick_once S now a x T U f g (least_once S here now f g least other) (is, same) (also, stays)
-does_once S (Show node id) a x T U h k = (h.0 ∙ sym k.0, h.1 ∙ sym k.1)
-does_once S (Member node id m) a x T U h k = (h.0 ∙ sym k.0, h.1 ∙ sym k.1)
-does_once S (Duties node) a x T U (ds, all, is, same) (es, each, also, stays) =
-    (is ∙ ap (λ (l : List Duty). printed (duties_text l)) (one_list_of_duties here S ds es all each) ∙ sym also, same ∙ sym stays)
-does_once S (Hear node id m kind answer) a x T U h k = (h.0 ∙ sym k.0, h.1 ∙ sym k.1)
-does_once S (Front node) a x T U h k = (h.0 ∙ sym k.0, h.1 ∙ sym k.1)
-does_once S (Same node other) a x T U h k = (h.0 ∙ sym k.0, h.1 ∙ sym k.1)
-does_once S (Text id) a x T U h k = (h.0 ∙ sym k.0, h.1 ∙ sym k.1)
-does_once S (Read id) a x T U h k = (h.0 ∙ sym k.0, h.1 ∙ sym k.1)
+-- of a frame that was sent one number of bytes comes; another is refused whatever comes
+coming_once : (s : State) (frame node : ℕ) (kept : Option ℕ) (n m : ℕ) (a x : List ℕ) (t u : State) → AreComing s frame kept n → AreComing s frame kept m
+    → PrintsReply s (DeliverEvent frame node n) a t → PrintsReply s (DeliverEvent frame node m) x u → AreOne a x t u
+coming_once s frame node (Some kept) n m a x t u e f h k =
+    event_once s (DeliverEvent frame node m) a x t u (subst (λ (i : ℕ). PrintsReply s (DeliverEvent frame node i) a t) (e ∙ sym f) h) k
+coming_once s frame node None n m a x t u e f h k = by (frame_at s frame) refl e f
+  where
+    whole : Option SentFrame → ℕ → Type 0
+    whole found count = IfSome found (λ sent. (bytes : List ℕ) × IsSpelled s.history sent bytes × (count ≡ length bytes))
 
-asked_once : (S : List Fact) (ask other : Ask) (a x : List ℕ) (T U : List Fact) → ask ≡ other → Does S ask a T → Does S other x U → AreOne a x T U
-asked_once S ask other a x T U e h k = does_once S ask a x T U h (subst (λ (q : Ask). Does S q x U) (sym e) k)
+    as_well : frame_at s frame ≡ None → PrintsReply s (DeliverEvent frame node n) a t
+        → PrintsReply s (DeliverEvent frame node m) a t
+    as_well none (reply, steps, is) = (
+      reply,
+      subst (λ (f : Option SentFrame). IfNode (is_node s node) s (Comes s node f m reply t) reply t) (sym none)
+          (subst (λ (f : Option SentFrame). IfNode (is_node s node) s (Comes s node f n reply t) reply t) none steps),
+      is,
+    )
+
+    by : (found : Option SentFrame) → frame_at s frame ≡ found → whole found n → whole found m → AreOne a x t u
+    by None none e f = event_once s (DeliverEvent frame node m) a x t u (as_well none h) k
+    by (Some sent) found (bytes, spelled, count) (others, also, counts) =
+        let same : n ≡ m = count ∙ ap (λ (l : List ℕ). length l) (one_spelling s.history sent bytes others spelled also) ∙ sym counts in
+        event_once s (DeliverEvent frame node m) a x t u (subst (λ (i : ℕ). PrintsReply s (DeliverEvent frame node i) a t) same h) k
+
+same_once : (P : Type 0) (a x : List ℕ) → TellsSame P a → TellsSame P x → a ≡ x
+same_once P a x (inl (told, is)) (inl (also, same)) = is ∙ sym same
+same_once P a x (inl (told, is)) (inr (never, same)) = absurd (never told)
+same_once P a x (inr (never, is)) (inl (told, same)) = absurd (never told)
+same_once P a x (inr (never, is)) (inr (also, same)) = is ∙ sym same
+
+does_once : (s : State) (ask : Ask) (a x : List ℕ) (t u : State) → Does s ask a t → Does s ask x u → AreOne a x t u
+does_once s (Enter node command) a x t u h k = event_once s (ActEvent node command) a x t u h k
+does_once s (Tick node now) a x t u h k = event_once s (TickEvent node now) a x t u h k
+does_once s (Send node base) a x t u h k = event_once s (SendEvent node base) a x t u h k
+does_once s (Deliver frame node kept) a x t u (n, coming, prints) (m, comes, printing) = coming_once s frame node kept n m a x t u coming comes prints printing
+does_once s (Restart node) a x t u h k = event_once s (RestartEvent node) a x t u h k
+does_once s (Show node id) a x t u h k = (h.0 ∙ sym k.0, h.1 ∙ sym k.1)
+does_once s (Member node id m) a x t u h k = (h.0 ∙ sym k.0, h.1 ∙ sym k.1)
+does_once s (Duties node) a x t u (ds, all, is, same) (es, each, also, stays) =
+    (is ∙ ap (λ (l : List Duty). printed (duties_text l)) (one_list_of_duties node (set_of s node) ds es all each) ∙ sym also, same ∙ sym stays)
+does_once s (Hear node id m kind answer) a x t u h k = (h.0 ∙ sym k.0, h.1 ∙ sym k.1)
+does_once s (Front node) a x t u h k = (h.0 ∙ sym k.0, h.1 ∙ sym k.1)
+does_once s (Same node other) a x t u h k = (same_once _ a x h.0 k.0, h.1 ∙ sym k.1)
+does_once s (Text id) a x t u h k = (h.0 ∙ sym k.0, h.1 ∙ sym k.1)
+does_once s (Read id) a x t u h k = (h.0 ∙ sym k.0, h.1 ∙ sym k.1)
+
+asked_once : (s : State) (ask other : Ask) (a x : List ℕ) (t u : State) → ask ≡ other → Does s ask a t → Does s other x u → AreOne a x t u
+asked_once s ask other a x t u e h k = does_once s ask a x t u h (subst (λ (q : Ask). Does s q x u) (sym e) k)
 
 -- a line that is done is not bad
-never_bad : (nodes : ℕ) (S : List Fact) (line out : List ℕ) (T : List Fact) → IsDone nodes S line out T → (4096 < length line) ⊎ ((ask : Ask) → Spells nodes line ask → ⊥) → ⊥
-never_bad nodes S line out T (ask, short, spells, does) (inl long) = absurd (omega (arith, short, long))
-never_bad nodes S line out T (ask, short, spells, does) (inr none) = none ask spells
+never_bad : (nodes : ℕ) (s : State) (line out : List ℕ) (t : State) → IsDone nodes s line out t → (4096 < length line) ⊎ ((ask : Ask) → Spells nodes line ask → ⊥) → ⊥
+never_bad nodes s line out t (ask, short, spells, does) (inl long) = absurd (omega (arith, short, long))
+never_bad nodes s line out t (ask, short, spells, does) (inr none) = none ask spells
 
-line_once : (nodes : ℕ) (S : List Fact) (line a x : List ℕ) (T U : List Fact) → nodes ≤ 8 → AnswersInRoom nodes S line a T → AnswersInRoom nodes S line x U → AreOne a x T U
-line_once nodes S [] a x T U few h k = (h.0 ∙ sym k.0, h.1 ∙ sym k.1)
-line_once nodes S (b ∷ bs) a x T U few (inl (bad, is, stays)) (inl (also, same, rests)) = (is ∙ sym same, stays ∙ sym rests)
-line_once nodes S (b ∷ bs) a x T U few (inl (bad, is, stays)) (inr done) = absurd (never_bad nodes S (b ∷ bs) x U done bad)
-line_once nodes S (b ∷ bs) a x T U few (inr done) (inl (bad, is, stays)) = absurd (never_bad nodes S (b ∷ bs) a T done bad)
-line_once nodes S (b ∷ bs) a x T U few (inr (ask, short, spells, does)) (inr (other, brief, spell, shown)) =
-    asked_once S ask other a x T U (one_ask nodes (b ∷ bs) ask other few spells spell) does shown
+line_once : (nodes : ℕ) (s : State) (line a x : List ℕ) (t u : State) → nodes ≤ 8 → AnswersInRoom nodes s line a t → AnswersInRoom nodes s line x u → AreOne a x t u
+line_once nodes s [] a x t u few h k = (h.0 ∙ sym k.0, h.1 ∙ sym k.1)
+line_once nodes s (b ∷ bs) a x t u few (inl (bad, is, stays)) (inl (also, same, rests)) = (is ∙ sym same, stays ∙ sym rests)
+line_once nodes s (b ∷ bs) a x t u few (inl (bad, is, stays)) (inr done) = absurd (never_bad nodes s (b ∷ bs) x u done bad)
+line_once nodes s (b ∷ bs) a x t u few (inr done) (inl (bad, is, stays)) = absurd (never_bad nodes s (b ∷ bs) a t done bad)
+line_once nodes s (b ∷ bs) a x t u few (inr (ask, short, spells, does)) (inr (other, brief, spell, shown)) =
+    asked_once s ask other a x t u (one_ask nodes (b ∷ bs) ask other few spells spell) does shown
 
-pub text_once : (nodes : ℕ) (S : List Fact) (lines : List (List ℕ)) (a x : List ℕ) → nodes ≤ 8 → TextInRoom nodes S lines a → TextInRoom nodes S lines x → a ≡ x
-text_once nodes S [] a x few h k = h ∙ sym k
-text_once nodes S (line ∷ lines) a x few (first, rest, T, is, answers, more) (other, others, U, also, answer, further) =
-    let one = line_once nodes S line first other T U few answers answer in
-    let same = text_once nodes T lines rest others few more (subst (λ (V : List Fact). TextInRoom nodes V lines others) (sym one.1) further) in
+pub text_once : (nodes : ℕ) (s : State) (lines : List (List ℕ)) (a x : List ℕ) → nodes ≤ 8 → TextInRoom nodes s lines a → TextInRoom nodes s lines x → a ≡ x
+text_once nodes s [] a x few h k = h ∙ sym k
+text_once nodes s (line ∷ lines) a x few (first, rest, t, is, answers, more) (other, others, u, also, answer, further) =
+    let one = line_once nodes s line first other t u few answers answer in
+    let same = text_once nodes t lines rest others few more (subst (λ (v : State). TextInRoom nodes v lines others) (sym one.1) further) in
     is ∙ ap (λ (l : List ℕ). l ++ rest) one.0 ∙ ap (λ (l : List ℕ). other ++ l) same ∙ sym also
 
-in_room : (nodes : ℕ) (S : List Fact) (line a : List ℕ) (T : List Fact) → AnswersInRoom nodes S line a T → Answers nodes S line a T
-in_room nodes S [] a T h = h
-in_room nodes S (b ∷ bs) a T h = inr h
+in_room : (nodes : ℕ) (s : State) (line a : List ℕ) (t : State) → AnswersInRoom nodes s line a t → Answers nodes s line a t
+in_room nodes s [] a t h = h
+in_room nodes s (b ∷ bs) a t h = inr h
 
 -- it is a text of the script
-pub text_is_one : (nodes : ℕ) (S : List Fact) (lines : List (List ℕ)) (a : List ℕ) → TextInRoom nodes S lines a → ScriptText nodes S lines a
-text_is_one nodes S [] a h = h
-text_is_one nodes S (line ∷ lines) a (first, rest, T, is, answers, more) = (first, rest, T, is, in_room nodes S line first T answers, text_is_one nodes T lines rest more)
+pub text_is_one : (nodes : ℕ) (s : State) (lines : List (List ℕ)) (a : List ℕ) → TextInRoom nodes s lines a → ScriptText nodes s lines a
+text_is_one nodes s [] a h = h
+text_is_one nodes s (line ∷ lines) a (first, rest, t, is, answers, more) = (first, rest, t, is, in_room nodes s line first t answers, text_is_one nodes t lines rest more)

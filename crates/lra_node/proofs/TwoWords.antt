@@ -11,9 +11,3 @@ two (a ∷ b ∷ c ∷ xs) x y low high e f = absurd (omega (arith, high))
 -- what they are seen as is these two words, or not
 pub both_words : {X : Type 0} (f : X → List ℕ) (xs : List X) (x y : X) (p q : List ℕ) → xs ≡ x ∷ y ∷ [] → f x ≡ p → f y ≡ q → map f xs ≡ p ∷ q ∷ []
 both_words f xs x y p q all e g = ap (map f) all ∙ ap (λ k. k ∷ f y ∷ []) e ∙ ap (λ k. p ∷ k ∷ []) g
-
-pub second_word : {X : Type 0} (f : X → List ℕ) (xs : List X) (x y : X) (p q : List ℕ) → xs ≡ x ∷ y ∷ [] → map f xs ≡ p ∷ q ∷ [] → f y ≡ q
-second_word f xs x y p q all e = same (f x) (f y) p q (sym (ap (map f) all) ∙ e)
-  where
-    same : (a b c d : List ℕ) → ◌≡◌ {A = List (List ℕ)} (a ∷ b ∷ []) (c ∷ d ∷ []) → b ≡ d
-    same a b c d e = cc

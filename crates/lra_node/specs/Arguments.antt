@@ -1,6 +1,12 @@
 -- What the program's arguments ask for.
-use Rattle.std.specs.Prelude.{ℕ, List, [], ◌∷◌, codes}
+use Rattle.std.specs.Prelude.{◌≡◌, ℕ, List, [], ◌∷◌, codes}
+use Rattle.std.specs.Fmt.{decimal}
+use Rattle.lra_node.specs.Asks.{IsNodeOf}
 
--- a script of one node
-abbrev pub asked_words : List (List ℕ)
-asked_words = codes "script" ∷ codes "1" ∷ []
+-- a script of so many nodes
+abbrev pub asked_words : ℕ → List (List ℕ)
+asked_words nodes = codes "script" ∷ decimal nodes ∷ []
+
+-- words ask for a script of so many nodes, 1 to 8
+abbrev pub AskScript : List (List ℕ) → ℕ → Type 0
+AskScript words nodes = IsNodeOf 8 nodes × (words ≡ asked_words nodes)

@@ -1,11 +1,11 @@
 -- The commands of the script, and how a line spells them.
-use Rattle.std.specs.Prelude.{◌≡◌, ◌≤◌, ◌<◌, ◌^◌, ℕ, List, [], ◌∷◌, codes, Option, Some, None, IfSome}
+use Rattle.std.specs.Prelude.{◌≡◌, ◌≤◌, ◌<◌, ◌^◌, ℕ, List, [], ◌∷◌, All, codes, length, map, Option, Some, None, IfSome}
 use Rattle.std.specs.Fmt.{decimal}
 use Rattle.lra_id.specs.Ids.{Id, IsId, IsTextOf, id_text}
 use Rattle.lra_states.specs.Names.{verdict_name, act_name, outcome_name}
 use Rattle.lra_callback.specs.Names.{kind_name}
 use Rattle.lra_node.specs.declared.ask.Ask.{Ask}
-use Rattle.lra_node.specs.declared.ask.Ask.TheVariants.{Enter, Tick, Show, Member, Duties, Hear, Front, Same, Text, Read}
+use Rattle.lra_node.specs.declared.ask.Ask.TheVariants.{Enter, Tick, Send, Deliver, Restart, Show, Member, Duties, Hear, Front, Same, Text, Read}
 use Rattle.lra_replica.specs.declared.command.Command.{Command}
 use Rattle.lra_replica.specs.declared.command.Command.TheVariants.{Begin, Join, Leave, Decide, Report, Forgot, Purge}
 use Rattle.lra_node.specs.Calls.{AnswerFits, GivesAnswer}
@@ -20,6 +20,14 @@ IsNodeOf nodes n = (1 ≤ n) × (n ≤ nodes)
 abbrev pub IsMemberNumber : ℕ → Type 0
 IsMemberNumber m = (1 ≤ m) × (m ≤ 32)
 
+-- numbers in a line are below 2^64
+abbrev pub IsNumber : ℕ → Type 0
+IsNumber n = n < 2 ^ 64
+
+-- a base has a count for each of so many nodes
+abbrev pub IsBaseOf : ℕ → List ℕ → Type 0
+IsBaseOf nodes base = (length base ≡ nodes) × All IsNumber base
+
 abbrev pub CommandFits : Command → Type 0
 CommandFits (Begin parent deadline) = IfSome parent IsId × (deadline < 2 ^ 64)
 CommandFits (Join id links) = IsId id
@@ -33,6 +41,9 @@ CommandFits (Purge root) = IsId root
 abbrev pub Fits : ℕ → Ask → Type 0
 Fits nodes (Enter node command) = IsNodeOf nodes node × CommandFits command
 Fits nodes (Tick node now) = IsNodeOf nodes node × (now < 2 ^ 64)
+Fits nodes (Send node base) = IsNodeOf nodes node × IsBaseOf nodes base
+Fits nodes (Deliver frame node kept) = IsNumber frame × IsNodeOf nodes node × IfSome kept IsNumber
+Fits nodes (Restart node) = IsNodeOf nodes node
 Fits nodes (Show node id) = IsNodeOf nodes node × IsId id
 Fits nodes (Member node id member) = IsNodeOf nodes node × IsId id × IsMemberNumber member
 Fits nodes (Duties node) = IsNodeOf nodes node
@@ -52,6 +63,9 @@ verb_of (Enter node (Report id member act outcome)) = codes "report"
 verb_of (Enter node (Forgot id member)) = codes "forgot"
 verb_of (Enter node (Purge root)) = codes "purge"
 verb_of (Tick node now) = codes "tick"
+verb_of (Send node base) = codes "send"
+verb_of (Deliver frame node kept) = codes "deliver"
+verb_of (Restart node) = codes "restart"
 verb_of (Show node id) = codes "show"
 verb_of (Member node id member) = codes "member"
 verb_of (Duties node) = codes "duties"
@@ -66,6 +80,11 @@ abbrev pub parent_words : Option Id → List (List ℕ)
 parent_words None = []
 parent_words (Some p) = id_text p ∷ []
 
+-- and so is a count of bytes
+abbrev pub kept_words : Option ℕ → List (List ℕ)
+kept_words None = []
+kept_words (Some n) = decimal n ∷ []
+
 -- the words after it; numbers are decimal without leading zeros
 abbrev pub HasArguments : List (List ℕ) → Ask → Type 0
 HasArguments words (Enter node (Begin parent deadline)) = words ≡ decimal node ∷ decimal deadline ∷ parent_words parent
@@ -78,6 +97,9 @@ HasArguments words (Enter node (Report id member act outcome)) =
 HasArguments words (Enter node (Forgot id member)) = words ≡ decimal node ∷ id_text id ∷ decimal member ∷ []
 HasArguments words (Enter node (Purge root)) = words ≡ decimal node ∷ id_text root ∷ []
 HasArguments words (Tick node now) = words ≡ decimal node ∷ decimal now ∷ []
+HasArguments words (Send node base) = words ≡ decimal node ∷ map decimal base
+HasArguments words (Deliver frame node kept) = words ≡ decimal frame ∷ decimal node ∷ kept_words kept
+HasArguments words (Restart node) = words ≡ decimal node ∷ []
 HasArguments words (Show node id) = words ≡ decimal node ∷ id_text id ∷ []
 HasArguments words (Member node id member) = words ≡ decimal node ∷ id_text id ∷ decimal member ∷ []
 HasArguments words (Duties node) = words ≡ decimal node ∷ []

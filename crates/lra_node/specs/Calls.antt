@@ -23,7 +23,6 @@ use Rattle.lra_callback.specs.declared.duty.Duty.{Duty}
 use Rattle.lra_callback.specs.Duties.{act_wanted}
 use Rattle.lra_callback.specs.Names.{kind_name}
 use Rattle.lra_node.specs.Parts.{words_of}
-use Rattle.lra_node.specs.Worlds.{front_of}
 
 -- How a line spells an answer
 
@@ -53,12 +52,12 @@ abbrev pub act_where : Result MemberStatus Refusal → Result Act Refusal → Re
 act_where (Err r) act = Err r
 act_where (Ok status) act = act
 
--- Of a status it is the act that the LRA's want demands. What is heard of a forget is the same for either act
-abbrev pub act_asked : List Fact → Kind → Id → ℕ → Result Act Refusal
-act_asked S Complete id m = Ok CompleteAct
-act_asked S Compensate id m = Ok CompensateAct
-act_asked S Status id m = act_where (member_shown S (front_of S) id m) (act_demanded (act_wanted (want S id)))
-act_asked S Forget id m = Ok CompleteAct
+-- Over the facts S, which the front counts. Of a status it is the act that the LRA's want demands. What is heard of a forget is the same for either act
+abbrev pub act_asked : List Fact → List ℕ → Kind → Id → ℕ → Result Act Refusal
+act_asked S front Complete id m = Ok CompleteAct
+act_asked S front Compensate id m = Ok CompensateAct
+act_asked S front Status id m = act_where (member_shown S front id m) (act_demanded (act_wanted (want S id)))
+act_asked S front Forget id m = Ok CompleteAct
 
 -- what is heard is reported, or entered as forgotten; where the participant is to be called again, nothing is entered
 abbrev pub command_of : Id → ℕ → Act → Heard → Option Command

@@ -1,41 +1,37 @@
 // What a line prints, and what it does to the world.
-ghost use Rattle.std.specs.Prelude.{◌≡◌, ◌≤◌, ◌++◌, ℕ, List, [], length, codes, IfOk, OnErr, string_bytes};
-ghost use Rattle.lra_facts.specs.declared.fact.Fact.{Fact};
+ghost use Rattle.std.specs.Prelude.{◌≡◌, ◌≤◌, length, IfOk, OnErr, string_bytes};
 ghost use Rattle.lra_facts.specs.declared.refusal.Refusal.TheVariants.{NoMemory};
-ghost use Rattle.std.specs.Fmt.{decimal};
-ghost use Rattle.lra_id.specs.Fronts.{front_text};
-ghost use Rattle.lra_id.specs.Ids.{id_text, text_of};
-ghost use Rattle.lra_replica.specs.Prepared.{member_shown, shown_of};
-ghost use Rattle.lra_states.specs.declared.outcome.Verdict.TheVariants.{Cancel};
-ghost use Rattle.lra_replica.specs.declared.command.Command.TheVariants.{Decide};
-ghost use Rattle.lra_node.specs.declared.ask.Ask.TheVariants.{Tick};
-ghost use Rattle.lra_node.specs.Scripts.{IsRefusal, WasAnswered, WasDone, began_text, expired_line, member_line, printed, refused, reply_line, status_line};
-ghost use Rattle.lra_node.specs.Worlds.{Holds, after_here, front_of, reply_here};
+ghost use Rattle.lra_world.specs.Machines.{IsWorldOf};
+ghost use Rattle.lra_world.specs.Worlds.{State};
+ghost use Rattle.lra_node.specs.declared.ask.Ask.TheVariants.{Deliver};
+ghost use Rattle.lra_node.specs.Asks.{Fits};
+ghost use Rattle.lra_node.specs.Scripts.{HasHappened, WasAnswered, WasDone, refused};
+ghost use Rattle.lra_node.specs.Worlds.{AreComing};
 
 use crate::ask::Ask;
 use crate::asking::ask_of;
 use crate::calls::{hear_answer, show_duties};
 use crate::line::MOST_IN_LINE;
 use crate::room::Room;
-use crate::telling::{refusal_line, tell, word_line};
-use crate::world::World;
+use crate::showing::{held, id_line, show, show_front, show_member, show_same, text_line};
+use crate::telling::{refusal_line, tell};
 use lra_facts::Refusal;
-use lra_id::LraId;
-use lra_replica::{Command, CommandReply};
-use lra_states::Verdict;
+use lra_id::NodeId;
+use lra_replica::CommandReply;
+use lra_world::{Event, World};
 use std::alloc::{AllocError, Global};
-use std::str;
 
-/// What a line prints, and what it does to the world. Want of memory is no event.
+/// What a line prints, and what it does to the world of so many nodes. Want of memory is no event.
 pub fn answer(
     alloc: Global,
     world: &mut World,
     line: &[u8],
     nodes: u8,
 ) -> Result<String, AllocError>
-    requires { nodes ≤ 8 }
-    ensures ok { (S : List Fact) → Holds S world.old → IfOk result (λ text. WasAnswered nodes S line.now (string_bytes text) world.new) }
-    ensures err { (S : List Fact) → Holds S world.old → OnErr result (WasAnswered nodes S line.now (refused NoMemory) world.new) }
+    requires few { nodes ≤ 8 }
+    requires nodes { length world.old.replicas ≡ nodes }
+    ensures ok { (s : State) → IsWorldOf s world.old → IfOk result (λ text. WasAnswered nodes s line.now (string_bytes text) world.new) }
+    ensures err { (s : State) → IsWorldOf s world.old → OnErr result (WasAnswered nodes s line.now (refused NoMemory) world.new) }
 {
     if line.is_empty() {
         return Ok(String::new(alloc));
@@ -52,138 +48,69 @@ pub fn answer(
 
 /// What is printed for what a line asks, and what that does to the world.
 fn obey(alloc: Global, world: &mut World, ask: Ask) -> Result<String, AllocError>
-    ensures ok { (S : List Fact) → Holds S world.old → IfOk result (λ text. WasDone S ask (string_bytes text) world.new) }
-    ensures err { (S : List Fact) → Holds S world.old → OnErr result (Holds S world.new) }
+    requires { Fits (length world.old.replicas) ask }
+    ensures ok { (s : State) → IsWorldOf s world.old → IfOk result (λ text. WasDone s ask (string_bytes text) world.new) }
+    ensures err { (s : State) → IsWorldOf s world.old → OnErr result (IsWorldOf s world.new) }
 {
     match ask {
-        Ask::Enter { command, .. } => enter(alloc, world, command),
-        Ask::Tick { now, .. } => tick(alloc, world, now),
-        Ask::Show { id, .. } => show(alloc, world, id),
-        Ask::Member { id, member, .. } => show_member(alloc, world, id, member),
-        Ask::Duties { .. } => show_duties(alloc, world),
+        Ask::Enter { node, command } => happen(alloc, world, Event::Act { node, command }),
+        Ask::Tick { node, now } => happen(alloc, world, Event::Tick { node, now }),
+        Ask::Send { node, base } => happen(alloc, world, Event::Send { node, base }),
+        Ask::Deliver { frame, node, kept } => deliver(alloc, world, frame, node, kept),
+        Ask::Restart { node } => happen(alloc, world, Event::Restart { node }),
         Ask::Hear {
+            node,
             id,
             member,
             kind,
             answer,
-            ..
-        } => hear_answer(alloc, world, id, member, kind, &answer),
-        Ask::Front { .. } => show_front(alloc, world),
-        Ask::Same { .. } => show_same(alloc, world),
+        } => hear_answer(alloc, world, node, id, member, kind, &answer),
+        Ask::Show { node, id } => show(alloc, held(world, node), id),
+        Ask::Member { node, id, member } => show_member(alloc, held(world, node), id, member),
+        Ask::Duties { node } => show_duties(alloc, held(world, node), node),
+        Ask::Front { node } => show_front(alloc, held(world, node)),
+        Ask::Same { node, other } => show_same(alloc, held(world, node), held(world, other)),
         Ask::Text(id) => text_line(alloc, id),
         Ask::Read(id) => id_line(alloc, id),
     }
 }
 
-/// Has a command entered, and tells the reply in room that was made before.
-fn enter(alloc: Global, world: &mut World, command: Command) -> Result<String, AllocError>
-    ensures ok { (S : List Fact) → Holds S world.old → IfOk result (λ text. string_bytes text ≡ reply_line (reply_here S command)) }
-    ensures after { (S : List Fact) → Holds S world.old → IfOk result (λ _. Holds (after_here S command) world.new) }
-    ensures err { (S : List Fact) → Holds S world.old → OnErr result (Holds S world.new) }
+/// Has an event happen, and tells the reply in room that was made before.
+fn happen(alloc: Global, world: &mut World, event: Event) -> Result<String, AllocError>
+    ensures ok { (s : State) → IsWorldOf s world.old → IfOk result (λ text. HasHappened s event (string_bytes text) world.new) }
+    ensures err { (s : State) → IsWorldOf s world.old → OnErr result (IsWorldOf s world.new) }
 {
+    // Without a value of this type here the toolchain's borrow checker can't build its plan for a `Reply`.
+    let _ = CommandReply::Refused(Refusal::NoMemory);
     let room = Room::new(alloc)?;
-    match world.step(alloc, command) {
+    match world.step(alloc, event) {
         Ok(reply) => tell(alloc, room, reply),
         Err(error) => Err(error),
     }
 }
 
-/// Cancels the overdue LRA with the least number, and tells of it in room that was made before.
-fn tick(alloc: Global, world: &mut World, now: u64) -> Result<String, AllocError>
-    ensures ok { (S : List Fact) (node : ℕ) → Holds S world.old → IfOk result (λ text. WasDone S (Tick node now) (string_bytes text) world.new) }
-    ensures err { (S : List Fact) → Holds S world.old → OnErr result (Holds S world.new) }
-{
-    let room = Room::new(alloc)?;
-    let found = world.overdue(now);
-    let Some(id) = found else {
-        return Ok(word_line(room, "quiet"));
-    };
-    let verdict = Verdict::Cancel;
-    match world.step(alloc, Command::Decide { id, verdict }) {
-        Ok(reply) => tell_expired(alloc, room, id, reply),
-        Err(error) => Err(error),
-    }
-}
-
-/// The line that tells of an LRA that was cancelled since its deadline had passed, or of the refusal.
-fn tell_expired(
+/// Has a frame come to a node, or the first so many bytes of it.
+fn deliver(
     alloc: Global,
-    room: Room,
-    id: LraId,
-    reply: CommandReply,
+    world: &mut World,
+    frame: u64,
+    node: NodeId,
+    kept: Option<u64>,
 ) -> Result<String, AllocError>
-    requires { room ≡ [] }
-    ensures ok { IfOk result (λ text. string_bytes text ≡ expired_line id reply) }
-    ensures err { OnErr result (IsRefusal reply) }
+    ensures ok { (s : State) → IsWorldOf s world.old → IfOk result (λ text. WasDone s (Deliver frame node kept) (string_bytes text) world.new) }
+    ensures err { (s : State) → IsWorldOf s world.old → OnErr result (IsWorldOf s world.new) }
 {
-    match reply {
-        CommandReply::Refused(refusal) => refusal_line(alloc, refusal),
-        _ => Ok(expired_line(room, id)),
+    let frame = frame as usize;
+    let kept = bytes_coming(world, frame, kept);
+    happen(alloc, world, Event::Deliver { frame, node, kept })
+}
+
+/// How many bytes of a frame come: as many as are given, else the whole frame.
+fn bytes_coming(world: &World, frame: usize, kept: Option<u64>) -> usize
+    ensures { (s : State) → IsWorldOf s world.now → AreComing s frame kept result }
+{
+    match kept {
+        Some(kept) => kept as usize,
+        None => world.frame_len(frame).unwrap_or(0),
     }
-}
-
-/// The line that tells of an LRA that was cancelled since its deadline had passed.
-fn expired_line(mut room: Room, id: LraId) -> String
-    requires { room ≡ [] }
-    ensures { string_bytes result ≡ printed (codes "expired " ++ id_text id) }
-{
-    room.text("expired ");
-    room.id(id);
-    room.into_line()
-}
-
-/// What is shown of an LRA.
-fn show(alloc: Global, world: &World, id: LraId) -> Result<String, AllocError>
-    ensures { (S : List Fact) → Holds S world.now → IfOk result (λ text. string_bytes text ≡ status_line (shown_of S (front_of S) id)) }
-{
-    match world.status(id) {
-        Ok(status) => format!(in alloc; "{status}\n"),
-        Err(refusal) => refusal_line(alloc, refusal),
-    }
-}
-
-/// What is shown of a participant.
-fn show_member(alloc: Global, world: &World, id: LraId, member: u8) -> Result<String, AllocError>
-    ensures { (S : List Fact) → Holds S world.now → IfOk result (λ text. string_bytes text ≡ member_line (member_shown S (front_of S) id member)) }
-{
-    match world.member(id, member) {
-        Ok(status) => format!(in alloc; "{status}\n"),
-        Err(refusal) => refusal_line(alloc, refusal),
-    }
-}
-
-/// How many facts the node has.
-fn show_front(alloc: Global, world: &World) -> Result<String, AllocError>
-    ensures { (S : List Fact) → Holds S world.now → IfOk result (λ text. string_bytes text ≡ printed (codes "front " ++ front_text (front_of S))) }
-{
-    let front = world.front();
-    format!(in alloc; "front {front}\n")
-}
-
-/// Whether two nodes hold the same.
-fn show_same(alloc: Global, world: &World) -> Result<String, AllocError>
-    ensures { IfOk result (λ text. string_bytes text ≡ printed (codes "same")) }
-{
-    if !world.is_same() {
-        return format!(in alloc; "differ\n");
-    }
-    format!(in alloc; "same\n")
-}
-
-/// The text of an id as a UUID.
-fn text_line(alloc: Global, id: LraId) -> Result<String, AllocError>
-    ensures { IfOk result (λ text. string_bytes text ≡ printed (text_of id)) }
-{
-    let bytes = id.to_text();
-    match str::from_utf8(&bytes) {
-        Ok(text) => format!(in alloc; "{text}\n"),
-        Err(_) => unreachable!(),
-    }
-}
-
-/// The id that a text was read as.
-fn id_line(alloc: Global, id: LraId) -> Result<String, AllocError>
-    ensures { IfOk result (λ text. string_bytes text ≡ printed (id_text id)) }
-{
-    format!(in alloc; "{id}\n")
 }

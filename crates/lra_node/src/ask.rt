@@ -1,6 +1,6 @@
 // What a line of the script asks.
 use lra_callback::{Answer, Kind};
-use lra_id::{LraId, NodeId};
+use lra_id::{Front, LraId, NodeId};
 use lra_replica::Command;
 
 /// What a line asks.
@@ -16,6 +16,21 @@ pub enum Ask {
     Tick {
         node: NodeId,
         now: u64,
+    },
+    /// `send NODE COUNT ..`, a count for each node: a node sends what it has since a base.
+    Send {
+        node: NodeId,
+        base: Front,
+    },
+    /// `deliver K NODE`, `deliver K NODE BYTES`: a frame that was sent comes to a node, or the first so many bytes of it.
+    Deliver {
+        frame: u64,
+        node: NodeId,
+        kept: Option<u64>,
+    },
+    /// `restart NODE`: a node starts again, with what it holds.
+    Restart {
+        node: NodeId,
     },
     /// `show NODE ID`: what a node shows of an LRA.
     Show {

@@ -16,7 +16,7 @@ use joins::join_of;
 use lra_states::Verdict;
 use lras::{begin_of, decide_of, purge_of, read_of, show_of, text_of};
 use members::{forgot_of, leave_of, member_of, report_of};
-use nodes::{duties_of, front_of, same_of, tick_of};
+use nodes::{deliver_of, duties_of, front_of, restart_of, same_of, send_of, tick_of};
 use std::alloc::{AllocError, Global};
 
 /// What a line asks of a world of so many nodes. Only the links of a join and the body of an answer take memory.
@@ -34,7 +34,26 @@ pub fn ask_of(alloc: Global, line: &[u8], nodes: u8) -> Result<Option<Ask>, Allo
     if verb == b"answer".as_slice() {
         return hear_of(alloc, words, nodes);
     }
-    Ok(asked_of_nodes(verb, words, nodes))
+    Ok(asked_of_frames(verb, words, nodes))
+}
+
+/// What the words after a verb ask of nodes, frames, LRAs and participants, where nothing of the words is kept.
+fn asked_of_frames(verb: &[u8], words: Words<'_>, nodes: u8) -> Option<Ask>
+    requires few { nodes ≤ 8 }
+    requires no_join { verb.now ≡ codes "join" → ⊥ }
+    requires no_answer { verb.now ≡ codes "answer" → ⊥ }
+    ensures { ReadsArguments nodes verb.now words.entry result }
+{
+    if verb == b"send".as_slice() {
+        return send_of(words, nodes);
+    }
+    if verb == b"deliver".as_slice() {
+        return deliver_of(words, nodes);
+    }
+    if verb == b"restart".as_slice() {
+        return restart_of(words, nodes);
+    }
+    asked_of_nodes(verb, words, nodes)
 }
 
 /// What the words after a verb ask of nodes, LRAs and participants, where nothing of the words is kept.
@@ -42,6 +61,9 @@ fn asked_of_nodes(verb: &[u8], words: Words<'_>, nodes: u8) -> Option<Ask>
     requires few { nodes ≤ 8 }
     requires no_join { verb.now ≡ codes "join" → ⊥ }
     requires no_answer { verb.now ≡ codes "answer" → ⊥ }
+    requires no_send { verb.now ≡ codes "send" → ⊥ }
+    requires no_deliver { verb.now ≡ codes "deliver" → ⊥ }
+    requires no_restart { verb.now ≡ codes "restart" → ⊥ }
     ensures { ReadsArguments nodes verb.now words.entry result }
 {
     if verb == b"duties".as_slice() {
@@ -64,6 +86,9 @@ fn asked_of_lras(verb: &[u8], words: Words<'_>, nodes: u8) -> Option<Ask>
     requires few { nodes ≤ 8 }
     requires no_join { verb.now ≡ codes "join" → ⊥ }
     requires no_answer { verb.now ≡ codes "answer" → ⊥ }
+    requires no_send { verb.now ≡ codes "send" → ⊥ }
+    requires no_deliver { verb.now ≡ codes "deliver" → ⊥ }
+    requires no_restart { verb.now ≡ codes "restart" → ⊥ }
     requires no_duties { verb.now ≡ codes "duties" → ⊥ }
     requires no_front { verb.now ≡ codes "front" → ⊥ }
     requires no_same { verb.now ≡ codes "same" → ⊥ }

@@ -1,4 +1,4 @@
-//! The program: a script of commands over a world of one node.
+//! The program: a script of commands over a world of one to eight nodes.
 #![tactic(auto)]
 
 mod answer;
@@ -10,16 +10,18 @@ mod line;
 mod number;
 mod room;
 mod script;
+mod showing;
 mod telling;
 #[cfg(test)]
 mod tests;
 mod words;
-mod world;
 
-ghost use Rattle.std.specs.Prelude.{◌≡◌, ◌↔◌, IsTrue, OnErr, OnOk, map, string_bytes};
-ghost use Rattle.lra_node.specs.Arguments.{asked_words};
+ghost use Rattle.std.specs.Prelude.{◌≡◌, ℕ, MatchOption, OnErr, OnOk, map, string_bytes};
+ghost use Rattle.lra_node.specs.Arguments.{AskScript};
 
 use lra_http::{OverRead, OverWrite};
+use lra_id::MOST_NODES;
+use number::node_of;
 use script::{ScriptFault, script};
 use std::process::ExitCode;
 use std::{env, io};
@@ -32,10 +34,10 @@ fn main(rt: HostRuntime) -> ExitCode {
     let Ok(words) = arguments(&rt) else {
         return ExitCode::from(1);
     };
-    let outcome = if is_script(&words) {
+    let outcome = if let Some(nodes) = asked_nodes(&words) {
         let mut reader = OverRead::new(rt.reader());
         let mut writer = OverWrite::new(io::writer(&rt));
-        script(rt.alloc(), &mut reader, &mut writer, 1)
+        script(rt.alloc(), &mut reader, &mut writer, nodes)
     } else {
         let _ = eprintln!(rt; "{USAGE}");
         Ok(())
@@ -52,23 +54,27 @@ fn arguments(rt: &HostRuntime) -> io::Result<Vec<String>> {
     Ok(words)
 }
 
-/// Whether the arguments ask for a script of one node: there is no other count until the script has frames.
-fn is_script(words: &[String]) -> bool
-    ensures { IsTrue result ↔ (map string_bytes words.now ≡ asked_words) }
+/// How many nodes a script is to have, where the arguments ask for a script.
+fn asked_nodes(words: &[String]) -> Option<u8>
+    ensures { MatchOption result ((nodes : ℕ) → AskScript (map string_bytes words.now) nodes → ⊥) (AskScript (map string_bytes words.now)) }
 {
-    match words {
-        [command, nodes] => command.as_str() == "script" && nodes.as_str() == "1",
-        _ => false,
+    let [command, count] = words else {
+        return None;
+    };
+    if command.as_str() != "script" {
+        return None;
     }
+    let last = node_of(count.as_bytes(), MOST_NODES)?;
+    Some(last.number())
 }
 
 /// The exit status, by the arguments and by how the script that they asked for came out.
 fn status_of(words: &[String], outcome: Result<(), ScriptFault>) -> u8
-    ensures other { (map string_bytes words.now ≡ asked_words → ⊥) → result ≡ 2 }
-    ensures ended { map string_bytes words.now ≡ asked_words → OnOk outcome (result ≡ 0) }
-    ensures fault { map string_bytes words.now ≡ asked_words → OnErr outcome (result ≡ 1) }
+    ensures other { ((nodes : ℕ) → AskScript (map string_bytes words.now) nodes → ⊥) → result ≡ 2 }
+    ensures ended { (nodes : ℕ) → AskScript (map string_bytes words.now) nodes → OnOk outcome (result ≡ 0) }
+    ensures fault { (nodes : ℕ) → AskScript (map string_bytes words.now) nodes → OnErr outcome (result ≡ 1) }
 {
-    if !is_script(words) {
+    if asked_nodes(words).is_none() {
         return 2;
     }
     match outcome {

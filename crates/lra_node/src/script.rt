@@ -1,15 +1,15 @@
 // The script, over any source and sink.
-ghost use Rattle.std.specs.Prelude.{◌≡◌, ◌≤◌, ◌<◌, ◌+◌, ◌⊎◌, List, OnOk, OnErr};
+ghost use Rattle.std.specs.Prelude.{◌≡◌, ◌≤◌, ◌<◌, ◌+◌, ◌⊎◌, length, OnOk, OnErr};
 ghost use Rattle.std.specs.Io.KnownBytes.{Appends};
 ghost use Rattle.lra_http.specs.Streams.{AppendsPart, most_interrupted};
-ghost use Rattle.lra_facts.specs.declared.fact.Fact.{Fact};
+ghost use Rattle.lra_world.specs.Machines.{IsWorldOf};
+ghost use Rattle.lra_world.specs.Worlds.{State};
 ghost use Rattle.lra_node.specs.Scripts.{AnswersWhole, IsFewALine, Prints, ReadsToEnd, WritesText, most_reads};
-ghost use Rattle.lra_node.specs.Worlds.{Holds};
 
 use crate::answer::answer;
 use crate::line::{KEPT_OF_LINE, read_line};
-use crate::world::World;
 use lra_http::{Sink, Source, WriteFault, write_all};
+use lra_world::World;
 use std::alloc::Global;
 
 /// Why a script stopped before its input's end.
@@ -23,14 +23,16 @@ pub enum ScriptFault {
     NoMemory,
 }
 
-/// Runs the commands that are read, one a line, and writes what each prints. It ends with its input, or at a fault.
+/// Runs the commands that are read, one a line, over a world of 1 to 8 nodes that has no facts yet, and writes what each
+/// prints. It ends with its input, or at a fault.
 pub fn script<R: Source, W: Sink>(
     alloc: Global,
     reader: &mut R,
     writer: &mut W,
     nodes: u8,
 ) -> Result<(), ScriptFault>
-    requires one { nodes ≡ 1 }
+    requires some { 1 ≤ nodes }
+    requires few { nodes ≤ 8 }
 
     // What is written is the text of what is read; after a fault it is a front of it. After a read fault every line that
     // was read whole is answered whole.
@@ -52,7 +54,7 @@ pub fn script<R: Source, W: Sink>(
     let Ok(mut line) = Vec::with_capacity(alloc, KEPT_OF_LINE) else {
         return Err(ScriptFault::NoMemory);
     };
-    let Ok(mut world) = World::new(alloc) else {
+    let Ok(mut world) = World::new(alloc, usize::from(nodes)) else {
         return Err(ScriptFault::NoMemory);
     };
     let mut reads_left = u64::MAX;
@@ -77,9 +79,10 @@ fn print_line<W: Sink>(
     nodes: u8,
     writer: &mut W,
 ) -> Result<(), WriteFault>
-    requires { nodes ≤ 8 }
-    ensures ok { (S : List Fact) → Holds S world.old → OnOk result (Prints nodes S line.now world.new (Appends (W.written writer.old) (W.written writer.new))) }
-    ensures err { (S : List Fact) → Holds S world.old → OnErr result (Prints nodes S line.now world.new (AppendsPart (W.written writer.old) (W.written writer.new))) }
+    requires few { nodes ≤ 8 }
+    requires nodes { length world.old.replicas ≡ nodes }
+    ensures ok { (s : State) → IsWorldOf s world.old → OnOk result (Prints nodes s line.now world.new (Appends (W.written writer.old) (W.written writer.new))) }
+    ensures err { (s : State) → IsWorldOf s world.old → OnErr result (Prints nodes s line.now world.new (AppendsPart (W.written writer.old) (W.written writer.new))) }
     ensures none_failed { OnOk result (W.failed writer.new ≡ W.failed writer.old) }
     ensures counted { W.interrupted writer.old ≤ W.interrupted writer.new }
     ensures few { OnOk result (W.interrupted writer.new < W.interrupted writer.old + most_interrupted) }

@@ -1,16 +1,35 @@
-// The lines that replies print: of an event, in room that was made before it.
+// The lines that replies print: of what happened, in room that was made before it.
 ghost use Rattle.std.specs.Prelude.{◌≡◌, ◌≤◌, ◌++◌, [], length, codes, IfOk, OnErr, string_bytes};
 ghost use Rattle.std.specs.Fmt.{decimal};
-ghost use Rattle.lra_node.specs.Scripts.{IsRefusal, began_text, printed, refused, reply_line};
+ghost use Rattle.lra_id.specs.Ids.{id_text};
+ghost use Rattle.lra_node.specs.Scripts.{IsNothing, IsRefusal, began_text, event_line, printed, refused, reply_line};
 
 use crate::room::Room;
 use lra_facts::Refusal;
 use lra_id::LraId;
 use lra_replica::CommandReply;
+use lra_world::Reply;
 use std::alloc::{AllocError, Global};
 
-/// The line that a reply prints: of an event, in room that was made before.
-pub fn tell(alloc: Global, room: Room, reply: CommandReply) -> Result<String, AllocError>
+/// The line that a reply prints: of what happened, in room that was made before.
+pub fn tell(alloc: Global, room: Room, reply: Reply) -> Result<String, AllocError>
+    requires { room ≡ [] }
+    ensures ok { IfOk result (λ text. string_bytes text ≡ event_line reply) }
+    ensures err { OnErr result (IsNothing reply) }
+{
+    match reply {
+        Reply::Answered(reply) => tell_answered(alloc, room, reply),
+        Reply::Sent(frame) => Ok(sent_line(room, frame)),
+        Reply::Took => Ok(word_line(room, "took")),
+        Reply::Restarted => Ok(word_line(room, "restarted")),
+        Reply::Expired(id) => Ok(expired_line(room, id)),
+        Reply::Quiet => Ok(word_line(room, "quiet")),
+        Reply::Refused(refusal) => refusal_line(alloc, refusal),
+    }
+}
+
+/// The line that the reply to a command prints.
+fn tell_answered(alloc: Global, room: Room, reply: CommandReply) -> Result<String, AllocError>
     requires { room ≡ [] }
     ensures ok { IfOk result (λ text. string_bytes text ≡ reply_line reply) }
     ensures err { OnErr result (IsRefusal reply) }
@@ -52,8 +71,28 @@ fn joined_line(mut room: Room, member: u8) -> String
     room.into_line()
 }
 
+/// The line that tells of a frame that was sent.
+fn sent_line(mut room: Room, frame: usize) -> String
+    requires { room ≡ [] }
+    ensures { string_bytes result ≡ printed (codes "frame " ++ decimal frame) }
+{
+    room.text("frame ");
+    room.number(frame as u64);
+    room.into_line()
+}
+
+/// The line that tells of an LRA that was cancelled since its deadline had passed.
+fn expired_line(mut room: Room, id: LraId) -> String
+    requires { room ≡ [] }
+    ensures { string_bytes result ≡ printed (codes "expired " ++ id_text id) }
+{
+    room.text("expired ");
+    room.id(id);
+    room.into_line()
+}
+
 /// The line of one short word.
-pub fn word_line(mut room: Room, word: &str) -> String
+fn word_line(mut room: Room, word: &str) -> String
     requires empty { room ≡ [] }
     requires short { length word.now ≤ 40 }
     ensures { string_bytes result ≡ printed word.now }

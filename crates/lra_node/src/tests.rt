@@ -1,34 +1,57 @@
 // What no clause says: the texts that outside examples give, and runs that end in the middle.
 mod calls;
 mod faults;
+mod frames;
 mod limits;
 mod members;
 mod nesting;
 mod nodes;
 mod purging;
 
+ghost use Rattle.std.specs.Prelude.{◌≤◌};
+
 use crate::script::{ScriptFault, script};
-use crate::world::World;
-use crate::{USAGE, is_script, status_of};
-use lra_facts::Refusal;
+use crate::{USAGE, asked_nodes, status_of};
 use lra_http::{OverRead, OverWrite};
-use lra_replica::{Command, CommandReply};
-use lra_states::{LraStatus, Verdict};
 use std::alloc::{AllocError, Global};
 use std::test::Fail;
 
-/// Runs a script over memory.
-fn run(alloc: Global, input: &[u8]) -> (Result<(), ScriptFault>, Vec<u8>) {
+/// Runs a script of 1 to 8 nodes over memory.
+fn run(alloc: Global, nodes: u8, input: &[u8]) -> (Result<(), ScriptFault>, Vec<u8>)
+    requires some { 1 ≤ nodes }
+    requires few { nodes ≤ 8 }
+{
     let mut reader = OverRead::new(input);
     let mut writer = OverWrite::new(Vec::new(alloc));
-    let outcome = script(alloc, &mut reader, &mut writer, 1);
+    let outcome = script(alloc, &mut reader, &mut writer, nodes);
     (outcome, writer.into_inner())
 }
 
-/// Whether a script prints this.
+/// Whether a script of one node prints this.
 fn prints(alloc: Global, input: &[u8], output: &[u8]) -> bool {
-    let (outcome, text) = run(alloc, input);
+    let (outcome, text) = run(alloc, 1, input);
     outcome.is_ok() && text.as_slice() == output
+}
+
+/// Whether a script of so many nodes and of these lines prints these answers, one for each.
+fn plays(alloc: Global, nodes: u8, steps: &[(&str, &str)]) -> Result<bool, AllocError>
+    requires some { 1 ≤ nodes }
+    requires few { nodes ≤ 8 }
+{
+    let mut input = Vec::new(alloc);
+    let mut output = Vec::new(alloc);
+    for (line, answer) in steps {
+        push_line(&mut input, line)?;
+        push_line(&mut output, answer)?;
+    }
+    let (outcome, text) = run(alloc, nodes, &input);
+    Ok(outcome.is_ok() && text.as_slice() == output.as_slice())
+}
+
+/// Puts a line at the end.
+fn push_line(text: &mut Vec<u8>, line: &str) -> Result<(), AllocError> {
+    text.extend_from_slice(line.as_bytes())?;
+    text.extend_from_slice(b"\n")
 }
 
 #[test]
@@ -162,55 +185,7 @@ fn run_after(
         input.extend_from_slice(b"begin 1 0\n")?;
     }
     input.extend_from_slice(more)?;
-    Ok(run(alloc, &input))
-}
-
-#[test]
-fn a_world_shows_what_it_decided(rt: HostRuntime) -> Result<(), Fail> {
-    let mut world = World::new(rt.alloc())?;
-    let begin = Command::Begin {
-        parent: None,
-        deadline: 7,
-    };
-    let CommandReply::Began(id, member) = world.step(rt.alloc(), begin)? else {
-        return Err(Fail::from("begun"));
-    };
-    assert_eq!(rt; member, 0);
-    assert_eq!(rt; world.status(id), Ok(LraStatus::Active));
-    let verdict = Verdict::Cancel;
-    assert_eq!(rt;
-        world.step(rt.alloc(), Command::Decide { id, verdict })?,
-        CommandReply::Decided(id, LraStatus::Cancelled)
-    );
-    assert_eq!(rt; world.status(id), Ok(LraStatus::Cancelled));
-    assert_eq!(rt; world.front().count(id.home()), 2);
-    Ok(())
-}
-
-#[test]
-fn a_world_forgets_and_purges(rt: HostRuntime) -> Result<(), Fail> {
-    let mut world = World::new(rt.alloc())?;
-    let begin = Command::Begin {
-        parent: None,
-        deadline: 0,
-    };
-    let CommandReply::Began(id, _) = world.step(rt.alloc(), begin)? else {
-        return Err(Fail::from("begun"));
-    };
-    let forgot = Command::Forgot { id, member: 1 };
-    let unknown = CommandReply::Refused(Refusal::UnknownMember);
-    assert_eq!(rt; world.step(rt.alloc(), forgot)?, unknown);
-    let early = CommandReply::Refused(Refusal::NotEnded(LraStatus::Active));
-    assert_eq!(rt; world.step(rt.alloc(), Command::Purge { root: id })?, early);
-    let verdict = Verdict::Close;
-    world.step(rt.alloc(), Command::Decide { id, verdict })?;
-    assert_eq!(rt;
-        world.step(rt.alloc(), Command::Purge { root: id })?,
-        CommandReply::Purged
-    );
-    assert_eq!(rt; world.status(id), Err(Refusal::NotHeld));
-    assert_eq!(rt; world.front().count(id.home()), 3);
-    Ok(())
+    Ok(run(alloc, 1, &input))
 }
 
 /// The words of a text, which are parted by one space.
@@ -227,20 +202,27 @@ fn arguments_and_exit_statuses(rt: HostRuntime) -> Result<(), Fail> {
     let alloc = rt.alloc();
     for text in [
         "script",
-        "script 2",
+        "script 0",
+        "script 9",
         "script 01",
-        "serve 1",
         "script 1 1",
+        "script  1",
+        "Script 1",
+        "serve 1",
         "",
     ] {
-        assert_eq!(rt; status_of(&words_of(alloc, text)?, Ok(())), 2);
+        let words = words_of(alloc, text)?;
+        assert_eq!(rt; asked_nodes(&words), None);
+        assert_eq!(rt; status_of(&words, Ok(())), 2);
     }
-    let words = words_of(alloc, "script 1")?;
-    assert!(rt; is_script(&words));
-    assert_eq!(rt; status_of(&words, Ok(())), 0);
-    assert_eq!(rt; status_of(&words, Err(ScriptFault::Read)), 1);
-    assert_eq!(rt; status_of(&words, Err(ScriptFault::Write)), 1);
-    assert_eq!(rt; status_of(&words, Err(ScriptFault::NoMemory)), 1);
+    for (text, nodes) in [("script 1", 1), ("script 8", 8)] {
+        let words = words_of(alloc, text)?;
+        assert_eq!(rt; asked_nodes(&words), Some(nodes));
+        assert_eq!(rt; status_of(&words, Ok(())), 0);
+        assert_eq!(rt; status_of(&words, Err(ScriptFault::Read)), 1);
+        assert_eq!(rt; status_of(&words, Err(ScriptFault::Write)), 1);
+        assert_eq!(rt; status_of(&words, Err(ScriptFault::NoMemory)), 1);
+    }
     assert_eq!(rt; USAGE, "usage: lra_node script N | serve N PORT DIR");
     Ok(())
 }

@@ -67,7 +67,7 @@ takes_once s t u node frame bytes kept reply other (inr (inr (inr h))) (inr (inr
 takes_once s t u node frame bytes kept reply other (inr (inr (inr h))) (inr (inr (inr k))) = record { reply_is = h.2 ∙ sym k.2; state_is = h.3 ∙ sym k.3 }
 
 -- a frame is spelled in one way
-one_spelling : (h : History) (frame : SentFrame) (b c : List ℕ) → IsSpelled h frame b → IsSpelled h frame c → b ≡ c
+pub one_spelling : (h : History) (frame : SentFrame) (b c : List ℕ) → IsSpelled h frame b → IsSpelled h frame c → b ≡ c
 one_spelling h frame b c one other =
     one.spells ∙ ap (λ (v : View). spelling (frame_of v frame.base)) (same_view h frame.front frame.front one.view other.view refl one.sender other.sender) ∙ sym other.spells
 

@@ -81,6 +81,7 @@ impl World {
     pub fn replica(&self, node: NodeId) -> &Replica
         requires { node ≤ length self.now.replicas }
         ensures view { (s : State) → IsWorldOf s self.now → IsViewOf s.history (front_of s node) (view_of result.now) }
+        ensures nodes { length result.now.front ≡ length self.now.replicas }
     {
         let place = usize::from(node.number()) - 1;
         &self.replicas[place]

@@ -1,24 +1,6 @@
 // Duties, and what answers to calls are heard as.
-use crate::tests::prints;
-use std::alloc::{AllocError, Global};
+use crate::tests::{plays, prints};
 use std::test::Fail;
-
-/// Whether a script of these lines prints these answers, one for each.
-fn plays(alloc: Global, steps: &[(&str, &str)]) -> Result<bool, AllocError> {
-    let mut input = Vec::new(alloc);
-    let mut output = Vec::new(alloc);
-    for (line, answer) in steps {
-        push_line(&mut input, line)?;
-        push_line(&mut output, answer)?;
-    }
-    Ok(prints(alloc, &input, &output))
-}
-
-/// Puts a line at the end.
-fn push_line(text: &mut Vec<u8>, line: &str) -> Result<(), AllocError> {
-    text.extend_from_slice(line.as_bytes())?;
-    text.extend_from_slice(b"\n")
-}
 
 #[test]
 fn an_order_is_compensated_last_to_first(rt: HostRuntime) -> Result<(), Fail> {
@@ -42,7 +24,7 @@ fn an_order_is_compensated_last_to_first(rt: HostRuntime) -> Result<(), Fail> {
         ("duties 1", "none"),
         ("show 1 1.1", "Cancelled"),
     ];
-    assert!(rt; plays(rt.alloc(), &steps)?);
+    assert!(rt; plays(rt.alloc(), 1, &steps)?);
     Ok(())
 }
 
@@ -67,7 +49,7 @@ fn two_completions_with_a_status_request(rt: HostRuntime) -> Result<(), Fail> {
         ("answer 1 1.1 2 status 200 \"Completed\"", "Done reported"),
         ("show 1 1.1", "Closed"),
     ];
-    assert!(rt; plays(rt.alloc(), &steps)?);
+    assert!(rt; plays(rt.alloc(), 1, &steps)?);
     Ok(())
 }
 
@@ -89,7 +71,7 @@ fn a_child_that_is_cancelled_alone(rt: HostRuntime) -> Result<(), Fail> {
         ("answer 1 1.1 2 complete 204", "Done reported"),
         ("show 1 1.1", "Closed"),
     ];
-    assert!(rt; plays(rt.alloc(), &steps)?);
+    assert!(rt; plays(rt.alloc(), 1, &steps)?);
     Ok(())
 }
 
@@ -114,7 +96,7 @@ fn a_saga_with_a_nested_lra(rt: HostRuntime) -> Result<(), Fail> {
         ("duties 1", "none"),
         ("show 1 1.1", "Cancelled"),
     ];
-    assert!(rt; plays(rt.alloc(), &steps)?);
+    assert!(rt; plays(rt.alloc(), 1, &steps)?);
     Ok(())
 }
 
@@ -142,7 +124,7 @@ fn a_cancelled_child_of_a_parent_that_is_cancelled_later(rt: HostRuntime) -> Res
         ("duties 1", "none"),
         ("show 1 1.1", "FailedToCancel"),
     ];
-    assert!(rt; plays(rt.alloc(), &steps)?);
+    assert!(rt; plays(rt.alloc(), 1, &steps)?);
     Ok(())
 }
 
@@ -168,7 +150,7 @@ fn told_to_forget_before_the_purge(rt: HostRuntime) -> Result<(), Fail> {
         ("purge 1 1.1", "purged"),
         ("show 1 1.2", "refused E3 NotHeld"),
     ];
-    assert!(rt; plays(rt.alloc(), &steps)?);
+    assert!(rt; plays(rt.alloc(), 1, &steps)?);
     Ok(())
 }
 
@@ -189,7 +171,7 @@ fn a_failed_compensation_is_forgotten(rt: HostRuntime) -> Result<(), Fail> {
         ("duties 1", "none"),
         ("forgot 1 1.1 1", "known"),
     ];
-    assert!(rt; plays(rt.alloc(), &steps)?);
+    assert!(rt; plays(rt.alloc(), 1, &steps)?);
     Ok(())
 }
 
@@ -217,7 +199,7 @@ fn answers_that_are_refused(rt: HostRuntime) -> Result<(), Fail> {
         ("answer 1 1.1 1 forget 200", "refused E7 NotDue Closed"),
         ("front 1", "front 3"),
     ];
-    assert!(rt; plays(rt.alloc(), &steps)?);
+    assert!(rt; plays(rt.alloc(), 1, &steps)?);
     Ok(())
 }
 
@@ -245,7 +227,7 @@ fn a_body_is_the_rest_of_the_line(rt: HostRuntime) -> Result<(), Fail> {
         ("answer 1 1.1 1 compensate 200 any body", "Done known"),
         ("show 1 1.1", "FailedToCancel"),
     ];
-    assert!(rt; plays(rt.alloc(), &steps)?);
+    assert!(rt; plays(rt.alloc(), 1, &steps)?);
     Ok(())
 }
 

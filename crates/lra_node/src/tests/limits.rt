@@ -123,3 +123,39 @@ fn a_home_is_purged_and_filled_again(rt: HostRuntime) -> Result<(), Fail> {
     assert!(rt; play.is_printed(alloc));
     Ok(())
 }
+
+/// Where the fields begin of the frame of a node, the only one, that began an LRA and closed it.
+const FIELDS: [usize; 16] = [0, 4, 5, 9, 10, 18, 26, 34, 35, 37, 38, 46, 47, 55, 56, 64];
+
+/// The last field that begins at an offset up to this.
+fn field_at(offset: usize) -> usize {
+    let mut last = 0;
+    for field in FIELDS {
+        if field <= offset {
+            last = field;
+        }
+    }
+    last
+}
+
+#[test]
+fn a_frame_cut_at_each_length(rt: HostRuntime) -> Result<(), Fail> {
+    let alloc = rt.alloc();
+    let mut play = Play::new(alloc);
+    play.line("begin 1 0", "began 1.1")?;
+    play.line("close 1 1.1", "Closed")?;
+    play.line("send 1 0", "frame 1")?;
+    for kept in 0..65_usize {
+        let place = field_at(kept);
+        let line = format!(in alloc; "deliver 1 1 {kept}")?;
+        let answer = format!(in alloc; "refused E16 BadFrame {place}")?;
+        play.line(&line, &answer)?;
+    }
+    play.line("deliver 1 1 66", "refused E1 BadText")?;
+    play.line("deliver 1 1 18446744073709551615", "refused E1 BadText")?;
+    play.line("deliver 1 1 65", "took")?;
+    play.line("deliver 1 1", "took")?;
+    play.line("front 1", "front 2")?;
+    assert!(rt; play.is_printed(alloc));
+    Ok(())
+}

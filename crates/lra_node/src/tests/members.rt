@@ -57,7 +57,7 @@ fn text_after_joins(alloc: Global, joins: usize) -> Result<Vec<u8>, AllocError> 
     for _ in 0..joins {
         input.extend_from_slice(b"join 1 1.1 compensate=http://p/c\n")?;
     }
-    let (_, text) = run(alloc, &input);
+    let (_, text) = run(alloc, 1, &input);
     Ok(text)
 }
 

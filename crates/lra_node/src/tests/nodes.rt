@@ -36,7 +36,26 @@ fn fronts_count_what_was_entered(rt: HostRuntime) {
 
 #[test]
 fn lines_that_ask_nothing_of_a_node(rt: HostRuntime) {
-    let lines: [&[u8]; 12] = [
+    let lines: [&[u8]; 31] = [
+        b"send",
+        b"send 1",
+        b"send 1 ",
+        b"send 2 0",
+        b"send 1 00",
+        b"send 1 0 0",
+        b"send 1 0 ",
+        b"send 1 -1",
+        b"send 1 18446744073709551616",
+        b"deliver",
+        b"deliver 1",
+        b"deliver 1 1",
+        b"deliver 0 1",
+        b"deliver 1 2",
+        b"deliver 1 1 01",
+        b"deliver 1 1 5 5",
+        b"restart",
+        b"restart 2",
+        b"restart 1 1",
         b"front",
         b"front 2",
         b"front 1 1",

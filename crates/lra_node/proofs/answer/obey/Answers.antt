@@ -1,34 +1,39 @@
-use Rattle.std.proofs.Common.{◌≡◌, ℕ, List, Result, Ok, Err, IfOk, refl, subst, sym}
-use Rattle.lra_facts.specs.declared.fact.Fact.{Fact}
-use Rattle.lra_node.specs.declared.ask.Ask.{Ask}
-use Rattle.lra_node.specs.declared.ask.Ask.TheVariants.{Enter, Hear}
-use Rattle.lra_node.specs.Scripts.{Does, WasDone, reply_line}
-use Rattle.lra_node.specs.Worlds.{Holds, after_here, reply_here}
-use Rattle.lra_replica.specs.declared.command.Command.{Command}
-use Rattle.lra_replica.specs.Replicas.{Kept}
+use Rattle.std.proofs.Common.{refl}
+use Rattle.std.proofs.lemmas.Result.{IfOk-weaker}
+use Rattle.lra_world.specs.Worlds.{front_of, set_of}
+use Rattle.std.specs.Prelude.{string_bytes}
+use Rattle.lra_node.proofs.Steps.{same_told}
 use Rattle.lra_node.proofs.answer.obey.Goals as goal
 
--- what was entered was done
-entered : {X E : Type 0} (bytes : X → List ℕ) (S : List Fact) (node : ℕ) (command : Command) (new : Kept) (r : Result X E) → IfOk r (λ text. bytes text ≡ reply_line (reply_here S command)) → IfOk r (λ _. Holds (after_here S command) new)
-    → IfOk r (λ text. WasDone S (Enter node command) (bytes text) new)
-entered bytes S node command new (Ok text) told after = (after_here S command, (told, refl), after)
-entered bytes S node command new (Err e) told after = tt
-
-pub returns-in-Enter-clause-ok : goal.returns-in-Enter-clause-ok
-returns-in-Enter-clause-ok c S h = rw c.in-Enter.is (entered _ S c.in-Enter.node c.in-Enter.command c.enter.new.world c.enter.result (c.enter.ensures.ok S h) (c.enter.ensures.after S h))
-
 pub returns-in-Tick-clause-ok : goal.returns-in-Tick-clause-ok
-returns-in-Tick-clause-ok c S h = rw c.in-Tick.is (c.tick.ensures.ok S c.in-Tick.node h)
+returns-in-Tick-clause-ok c s w = rw c.in-Tick.is (c.happen-in-Tick.ensures.ok s w)
+
+pub returns-in-Deliver-clause-ok : goal.returns-in-Deliver-clause-ok
+returns-in-Deliver-clause-ok c s w = rw c.in-Deliver.is (c.deliver.ensures.ok s w)
+
+pub returns-in-Show-clause-ok : goal.returns-in-Show-clause-ok
+returns-in-Show-clause-ok c s w =
+    let node = c.in-Show.node in
+    rw c.in-Show.is
+    (IfOk-weaker c.show.result _ _ (λ text is. (s, (is, refl), w)) (c.show.ensures (set_of s node) (front_of s node) (c.held.ensures.holds s w)))
+
+pub returns-in-Member-clause-ok : goal.returns-in-Member-clause-ok
+returns-in-Member-clause-ok c s w =
+    let node = c.in-Member.node in
+    rw c.in-Member.is
+    (IfOk-weaker c.show_member.result _ _ (λ text is. (s, (is, refl), w)) (c.show_member.ensures (set_of s node) (front_of s node) (c.held-in-Member.ensures.holds s w)))
 
 pub returns-in-Duties-clause-ok : goal.returns-in-Duties-clause-ok
-returns-in-Duties-clause-ok c S h = rw c.in-Duties.is (c.show_duties.ensures S c.in-Duties.node h)
+returns-in-Duties-clause-ok c s w =
+    let node = c.in-Duties.node in
+    rw c.in-Duties.is
+    (IfOk-weaker c.show_duties.result _ _ (λ text h. (s, (h.0, h.1, h.2, refl), w)) (c.show_duties.ensures (set_of s node) (front_of s node) (c.held-in-Duties.ensures.holds s w)))
 
--- what was asked was done, where its line was printed and the facts after it are held
-was_done : {X E : Type 0} (bytes : X → List ℕ) (S : List Fact) (ask : Ask) (out : List ℕ) (T : List Fact) (new : Kept) (r : Result X E) → Does S ask out T → IfOk r (λ text. bytes text ≡ out) → IfOk r (λ _. Holds T new) → IfOk r (λ text. WasDone S ask (bytes text) new)
-was_done bytes S ask out T new (Ok text) does told after = (T, subst (λ line. Does S ask line T) (sym told) does, after)
-was_done bytes S ask out T new (Err e) does told after = tt
-
-pub returns-in-Hear-clause-ok : goal.returns-in-Hear-clause-ok
-returns-in-Hear-clause-ok c S h =
-    let w = c.in-Hear in
-    rw w.is (was_done _ S (Hear w.node w.id w.member w.kind w.answer) _ _ c.hear_answer.new.world c.hear_answer.result (refl, refl) (c.hear_answer.ensures.ok S h) (c.hear_answer.ensures.after S h))
+pub returns-in-Same-clause-ok : goal.returns-in-Same-clause-ok
+returns-in-Same-clause-ok c s w =
+    let node = c.in-Same.node in
+    let other = c.in-Same.other in
+    rw c.in-Same.is
+    (IfOk-weaker c.show_same.result _ _
+    (λ text told. (s, (same_told s node other c.held-in-Same.result.now c.held-in-Same-2.result.now (string_bytes text) (c.held-in-Same.ensures.holds s w) (c.held-in-Same-2.ensures.holds s w) told, refl), w))
+    c.show_same.ensures)

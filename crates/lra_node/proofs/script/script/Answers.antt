@@ -1,5 +1,5 @@
 use Rattle.std.proofs.Common.{◌∙◌, arith}
-use Rattle.lra_node.proofs.Runs.{few_end, few_line, part_none, runs_end, runs_fault, runs_line, runs_part, runs_whole}
+use Rattle.lra_node.proofs.Runs.{few_end, few_line, part_none, runs_end, runs_fault, runs_line, runs_nodes, runs_part, runs_whole}
 use Rattle.lra_node.proofs.script.script.Goals as goal
 
 pub returns-in_default-clause-part : goal.returns-in_default-clause-part
@@ -23,8 +23,10 @@ returns-then-not-more-clause-text g c =
 pub lines-preserved : goal.lines-preserved
 lines-preserved g c =
     let read = rw c.if-not-more.false at c.in-Ok-read_line.ensures.read in
+    let running = runs_line _ _ _ _ _ _ _ _ _ _ c.lines.invariant.running read (rw c.deref.ensures.value at c.in-Ok-print_line.ensures.ok) in
     record {
-      running = runs_line _ _ _ _ _ _ _ _ _ _ c.lines.invariant.running read (rw c.deref.ensures.value at c.in-Ok-print_line.ensures.ok);
+      nodes = runs_nodes _ _ _ _ _ _ running;
+      running = running;
       room = c.read_line.ensures.room;
       none_unread = c.in-Ok-read_line.ensures.none_failed ∙ c.lines.invariant.none_unread;
       reads_counted = omega (arith, c.read_line.ensures.counted, c.lines.invariant.reads_counted);

@@ -1,10 +1,11 @@
-use Rattle.std.proofs.Common.{◌≡◌, ◌+◌, ◌≤◌, vec_capacity}
+use Rattle.std.proofs.Common.{◌≡◌, ◌+◌, ◌≤◌, length, vec_capacity}
 use Rattle.lra_node.specs.Scripts.{most_reads}
 use Rattle.lra_node.proofs.Runs.{IsFewSoFar, Runs}
 use Rattle.lra_node.proofs.script.script.Given as goal
 
 abbrev pub invariant-lines : goal.invariant-lines
 invariant-lines g l = let s = g.R.Source in let t = g.W.Sink in record {
+  nodes : length l.world.replicas ≡ l.nodes;
   running : Runs l.nodes l.world (s.left l.fn.reader) (s.left l.reader) (t.written l.fn.writer) (t.written l.writer);
   room : 4097 ≤ vec_capacity l.line;
   none_unread : s.failed l.reader ≡ s.failed l.fn.reader;
