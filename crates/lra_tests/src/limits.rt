@@ -1,5 +1,5 @@
 // Refusals at the limits: one record too many, no number left, and what only a home enters.
-ghost use Rattle.std.specs.Prelude.{◌≡◌};
+ghost use Rattle.std.specs.Prelude.{◌≡◌, IfOk, length};
 
 use crate::commands::prepared;
 use lra_facts::{Links, Refusal};
@@ -29,7 +29,9 @@ fn put_root(forest: &mut Forest, alloc: Global, num: u64) -> Result<(), Fail>
 }
 
 /// What a node tells that has this front and holds the LRAs of the first so many numbers.
-fn telling(alloc: Global, count: u64, front: u64) -> Result<Taken, Fail> {
+fn telling(alloc: Global, count: u64, front: u64) -> Result<Taken, Fail>
+    ensures { IfOk result (λ taken. length taken.front ≡ 1) }
+{
     let home = NodeId::new(1)?;
     let mut records = Forest::new(alloc, home);
     for num in 1..=count {
