@@ -4,18 +4,13 @@ use Rattle.std.specs.Prelude.{All}
 use Rattle.std.specs.Fmt.{decimal}
 use Rattle.std.proofs.lemmas.List.{length-take-le}
 use Rattle.lra_node.specs.Asks.{IsBaseOf, IsNumber}
+use Rattle.lra_node.proofs.Spelled.{head_same, tail_same}
 
 -- the first so many counts were read, and these words are left
 pub record IsCounting (words rest : List (List ℕ)) (counts : List ℕ) (place : ℕ) : Type 0 where
   pub read : words ≡ map decimal (take place counts) ++ rest
   pub small : All IsNumber (take place counts)
   pub room : length counts ≡ 8
-
-head_same : (x y : List ℕ) (xs ys : List (List ℕ)) → x ∷ xs ≡ y ∷ ys → x ≡ y
-head_same x y xs ys e = cc
-
-tail_same : (x y : List ℕ) (xs ys : List (List ℕ)) → x ∷ xs ≡ y ∷ ys → xs ≡ ys
-tail_same x y xs ys e = cc
 
 -- words that spell a base have a number behind those of fewer counts
 further : (done : List ℕ) (rest : List (List ℕ)) (base : List ℕ) → map decimal done ++ rest ≡ map decimal base → length done < length base → All IsNumber base
@@ -34,5 +29,7 @@ pub no_count : (words rest more : List (List ℕ)) (word counts : List ℕ) (pla
     → ((n : ℕ) → IsNumber n → word ≡ decimal n → ⊥) → (base : List ℕ) → IsBaseOf nodes base → words ≡ map decimal base → ⊥
 no_count words rest more word counts place nodes was less few is none base of e =
     let count = counted words rest counts place was (omega (arith, less, few)) in
-    let f = further (take place counts) rest base (sym was.read ∙ e) (omega (arith, count, less, of.0)) of.1 in
-    none f.0 f.2 (head_same word (decimal f.0) more (map decimal f.1) (sym is ∙ f.3))
+    by (further (take place counts) rest base (sym was.read ∙ e) (omega (arith, count, less, of.0)) of.1)
+  where
+    by : (n : ℕ) × (left : List ℕ) × IsNumber n × (rest ≡ decimal n ∷ map decimal left) → ⊥
+    by (n, left, fits, spelled) = none n fits (head_same word (decimal n) more (map decimal left) (sym is ∙ spelled))
