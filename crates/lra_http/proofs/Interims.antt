@@ -146,10 +146,6 @@ Reaches None new left = Unit {0}
 Reaches (Some input) None left = ⊥
 Reaches (Some input) (Some middle) left = Continues left input middle
 
-pub reaches_start : (old : Option (List ℕ)) → Reaches old old head_room
-reaches_start None = tt
-reaches_start (Some input) = record { refuses = λ fault h. h; begins = λ h rest has. has }
-
 pub continues_more : (room left : Room) (input middle next : List ℕ) → Continues room input middle → Interim room left middle next → Continues left input next
 continues_more room left input middle next known i = record {
   refuses = λ fault h. known.refuses fault (refuses_more room left middle next i fault h);

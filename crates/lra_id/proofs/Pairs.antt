@@ -25,14 +25,6 @@ paired_more f i (x ∷ xs) [] a b = absurd (omega (arith, b))
 paired_more f zero (x ∷ xs) (y ∷ ys) a b = refl
 paired_more f (suc i) (x ∷ xs) (y ∷ ys) a b = ap (λ r. f x y ∷ r) (paired_more f i xs ys (omega (arith, a)) (omega (arith, b)))
 
-pub paired_all : (f : ℕ → ℕ → ℕ) (xs ys : List ℕ) (n : ℕ) → length xs ≡ n → length ys ≡ n → paired_to f n xs ys ≡ pairwise f xs ys
-paired_all f [] [] zero a b = refl
-paired_all f [] (y ∷ ys) zero a b = absurd (omega (arith, b))
-paired_all f (x ∷ xs) ys zero a b = absurd (omega (arith, a))
-paired_all f [] ys (suc n) a b = absurd (omega (arith, a))
-paired_all f (x ∷ xs) [] (suc n) a b = absurd (omega (arith, b))
-paired_all f (x ∷ xs) (y ∷ ys) (suc n) a b = ap (λ r. f x y ∷ r) (paired_all f xs ys n (omega (arith, a)) (omega (arith, b)))
-
 take_pairs : (f : ℕ → ℕ → ℕ) (n : ℕ) (xs ys : List ℕ) → length xs ≡ length ys → take n (pairwise f xs ys) ≡ pairwise f (take n xs) (take n ys)
 take_pairs f zero xs ys e = refl
 take_pairs f (suc n) [] [] e = refl
@@ -68,9 +60,6 @@ alike a b ha hb e =
     let lb : length (take b.nodes b.counts) ≡ b.nodes = length-take-le b.nodes b.counts (omega (arith, hb.few, hb.size)) in
     let nodes : b.nodes ≡ a.nodes = sym lb ∙ sym e ∙ la in
     record { sizes = ha.size ∙ sym hb.size; nodes = nodes; fronts = e ∙ ap (λ k. length (take k b.counts)) nodes }
-
-paired : (ℕ → ℕ → ℕ) → Inside → Inside → Inside
-paired f a b = record { nodes = a.nodes; counts = pairwise f a.counts b.counts }
 
 pub pairs_kept : (f : ℕ → ℕ → ℕ) → ((n : ℕ) → f n n ≡ n) → (a b : Inside) → IsKept a → IsKept b → length (counts_of a) ≡ length (counts_of b)
     → IsKept (record { nodes = a.nodes; counts = pairwise f a.counts b.counts })

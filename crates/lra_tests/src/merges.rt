@@ -1,9 +1,9 @@
 // Replicas that are merged: two parts of one history, a merge that is refused, many nodes in several orders.
-use crate::commands::prepared;
+use crate::commands::enter;
 use lra_facts::{Links, Refusal};
 use lra_forest::{Forest, Told};
 use lra_id::{Front, LraId, NodeId};
-use lra_replica::{Command, Prepared, Replica, Row, Taken};
+use lra_replica::{Command, Replica, Row, Taken};
 use lra_states::{Act, LraStatus, Outcome, Verdict};
 use std::alloc::Global;
 use std::test::Fail;
@@ -11,20 +11,6 @@ use std::test::Fail;
 /// The LRA that a node began with its fact of this number.
 fn lra(home: u8, num: u64) -> Result<LraId, Fail> {
     Ok(LraId::new(NodeId::new(home)?, num)?)
-}
-
-/// Has a node enter a command.
-fn enter(replica: &mut Replica, alloc: Global, node: u8, command: Command) -> Result<(), Fail> {
-    let me = NodeId::new(node)?;
-    if usize::from(me.number()) > replica.front().nodes() {
-        return Err("no such node")?;
-    }
-    let Prepared { reply, patch } = prepared(replica, alloc, me, &command)?;
-    let Some(patch) = patch else {
-        return Err(reply)?;
-    };
-    replica.apply(patch);
-    Ok(())
 }
 
 /// Has a node begin an LRA.

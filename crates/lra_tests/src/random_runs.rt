@@ -1,4 +1,5 @@
 // Many events at random, after which what the nodes show is compared with the slow evaluators over the facts of each.
+use crate::commands::body;
 use lra_facts::{Body, Fact, Links, Refusal, plain};
 use lra_id::{Front, LraId, NodeId};
 use lra_replica::{Command, CommandReply};
@@ -283,32 +284,6 @@ fn came_of(reply: Reply) -> Came {
         Reply::Expired(id) => Came::Expired(id),
         Reply::Sent(frame) => Came::Sent(frame),
         _ => Came::Other,
-    }
-}
-
-/// What a command enters that is taken. A participant joins under this member number.
-fn body(command: Command, given: u8) -> Body {
-    match command {
-        Command::Begin { parent, deadline } => Body::Begin { parent, deadline },
-        Command::Join { id, links } => {
-            let member = given;
-            Body::Join { id, member, links }
-        }
-        Command::Leave { id, member } => Body::Leave { id, member },
-        Command::Decide { id, verdict } => Body::Decide { id, verdict },
-        Command::Report {
-            id,
-            member,
-            act,
-            outcome,
-        } => Body::Report {
-            id,
-            member,
-            act,
-            outcome,
-        },
-        Command::Forgot { id, member } => Body::Forgot { id, member },
-        Command::Purge { root } => Body::Purge { root },
     }
 }
 

@@ -1,26 +1,12 @@
 // Frames of replicas of every kind: read again, spelled again and taken.
-use crate::commands::prepared;
+use crate::commands::enter;
 use lra_delta::{Delta, encode, prepare};
 use lra_facts::{LINK_LIMIT, Links};
 use lra_id::{Front, LraId, NodeId};
-use lra_replica::{Command, CommandReply, Prepared, Replica};
+use lra_replica::{Command, CommandReply, Replica};
 use lra_states::{Act, Outcome, Verdict};
 use std::alloc::Global;
 use std::test::Fail;
-
-/// Has a node enter a command.
-fn enter(replica: &mut Replica, alloc: Global, node: u8, command: Command) -> Result<(), Fail> {
-    let me = NodeId::new(node)?;
-    if usize::from(me.number()) > replica.front().nodes() {
-        return Err("no such node")?;
-    }
-    let Prepared { reply, patch } = prepared(replica, alloc, me, &command)?;
-    let Some(patch) = patch else {
-        return Err(reply)?;
-    };
-    replica.apply(patch);
-    Ok(())
-}
 
 /// The LRA that a node began with its fact of this number.
 fn lra(home: u8, num: u64) -> Result<LraId, Fail> {
