@@ -7,11 +7,11 @@ use Rattle.lra_id.specs.Fronts.{count}
 use Rattle.lra_facts.specs.Lists.{In}
 use Rattle.lra_forest.specs.declared.record.Record.{Record}
 use Rattle.lra_forest.proofs.Bools.{all_in}
-use Rattle.lra_replica.proofs.Histories.{closed_settled}
-use Rattle.lra_replica.proofs.Proper.{closed_proper}
-use Rattle.lra_replica.proofs.Shaped.{closed_shape}
-use Rattle.lra_replica.specs.Histories.{History, IsClosed, IsLawful, facts}
-use Rattle.lra_replica.specs.Views.{StandsFor, View, records_at}
+use Rattle.lra_history.proofs.Histories.{closed_settled}
+use Rattle.lra_history.proofs.Proper.{closed_proper}
+use Rattle.lra_history.proofs.Shaped.{closed_shape}
+use Rattle.lra_history.specs.Histories.{History, IsClosed, IsLawful, facts}
+use Rattle.lra_history.specs.Views.{StandsFor, View, records_at}
 use Rattle.lra_delta.specs.Frames.{frame_of, is_beyond, live_at}
 use Rattle.lra_delta.specs.Grammar.{FitsIn}
 use Rattle.lra_delta.specs.Order.{Follows}

@@ -13,18 +13,18 @@ use Rattle.lra_forest.specs.Forests.{IsAscending, is_of}
 use Rattle.lra_forest.specs.Merging.{home_stamp}
 use Rattle.lra_forest.specs.Records.{members_of, nodes_to, stamp}
 use Rattle.lra_forest.proofs.Bools.{all_from, all_in}
-use Rattle.lra_replica.specs.Growth.{IsSettled}
-use Rattle.lra_replica.specs.Histories.{History, IsClosed, IsLawful, facts}
-use Rattle.lra_replica.specs.Shape.{HasShape}
-use Rattle.lra_replica.specs.Views.{IsCounted, StandsFor, View, purge_number, record_at, records_at}
-use Rattle.lra_replica.proofs.Adding.{FoundRecord, found_record}
-use Rattle.lra_replica.proofs.Basics.{held_begun, length_nodes}
-use Rattle.lra_replica.proofs.Histories.{closed_settled}
-use Rattle.lra_replica.proofs.Homes.{begun_covered}
-use Rattle.lra_replica.proofs.MergedRecords.{count_nodes}
-use Rattle.lra_replica.proofs.Proper.{closed_proper}
-use Rattle.lra_replica.proofs.Shaped.{closed_shape}
-use Rattle.lra_replica.proofs.Together.{IsProper}
+use Rattle.lra_history.specs.Growth.{IsSettled}
+use Rattle.lra_history.specs.Histories.{History, IsClosed, IsLawful, facts}
+use Rattle.lra_history.specs.Shape.{HasShape}
+use Rattle.lra_history.specs.Views.{IsCounted, StandsFor, View, purge_number, record_at, records_at}
+use Rattle.lra_history.proofs.Adding.{FoundRecord, found_record}
+use Rattle.lra_history.proofs.Basics.{held_begun, length_nodes}
+use Rattle.lra_history.proofs.Histories.{closed_settled}
+use Rattle.lra_history.proofs.Covered.{begun_covered}
+use Rattle.lra_history.proofs.MergedRecords.{count_nodes}
+use Rattle.lra_history.proofs.Proper.{closed_proper}
+use Rattle.lra_history.proofs.Shaped.{closed_shape}
+use Rattle.lra_history.proofs.Together.{IsProper}
 use Rattle.lra_delta.specs.Frames.{IsRising, frame_of, is_beyond, live_at}
 use Rattle.lra_delta.specs.Grammar.{AreLive, FitsIn, IsLinked, IsOfGrammar, nested_numbers}
 use Rattle.lra_delta.proofs.Filters.{rising_numbers}

@@ -10,9 +10,9 @@ use Rattle.lra_id.specs.Fronts.{count}
 use Rattle.lra_forest.specs.declared.record.Record.{Record}
 use Rattle.lra_forest.specs.Forests.{AreOf, IsAscending}
 use Rattle.lra_forest.specs.Records.{nodes_to}
-use Rattle.lra_replica.proofs.Basics.{length_nodes}
-use Rattle.lra_replica.proofs.MergedRecords.{nth_of}
-use Rattle.lra_replica.proofs.More.{filter_append}
+use Rattle.lra_history.proofs.Basics.{length_nodes}
+use Rattle.lra_history.proofs.MergedRecords.{nth_of}
+use Rattle.lra_history.proofs.More.{filter_append}
 use Rattle.lra_delta.specs.declared.order.Last.{Last}
 use Rattle.lra_delta.specs.Fields.{Along}
 use Rattle.lra_delta.specs.Frames.{live_at}

@@ -9,7 +9,7 @@ use Rattle.lra_forest.specs.declared.record.Member.{Member}
 use Rattle.lra_forest.specs.declared.record.Member.TheVariants.{Nested, Participant, Left}
 use Rattle.lra_forest.specs.declared.record.Record.{Record}
 use Rattle.lra_forest.proofs.Bools.{all_from, all_in}
-use Rattle.lra_replica.specs.Views.{records_at}
+use Rattle.lra_history.specs.Views.{records_at}
 use Rattle.lra_delta.specs.Fields.{Along}
 use Rattle.lra_delta.specs.Frames.{Frame, IsRising, live_at}
 use Rattle.lra_delta.specs.Grammar.{AreLive as AreLiveNumbers, FitsIn, IsOfGrammar}

@@ -3,7 +3,7 @@ use Rattle.std.specs.Prelude.{◌≡◌, ◌+◌, ℕ, [], true, List, OnOk, Opt
 use Rattle.lra_forest.specs.declared.record.Record.{Record}
 use Rattle.lra_forest.specs.declared.merging.Told.{Told}
 use Rattle.lra_forest.specs.Merging.{held_numbers}
-use Rattle.lra_replica.specs.Merging.{AreToldFrom}
+use Rattle.lra_history.specs.Merging.{AreToldFrom}
 use Rattle.lra_delta.specs.declared.order.Last.{Last}
 use Rattle.lra_delta.specs.declared.input.Stop.{Stop}
 use Rattle.lra_delta.specs.Fields.{Along, Rest, Read}

@@ -6,9 +6,9 @@ ghost use Rattle.lra_facts.specs.declared.refusal.Refusal.TheVariants.{Gap, NoMe
 ghost use Rattle.lra_forest.specs.declared.record.Record.{Record};
 ghost use Rattle.lra_forest.specs.Forests.{AreOf};
 ghost use Rattle.lra_forest.specs.Merging.{held_numbers};
-ghost use Rattle.lra_replica.specs.Histories.{History, IsClosed, IsLawful, facts};
+ghost use Rattle.lra_history.specs.Histories.{History, IsClosed, IsLawful, facts};
 ghost use Rattle.lra_replica.specs.Replicas.{view_of};
-ghost use Rattle.lra_replica.specs.Views.{StandsFor};
+ghost use Rattle.lra_history.specs.Views.{StandsFor};
 ghost use Rattle.lra_delta.specs.Frames.{IsFrame, frame_of, is_beyond};
 ghost use Rattle.lra_delta.specs.Grammar.{IsOfGrammar};
 ghost use Rattle.lra_delta.specs.Sending.{part_of, part_since};

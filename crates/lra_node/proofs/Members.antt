@@ -6,7 +6,7 @@ use Rattle.lra_states.specs.Names.{act_name, outcome_name}
 use Rattle.lra_states.specs.declared.outcome.Verdict.TheVariants.{Close, Cancel}
 use Rattle.lra_node.specs.declared.ask.Ask.{Ask}
 use Rattle.lra_node.specs.declared.ask.Ask.TheVariants.{Enter, Tick, Send, Deliver, Restart, Show, Member, Duties, Hear, Front, Same, Text, Read}
-use Rattle.lra_replica.specs.declared.command.Command.TheVariants.{Begin, Join, Leave, Decide, Report, Forgot, Purge}
+use Rattle.lra_history.specs.declared.command.Command.TheVariants.{Begin, Join, Leave, Decide, Report, Forgot, Purge}
 use Rattle.lra_facts.specs.declared.links.Links.{Links}
 use Rattle.lra_node.specs.Joins.{GivesLinks}
 use Rattle.lra_node.specs.Asks.{Fits, HasArguments, IsMemberNumber, IsNodeOf, verb_of}

@@ -6,8 +6,8 @@ use Rattle.lra_states.specs.Names.{verdict_name, act_name, outcome_name}
 use Rattle.lra_callback.specs.Names.{kind_name}
 use Rattle.lra_node.specs.declared.ask.Ask.{Ask}
 use Rattle.lra_node.specs.declared.ask.Ask.TheVariants.{Enter, Tick, Send, Deliver, Restart, Show, Member, Duties, Hear, Front, Same, Text, Read}
-use Rattle.lra_replica.specs.declared.command.Command.{Command}
-use Rattle.lra_replica.specs.declared.command.Command.TheVariants.{Begin, Join, Leave, Decide, Report, Forgot, Purge}
+use Rattle.lra_history.specs.declared.command.Command.{Command}
+use Rattle.lra_history.specs.declared.command.Command.TheVariants.{Begin, Join, Leave, Decide, Report, Forgot, Purge}
 use Rattle.lra_node.specs.Calls.{AnswerFits, GivesAnswer}
 use Rattle.lra_node.specs.Joins.{GivesLinks}
 use Rattle.lra_node.specs.Parts.{words_of}

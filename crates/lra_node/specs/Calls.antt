@@ -10,9 +10,9 @@ use Rattle.lra_facts.specs.declared.fact.Fact.{Fact}
 use Rattle.lra_facts.specs.declared.refusal.Refusal.{Refusal}
 use Rattle.lra_facts.specs.declared.refusal.Refusal.TheVariants.{NotDue}
 use Rattle.lra_facts.specs.Sets.{want}
-use Rattle.lra_replica.specs.Prepared.{member_shown}
-use Rattle.lra_replica.specs.declared.command.Command.{Command}
-use Rattle.lra_replica.specs.declared.command.Command.TheVariants.{Report, Forgot}
+use Rattle.lra_history.specs.Replies.{member_shown}
+use Rattle.lra_history.specs.declared.command.Command.{Command}
+use Rattle.lra_history.specs.declared.command.Command.TheVariants.{Report, Forgot}
 use Rattle.lra_callback.specs.declared.answer.Answer.{Answer}
 use Rattle.lra_callback.specs.declared.answer.Answer.TheVariants.{Code, Broken}
 use Rattle.lra_callback.specs.declared.answer.Heard.{Heard}

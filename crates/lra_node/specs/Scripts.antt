@@ -11,9 +11,9 @@ use Rattle.lra_facts.specs.Texts.{refusal_text}
 use Rattle.lra_facts.specs.declared.refusal.Refusal.{Refusal}
 use Rattle.lra_facts.specs.declared.refusal.Refusal.TheVariants.{BadText, NoMemory}
 use Rattle.lra_forest.specs.Dues.{AreAll}
-use Rattle.lra_replica.specs.declared.command.Command.{Command}
-use Rattle.lra_replica.specs.declared.command.CommandReply.{CommandReply}
-use Rattle.lra_replica.specs.declared.command.CommandReply.TheVariants.{Began, Joined, Left, Decided, Reported, Known, Forgotten, Purged, Refused as NotEntered}
+use Rattle.lra_history.specs.declared.command.Command.{Command}
+use Rattle.lra_history.specs.declared.command.CommandReply.{CommandReply}
+use Rattle.lra_history.specs.declared.command.CommandReply.TheVariants.{Began, Joined, Left, Decided, Reported, Known, Forgotten, Purged, Refused as NotEntered}
 use Rattle.lra_world.specs.declared.event.Event.{Event}
 use Rattle.lra_world.specs.declared.event.Event.TheVariants.{Act as ActEvent, Deliver as DeliverEvent, Restart as RestartEvent, Send as SendEvent, Tick as TickEvent}
 use Rattle.lra_world.specs.declared.event.Reply.{Reply}

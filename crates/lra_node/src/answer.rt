@@ -17,7 +17,7 @@ use crate::showing::{held, id_line, show, show_front, show_member, show_same, te
 use crate::telling::{refusal_line, tell};
 use lra_facts::Refusal;
 use lra_id::NodeId;
-use lra_replica::CommandReply;
+use lra_history::CommandReply;
 use lra_world::{Event, World};
 use std::alloc::{AllocError, Global};
 

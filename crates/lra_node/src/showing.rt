@@ -3,7 +3,7 @@ ghost use Rattle.std.specs.Prelude.{◌≡◌, ◌++◌, ℕ, List, length, code
 ghost use Rattle.lra_facts.specs.declared.fact.Fact.{Fact};
 ghost use Rattle.lra_id.specs.Fronts.{front_text};
 ghost use Rattle.lra_id.specs.Ids.{id_text, text_of};
-ghost use Rattle.lra_replica.specs.Prepared.{member_shown, shown_of};
+ghost use Rattle.lra_history.specs.Replies.{member_shown, shown_of};
 ghost use Rattle.lra_replica.specs.Replicas.{view_of};
 ghost use Rattle.lra_world.specs.Machines.{IsWorldOf};
 ghost use Rattle.lra_world.specs.Worlds.{State, front_of, set_of};

@@ -1,7 +1,7 @@
 -- a patch that takes what another node tells, home by home
+use mathlib.Core.Bool.{not}
 use Rattle.std.proofs.Common.{◌≡◌, inl, inr, ◌≤◌, ◌<◌, ◌+◌, ◌-◌, ◌==◌, ◌||◌, ℕ, List, [], ◌∷◌, ◌++◌, refl, sym, ap, subst, ◌∙◌, append_assoc, Bool, true, false, cond, arith, Option, Some, None, length, get_or-set_other, get_or-set_same, slice_get, filter, find, nat_le}
 use Rattle.std.proofs.lemmas.List.{length-append, length-map, length-set, get_or_past}
-use mathlib.Core.Bool.{not}
 use Rattle.std.specs.List.{list_any, AllByRecursion}
 use Rattle.std.specs.Option.{option_map_or}
 use Rattle.lra_id.specs.Ids.{Id}
@@ -14,45 +14,21 @@ use Rattle.lra_forest.specs.OnlyChanges.{AreOnlyChanges}
 use Rattle.lra_forest.specs.Places.{put_record}
 use Rattle.lra_forest.specs.Shape.{AreInShape, found_at}
 use Rattle.lra_forest.proofs.Uniqueness.{same_records}
+use Rattle.lra_history.specs.Merging.{AreToldFrom, IsAbsorbed, IsTelling, Telling, told_held, told_records}
+use Rattle.lra_history.specs.Changes.{Change, HoldsOnlyChanges, ids_of, patched, put_at_home, put_each, records_of, take_each, taken_out}
+use Rattle.lra_history.specs.Shape.{HasShape}
+use Rattle.lra_history.specs.Views.{View, records_at}
+use Rattle.lra_history.proofs.Basics.{at_most, equal_from, equal_itself}
+use Rattle.lra_history.proofs.More.{filter_all, filter_append}
+use Rattle.lra_history.proofs.Unions.{length_join}
+use Rattle.lra_history.proofs.PatchedHomes.{all_weaker, home_all, home_none, no_changes}
 use Rattle.lra_replica.specs.Absorbing.{AreTaken, AreTakenAt, IsChangeAt, IsGrown, IsTakenTo, after_at}
-use Rattle.lra_replica.specs.Merging.{AreToldFrom, IsAbsorbed, IsTelling, Telling, told_held, told_records}
-use Rattle.lra_replica.specs.Replicas.{Change, Fits, HoldsOnlyChanges, IsKept, Kept, count_of_home, ids_of, patched, put_at_home, put_each, records_of, spare_at, take_each, taken_out, view_of}
-use Rattle.lra_replica.specs.Shape.{HasShape}
-use Rattle.lra_replica.specs.Views.{View, records_at}
-use Rattle.lra_replica.proofs.Basics.{at_most, equal_from, equal_itself}
+use Rattle.lra_replica.specs.Replicas.{Fits, IsKept, Kept, count_of_home, spare_at, view_of}
 use Rattle.lra_replica.proofs.Homes.{home_records}
-use Rattle.lra_replica.proofs.More.{filter_all, filter_append}
-use Rattle.lra_replica.proofs.Unions.{length_join}
-
--- Elements of one home
-
--- with another test that the elements meet
-pub all_weaker : {X : Type 0} (P Q : X → Type 0) (xs : List X) → ((x : X) → P x → Q x) → AllByRecursion P xs → AllByRecursion Q xs
-all_weaker P Q [] h all = tt
-all_weaker P Q (x ∷ xs) h all = (h x all.0, all_weaker P Q xs h all.1)
 
 all_both : {X : Type 0} (P : X → Type 0) (xs ys : List X) → AllByRecursion P xs → AllByRecursion P ys → AllByRecursion P (xs ++ ys)
 all_both P [] ys a b = b
 all_both P (x ∷ xs) ys a b = (a.0, all_both P xs ys a.1 b)
-
-equal_not : (a b : ℕ) → (a ≡ b → ⊥) → (a == b) ≡ false
-equal_not a b n = by (a == b) refl
-  where
-    by : (c : Bool) → (a == b) ≡ c → c ≡ false
-    by true e = absurd (n (equal_from a b e))
-    by false e = refl
-
--- all are of this home
-pub home_all : {X : Type 0} (h : X → ℕ) (home : ℕ) (xs : List X) → AllByRecursion (λ x. h x ≡ home) xs → filter (λ x. h x == home) xs ≡ xs
-home_all h home [] all = refl
-home_all h home (x ∷ xs) all =
-    let here : (h x == home) ≡ true = ap (λ (n : ℕ). n == home) all.0 ∙ equal_itself home in
-    rw here (ap (λ zs. x ∷ zs) (home_all h home xs all.1))
-
--- none is of this home
-pub home_none : {X : Type 0} (h : X → ℕ) (home : ℕ) (xs : List X) → AllByRecursion (λ x. h x ≡ home → ⊥) xs → filter (λ x. h x == home) xs ≡ []
-home_none h home [] all = refl
-home_none h home (x ∷ xs) all = let here = equal_not (h x) home all.0 in rw here (home_none h home xs all.1)
 
 -- more that are of another home, or of this one of which there were none
 home_other : {X : Type 0} (h : X → ℕ) (home other : ℕ) (xs ys : List X) → (other ≡ home → ⊥) → AllByRecursion (λ x. h x ≡ other) ys → filter (λ x. h x == home) (xs ++ ys) ≡ filter (λ x. h x == home) xs
@@ -196,19 +172,6 @@ module _ (kept : Kept) (told : Told) (reach mine : ℕ) (front : List ℕ) (own 
       subst (λ (n : ℕ). AreInShape front n (changed_by ids more own.records)) (sym home)
       (subst (λ (rs : List Record). AreInShape front told.records.home (changed_by ids more rs)) (sym own_records)
       (subst (λ (rs : List Record). AreInShape front told.records.home rs) one shape))
-
--- Home by home
-
--- no change holds only what changes
-pub no_changes : (home : ℕ) (own : List Record) → AreOnlyChanges home own [] []
-no_changes home own = record {
-  order = record { homes = tt; ascending = tt };
-  others = tt;
-  homes = tt;
-  rising = λ k within. absurd (omega (arith, within));
-  there = tt;
-  apart = tt;
-}
 
 -- nothing is taken yet
 pub taken_none : (a : View) (telling : Telling) (homes : List HomeRecords) (change : Change) → change.removed ≡ [] → change.records ≡ [] → IsTakenTo a telling homes change 0

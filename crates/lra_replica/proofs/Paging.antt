@@ -12,16 +12,16 @@ use Rattle.lra_forest.proofs.Bools.{all_in, and_left, and_right}
 use Rattle.lra_forest.proofs.Gatherings.{find_in}
 use Rattle.lra_forest.proofs.Overdue.{at, found_in, number_passes}
 use Rattle.lra_forest.proofs.Removals.{filter_are_of}
+use Rattle.lra_history.specs.Growth.{IsSettled}
+use Rattle.lra_history.specs.Readings.{by_view}
+use Rattle.lra_history.specs.Replies.{Reading, by_facts}
+use Rattle.lra_history.specs.Views.{StandsFor, View, record_at}
+use Rattle.lra_history.proofs.Alike.{has_record, view_alike}
+use Rattle.lra_history.proofs.Basics.{at_most, false_from, less_by}
 use Rattle.lra_replica.specs.declared.page.Row.{Row}
-use Rattle.lra_replica.specs.Growth.{IsSettled}
 use Rattle.lra_replica.specs.Pages.{AreAscending, AreBefore, HasRow, IsBefore, IsBeyond, IsFirstBeyond, IsNext, IsNextAt, IsNextRow, IsPage, IsRow, PageRows, is_listed}
-use Rattle.lra_replica.specs.Readings.{by_view}
 use Rattle.lra_replica.specs.Replicas.{Kept, IsKept, view_of}
-use Rattle.lra_replica.specs.Replies.{Reading, by_facts}
-use Rattle.lra_replica.specs.Views.{StandsFor, View, record_at}
-use Rattle.lra_replica.proofs.Alike.{has_record, view_alike}
 use Rattle.lra_replica.proofs.Homes.{found_here, home_records, home_within, kept_in_order, lost_here}
-use Rattle.lra_replica.proofs.Basics.{at_most, false_from, less_by}
 
 fact_number : (n : ℕ) → is_fact_number n ≡ true → IsFactNumber n
 fact_number n e = (let t : 1 ≤ n = grind (arith, nat_tests, e) in t, let t : n < 281474976710656 = grind (arith, nat_tests, e) in t)

@@ -7,7 +7,8 @@ use Rattle.std.proofs.Math.Seq.{map-set_same}
 use Rattle.std.specs.List.{AllByRecursion}
 use Rattle.lra_forest.specs.declared.record.Record.{Record}
 use Rattle.lra_forest.specs.Forests.{AreOf, HomeRecords}
-use Rattle.lra_replica.specs.Replicas.{Change, Fits, Kept, IsKept, AreHomesFrom, count_of_home, spare_at}
+use Rattle.lra_history.specs.Changes.{Change}
+use Rattle.lra_replica.specs.Replicas.{Fits, Kept, IsKept, AreHomesFrom, count_of_home, spare_at}
 
 homes_with : (k : ℕ) (homes : List HomeRecords) (i : ℕ) (new d : HomeRecords) → i < length homes → new.home ≡ (get_or homes i d).home → AreHomesFrom k homes → AreHomesFrom k (set homes i new)
 homes_with k [] i new d e same are = tt

@@ -2,12 +2,13 @@
 use Rattle.std.proofs.Common.{◌≡◌, ◌≤◌, ◌<◌, ◌+◌, ◌∷◌, ℕ, Bool, true, List, [], map, take, length, get_or, refl, sym, ap, subst, ◌∙◌, arith}
 use Rattle.std.specs.List.{AllByRecursion, AllZip}
 use Rattle.std.proofs.lemmas.List.{length-map, take_all, take_more_same}
+
 use Rattle.lra_id.specs.contracts.front.FrontPartialEq.TheImpl as of_fronts
 use Rattle.lra_forest.specs.declared.record.Record.{Record}
 use Rattle.lra_forest.specs.Forests.{AreOf, HomeRecords}
 use Rattle.lra_forest.proofs.Alike.{front_same, front_own}
 use Rattle.lra_replica.specs.Replicas.{AreHomesFrom, IsKept, Kept, view_of}
-use Rattle.lra_replica.specs.Views.{View}
+use Rattle.lra_history.specs.Views.{View}
 use Rattle.lra_replica.proofs.Rooms.{home_numbered, records_of}
 
 -- the records of each home

@@ -9,9 +9,10 @@ use Rattle.lra_forest.specs.Forests.{AreOf, HomeRecords}
 use Rattle.lra_forest.specs.Merging.{changed_by, held_numbers, is_gone, taken}
 use Rattle.lra_forest.specs.OnlyChanges.{AreOnlyChanges}
 use Rattle.lra_forest.specs.Shape.{AreInShape, found_at}
-use Rattle.lra_replica.specs.Merging.{Telling, told_held, told_records}
-use Rattle.lra_replica.specs.Replicas.{Change, HoldsOnlyChanges, count_of_home, ids_of, records_of, spare_at}
-use Rattle.lra_replica.specs.Views.{View, records_at}
+use Rattle.lra_history.specs.Merging.{Telling, told_held, told_records}
+use Rattle.lra_history.specs.Changes.{Change, HoldsOnlyChanges, ids_of, records_of}
+use Rattle.lra_history.specs.Views.{View, records_at}
+use Rattle.lra_replica.specs.Replicas.{count_of_home, spare_at}
 
 -- After are the records of a home, in order, when what another tells of it is taken: it has reach of the home's facts, tells
 -- these records, and that it holds these numbers. Own are the records before, of a node that has mine of the home's facts

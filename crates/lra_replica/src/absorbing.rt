@@ -5,11 +5,12 @@ ghost use Rattle.lra_facts.specs.declared.refusal.Refusal.TheVariants.{BadFrame,
 ghost use Rattle.lra_forest.specs.declared.record.Record.{Record};
 ghost use Rattle.lra_forest.specs.Shape.{AreInShape};
 ghost use Rattle.lra_replica.specs.Absorbing.{AreTakenAt, IsChangeAt, IsGrown, IsTakenTo};
-ghost use Rattle.lra_replica.specs.Histories.{History, IsClosed, IsLawful, facts};
-ghost use Rattle.lra_replica.specs.Merging.{IsAbsorbed, IsMerged, merged};
-ghost use Rattle.lra_replica.specs.Replicas.{Fits, HoldsOnlyChanges, KeepsRoom, patched, view_of};
-ghost use Rattle.lra_replica.specs.Shape.{HasShape};
-ghost use Rattle.lra_replica.specs.Views.{IsInOrder, StandsFor, View};
+ghost use Rattle.lra_history.specs.Histories.{History, IsClosed, IsLawful, facts};
+ghost use Rattle.lra_history.specs.Merging.{IsAbsorbed, IsMerged, merged};
+ghost use Rattle.lra_replica.specs.Replicas.{Fits, KeepsRoom, view_of};
+ghost use Rattle.lra_history.specs.Changes.{HoldsOnlyChanges, patched};
+ghost use Rattle.lra_history.specs.Shape.{HasShape};
+ghost use Rattle.lra_history.specs.Views.{IsInOrder, StandsFor, View};
 
 use crate::{Patch, Replica, Taken};
 use lra_facts::Refusal;

@@ -1,7 +1,8 @@
 // Making a patch's changes.
 ghost use Rattle.std.specs.Prelude.{◌≡◌, ◌≤◌, ◌+◌, ◌==◌, ℕ, List, if◌then◌else◌, length};
 ghost use Rattle.std.specs.List.{AllByRecursion};
-ghost use Rattle.lra_replica.specs.Replicas.{Fits, count_of_home, patched, put_at_home, put_each, spare_at, take_each, taken_out, view_of};
+ghost use Rattle.lra_replica.specs.Replicas.{Fits, count_of_home, spare_at, view_of};
+ghost use Rattle.lra_history.specs.Changes.{patched, put_at_home, put_each, take_each, taken_out};
 
 use crate::{Patch, Replica};
 use lra_forest::Record;

@@ -2,15 +2,16 @@
 ghost use Rattle.std.specs.Prelude.{◌≡◌, ◌≤◌, ◌<◌, ◌+◌, ℕ, List, Some, None, IfOk, length};
 ghost use Rattle.lra_id.specs.Fronts.{count};
 ghost use Rattle.lra_facts.specs.declared.fact.Fact.{Fact};
-ghost use Rattle.lra_replica.specs.declared.command.Command.TheVariants.{Begin};
-ghost use Rattle.lra_replica.specs.Growth.{IsSettled};
-ghost use Rattle.lra_replica.specs.Next.{IsNext, IsReadyNext};
-ghost use Rattle.lra_replica.specs.Prepared.{HasRoom, IsPrepared, fresh_record};
+ghost use Rattle.lra_history.specs.declared.command.Command.TheVariants.{Begin};
+ghost use Rattle.lra_history.specs.Growth.{IsSettled};
+ghost use Rattle.lra_replica.specs.Prepared.{IsNext, IsReadyNext, HasRoom, IsPrepared};
+ghost use Rattle.lra_history.specs.Changes.{fresh_record};
 ghost use Rattle.lra_replica.specs.Replicas.{KeepsRoom, view_of};
-ghost use Rattle.lra_replica.specs.Views.{StandsFor};
+ghost use Rattle.lra_history.specs.Views.{StandsFor};
 
 use crate::changing::stamp;
-use crate::{CommandReply, Prepared, Replica};
+use crate::{Prepared, Replica};
+use lra_history::CommandReply;
 use lra_facts::Refusal;
 use lra_forest::{MOST_MEMBERS, Member, Members, Place, Record};
 use lra_id::{Front, LraId, NodeId};

@@ -3,10 +3,10 @@ ghost use Rattle.std.specs.Prelude.{◌≡◌, ◌≤◌, ◌<◌, ◌+◌, ◌-
 ghost use Rattle.lra_id.specs.Fronts.{count};
 ghost use Rattle.lra_facts.specs.declared.refusal.Refusal.TheVariants.{NoMemory, NotHeld};
 ghost use Rattle.lra_forest.specs.declared.record.Record.{Record};
-ghost use Rattle.lra_replica.specs.Growth.{change_at, forgetting, leaving, reporting, stamped};
-ghost use Rattle.lra_replica.specs.Prepared.{with_stamp};
+ghost use Rattle.lra_history.specs.Growth.{change_at, forgetting, leaving, reporting, stamped};
+ghost use Rattle.lra_history.specs.Changes.{with_stamp};
 ghost use Rattle.lra_replica.specs.Replicas.{view_of};
-ghost use Rattle.lra_replica.specs.Views.{record_at};
+ghost use Rattle.lra_history.specs.Views.{record_at};
 
 use crate::Replica;
 use lra_facts::Refusal;

@@ -5,10 +5,10 @@ ghost use Rattle.lra_facts.specs.declared.fact.Fact.{Fact};
 ghost use Rattle.lra_facts.specs.Duties.{is_compensation_due, is_forget_duty};
 ghost use Rattle.lra_forest.specs.Dues.{AreAll, IsDueAt, is_before, is_complete_duty, is_topmost_before};
 ghost use Rattle.lra_forest.specs.Participants.{parent_held, participant_of};
-ghost use Rattle.lra_replica.specs.Growth.{IsSettled};
+ghost use Rattle.lra_history.specs.Growth.{IsSettled};
 ghost use Rattle.lra_replica.specs.Replicas.{view_of};
-ghost use Rattle.lra_replica.specs.Readings.{by_view};
-ghost use Rattle.lra_replica.specs.Views.{StandsFor};
+ghost use Rattle.lra_history.specs.Readings.{by_view};
+ghost use Rattle.lra_history.specs.Views.{StandsFor};
 
 use crate::Replica;
 use lra_forest::{Due, Participant};

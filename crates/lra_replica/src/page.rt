@@ -5,12 +5,12 @@ ghost use Rattle.lra_facts.specs.declared.fact.Fact.{Fact};
 ghost use Rattle.lra_facts.specs.declared.refusal.Refusal.TheVariants.{NoMemory};
 ghost use Rattle.lra_forest.specs.declared.record.Record.{Record};
 ghost use Rattle.lra_forest.specs.Forests.{id_of};
-ghost use Rattle.lra_replica.specs.Growth.{IsSettled};
+ghost use Rattle.lra_history.specs.Growth.{IsSettled};
 ghost use Rattle.lra_replica.specs.Pages.{IsFirstBeyond, IsNext, IsNextAt, IsNextRow, IsPage};
-ghost use Rattle.lra_replica.specs.Readings.{by_view};
+ghost use Rattle.lra_history.specs.Readings.{by_view};
 ghost use Rattle.lra_replica.specs.Replicas.{IsKept, view_of};
-ghost use Rattle.lra_replica.specs.Replies.{by_facts};
-ghost use Rattle.lra_replica.specs.Views.{StandsFor};
+ghost use Rattle.lra_history.specs.Replies.{by_facts};
+ghost use Rattle.lra_history.specs.Views.{StandsFor};
 
 use crate::Replica;
 use lra_facts::Refusal;

@@ -6,16 +6,18 @@ ghost use Rattle.lra_facts.specs.declared.refusal.Refusal.TheVariants.{NotEnded}
 ghost use Rattle.lra_facts.specs.Refusals.{first, unknown, away};
 ghost use Rattle.lra_forest.specs.Said.{ids_below};
 ghost use Rattle.lra_forest.specs.Standing.{answered};
-ghost use Rattle.lra_replica.specs.declared.command.Command.TheVariants.{Purge};
-ghost use Rattle.lra_replica.specs.Growth.{IsSettled};
-ghost use Rattle.lra_replica.specs.Next.{IsNext, judge_on};
-ghost use Rattle.lra_replica.specs.Prepared.{HasRoom, IsPrepared, judged_by};
-ghost use Rattle.lra_replica.specs.Readings.{at_home, by_view};
-ghost use Rattle.lra_replica.specs.Replicas.{Fits, KeepsRoom, purge_change, view_of};
-ghost use Rattle.lra_replica.specs.Replies.{gone_by, nested_by, running_by, unforgotten_by};
-ghost use Rattle.lra_replica.specs.Views.{StandsFor, records_at};
+ghost use Rattle.lra_history.specs.declared.command.Command.TheVariants.{Purge};
+ghost use Rattle.lra_history.specs.Growth.{IsSettled};
+ghost use Rattle.lra_replica.specs.Prepared.{IsNext, HasRoom, IsPrepared, judged_by};
+ghost use Rattle.lra_history.specs.Next.{judge_on};
+ghost use Rattle.lra_history.specs.Readings.{at_home, by_view};
+ghost use Rattle.lra_replica.specs.Replicas.{Fits, KeepsRoom, view_of};
+ghost use Rattle.lra_history.specs.Changes.{purge_change};
+ghost use Rattle.lra_history.specs.Replies.{gone_by, nested_by, running_by, unforgotten_by};
+ghost use Rattle.lra_history.specs.Views.{StandsFor, records_at};
 
-use crate::{CommandReply, Patch, Prepared, Replica};
+use crate::{Patch, Prepared, Replica};
+use lra_history::CommandReply;
 use lra_facts::Refusal;
 use lra_id::{LraId, NodeId};
 use std::alloc::{AllocError, Global};

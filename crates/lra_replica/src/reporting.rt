@@ -2,15 +2,16 @@
 ghost use Rattle.std.specs.Prelude.{◌≡◌, ◌≤◌, ◌<◌, List, Ok, false, length};
 ghost use Rattle.lra_id.specs.Fronts.{count};
 ghost use Rattle.lra_facts.specs.declared.fact.Fact.{Fact};
-ghost use Rattle.lra_replica.specs.declared.command.Command.TheVariants.{Report};
-ghost use Rattle.lra_replica.specs.Growth.{IsSettled};
-ghost use Rattle.lra_replica.specs.Next.{IsNext, judge_on};
-ghost use Rattle.lra_replica.specs.Prepared.{HasRoom, IsPrepared, judged_as};
+ghost use Rattle.lra_history.specs.declared.command.Command.TheVariants.{Report};
+ghost use Rattle.lra_history.specs.Growth.{IsSettled};
+ghost use Rattle.lra_replica.specs.Prepared.{IsNext, HasRoom, IsPrepared, judged_as};
+ghost use Rattle.lra_history.specs.Next.{judge_on};
 ghost use Rattle.lra_replica.specs.Replicas.{KeepsRoom, view_of};
-ghost use Rattle.lra_replica.specs.Views.{StandsFor};
+ghost use Rattle.lra_history.specs.Views.{StandsFor};
 
 use crate::changing::report_to;
-use crate::{CommandReply, Prepared, Replica};
+use crate::{Prepared, Replica};
+use lra_history::CommandReply;
 use lra_facts::Refusal;
 use lra_id::{LraId, NodeId};
 use lra_states::{Act, Outcome};

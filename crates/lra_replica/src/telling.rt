@@ -1,7 +1,7 @@
 // What one node tells another.
 ghost use Rattle.std.specs.Prelude.{◌≡◌, IfOk, map};
 ghost use Rattle.lra_forest.specs.declared.record.Record.{Record};
-ghost use Rattle.lra_replica.specs.Merging.{IsTelling, TellsAll};
+ghost use Rattle.lra_history.specs.Merging.{IsTelling, TellsAll};
 ghost use Rattle.lra_replica.specs.Replicas.{view_of};
 
 use crate::Replica;
@@ -20,7 +20,7 @@ pub struct Taken {
 }
 
 impl Model for Taken {
-    ghost use Rattle.lra_replica.specs.Merging.{IsTelling, Telling};
+    ghost use Rattle.lra_history.specs.Merging.{IsTelling, Telling};
 
     ghost Value = { Telling };
 

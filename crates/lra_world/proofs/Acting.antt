@@ -3,14 +3,14 @@ use Rattle.std.proofs.Common.{◌≡◌, inl, inr, ℕ, List, Option, None, Some
 use Rattle.lra_facts.specs.declared.fact.Fact.{Fact}
 use Rattle.lra_facts.specs.declared.refusal.Refusal.{Refusal}
 use Rattle.lra_facts.specs.declared.refusal.Refusal.TheVariants.{NoMemory}
-use Rattle.lra_replica.specs.declared.command.Command.{Command}
-use Rattle.lra_replica.specs.declared.command.Command.TheVariants.{Begin, Join, Leave, Decide, Report, Forgot, Purge}
-use Rattle.lra_replica.specs.declared.command.CommandReply.TheVariants.{Refused}
+use Rattle.lra_history.specs.declared.command.Command.{Command}
+use Rattle.lra_history.specs.declared.command.Command.TheVariants.{Begin, Join, Leave, Decide, Report, Forgot, Purge}
+use Rattle.lra_history.specs.declared.command.CommandReply.TheVariants.{Refused}
 use Rattle.lra_replica.specs.declared.patch.Prepared.{Prepared}
-use Rattle.lra_replica.specs.Prepared.{AddsFact, IsPrepared}
-use Rattle.lra_replica.specs.Replicas.{Change}
-use Rattle.lra_replica.specs.Replies.{Judgement, Denied, Old, Taken, accepted, judge, reply_by, reply_of}
-use Rattle.lra_replica.specs.Views.{StandsFor, View}
+use Rattle.lra_history.specs.Changes.{AddsFact, Change}
+use Rattle.lra_replica.specs.Prepared.{IsPrepared}
+use Rattle.lra_history.specs.Replies.{Judgement, Denied, Old, Taken, accepted, judge, reply_by, reply_of}
+use Rattle.lra_history.specs.Views.{StandsFor, View}
 use Rattle.lra_world.specs.Machines.{Becomes, IsActed, with_patch}
 
 -- with the patch, if there is one, the view becomes what the command asks

@@ -6,9 +6,9 @@ use Rattle.std.proofs.lemmas.Bool.Decides.{nat_tests}
 use Rattle.lra_id.specs.Fronts.{IsBelow, join_fronts}
 use Rattle.lra_facts.specs.declared.refusal.Refusal.TheVariants.{Gap}
 use Rattle.lra_forest.proofs.Giving.{get_in}
-use Rattle.lra_replica.specs.Histories.{facts}
+use Rattle.lra_history.specs.Histories.{facts}
 use Rattle.lra_replica.specs.Replicas.{view_of}
-use Rattle.lra_replica.specs.Views.{View}
+use Rattle.lra_history.specs.Views.{View}
 use Rattle.lra_delta.specs.declared.input.Stop.{Stop}
 use Rattle.lra_delta.specs.declared.input.Stop.TheVariants.{Fault}
 use Rattle.lra_delta.specs.Frames.{Frame, frame_of}

@@ -1,7 +1,7 @@
 -- A history that grows leaves the closed sets as they are.
 use Rattle.std.proofs.Common.{◌≡◌, ◌≤◌, ℕ, List, refl, sym, ◌∙◌, length}
-use Rattle.lra_replica.specs.Histories.{Entry, History, IsClosed, facts, with_entry}
-use Rattle.lra_replica.proofs.Entries.{closed_still, length_with, unmoved}
+use Rattle.lra_history.specs.Histories.{Entry, History, IsClosed, facts, with_entry}
+use Rattle.lra_history.proofs.Entries.{closed_still, length_with, unmoved}
 use Rattle.lra_world.specs.Worlds.{SentFrame, IsSent}
 
 -- what was closed is closed still, and counts the same facts

@@ -8,16 +8,16 @@ use Rattle.std.proofs.lemmas.List.{length-append}
 use Rattle.lra_id.specs.Fronts.{IsBelow}
 use Rattle.lra_facts.specs.declared.refusal.Refusal.{Refusal}
 use Rattle.lra_facts.specs.declared.refusal.Refusal.TheVariants.{BadText, Gap}
-use Rattle.lra_replica.specs.declared.command.Command.{Command}
-use Rattle.lra_replica.specs.declared.command.Command.TheVariants.{Decide}
-use Rattle.lra_replica.specs.declared.command.CommandReply.{CommandReply}
+use Rattle.lra_history.specs.declared.command.Command.{Command}
+use Rattle.lra_history.specs.declared.command.Command.TheVariants.{Decide}
+use Rattle.lra_history.specs.declared.command.CommandReply.{CommandReply}
 use Rattle.lra_states.specs.declared.outcome.Verdict.TheVariants.{Cancel}
 use Rattle.lra_forest.specs.Overdue.{IsLeastOverdue}
-use Rattle.lra_replica.specs.Growth.{IsSettled}
-use Rattle.lra_replica.proofs.Histories.{closed_settled}
-use Rattle.lra_replica.specs.Histories.{History, IsClosed, IsLawful, facts}
+use Rattle.lra_history.specs.Growth.{IsSettled}
+use Rattle.lra_history.proofs.Histories.{closed_settled}
+use Rattle.lra_history.specs.Histories.{History, IsClosed, IsLawful, facts}
 use Rattle.lra_replica.specs.Replicas.{Kept, view_of}
-use Rattle.lra_replica.specs.Views.{StandsFor}
+use Rattle.lra_history.specs.Views.{StandsFor}
 use Rattle.lra_world.specs.declared.event.Event.{Event}
 use Rattle.lra_world.specs.declared.event.Event.TheVariants.{Act, Deliver, Restart, Send, Tick}
 use Rattle.lra_world.specs.declared.event.Reply.{Reply}

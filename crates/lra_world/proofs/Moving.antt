@@ -9,16 +9,16 @@ use Rattle.lra_facts.specs.Lists.{In}
 use Rattle.lra_facts.proofs.Membership.{in_append}
 use Rattle.lra_forest.proofs.Bools.{and_left, and_right}
 use Rattle.lra_forest.proofs.Giving.{get_in}
-use Rattle.lra_replica.specs.declared.command.Command.{Command}
-use Rattle.lra_replica.specs.declared.command.Command.TheVariants.{Decide}
-use Rattle.lra_replica.specs.Histories.{Entry, History, entries_of, facts, with_entry}
-use Rattle.lra_replica.specs.Laws.{IsCurrent, entry_for}
-use Rattle.lra_replica.specs.Replicas.{raised}
-use Rattle.lra_replica.specs.Replies.{Judgement, Denied, Old, Taken, judge}
-use Rattle.lra_replica.proofs.Basics.{same_or_not}
-use Rattle.lra_replica.proofs.Entries.{below_raised, closed_with, lawful_with, length_with, own_with, taken_lawful}
-use Rattle.lra_replica.proofs.Extending.{empty_view_in}
-use Rattle.lra_replica.proofs.Unions.{closed_join, count_join}
+use Rattle.lra_history.specs.declared.command.Command.{Command}
+use Rattle.lra_history.specs.declared.command.Command.TheVariants.{Decide}
+use Rattle.lra_history.specs.Histories.{Entry, History, entries_of, facts, with_entry}
+use Rattle.lra_history.specs.Laws.{IsCurrent, entry_for}
+use Rattle.lra_history.specs.Changes.{raised}
+use Rattle.lra_history.specs.Replies.{Judgement, Denied, Old, Taken, judge}
+use Rattle.lra_history.proofs.Basics.{same_or_not}
+use Rattle.lra_history.proofs.Entries.{below_raised, closed_with, lawful_with, length_with, own_with, taken_lawful}
+use Rattle.lra_history.proofs.Extending.{empty_view_in}
+use Rattle.lra_history.proofs.Unions.{closed_join, count_join}
 use Rattle.lra_world.specs.declared.event.Event.{Event}
 use Rattle.lra_world.specs.declared.event.Event.TheVariants.{Act, Deliver, Restart, Send, Tick}
 use Rattle.lra_world.specs.declared.event.Reply.{Reply}

@@ -1,9 +1,9 @@
 -- At each node statuses rise along a run.
 use Rattle.std.proofs.Common.{◌≤◌, List, arith, subst}
 use Rattle.lra_facts.specs.declared.fact.Fact.{Fact}
-use Rattle.lra_replica.specs.Histories.{IsClosed}
-use Rattle.lra_replica.specs.Rising.{rank_in}
-use Rattle.lra_replica.proofs.Risen.{rank_more}
+use Rattle.lra_history.specs.Histories.{IsClosed}
+use Rattle.lra_history.specs.Rising.{rank_in}
+use Rattle.lra_history.proofs.Risen.{rank_more}
 use Rattle.lra_world.specs.Headline.{IsNode, StatusesRise}
 use Rattle.lra_world.specs.Worlds.{IsWorld, State, front_of, set_of}
 use Rattle.lra_world.proofs.Moving.{IsKeptBy}

@@ -4,17 +4,18 @@ use Rattle.std.proofs.lemmas.List.{length-set}
 use Rattle.std.proofs.lemmas.Option.{slice_get_within}
 use Rattle.lra_facts.specs.declared.fact.Fact.{Fact}
 use Rattle.lra_forest.proofs.Giving.{get_in}
-use Rattle.lra_replica.specs.declared.command.Command.{Command}
-use Rattle.lra_replica.specs.declared.command.CommandReply.{CommandReply}
-use Rattle.lra_replica.specs.Growth.{IsMore, IsSettled}
-use Rattle.lra_replica.specs.Histories.{History, IsClosed, facts}
-use Rattle.lra_replica.specs.Laws.{IsCurrent, entry_for}
-use Rattle.lra_replica.specs.Replicas.{Kept, raised, view_of}
-use Rattle.lra_replica.specs.Replies.{Judgement, Denied, Old, Taken, judge, next_fact, reply_of}
-use Rattle.lra_replica.specs.Views.{StandsFor, View}
-use Rattle.lra_replica.proofs.Basics.{same_or_not}
-use Rattle.lra_replica.proofs.Entries.{one_more}
-use Rattle.lra_replica.proofs.Histories.{closed_settled}
+use Rattle.lra_history.specs.declared.command.Command.{Command}
+use Rattle.lra_history.specs.declared.command.CommandReply.{CommandReply}
+use Rattle.lra_history.specs.Growth.{IsMore, IsSettled}
+use Rattle.lra_history.specs.Histories.{History, IsClosed, facts}
+use Rattle.lra_history.specs.Laws.{IsCurrent, entry_for}
+use Rattle.lra_replica.specs.Replicas.{Kept, view_of}
+use Rattle.lra_history.specs.Changes.{raised}
+use Rattle.lra_history.specs.Replies.{Judgement, Denied, Old, Taken, judge, next_fact, reply_of}
+use Rattle.lra_history.specs.Views.{StandsFor, View}
+use Rattle.lra_history.proofs.Basics.{same_or_not}
+use Rattle.lra_history.proofs.Entries.{one_more}
+use Rattle.lra_history.proofs.Histories.{closed_settled}
 use Rattle.lra_world.specs.Headline.{IsNode}
 use Rattle.lra_world.specs.Machines.{Becomes, IsActed, IsChanged, IsWorldOf, Machine}
 use Rattle.lra_world.specs.Worlds.{SentFrame, IsSpelled, IsViewOf, State, after_command, front_of, if_taken, nodes_of, reply_at, set_of, with_command}

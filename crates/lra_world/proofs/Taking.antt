@@ -3,8 +3,8 @@ use Rattle.std.proofs.Common.{◌≡◌, ◌∙◌, ℕ, List, Result, Err, ap, 
 use Rattle.lra_id.specs.Fronts.{IsBelow}
 use Rattle.lra_facts.specs.declared.refusal.Refusal.{Refusal}
 use Rattle.lra_facts.specs.declared.refusal.Refusal.TheVariants.{Gap, NoMemory}
-use Rattle.lra_replica.specs.Histories.{History, IsClosed, IsLawful, facts}
-use Rattle.lra_replica.specs.Views.{StandsFor, View}
+use Rattle.lra_history.specs.Histories.{History, IsClosed, IsLawful, facts}
+use Rattle.lra_history.specs.Views.{StandsFor, View}
 use Rattle.lra_delta.specs.Frames.{Frame, IsFrame}
 use Rattle.lra_world.specs.declared.event.Reply.TheVariants.{Refused}
 use Rattle.lra_world.specs.Machines.{TakesFrame}

@@ -5,13 +5,14 @@ use Rattle.lra_id.specs.Fronts.{IsBelow, join_fronts}
 use Rattle.lra_id.specs.Ids.{Id}
 use Rattle.lra_facts.specs.declared.fact.Fact.{Fact}
 use Rattle.lra_facts.specs.declared.refusal.Refusal.TheVariants.{BadFrame, BadText, Gap}
-use Rattle.lra_replica.specs.declared.command.Command.{Command}
-use Rattle.lra_replica.specs.declared.command.CommandReply.{CommandReply}
-use Rattle.lra_replica.specs.Growth.{IsMore}
-use Rattle.lra_replica.specs.Histories.{History, IsClosed, IsLawful, facts}
-use Rattle.lra_replica.specs.Replicas.{Change, Kept, empty_view, patched, raised, view_of}
-use Rattle.lra_replica.specs.Replies.{Judgement, Denied, Old, Taken, judge, next_fact, reply_of}
-use Rattle.lra_replica.specs.Views.{StandsFor, View}
+use Rattle.lra_history.specs.declared.command.Command.{Command}
+use Rattle.lra_history.specs.declared.command.CommandReply.{CommandReply}
+use Rattle.lra_history.specs.Growth.{IsMore}
+use Rattle.lra_history.specs.Histories.{History, IsClosed, IsLawful, facts}
+use Rattle.lra_history.specs.Changes.{Change, patched, raised}
+use Rattle.lra_replica.specs.Replicas.{Kept, view_of}
+use Rattle.lra_history.specs.Views.{empty_view, StandsFor, View}
+use Rattle.lra_history.specs.Replies.{Judgement, Denied, Old, Taken, judge, next_fact, reply_of}
 use Rattle.lra_delta.specs.declared.input.Stop.TheVariants.{Fault}
 use Rattle.lra_delta.specs.Frames.{Frame, IsFrame}
 use Rattle.lra_delta.specs.Reading.{frame_in}

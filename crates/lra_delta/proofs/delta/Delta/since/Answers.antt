@@ -1,6 +1,6 @@
 use Rattle.std.proofs.Common.{◌≡◌, ◌∙◌, ℕ, List, ap, subst, sym}
 use Rattle.lra_id.specs.Fronts.{IsBelow}
-use Rattle.lra_replica.specs.Merging.{IsTelling}
+use Rattle.lra_history.specs.Merging.{IsTelling}
 use Rattle.lra_replica.specs.Replicas.{view_of}
 use Rattle.lra_delta.specs.Frames.{Frame, IsFrame, frame_of}
 use Rattle.lra_delta.specs.Grammar.{IsOfGrammar}

@@ -1,6 +1,6 @@
 use Rattle.std.proofs.Common.{◌≡◌, ◌∙◌, ℕ, List, sym, ap, subst}
 use Rattle.lra_id.specs.Fronts.{IsBelow, join_fronts}
-use Rattle.lra_replica.specs.Merging.{IsTelling, Telling}
+use Rattle.lra_history.specs.Merging.{IsTelling, Telling}
 use Rattle.lra_replica.specs.Replicas.{IsKept, Kept}
 use Rattle.lra_replica.proofs.Absorbed.{patch_absorbs, patch_fits, patch_shapes}
 use Rattle.lra_replica.proofs.Homes.{opened_in_order}

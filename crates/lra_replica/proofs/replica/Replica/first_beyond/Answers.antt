@@ -1,5 +1,5 @@
 use Rattle.std.proofs.Common.{length, arith}
-use Rattle.lra_replica.specs.Readings.{by_view}
+use Rattle.lra_history.specs.Readings.{by_view}
 use Rattle.lra_replica.specs.Replicas.{view_of}
 use Rattle.lra_replica.proofs.Paging.{bare_more, first_found, first_none, kept_within}
 use Rattle.lra_replica.proofs.replica.Replica.first_beyond.Goals as goal

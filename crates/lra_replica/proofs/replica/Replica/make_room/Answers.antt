@@ -2,7 +2,7 @@ use Rattle.std.proofs.Common.{◌≡◌, ◌≤◌, ◌<◌, ◌+◌, ◌-◌, �
 use Rattle.lra_forest.specs.declared.record.Record.{Record}
 use Rattle.lra_forest.specs.Forests.{AreOf, HomeRecords}
 use Rattle.lra_replica.specs.Replicas.{Kept, spare_at, view_of}
-use Rattle.lra_replica.specs.Views.{View}
+use Rattle.lra_history.specs.Views.{View}
 use Rattle.lra_replica.proofs.Rooms.{kept_with, ordered_here, same_records, spare_new, spare_with}
 use Rattle.lra_replica.proofs.replica.Replica.make_room.Goals as goal
 

@@ -1,8 +1,8 @@
 use Rattle.std.proofs.Common.{◌≡◌, sym, subst, ◌∙◌, ℕ, Option, Some, None, length}
 use Rattle.lra_id.specs.Ids.{Id}
-use Rattle.lra_replica.specs.Readings.{by_view}
+use Rattle.lra_history.specs.Readings.{by_view}
 use Rattle.lra_replica.specs.Replicas.{view_of}
-use Rattle.lra_replica.specs.Replies.{Reading}
+use Rattle.lra_history.specs.Replies.{Reading}
 use Rattle.lra_replica.specs.Pages.{IsFirstBeyond, IsNext, IsNextAt}
 use Rattle.lra_replica.proofs.Paging.{first_of_all, kept_within, next_same, next_other}
 use Rattle.lra_replica.proofs.replica.Replica.next_after.Goals as goal

@@ -3,8 +3,9 @@ use Rattle.lra_forest.specs.declared.record.Record.{Record}
 use Rattle.lra_forest.specs.Forests.{AreOf, HomeRecords}
 use Rattle.lra_forest.specs.Places.{put_record}
 use Rattle.lra_forest.proofs.Puts.{put_are_of}
-use Rattle.lra_replica.specs.Replicas.{Kept, spare_at, put_at_home}
-use Rattle.lra_replica.specs.Views.{records_at}
+use Rattle.lra_replica.specs.Replicas.{Kept, spare_at}
+use Rattle.lra_history.specs.Changes.{put_at_home}
+use Rattle.lra_history.specs.Views.{records_at}
 use Rattle.lra_replica.proofs.Rooms.{kept_with, home_numbered, ordered_here, records_with, records_of, spare_is, spare_with}
 use Rattle.lra_replica.proofs.replica.Replica.put.Goals as goal
 

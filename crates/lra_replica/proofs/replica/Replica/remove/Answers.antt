@@ -4,8 +4,9 @@ use Rattle.std.specs.List.{filter}
 use Rattle.lra_forest.specs.declared.record.Record.{Record}
 use Rattle.lra_forest.specs.Forests.{AreOf, HomeRecords, is_of}
 use Rattle.lra_forest.proofs.Removals.{filter_are_of}
-use Rattle.lra_replica.specs.Replicas.{Kept, spare_at, taken_out}
-use Rattle.lra_replica.specs.Views.{records_at}
+use Rattle.lra_replica.specs.Replicas.{Kept, spare_at}
+use Rattle.lra_history.specs.Changes.{taken_out}
+use Rattle.lra_history.specs.Views.{records_at}
 use Rattle.lra_replica.proofs.Rooms.{kept_with, ordered_here, records_with, records_of, spare_with}
 use Rattle.lra_replica.proofs.replica.Replica.remove.Goals as goal
 

@@ -1,5 +1,6 @@
 use Rattle.std.proofs.Common.{◌≡◌, ◌≤◌, ℕ, drop}
-use Rattle.lra_replica.specs.Replicas.{spare_at, take_each, view_of}
+use Rattle.lra_replica.specs.Replicas.{spare_at, view_of}
+use Rattle.lra_history.specs.Changes.{take_each}
 use Rattle.lra_replica.proofs.replica.Replica.remove_all.Given as goal
 
 -- what is left is taken out of what is left after the others

@@ -1,6 +1,6 @@
 use Rattle.std.proofs.Common.{◌≡◌, ◌∙◌, sym, ap, true}
 use Rattle.lra_replica.specs.Replicas.{Kept}
-use Rattle.lra_replica.specs.Views.{View}
+use Rattle.lra_history.specs.Views.{View}
 use Rattle.lra_replica.proofs.SameHomes.{front_told, same_view}
 use Rattle.lra_replica.proofs.replica.Replica.same.Goals as goal
 use Rattle.lra_replica.proofs.replica.Replica.same.Goals.{Joined-eq, then-eq, else-eq}

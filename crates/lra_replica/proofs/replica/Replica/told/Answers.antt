@@ -1,6 +1,6 @@
 use Rattle.std.proofs.Common.{◌∙◌, List, Some, ap, map, subst}
 use Rattle.lra_forest.specs.declared.record.Record.{Record}
-use Rattle.lra_replica.specs.Merging.{TellsAll}
+use Rattle.lra_history.specs.Merging.{TellsAll}
 use Rattle.lra_replica.specs.Replicas.{Kept, view_of}
 use Rattle.lra_replica.proofs.Tellings.{all_told, one_more_told, telling_kept, tells_all}
 use Rattle.lra_replica.proofs.replica.Replica.told.Goals as goal

@@ -3,9 +3,9 @@ use Rattle.std.proofs.lemmas.Result.{IfOk-weaker, on_err_weaker}
 use Rattle.std.specs.Prelude.{IfOk}
 use Rattle.std.specs.declared.alloc.AllocError.{AllocError}
 use Rattle.lra_facts.specs.declared.fact.Fact.{Fact}
-use Rattle.lra_replica.specs.declared.command.CommandReply.{CommandReply}
-use Rattle.lra_replica.specs.Growth.{IsSettled}
-use Rattle.lra_replica.specs.Views.{StandsFor}
+use Rattle.lra_history.specs.declared.command.CommandReply.{CommandReply}
+use Rattle.lra_history.specs.Growth.{IsSettled}
+use Rattle.lra_history.specs.Views.{StandsFor}
 use Rattle.lra_replica.specs.Replicas.{Kept, view_of}
 use Rattle.lra_world.specs.Machines.{IsActed, IsChanged, Machine, bytes_of}
 use Rattle.lra_world.proofs.Changing.{changed_at}
