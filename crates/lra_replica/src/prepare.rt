@@ -7,8 +7,8 @@ ghost use Rattle.lra_replica.specs.Replicas.{KeepsRoom, view_of};
 ghost use Rattle.lra_history.specs.Views.{StandsFor};
 
 use crate::{Prepared, Replica};
-use lra_history::Command;
 use lra_facts::Refusal;
+use lra_history::Command;
 use lra_id::NodeId;
 use std::alloc::Global;
 

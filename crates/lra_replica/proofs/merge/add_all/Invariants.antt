@@ -1,5 +1,5 @@
 use Rattle.std.proofs.Common.{◌≡◌, ◌++◌}
-use Rattle.lra_replica.proofs.absorbing.add_all.Given as goal
+use Rattle.lra_replica.proofs.merge.add_all.Given as goal
 
 -- what was added and what is left are all
 abbrev pub invariant-loop-next : goal.invariant-loop-next

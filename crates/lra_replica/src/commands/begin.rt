@@ -1,23 +1,88 @@
-// The begin of an LRA, top-level or nested, as a prepared patch.
-ghost use Rattle.std.specs.Prelude.{◌≡◌, ◌≤◌, ◌<◌, ◌+◌, ℕ, List, Some, None, IfOk, length};
+// The begin of an LRA, top-level or nested.
+ghost use Rattle.std.specs.Prelude.{◌≡◌, ◌≤◌, ◌<◌, ℕ, [], ◌∷◌, List, None, Some, length, true, ◌+◌, IfOk};
+ghost use Rattle.lra_facts.specs.Refusals.{first, unknown, away};
 ghost use Rattle.lra_id.specs.Fronts.{count};
-ghost use Rattle.lra_facts.specs.declared.fact.Fact.{Fact};
 ghost use Rattle.lra_history.specs.declared.command.Command.TheVariants.{Begin};
+ghost use Rattle.lra_history.specs.Next.{judge_on};
+ghost use Rattle.lra_replica.specs.Prepared.{judged_by, IsNext, IsReadyNext, HasRoom, IsPrepared};
+ghost use Rattle.lra_history.specs.Readings.{by_view};
+ghost use Rattle.lra_history.specs.Replies.{crowded_by, deep_by, full_by, gone_by, settled_by};
+ghost use Rattle.lra_replica.specs.Replicas.{view_of, KeepsRoom};
+ghost use Rattle.lra_facts.specs.declared.fact.Fact.{Fact};
 ghost use Rattle.lra_history.specs.Growth.{IsSettled};
-ghost use Rattle.lra_replica.specs.Prepared.{IsNext, IsReadyNext, HasRoom, IsPrepared};
 ghost use Rattle.lra_history.specs.Changes.{fresh_record};
-ghost use Rattle.lra_replica.specs.Replicas.{KeepsRoom, view_of};
 ghost use Rattle.lra_history.specs.Views.{StandsFor};
 
-use crate::changing::stamp;
+use crate::commands::fact::stamp;
 use crate::{Prepared, Replica};
-use lra_history::CommandReply;
 use lra_facts::Refusal;
-use lra_forest::{MOST_MEMBERS, Member, Members, Place, Record};
+use lra_forest::{MOST_DEPTH, MOST_HELD, MOST_MEMBERS, Member, Members, Place, Record};
+use lra_history::CommandReply;
 use lra_id::{Front, LraId, NodeId};
 use std::alloc::Global;
 
 impl Replica {
+    /// The refusal to hold one more LRA of this node's own.
+    fn refusal_to_hold(&self, me: NodeId) -> Option<Refusal>
+        requires { me ≤ length self.now.front }
+        ensures { let t = by_view (view_of self.now) in result ≡ crowded_by t me }
+    {
+        if self.held_at(me) >= MOST_HELD {
+            return Some(Refusal::LrasFull);
+        }
+        None
+    }
+
+    /// The refusal of a begin of a root, if it is refused.
+    fn refusal_of_root(&self, me: NodeId) -> Option<Refusal>
+        requires { me ≤ length self.now.front }
+        ensures judged { (deadline : ℕ) → judge_on (view_of self.now) me (Begin None deadline) ≡ judged_by result }
+        ensures left { result ≡ None → count self.now.front me < 281474976710655 }
+        ensures some { 1 ≤ me }
+    {
+        let _ = me.number();
+        if let Some(refusal) = self.refusal_to_hold(me) {
+            return Some(refusal);
+        }
+        self.refusal_to_number(me)
+    }
+
+    /// The refusal of an LRA that is nested as deep as may be.
+    fn refusal_of_deep(&self, id: LraId) -> Option<Refusal>
+        ensures { let t = by_view (view_of self.now) in t.held id ≡ true → result ≡ deep_by t id }
+    {
+        match self.depth(id) {
+            Ok(depth) if depth >= u64::from(MOST_DEPTH) => Some(Refusal::DepthFull),
+            _ => None,
+        }
+    }
+
+    /// The refusal to begin an LRA in this one.
+    fn refusal_to_nest(&self, me: NodeId, parent: LraId) -> Option<Refusal>
+        requires { me ≤ length self.now.front }
+        ensures { let t = by_view (view_of self.now) in result ≡ first (unknown self.now.front parent ∷ gone_by t parent ∷ away me parent ∷ settled_by t parent ∷ full_by t parent ∷ deep_by t parent ∷ crowded_by t me ∷ []) }
+    {
+        if let Some(refusal) = self.refusal_to_number_member(me, parent) {
+            return Some(refusal);
+        }
+        if let Some(refusal) = self.refusal_of_deep(parent) {
+            return Some(refusal);
+        }
+        self.refusal_to_hold(me)
+    }
+
+    /// The refusal of a begin in a parent, if it is refused.
+    fn refusal_of_nested(&self, me: NodeId, parent: LraId) -> Option<Refusal>
+        requires { me ≤ length self.now.front }
+        ensures judged { (deadline : ℕ) → judge_on (view_of self.now) me (Begin (Some parent) deadline) ≡ judged_by result }
+        ensures left { result ≡ None → count self.now.front me < 281474976710655 }
+    {
+        if let Some(refusal) = self.refusal_to_nest(me, parent) {
+            return Some(refusal);
+        }
+        self.refusal_to_number(me)
+    }
+
     /// The id of an LRA that a node begins with its next fact.
     fn next_id(&self, me: NodeId) -> LraId
         requires { count self.now.front me < 281474976710655 }

@@ -1,6 +1,6 @@
 use Rattle.std.proofs.Common.{◌≡◌, ◌++◌, ◌∷◌, ◌∙◌, [], List, refl, sym, ap, arith, append_assoc}
 use Rattle.lra_replica.proofs.Rooms.{none_left}
-use Rattle.lra_replica.proofs.absorbing.add_all.Goals as goal
+use Rattle.lra_replica.proofs.merge.add_all.Goals as goal
 
 pub loop-next-init : goal.loop-next-init
 loop-next-init g c = let items = c.into_iter-next-iterator.ensures.into_iter_gives.0 in rw items refl

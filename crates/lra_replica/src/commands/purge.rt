@@ -1,4 +1,4 @@
-// A purge of a root and all that is nested in it, as a prepared patch.
+// A purge of a root and all that is nested in it.
 ghost use Rattle.std.specs.Prelude.{◌≡◌, ◌≤◌, ◌<◌, [], ◌∷◌, List, None, Some, true, IfOk, length};
 ghost use Rattle.lra_id.specs.Fronts.{count};
 ghost use Rattle.lra_facts.specs.declared.fact.Fact.{Fact};
@@ -17,8 +17,8 @@ ghost use Rattle.lra_history.specs.Replies.{gone_by, nested_by, running_by, unfo
 ghost use Rattle.lra_history.specs.Views.{StandsFor, records_at};
 
 use crate::{Patch, Prepared, Replica};
-use lra_history::CommandReply;
 use lra_facts::Refusal;
+use lra_history::CommandReply;
 use lra_id::{LraId, NodeId};
 use std::alloc::{AllocError, Global};
 

@@ -1,24 +1,54 @@
-// That a participant was told to forget, as a prepared patch.
-ghost use Rattle.std.specs.Prelude.{◌≡◌, ◌≤◌, ◌<◌, ◌||◌, [], ◌∷◌, List, Ok, false, true, length};
+// That a participant was told to forget.
+ghost use Rattle.std.specs.Prelude.{◌≡◌, ◌≤◌, ◌<◌, ◌-◌, OnOk, length, ◌||◌, [], ◌∷◌, List, Ok, false, true};
 ghost use Rattle.lra_id.specs.Fronts.{count};
+ghost use Rattle.lra_history.specs.Growth.{change_at, forgetting, IsSettled};
+ghost use Rattle.lra_replica.specs.Replicas.{view_of, KeepsRoom};
 ghost use Rattle.lra_facts.specs.declared.fact.Fact.{Fact};
 ghost use Rattle.lra_facts.specs.Refusals.{first, unknown};
 ghost use Rattle.lra_forest.specs.Participants.{answered_of};
 ghost use Rattle.lra_history.specs.declared.command.Command.TheVariants.{Forgot};
-ghost use Rattle.lra_history.specs.Growth.{IsSettled};
 ghost use Rattle.lra_replica.specs.Prepared.{IsNext, HasRoom, IsPrepared, judged_as};
 ghost use Rattle.lra_history.specs.Next.{judge_on};
 ghost use Rattle.lra_history.specs.Readings.{by_view};
-ghost use Rattle.lra_replica.specs.Replicas.{KeepsRoom, view_of};
 ghost use Rattle.lra_history.specs.Replies.{gone_by, stranger_by, unowed_by};
 ghost use Rattle.lra_history.specs.Views.{StandsFor};
 
-use crate::changing::forget_at;
 use crate::{Prepared, Replica};
-use lra_history::CommandReply;
 use lra_facts::Refusal;
+use lra_forest::{Member, Members, Participant};
+use lra_history::CommandReply;
 use lra_id::{LraId, NodeId};
-use std::alloc::Global;
+use std::alloc::{AllocError, Global};
+
+/// A participant, after it was told to forget.
+fn forgotten(participant: Participant) -> Participant
+    ensures { Member.Participant result ≡ forgetting (Member.Participant participant) }
+{
+    let mut next = participant;
+    next.forgotten = true;
+    next
+}
+
+/// A member, after it was told to forget.
+fn forgetting(member: Member) -> Member
+    ensures { result ≡ forgetting member }
+{
+    match member {
+        Member::Participant(participant) => Member::Participant(forgotten(participant)),
+        other => other,
+    }
+}
+
+/// Notes that the participant with this number was told to forget.
+fn forget_at(members: &mut Members, number: u8) -> Result<(), AllocError>
+    ensures { 1 ≤ number → OnOk result (members.new ≡ change_at forgetting (number - 1) members.old) }
+{
+    if let Some(member) = members.get(number) {
+        let next = forgetting(member.clone()?);
+        members.set(number, next);
+    }
+    Ok(())
+}
 
 impl Replica {
     /// Whether a participant is to be told to forget, where there is such a one.
