@@ -9,7 +9,7 @@ ghost use Rattle.lra_forest.specs.Dues.{AreAll, IsDueAt};
 ghost use Rattle.lra_history.specs.Growth.{IsSettled};
 ghost use Rattle.lra_replica.specs.Replicas.{view_of};
 ghost use Rattle.lra_history.specs.Views.{StandsFor};
-ghost use Rattle.lra_callback.specs.Duties.{IsDuty, act_wanted, comes_first, link_for};
+ghost use Rattle.lra_callback.specs.CallDuties.{IsDuty, act_wanted, comes_first, link_for};
 ghost use Rattle.lra_callback.specs.Errands.{act_from, due_by, duty_from, kind_by, kind_in, kind_of_act};
 
 use crate::Kind;

@@ -10,7 +10,7 @@ use Rattle.lra_forest.specs.declared.record.Record.{Record}
 use Rattle.lra_forest.specs.Records.{nodes_to}
 use Rattle.lra_history.proofs.Basics.{length_nodes}
 use Rattle.lra_delta.specs.declared.order.Last.{Last}
-use Rattle.lra_delta.specs.Fields.{Along}
+use Rattle.lra_delta.specs.FrameFields.{Along}
 use Rattle.lra_delta.specs.Spelling.{flat}
 use Rattle.lra_delta.specs.Rules.{Context, IsRecord, after, by_home, is_home}
 

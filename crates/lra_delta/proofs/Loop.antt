@@ -5,7 +5,7 @@ use Rattle.std.proofs.lemmas.List.{append-nil}
 use Rattle.lra_delta.specs.declared.input.Stop.{Stop}
 use Rattle.lra_delta.specs.declared.input.Stop.TheVariants.{Fault, Cut, ReadFault, Memory}
 use Rattle.lra_http.specs.Streams.{most_interrupted}
-use Rattle.lra_delta.specs.Fields.{Rest, Read, ◌>>=◌, Stops, each_at}
+use Rattle.lra_delta.specs.FrameFields.{Rest, Read, ◌>>=◌, Stops, each_at}
 use Rattle.lra_delta.specs.Seen.{Seen, Reads, Begins, rest_in}
 
 -- the value of a step that did not fail

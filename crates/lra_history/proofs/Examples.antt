@@ -8,7 +8,7 @@ use Rattle.lra_facts.specs.Lists.{In}
 use Rattle.lra_facts.specs.Sets.{want}
 use Rattle.lra_history.specs.Growth.{IsSettled}
 use Rattle.lra_history.specs.Histories.{Entry, History, IsClosed, IsLawful, IsLawfulEntry, Made, entries_of, facts, made}
-use Rattle.lra_history.proofs.Histories.{closed_settled}
+use Rattle.lra_history.proofs.ClosedSets.{closed_settled}
 
 abbrev first : Id
 first = record { home = 1; num = 1 }
@@ -54,9 +54,9 @@ lawful : IsLawful h
 lawful = record { each = each }
   where
     each : (e : Made) → In e (made h) → IsLawfulEntry h e
-    each e (inl s) = subst (IsLawfulEntry h) (sym s) (record { closed = closed 0 (omega arith); own = refl; lawful = record { taken = refl; made = refl } })
-    each e (inr (inl s)) = subst (IsLawfulEntry h) (sym s) (record { closed = closed 1 (omega arith); own = refl; lawful = record { taken = refl; made = refl } })
-    each e (inr (inr (inl s))) = subst (IsLawfulEntry h) (sym s) (record { closed = closed 2 (omega arith); own = refl; lawful = record { taken = refl; made = refl } })
+    each e (inl s) = subst (IsLawfulEntry h) (sym s) (record { closed = closed 0 (omega arith); own = refl; lawful = record { accepted = refl; made = refl } })
+    each e (inr (inl s)) = subst (IsLawfulEntry h) (sym s) (record { closed = closed 1 (omega arith); own = refl; lawful = record { accepted = refl; made = refl } })
+    each e (inr (inr (inl s))) = subst (IsLawfulEntry h) (sym s) (record { closed = closed 2 (omega arith); own = refl; lawful = record { accepted = refl; made = refl } })
     each e (inr (inr (inr m))) = absurd m
 
 -- so its set is settled, and there the nested LRA wants Cancel

@@ -21,13 +21,13 @@ use Rattle.lra_forest.specs.declared.record.Member.{Member}
 use Rattle.lra_forest.specs.declared.record.Member.TheVariants.{Participant, Left}
 use Rattle.lra_forest.specs.Records.{givers, member_by, members_of, stamp}
 use Rattle.lra_forest.proofs.Giving.{giver_in, number_is}
-use Rattle.lra_forest.proofs.Seats.{same_is}
-use Rattle.lra_forest.specs.Merging.{merged_member, merged_members}
+use Rattle.lra_forest.proofs.NumberedMembers.{same_is}
+use Rattle.lra_forest.specs.RecordMerges.{merged_member, merged_members}
 use Rattle.lra_history.specs.Growth.{names_member}
-use Rattle.lra_history.proofs.Fitting.{givers_length}
-use Rattle.lra_history.proofs.More.{filter_all, filter_append, none_found}
+use Rattle.lra_history.proofs.SettledFacts.{givers_length}
+use Rattle.lra_history.proofs.ListsWithOneMore.{filter_all, filter_append, none_found}
 use Rattle.lra_history.proofs.Prefixes.{IsLonger}
-use Rattle.lra_history.proofs.Together.{AreTogether, givers_longer, givers_union, left_union}
+use Rattle.lra_history.proofs.TwoClosedSets.{AreTogether, givers_longer, givers_union, left_union}
 use Rattle.lra_history.proofs.Basics.{false_from, greater_none}
 
 -- Facts that say nothing of a participant

@@ -21,14 +21,14 @@ use Rattle.lra_facts.proofs.Membership.{any_from, any_gives, filter_in, in_filte
 use Rattle.lra_forest.specs.declared.record.Record.{Record}
 use Rattle.lra_forest.specs.Records.{deadline_given, deadline_of, givers, is_about, is_named, member_by, members_of, nodes_to, place_in, record_of, stamp}
 use Rattle.lra_forest.specs.Standing.{AreOnce}
-use Rattle.lra_forest.proofs.Begun.{once_in, parent_found}
+use Rattle.lra_forest.proofs.Begins.{once_in, parent_found}
 use Rattle.lra_forest.proofs.Bools.{all_from, all_in, and_left}
 use Rattle.lra_forest.proofs.Chained.{begins_at, parent_home}
 use Rattle.lra_forest.proofs.Giving.{Ascend, giver_in, givers_ascend, in_givers, number_is}
-use Rattle.lra_forest.specs.Merging.{home_stamp, merged_members, merged_record}
-use Rattle.lra_history.proofs.More.{map_agree}
+use Rattle.lra_forest.specs.RecordMerges.{home_stamp, merged_members, merged_record}
+use Rattle.lra_history.proofs.ListsWithOneMore.{map_agree}
 use Rattle.lra_history.proofs.Prefixes.{same_ascending}
-use Rattle.lra_history.proofs.Together.{AreTogether, decision_union, givers_union, known, named_leave, stamp_reaches, swapped}
+use Rattle.lra_history.proofs.TwoClosedSets.{AreTogether, decision_union, givers_union, known, named_leave, stamp_reaches, swapped}
 use Rattle.lra_history.proofs.MergedMembers.{members_union}
 use Rattle.lra_history.proofs.Basics.{about_named, at_most, length_nodes}
 

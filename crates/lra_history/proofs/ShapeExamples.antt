@@ -4,16 +4,16 @@ use Rattle.lra_id.specs.Ids.{Id}
 use Rattle.lra_id.specs.Fronts.{IsBelow}
 use Rattle.lra_facts.specs.Lists.{In}
 use Rattle.lra_forest.specs.Forests.{id_of, is_of}
-use Rattle.lra_forest.specs.Numbers.{numbered}
+use Rattle.lra_forest.specs.MembersByNumber.{numbered}
 use Rattle.lra_forest.proofs.Gatherings.{find_in}
-use Rattle.lra_forest.proofs.Seats.{same_is}
+use Rattle.lra_forest.proofs.NumberedMembers.{same_is}
 use Rattle.lra_forest.specs.declared.record.Member.{Member}
 use Rattle.lra_forest.specs.declared.record.Member.TheVariants.{Left, Nested}
 use Rattle.lra_forest.specs.declared.record.Place.{Place}
 use Rattle.lra_forest.specs.declared.record.Record.{Record}
-use Rattle.lra_forest.specs.Shape.{IsFitted, IsNestedAt, found_at, is_shallow}
+use Rattle.lra_forest.specs.Shape.{IsInPlace, IsNestedAt, found_at, is_shallow}
 use Rattle.lra_history.specs.Merging.{merged}
-use Rattle.lra_history.specs.Shape.{HasShape}
+use Rattle.lra_history.specs.ViewShape.{HasShape}
 use Rattle.lra_history.specs.Views.{View, record_at, records_at}
 
 abbrev outer : Id
@@ -69,11 +69,11 @@ not_one_level = refl
 -- Each of the two has the shape
 
 -- a view of one home has it where each of its records has its place
-one_home : (front purges : List ℕ) (rs : List Record) → length rs ≤ 256 → IsBelow purges front → ((r : Record) → In r rs → IsFitted front r.home rs r.num r)
+one_home : (front purges : List ℕ) (rs : List Record) → length rs ≤ 256 → IsBelow purges front → ((r : Record) → In r rs → IsInPlace front r.home rs r.num r)
     → HasShape (record { front = front; purges = purges; records = rs ∷ [] })
 one_home front purges rs few below each =
     record {
-      homes = λ home some. record { few = number (home - 1); fitted = λ num r at. found home num r (home - 1) refl some at };
+      homes = λ home some. record { few = number (home - 1); in_place = λ num r at. found home num r (home - 1) refl some at };
       purges = below;
     }
   where
@@ -81,11 +81,11 @@ one_home front purges rs few below each =
     number zero = few
     number (suc i) = omega arith
 
-    found : (home num : ℕ) (r : Record) (i : ℕ) → home - 1 ≡ i → 1 ≤ home → found_at home (get_or (rs ∷ []) i []) num ≡ Some r → IsFitted front home (get_or (rs ∷ []) i []) num r
+    found : (home num : ℕ) (r : Record) (i : ℕ) → home - 1 ≡ i → 1 ≤ home → found_at home (get_or (rs ∷ []) i []) num ≡ Some r → IsInPlace front home (get_or (rs ∷ []) i []) num r
     found home num r zero first some at =
         let there = find_in (is_of (record { home = home; num = num })) rs r at in
         let same = same_is (id_of r) (record { home = home; num = num }) there.1 in
-        subst (λ (x : Id). IsFitted front x.home rs x.num r) same (each r there.0)
+        subst (λ (x : Id). IsInPlace front x.home rs x.num r) same (each r there.0)
     found home num r (suc i) later some at = absurd cc
 
 one_count : (a b : ℕ) → a ≤ b → IsBelow (a ∷ []) (b ∷ [])
@@ -101,8 +101,8 @@ no_place place e = cc
 nesting_has_it : HasShape nesting
 nesting_has_it = one_home (2 ∷ []) (0 ∷ []) (outer_record 2 (Nested 2) ∷ inner_record ∷ []) (omega arith) (one_count 0 2 (omega arith)) each
   where
-    each : (r : Record) → In r (outer_record 2 (Nested 2) ∷ inner_record ∷ []) → IsFitted (2 ∷ []) r.home (firsts nesting) r.num r
-    each r (inl s) = subst (λ (x : Record). IsFitted (2 ∷ []) x.home (firsts nesting) x.num x) (sym s) (record {
+    each : (r : Record) → In r (outer_record 2 (Nested 2) ∷ inner_record ∷ []) → IsInPlace (2 ∷ []) r.home (firsts nesting) r.num r
+    each r (inl s) = subst (λ (x : Record). IsInPlace (2 ∷ []) x.home (firsts nesting) x.num x) (sym s) (record {
       parent = λ place e. absurd (no_place place e);
       nested = λ num m. elim m [
         | inl same ↦ let two : num ≡ 2 = cc in ap (λ (n : ℕ). is_some (found_at 1 (firsts nesting) n)) two
@@ -111,7 +111,7 @@ nesting_has_it = one_home (2 ∷ []) (0 ∷ []) (outer_record 2 (Nested 2) ∷ i
       shallow = refl;
       stamps = one_count 2 2 (omega arith);
     })
-    each r (inr (inl s)) = subst (λ (x : Record). IsFitted (2 ∷ []) x.home (firsts nesting) x.num x) (sym s) (record {
+    each r (inr (inl s)) = subst (λ (x : Record). IsInPlace (2 ∷ []) x.home (firsts nesting) x.num x) (sym s) (record {
       parent = λ named e. let same : place ≡ named = cc in subst (IsNestedAt 1 (firsts nesting) 2) same nested_there;
       nested = λ num m. absurd m;
       shallow = refl;
@@ -122,8 +122,8 @@ nesting_has_it = one_home (2 ∷ []) (0 ∷ []) (outer_record 2 (Nested 2) ∷ i
 roots_have_it : HasShape roots
 roots_have_it = one_home (4 ∷ []) (0 ∷ []) (outer_record 4 Left ∷ second_root ∷ []) (omega arith) (one_count 0 4 (omega arith)) each
   where
-    each : (r : Record) → In r (outer_record 4 Left ∷ second_root ∷ []) → IsFitted (4 ∷ []) r.home (firsts roots) r.num r
-    each r (inl s) = subst (λ (x : Record). IsFitted (4 ∷ []) x.home (firsts roots) x.num x) (sym s) (record {
+    each : (r : Record) → In r (outer_record 4 Left ∷ second_root ∷ []) → IsInPlace (4 ∷ []) r.home (firsts roots) r.num r
+    each r (inl s) = subst (λ (x : Record). IsInPlace (4 ∷ []) x.home (firsts roots) x.num x) (sym s) (record {
       parent = λ place e. absurd (no_place place e);
       nested = λ num m. elim m [
         | inl same ↦ absurd cc
@@ -132,7 +132,7 @@ roots_have_it = one_home (4 ∷ []) (0 ∷ []) (outer_record 4 Left ∷ second_r
       shallow = refl;
       stamps = one_count 4 4 (omega arith);
     })
-    each r (inr (inl s)) = subst (λ (x : Record). IsFitted (4 ∷ []) x.home (firsts roots) x.num x) (sym s) (record {
+    each r (inr (inl s)) = subst (λ (x : Record). IsInPlace (4 ∷ []) x.home (firsts roots) x.num x) (sym s) (record {
       parent = λ place e. absurd (no_place place e);
       nested = λ num m. absurd m;
       shallow = refl;
@@ -154,4 +154,4 @@ no_member at =
     cc
 
 merge_has_it_not : HasShape (merged nesting roots) → ⊥
-merge_has_it_not shape = no_member (((shape.homes 1 (omega arith)).fitted 2 inner_record still_nested).parent place refl)
+merge_has_it_not shape = no_member (((shape.homes 1 (omega arith)).in_place 2 inner_record still_nested).parent place refl)

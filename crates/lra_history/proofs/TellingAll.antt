@@ -6,15 +6,15 @@ use Rattle.lra_id.specs.Fronts.{count, is_covered, join_fronts}
 use Rattle.lra_id.specs.Ids.{Id, is_fact_number}
 use Rattle.lra_forest.specs.declared.record.Record.{Record}
 use Rattle.lra_forest.specs.Forests.{is_of}
-use Rattle.lra_forest.specs.Merging.{is_gone, taken}
-use Rattle.lra_history.specs.Merging.{IsAbsorbed, IsMerged, TellsAll, Telling, absorbed_of, taken_of, told_held, told_records}
+use Rattle.lra_forest.specs.RecordMerges.{is_gone, absorbed}
+use Rattle.lra_history.specs.Merging.{IsAbsorbed, IsMerged, TellsAll, Telling, absorbed_of, merged_of, told_held, told_records}
 use Rattle.lra_history.specs.Views.{View, record_at, records_at}
-use Rattle.lra_history.proofs.Unions.{length_join}
+use Rattle.lra_history.proofs.JoinedFronts.{length_join}
 
 -- What is taken of an LRA
 
 -- that the other purged it matters only where the other has none
-gone_same : (covered gone past : Bool) (o p : Option Record) → (p ≡ None → gone ≡ past) → taken covered gone o p ≡ taken covered past o p
+gone_same : (covered gone past : Bool) (o p : Option Record) → (p ≡ None → gone ≡ past) → absorbed covered gone o p ≡ absorbed covered past o p
 gone_same covered gone past None None same = refl
 gone_same covered gone past None (Some t) same = refl
 gone_same covered gone past (Some r) None same = ap (λ (g : Bool). cond g None (Some r)) (same refl)
@@ -35,14 +35,14 @@ not_listed true listed e = ap not e
 not_listed false listed e = refl
 
 -- of each LRA the same is taken as of the view that is told
-taken_told : (a b : View) (telling : Telling) (l : Id) → TellsAll telling b → 1 ≤ l.home → l.home ≤ length b.front → absorbed_of a telling l ≡ taken_of a b l
+taken_told : (a b : View) (telling : Telling) (l : Id) → TellsAll telling b → 1 ≤ l.home → l.home ≤ length b.front → absorbed_of a telling l ≡ merged_of a b l
 taken_told a b telling l all low high =
     let rs = records_at b.records l.home in
     let nums = map (λ (r : Record). r.num) rs in
     let covered = is_covered a.front l in
-    ap (λ (front : List ℕ). taken covered (is_gone (count front l.home) (told_held telling l.home) l.num) (record_at a l) (find (is_of l) (told_records telling l.home))) all.front
-    ∙ ap (λ (held : Option (List ℕ)). taken covered (is_gone (count b.front l.home) held l.num) (record_at a l) (find (is_of l) (told_records telling l.home))) (all.held l.home low high)
-    ∙ ap (λ (told : List Record). taken covered (is_gone (count b.front l.home) (Some nums) l.num) (record_at a l) (find (is_of l) told)) (all.records l.home low high)
+    ap (λ (front : List ℕ). absorbed covered (is_gone (count front l.home) (told_held telling l.home) l.num) (record_at a l) (find (is_of l) (told_records telling l.home))) all.front
+    ∙ ap (λ (held : Option (List ℕ)). absorbed covered (is_gone (count b.front l.home) held l.num) (record_at a l) (find (is_of l) (told_records telling l.home))) (all.held l.home low high)
+    ∙ ap (λ (told : List Record). absorbed covered (is_gone (count b.front l.home) (Some nums) l.num) (record_at a l) (find (is_of l) told)) (all.records l.home low high)
     ∙ gone_same covered (is_gone (count b.front l.home) (Some nums) l.num) (is_fact_number l.num && is_covered b.front l) (record_at a l) (record_at b l)
     (λ none. not_listed (is_fact_number l.num && is_covered b.front l) (list_any (λ n. n == l.num) nums) (unlisted l rs (all.order l.home low high).homes none))
 

@@ -27,23 +27,23 @@ use Rattle.lra_history.specs.Growth.{IsSettled, record_after}
 use Rattle.lra_history.specs.Next.{accepted_on, change_on, change_record, changed, judge_on, next_fact_on, next_view, no_change, reply_on, view_by}
 use Rattle.lra_history.specs.Changes.{AddsFact, fresh_record, Change, one_change, patched, two_changes}
 use Rattle.lra_history.specs.Readings.{by_view}
-use Rattle.lra_history.specs.Replies.{full_by, refusal_by, settled_by, Denied, Judgement, Old, Taken, accepted, after, after_by, entered, judge, judged, reply_by, reply_of}
+use Rattle.lra_history.specs.Replies.{full_by, refusal_by, inactive_by, Denied, Judgement, AlreadyKnown, Accepted, accepted, after, after_by, entered, judge, judged, reply_by, reply_of}
 use Rattle.lra_history.specs.Views.{StandsFor, View, record_at, records_at}
-use Rattle.lra_history.proofs.Adding.{after_decide, decide_adds, forgot_adds, join_adds, leave_adds, nested_adds, plain_root_adds, purge_adds, put_changes, report_adds}
-use Rattle.lra_history.proofs.Alike.{IsPlain, judge_view, view_alike}
+use Rattle.lra_history.proofs.PatchesAddFacts.{after_decide, decide_adds, forgot_adds, join_adds, leave_adds, nested_adds, plain_root_adds, purge_adds, put_changes, report_adds}
+use Rattle.lra_history.proofs.SameReadings.{IsPlain, judge_view, view_alike}
 use Rattle.lra_history.proofs.Basics.{at_most, equal_from, less_by, open_first, passed}
-use Rattle.lra_history.proofs.Counting.{more_entered}
+use Rattle.lra_history.proofs.CountedByFronts.{more_entered}
 use Rattle.lra_history.proofs.Covered.{found_of}
-use Rattle.lra_history.proofs.Lawfulness.{lawful_gives}
-use Rattle.lra_history.proofs.Removing.{removal_said}
+use Rattle.lra_history.proofs.AcceptedCommands.{lawful_gives}
+use Rattle.lra_history.proofs.RemovedByPurge.{removal_said}
 
 -- What is known of a command that is taken, by any reading
 
-pub taken_open : (o : Option Refusal) (known : Bool) (limit : Option Refusal) → judged o known limit ≡ Taken → o ≡ None
+pub taken_open : (o : Option Refusal) (known : Bool) (limit : Option Refusal) → judged o known limit ≡ Accepted → o ≡ None
 taken_open (Some r) known limit e = absurd cc
 taken_open None known limit e = refl
 
-pub leave_passed : (view : View) (me : ℕ) (l : Id) (m : ℕ) → judge_on view me (Leave l m) ≡ Taken → (is_some (record_at view l) ≡ true) × ((by_view view).participant l m ≡ true)
+pub leave_passed : (view : View) (me : ℕ) (l : Id) (m : ℕ) → judge_on view me (Leave l m) ≡ Accepted → (is_some (record_at view l) ≡ true) × ((by_view view).participant l m ≡ true)
 leave_passed view me l m taken =
     let t = by_view view in
     let none = taken_open (refusal_by t view.front me (Leave l m)) false (spent view.front me) taken in
@@ -53,7 +53,7 @@ leave_passed view me l m taken =
     let after_stranger = open_first (unless (t.participant l m) UnknownMember) _ after_away.1 in
     (passed (t.held l) NotHeld after_gone.0, passed (t.participant l m) UnknownMember after_stranger.0)
 
-pub decide_passed : (view : View) (me : ℕ) (l : Id) (verdict : Verdict) → judge_on view me (Decide l verdict) ≡ Taken → (is_some (record_at view l) ≡ true) × (l.home ≡ me)
+pub decide_passed : (view : View) (me : ℕ) (l : Id) (verdict : Verdict) → judge_on view me (Decide l verdict) ≡ Accepted → (is_some (record_at view l) ≡ true) × (l.home ≡ me)
 decide_passed view me l verdict taken =
     let t = by_view view in
     let none = taken_open (refusal_by t view.front me (Decide l verdict)) false (spent view.front me) taken in
@@ -88,25 +88,25 @@ some_record (Some r) e = (r, refl)
 
 -- The other commands
 
-pub join_passed : (view : View) (me : ℕ) (l : Id) (links : Links) → judge_on view me (Join l links) ≡ Taken → (is_some (record_at view l) ≡ true) × ((by_view view).numbers l < 32)
+pub join_passed : (view : View) (me : ℕ) (l : Id) (links : Links) → judge_on view me (Join l links) ≡ Accepted → (is_some (record_at view l) ≡ true) × ((by_view view).numbers l < 32)
 join_passed view me l links taken =
     let t = by_view view in
     let none = taken_open (refusal_by t view.front me (Join l links)) false (spent view.front me) taken in
     let after_unknown = open_first (unknown view.front l) _ none in
     let after_gone = open_first (unless (t.held l) NotHeld) _ after_unknown.1 in
     let after_away = open_first (away me l) _ after_gone.1 in
-    let after_settled = open_first (settled_by t l) _ after_away.1 in
+    let after_settled = open_first (inactive_by t l) _ after_away.1 in
     let after_full = open_first (full_by t l) _ after_settled.1 in
     (passed (t.held l) NotHeld after_gone.0, less_by (t.numbers l) 32 (passed (nat_lt (t.numbers l) 32) MembersFull after_full.0))
 
-pub nest_passed : (view : View) (me : ℕ) (p : Id) (deadline : ℕ) → judge_on view me (Begin (Some p) deadline) ≡ Taken → (is_some (record_at view p) ≡ true) × (p.home ≡ me) × ((by_view view).numbers p < 32)
+pub nest_passed : (view : View) (me : ℕ) (p : Id) (deadline : ℕ) → judge_on view me (Begin (Some p) deadline) ≡ Accepted → (is_some (record_at view p) ≡ true) × (p.home ≡ me) × ((by_view view).numbers p < 32)
 nest_passed view me p deadline taken =
     let t = by_view view in
     let none = taken_open (refusal_by t view.front me (Begin (Some p) deadline)) false (spent view.front me) taken in
     let after_unknown = open_first (unknown view.front p) _ none in
     let after_gone = open_first (unless (t.held p) NotHeld) _ after_unknown.1 in
     let after_away = open_first (away me p) _ after_gone.1 in
-    let after_settled = open_first (settled_by t p) _ after_away.1 in
+    let after_settled = open_first (inactive_by t p) _ after_away.1 in
     let after_full = open_first (full_by t p) _ after_settled.1 in
     (passed (t.held p) NotHeld after_gone.0, equal_from p.home me (passed _ (NotHome p.home) after_away.0), less_by (t.numbers p) 32 (passed (nat_lt (t.numbers p) 32) MembersFull after_full.0))
 
@@ -126,7 +126,7 @@ changed_adds S view me c l r found adds =
     subst (λ (k : Change). AddsFact S view me c (Some k)) (ap (λ (o : Option Record). option_map_or (λ (q : Record). one_change view me (record_after (next_fact_on view me c) q)) o (no_change view)) (sym found)) adds
 
 -- where the set takes a command, the view adds its fact
-pub is_added : (S : List Fact) (view : View) (me : ℕ) (c : Command) → IsPlain (length view.front) me c → 1 ≤ me → me ≤ length view.front → IsSettled S → StandsFor S view → judge S view.front me c ≡ Taken → IsAdded S view me c
+pub is_added : (S : List Fact) (view : View) (me : ℕ) (c : Command) → IsPlain (length view.front) me c → 1 ≤ me → me ≤ length view.front → IsSettled S → StandsFor S view → judge S view.front me c ≡ Accepted → IsAdded S view me c
 is_added S view me (Begin None deadline) plain one there settled stands taken = (
   refl,
   plain_root_adds S view me deadline (fresh_record view.front me None deadline) settled stands one there taken refl,
@@ -203,12 +203,12 @@ view_is_next S view me c plain one there settled stands = by (judge S view.front
       subst (λ (k : Judgement). StandsFor (after S view.front me c) (view_by k view (changed view me c))) (sym (same ∙ e))
           (subst (λ (k : Judgement). StandsFor (after_by k S (entered S view.front me c)) view) (sym e) stands),
     )
-    by Old e same = (
+    by AlreadyKnown e same = (
       ap (λ (k : Judgement). reply_by k (accepted_on view me c)) (same ∙ e) ∙ sym (ap (λ (k : Judgement). reply_by k (accepted S view.front me c)) e),
       subst (λ (k : Judgement). StandsFor (after S view.front me c) (view_by k view (changed view me c))) (sym (same ∙ e))
           (subst (λ (k : Judgement). StandsFor (after_by k S (entered S view.front me c)) view) (sym e) stands),
     )
-    by Taken e same =
+    by Accepted e same =
         let adds = is_added S view me c plain one there settled stands e in (
           ap (λ (k : Judgement). reply_by k (accepted_on view me c)) (same ∙ e) ∙ adds.0 ∙ sym (ap (λ (k : Judgement). reply_by k (accepted S view.front me c)) e),
           subst (λ (k : Judgement). StandsFor (after S view.front me c) (view_by k view (changed view me c))) (sym (same ∙ e))

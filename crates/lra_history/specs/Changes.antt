@@ -14,7 +14,7 @@ use Rattle.lra_forest.specs.declared.record.Place.{Place}
 use Rattle.lra_history.specs.Views.{View, record_at, records_at, StandsFor}
 use Rattle.lra_history.specs.declared.command.Command.{Command}
 use Rattle.lra_history.specs.Growth.{IsMore, stamped}
-use Rattle.lra_history.specs.Replies.{Old, Taken, judge, next_fact}
+use Rattle.lra_history.specs.Replies.{AlreadyKnown, Accepted, judge, next_fact}
 
 -- what is put into a view and taken out of it
 pub record Change : Type 0 where
@@ -32,17 +32,17 @@ put_each [] homes = homes
 put_each (r ∷ records) homes = put_each records (put_at_home r homes)
 
 -- without the record of l
-abbrev pub taken_out : Id → List (List Record) → List (List Record)
-taken_out l homes = slice_set homes (l.home - 1) (filter (λ r. not (is_of l r)) (records_at homes l.home))
+abbrev pub remove_at_home : Id → List (List Record) → List (List Record)
+remove_at_home l homes = slice_set homes (l.home - 1) (filter (λ r. not (is_of l r)) (records_at homes l.home))
 
-abbrev pub take_each : List Id → List (List Record) → List (List Record)
-take_each [] homes = homes
-take_each (l ∷ ids) homes = take_each ids (taken_out l homes)
+abbrev pub remove_each : List Id → List (List Record) → List (List Record)
+remove_each [] homes = homes
+remove_each (l ∷ ids) homes = remove_each ids (remove_at_home l homes)
 
 -- the view after a patch
 abbrev pub patched : Change → View → View
 patched change view =
-    record { front = change.front; purges = change.purges; records = put_each change.records (take_each change.removed view.records) }
+    record { front = change.front; purges = change.purges; records = put_each change.records (remove_each change.removed view.records) }
 
 -- what a patch removes and puts at a home
 abbrev pub ids_of : ℕ → List Id → List Id
@@ -86,9 +86,9 @@ purge_change view me removed =
 -- A patch where the command is taken: with it the view stands for the set with exactly the command's fact. None where it
 -- was known.
 abbrev pub AddsFact : List Fact → View → ℕ → Command → Option Change → Type 0
-AddsFact S view me c None = judge S view.front me c ≡ Old
+AddsFact S view me c None = judge S view.front me c ≡ AlreadyKnown
 AddsFact S view me c (Some change) =
-    (judge S view.front me c ≡ Taken)
+    (judge S view.front me c ≡ Accepted)
     × (change.front ≡ raised view.front me)
     × ((T : List Fact) → IsMore (next_fact S view.front me c) S T → StandsFor T (patched change view))
 

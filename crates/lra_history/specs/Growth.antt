@@ -70,18 +70,18 @@ leaving (Nested num) = Nested num
 leaving Left = Left
 
 -- with the member at this place, from 0, changed
-abbrev pub change_at : (Member → Member) → ℕ → List Member → List Member
-change_at g i [] = []
-change_at g zero (x ∷ xs) = g x ∷ xs
-change_at g (suc i) (x ∷ xs) = x ∷ change_at g i xs
+abbrev pub member_changed : (Member → Member) → ℕ → List Member → List Member
+member_changed g i [] = []
+member_changed g zero (x ∷ xs) = g x ∷ xs
+member_changed g (suc i) (x ∷ xs) = x ∷ member_changed g i xs
 
 abbrev pub members_after : ℕ → Body → List Member → List Member
 members_after num (Begin parent deadline) ms = ms ++ Nested num ∷ []
 members_after num (Join id m links) ms = ms ++ joined links ∷ []
-members_after num (Leave id m) ms = change_at leaving (m - 1) ms
+members_after num (Leave id m) ms = member_changed leaving (m - 1) ms
 members_after num (Decide id verdict) ms = ms
-members_after num (Report id m act outcome) ms = change_at (reporting act outcome) (m - 1) ms
-members_after num (Forgot id m) ms = change_at forgetting (m - 1) ms
+members_after num (Report id m act outcome) ms = member_changed (reporting act outcome) (m - 1) ms
+members_after num (Forgot id m) ms = member_changed forgetting (m - 1) ms
 members_after num (Purge root) ms = ms
 
 abbrev pub decision_after : Body → Option Verdict → Option Verdict

@@ -1,11 +1,11 @@
 pub mod Changes
 pub mod Growth
 pub mod Histories
-pub mod Laws
 pub mod Merging
 pub mod Next
+pub mod NodeViews
 pub mod Readings
 pub mod Replies
 pub mod Rising
-pub mod Shape
+pub mod ViewShape
 pub mod Views

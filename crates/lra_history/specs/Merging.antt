@@ -6,7 +6,7 @@ use Rattle.lra_id.specs.Fronts.{IsBelow, count, is_covered, join_fronts}
 use Rattle.lra_forest.specs.declared.merging.Told.{Told}
 use Rattle.lra_forest.specs.declared.record.Record.{Record}
 use Rattle.lra_forest.specs.Forests.{AreOf, id_of, is_of}
-use Rattle.lra_forest.specs.Merging.{held_numbers, is_gone, taken}
+use Rattle.lra_forest.specs.RecordMerges.{held_numbers, is_gone, absorbed}
 use Rattle.lra_forest.specs.Places.{put_record}
 use Rattle.lra_forest.specs.Records.{nodes_to}
 use Rattle.lra_history.specs.Histories.{History, IsClosed, facts}
@@ -15,8 +15,8 @@ use Rattle.lra_history.specs.Views.{StandsFor, View, record_at, records_at}
 -- Two views
 
 -- what the receiver keeps of an LRA when it merges the other view
-abbrev pub taken_of : View → View → Id → Option Record
-taken_of a b l = taken (is_covered a.front l) (is_fact_number l.num && is_covered b.front l) (record_at a l) (record_at b l)
+abbrev pub merged_of : View → View → Id → Option Record
+merged_of a b l = absorbed (is_covered a.front l) (is_fact_number l.num && is_covered b.front l) (record_at a l) (record_at b l)
 
 -- c is made of a and b, which count the same nodes: the greater counts and purges, and of each LRA what is taken
 pub record IsMerged (a b c : View) : Type 0 where
@@ -25,7 +25,7 @@ pub record IsMerged (a b c : View) : Type 0 where
   pub purges : c.purges ≡ join_fronts a.purges b.purges
   pub homes : length c.records ≡ length c.front
   pub order : (home : ℕ) → 1 ≤ home → home ≤ length c.front → AreOf home (records_at c.records home)
-  pub records : (l : Id) → 1 ≤ l.home → l.home ≤ length c.front → record_at c l ≡ taken_of a b l
+  pub records : (l : Id) → 1 ≤ l.home → l.home ≤ length c.front → record_at c l ≡ merged_of a b l
 
 -- with the record, if there is one, in its place
 abbrev pub put_some : Option Record → List Record → List Record
@@ -33,9 +33,9 @@ put_some None rs = rs
 put_some (Some r) rs = put_record r rs
 
 -- what is taken of the LRAs of a list of records, in order
-abbrev pub all_taken : View → View → List Record → List Record
-all_taken a b [] = []
-all_taken a b (r ∷ rs) = put_some (taken_of a b (id_of r)) (all_taken a b rs)
+abbrev pub all_merged : View → View → List Record → List Record
+all_merged a b [] = []
+all_merged a b (r ∷ rs) = put_some (merged_of a b (id_of r)) (all_merged a b rs)
 
 -- the merge of two views that count the same nodes
 abbrev pub merged : View → View → View
@@ -43,7 +43,7 @@ merged a b =
     record {
       front = join_fronts a.front b.front;
       purges = join_fronts a.purges b.purges;
-      records = map (λ home. all_taken a b (records_at a.records home ++ records_at b.records home)) (nodes_to (length a.front));
+      records = map (λ home. all_merged a b (records_at a.records home ++ records_at b.records home)) (nodes_to (length a.front));
     }
 
 -- What another node tells
@@ -76,7 +76,7 @@ told_held telling home = option_map_or (λ (told : Told). held_numbers told.held
 -- what is taken of an LRA, of a view and what another node tells
 abbrev pub absorbed_of : View → Telling → Id → Option Record
 absorbed_of a telling l =
-    taken (is_covered a.front l) (is_gone (count telling.front l.home) (told_held telling l.home) l.num)
+    absorbed (is_covered a.front l) (is_gone (count telling.front l.home) (told_held telling l.home) l.num)
     (record_at a l) (find (is_of l) (told_records telling l.home))
 
 -- c is a with what is told, by a node that counts the same nodes: the greater counts and purges, and of each LRA what is taken

@@ -16,7 +16,7 @@ use Rattle.lra_history.specs.declared.command.CommandReply.{CommandReply}
 use Rattle.lra_history.specs.Growth.{record_after}
 use Rattle.lra_history.specs.Changes.{fresh_record, Change, one_change, patched, purge_change, two_changes}
 use Rattle.lra_history.specs.Readings.{at_home, by_view}
-use Rattle.lra_history.specs.Replies.{accepted_by, fact_by, gone_by, judge_by, Denied, Judgement, Old, Taken, reply_by}
+use Rattle.lra_history.specs.Replies.{accepted_by, fact_by, gone_by, judge_by, Denied, Judgement, AlreadyKnown, Accepted, reply_by}
 use Rattle.lra_history.specs.Views.{View, record_at, records_at}
 
 -- Commands
@@ -67,8 +67,8 @@ reply_on view me c = reply_by (judge_on view me c) (accepted_on view me c)
 -- only a command that is taken changes the view
 abbrev pub view_by : Judgement → (before after : View) → View
 view_by (Denied r) before after = before
-view_by Old before after = before
-view_by Taken before after = after
+view_by AlreadyKnown before after = before
+view_by Accepted before after = after
 
 abbrev pub next_view : View → ℕ → Command → View
 next_view view me c = view_by (judge_on view me c) view (changed view me c)

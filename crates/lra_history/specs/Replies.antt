@@ -41,7 +41,7 @@ pub record Reading : Type 0 where
   pub root : Id → Bool
   pub ended : Id → Bool
   pub owed : Id → ℕ → Bool
-  pub told : Id → ℕ → Bool
+  pub forgot : Id → ℕ → Bool
   pub least_owed : Id → Option Due
 
 -- what a set of facts tells
@@ -61,7 +61,7 @@ by_facts S =
       root = is_root S;
       ended = is_ended S;
       owed = is_forget_duty S;
-      told = has_forgot S;
+      forgot = has_forgot S;
       least_owed = least_forget S S;
     }
 
@@ -73,8 +73,8 @@ gone_by t l = unless (t.held l) NotHeld
 abbrev pub stranger_by : Reading → Id → ℕ → Option Refusal
 stranger_by t l m = unless (t.participant l m) UnknownMember
 
-abbrev pub settled_by : Reading → Id → Option Refusal
-settled_by t l = unless (is_none (t.want l)) (NotActive (t.shows l))
+abbrev pub inactive_by : Reading → Id → Option Refusal
+inactive_by t l = unless (is_none (t.want l)) (NotActive (t.shows l))
 
 abbrev pub unasked_by : Reading → Id → ℕ → Act → Option Refusal
 unasked_by t l m act = unless (t.demanded l m act) (NotDue (t.shows l))
@@ -89,7 +89,7 @@ abbrev pub crowded_by : Reading → ℕ → Option Refusal
 crowded_by t node = unless (nat_lt (t.held_at node) 256) LrasFull
 
 abbrev pub unowed_by : Reading → Id → ℕ → Option Refusal
-unowed_by t l m = unless (t.owed l m || t.told l m) (NotDue (t.shows l))
+unowed_by t l m = unless (t.owed l m || t.forgot l m) (NotDue (t.shows l))
 
 abbrev pub nested_by : Reading → Id → Option Refusal
 nested_by t l = unless (t.root l) NotRoot
@@ -104,10 +104,10 @@ unforgotten_by t l = option_map_or (λ due. Some (StillToForget due.lra due.memb
 abbrev pub refusal_by : Reading → List ℕ → ℕ → Command → Option Refusal
 refusal_by t v node (BeginAsked None deadline) = first (crowded_by t node ∷ [])
 refusal_by t v node (BeginAsked (Some p) deadline) =
-    first (unknown v p ∷ gone_by t p ∷ away node p ∷ settled_by t p ∷ full_by t p ∷ deep_by t p ∷ crowded_by t node ∷ [])
-refusal_by t v node (JoinAsked l links) = first (unknown v l ∷ gone_by t l ∷ away node l ∷ settled_by t l ∷ full_by t l ∷ [])
-refusal_by t v node (LeaveAsked l m) = first (unknown v l ∷ gone_by t l ∷ away node l ∷ stranger_by t l m ∷ settled_by t l ∷ [])
-refusal_by t v node (DecideAsked l verdict) = first (unknown v l ∷ gone_by t l ∷ away node l ∷ settled_by t l ∷ [])
+    first (unknown v p ∷ gone_by t p ∷ away node p ∷ inactive_by t p ∷ full_by t p ∷ deep_by t p ∷ crowded_by t node ∷ [])
+refusal_by t v node (JoinAsked l links) = first (unknown v l ∷ gone_by t l ∷ away node l ∷ inactive_by t l ∷ full_by t l ∷ [])
+refusal_by t v node (LeaveAsked l m) = first (unknown v l ∷ gone_by t l ∷ away node l ∷ stranger_by t l m ∷ inactive_by t l ∷ [])
+refusal_by t v node (DecideAsked l verdict) = first (unknown v l ∷ gone_by t l ∷ away node l ∷ inactive_by t l ∷ [])
 refusal_by t v node (ReportAsked l m act outcome) = first (unknown v l ∷ gone_by t l ∷ stranger_by t l m ∷ unasked_by t l m act ∷ [])
 refusal_by t v node (ForgotAsked l m) = first (unknown v l ∷ gone_by t l ∷ stranger_by t l m ∷ unowed_by t l m ∷ [])
 refusal_by t v node (PurgeAsked l) = first (unknown v l ∷ gone_by t l ∷ away node l ∷ nested_by t l ∷ running_by t l ∷ unforgotten_by t l ∷ [])
@@ -115,7 +115,7 @@ refusal_by t v node (PurgeAsked l) = first (unknown v l ∷ gone_by t l ∷ away
 -- it brings nothing new
 abbrev pub is_known_by : Reading → Command → Bool
 is_known_by t (ReportAsked l m act outcome) = t.heard l m act outcome
-is_known_by t (ForgotAsked l m) = t.told l m
+is_known_by t (ForgotAsked l m) = t.forgot l m
 is_known_by t _ = false
 
 -- The fact
@@ -175,9 +175,9 @@ pub data Judgement : Type 0 where
 -- by the first refusal, whether it is known, and the want of numbers, in this order
 abbrev pub judged : Option Refusal → Bool → Option Refusal → Judgement
 judged (Some r) known limit = Denied r
-judged None true limit = Old
+judged None true limit = AlreadyKnown
 judged None false (Some r) = Denied r
-judged None false None = Taken
+judged None false None = Accepted
 
 abbrev pub judge_by : Reading → List ℕ → ℕ → Command → Judgement
 judge_by t v node c = judged (refusal_by t v node c) (is_known_by t c) (spent v node)
@@ -187,8 +187,8 @@ judge S v node c = judge_by (by_facts S) v node c
 
 abbrev pub reply_by : Judgement → CommandReply → CommandReply
 reply_by (Denied r) reply = Refused r
-reply_by Old reply = Known
-reply_by Taken reply = reply
+reply_by AlreadyKnown reply = Known
+reply_by Accepted reply = reply
 
 -- the reply of a command at a node
 abbrev pub reply_of : List Fact → List ℕ → ℕ → Command → CommandReply
@@ -197,8 +197,8 @@ reply_of S v node c = reply_by (judge S v node c) (accepted S v node c)
 -- only a command that is taken enters something
 abbrev pub after_by : Judgement → (before with_it : List Fact) → List Fact
 after_by (Denied r) before with_it = before
-after_by Old before with_it = before
-after_by Taken before with_it = with_it
+after_by AlreadyKnown before with_it = before
+after_by Accepted before with_it = with_it
 
 abbrev pub after : List Fact → List ℕ → ℕ → Command → List Fact
 after S v node c = after_by (judge S v node c) S (entered S v node c)
@@ -229,5 +229,5 @@ command_of (Purge l) = PurgeAsked l
 
 -- it is what the node would enter
 pub record IsLawfulBody (S : List Fact) (v : List ℕ) (node : ℕ) (body : Body) : Type 0 where
-  pub taken : judge S v node (command_of body) ≡ Taken
+  pub accepted : judge S v node (command_of body) ≡ Accepted
   pub made : body_for S (command_of body) ≡ body

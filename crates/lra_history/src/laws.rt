@@ -11,17 +11,17 @@ ghost use Rattle.lra_facts.specs.Sets.{is_held, is_root, is_under};
 ghost use Rattle.lra_history.specs.declared.command.Command.{Command};
 ghost use Rattle.lra_history.specs.Growth.{IsMore, IsSettled};
 ghost use Rattle.lra_history.specs.Histories.{Entry, History, IsClosed, IsLawful, facts, with_entry};
-ghost use Rattle.lra_history.specs.Laws.{IsCurrent, IsViewIn, entry_for};
+ghost use Rattle.lra_history.specs.NodeViews.{IsCurrent, IsViewIn, entry_for};
 ghost use Rattle.lra_history.specs.Next.{change_on, judge_on, next_view, reply_on};
 ghost use Rattle.lra_history.specs.Changes.{AddsFact, Change, HoldsOnlyChanges, patched, raised};
 ghost use Rattle.lra_history.specs.Views.{empty_view, IsCounted, StandsFor, View};
-ghost use Rattle.lra_history.specs.Replies.{Taken, after, reply_of};
+ghost use Rattle.lra_history.specs.Replies.{Accepted, after, reply_of};
 
 pub mod rising;
 pub mod shape;
 
 /// What a closed front of a lawful history counts is settled, and the front counts just that.
-#[tactic(auto, using(crate::proofs::Histories::closed_settled, crate::proofs::Histories::closed_counted))]
+#[tactic(auto, using(crate::proofs::ClosedSets::closed_settled, crate::proofs::ClosedSets::closed_counted))]
 pub fn closed_sets_are_settled()
     ensures settled { (h : History) (v : List ℕ) → IsLawful h → IsClosed h v → IsSettled (facts h v) }
     ensures counted { (h : History) (v : List ℕ) → IsClosed h v → IsCounted (facts h v) v }
@@ -61,7 +61,7 @@ pub fn a_patch_adds_exactly_its_fact()
 /// The patch of a command holds only what changes, each once: what it puts isn't there as it is, and what it removes is.
 pub fn a_patch_holds_only_changes()
     ensures { (S : List Fact) (view : View) (me : ℕ) (c : Command) → 1 ≤ me → me ≤ length view.front →
-        IsSettled S → StandsFor S view → judge_on view me c ≡ Taken → HoldsOnlyChanges view (change_on view me c) }
+        IsSettled S → StandsFor S view → judge_on view me c ≡ Accepted → HoldsOnlyChanges view (change_on view me c) }
 {}
 
 /// A purge removes a tree: with one more fact, which purges a root, just those LRAs are held that were held before and are
@@ -72,7 +72,7 @@ pub fn a_purge_removes_a_tree()
 {}
 
 /// A set of facts has one view of so many nodes.
-#[tactic(auto, using(crate::proofs::Uniqueness::one_view))]
+#[tactic(auto, using(crate::proofs::OneViewOfASet::one_view))]
 pub fn a_set_has_one_view()
     ensures { (S : List Fact) (a b : View) → length a.front ≡ length b.front → StandsFor S a → StandsFor S b → a ≡ b }
 {}

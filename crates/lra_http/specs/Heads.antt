@@ -77,14 +77,14 @@ MayLack spaced byte size most true = Unit {0}
 MayLack spaced byte size most false = (IsTrue spaced → byte ≢ line_feed) × (size ≤ most)
 
 -- the bytes that were taken are a head within the limits
-pub record IsHeadTaken (kind : Kind) (most room : ℕ) (bytes : List ℕ) : Type 0 where
+pub record IsHeadRead (kind : Kind) (most room : ℕ) (bytes : List ℕ) : Type 0 where
   pub lines : ℕ
   pub head : IsHead kind bytes lines
   pub short : length bytes ≤ most
   pub few : lines ≤ room
 
 abbrev pub IsHeadRead : Kind → ℕ → ℕ → Option (List ℕ) → Option (List ℕ) → List ℕ → Type 0
-IsHeadRead kind most room old new bytes = Consumes old new bytes × IsHeadTaken kind most room bytes
+IsHeadRead kind most room old new bytes = Consumes old new bytes × IsHeadRead kind most room bytes
 
 -- a prefix of the input, at most one byte longer than a head may be, that no bytes can make a head
 pub record IsNoHead (kind : Kind) (most : ℕ) (input : List ℕ) : Type 0 where

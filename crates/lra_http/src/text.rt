@@ -2,7 +2,7 @@
 ghost use Rattle.std.specs.Prelude.{◌≡◌, ◌⊎◌, ℕ, ◌+◌, ◌<◌, ◌++◌, List, [], IfOk, IfErr, OnOk, OnErr};
 ghost use Rattle.std.specs.Io.KnownBytes.{Appends, Keeps};
 ghost use Rattle.lra_http.specs.Streams.{AppendsPart, IsLost, most_interrupted};
-ghost use Rattle.lra_http.specs.Texts.{field_line, field_lines, host_line, phrase, request_head, request_line, request_text, response_head, response_text, status_line};
+ghost use Rattle.lra_http.specs.MessageTexts.{field_line, field_lines, host_line, phrase, request_head, request_line, request_text, response_head, response_text, status_line};
 ghost use Rattle.lra_http.specs.declared.fault.Fault.TheVariants.{NoMemory, WriteFault as OnWrite};
 
 use crate::{CallRequest, Fault, Field, Response, Sink, Text, WriteFault, write_all};
@@ -30,7 +30,7 @@ fn push_fields(text: &mut Vec<u8>, fields: &[Field]) -> Result<(), AllocError>
 }
 
 /// The phrase of a status, empty where it has none.
-#[tactic(auto, unfolding(crate::specs::Texts::phrase))]
+#[tactic(auto, unfolding(crate::specs::MessageTexts::phrase))]
 fn phrase_of(status: StatusCode) -> &'static str
     ensures { result.now ≡ phrase status }
 {

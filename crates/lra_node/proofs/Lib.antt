@@ -1,11 +1,11 @@
 pub mod Answering
 pub mod Bases
-pub mod Members
-pub mod Numbers
-pub mod Readings
+pub mod DecimalNumbers
+pub mod LineReadings
+pub mod MemberWords
+pub mod OneAskALine
+pub mod OneTextAScript
 pub mod Runs
-pub mod Spelled
 pub mod Splits
 pub mod Steps
 pub mod TwoWords
-pub mod Texts

@@ -5,7 +5,7 @@ use Rattle.std.specs.Io.KnownBytes.{Appends}
 use Rattle.lra_http.specs.Streams.{AppendsPart}
 use Rattle.lra_http.proofs.Known.{Appends-trans}
 use Rattle.lra_facts.specs.declared.refusal.Refusal.TheVariants.{NoMemory}
-use Rattle.lra_node.specs.Parts.{HasNone, lines_of}
+use Rattle.lra_node.specs.LineParts.{HasNone, lines_of}
 use Rattle.lra_world.specs.Machines.{IsWorldOf, Machine}
 use Rattle.lra_world.specs.Worlds.{State, nodes_of, start as beginning}
 use Rattle.lra_node.specs.Scripts.{refused, Answers, AnswersWhole, IsFewALine, Prints, ScriptText, WritesText, ReadsLine, ReadsPart}

@@ -7,7 +7,7 @@ use Rattle.lra_states.specs.Names.{lra_name, member_name}
 use Rattle.lra_states.specs.declared.status.LraStatus.{LraStatus}
 use Rattle.lra_states.specs.declared.outcome.Act.{Act}
 use Rattle.lra_states.specs.declared.status.MemberStatus.{MemberStatus}
-use Rattle.lra_facts.specs.Texts.{refusal_text}
+use Rattle.lra_facts.specs.RefusalTexts.{refusal_text}
 use Rattle.lra_facts.specs.declared.refusal.Refusal.{Refusal}
 use Rattle.lra_facts.specs.declared.refusal.Refusal.TheVariants.{BadText, NoMemory}
 use Rattle.lra_forest.specs.Dues.{AreAll}
@@ -26,15 +26,15 @@ use Rattle.lra_callback.specs.declared.answer.Heard.{Heard}
 use Rattle.lra_callback.specs.declared.answer.Kind.{Kind}
 use Rattle.lra_callback.specs.declared.duty.Duty.{Duty}
 use Rattle.lra_callback.specs.Answers.{heard_of}
-use Rattle.lra_callback.specs.Duties.{IsDuty, comes_first}
-use Rattle.lra_callback.specs.Names.{heard_name}
+use Rattle.lra_callback.specs.CallDuties.{IsDuty, comes_first}
+use Rattle.lra_callback.specs.CallWords.{heard_name}
 use Rattle.lra_http.specs.Streams.{most_interrupted}
 use Rattle.lra_node.specs.declared.ask.Ask.{Ask}
 use Rattle.lra_node.specs.declared.ask.Ask.TheVariants.{Enter, Tick, Send, Deliver, Restart, Show, Member, Duties, Hear, Front, Same, Text, Read}
 use Rattle.lra_node.specs.Asks.{Spells}
 use Rattle.lra_node.specs.Calls.{act_asked, command_of, duties_text}
-use Rattle.lra_node.specs.Parts.{HasNone, lines_of}
-use Rattle.lra_node.specs.Worlds.{AreComing}
+use Rattle.lra_node.specs.LineParts.{HasNone, lines_of}
+use Rattle.lra_node.specs.NodeHoldings.{AreComing}
 
 -- a line of at most so many bytes is read
 abbrev pub most_in_line : ℕ

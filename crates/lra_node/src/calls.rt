@@ -3,8 +3,8 @@ ghost use Rattle.std.specs.Prelude.{◌≡◌, ◌≤◌, ◌++◌, ℕ, List, [
 ghost use Rattle.lra_facts.specs.declared.fact.Fact.{Fact};
 ghost use Rattle.lra_facts.specs.Sets.{is_held, want};
 ghost use Rattle.lra_callback.specs.declared.duty.Duty.{Duty as Call};
-ghost use Rattle.lra_callback.specs.Duties.{IsDuty, act_wanted, comes_first};
-ghost use Rattle.lra_callback.specs.Names.{heard_name};
+ghost use Rattle.lra_callback.specs.CallDuties.{IsDuty, act_wanted, comes_first};
+ghost use Rattle.lra_callback.specs.CallWords.{heard_name};
 ghost use Rattle.lra_forest.specs.Dues.{AreAll};
 ghost use Rattle.lra_history.specs.Replies.{member_shown};
 ghost use Rattle.lra_world.specs.Machines.{IsWorldOf};
@@ -12,7 +12,7 @@ ghost use Rattle.lra_world.specs.Worlds.{State, front_of, set_of};
 ghost use Rattle.lra_node.specs.Asks.{IsNodeOf};
 ghost use Rattle.lra_node.specs.Calls.{act_asked, act_demanded, act_where, command_of, duties_text, duty_text, further_text};
 ghost use Rattle.lra_node.specs.Scripts.{IsNothing, after_answer, after_heard, answer_line, heard_line, heard_reply_line, printed};
-ghost use Rattle.lra_node.specs.Worlds.{Holds};
+ghost use Rattle.lra_node.specs.NodeHoldings.{Holds};
 
 use crate::room::Room;
 use crate::showing::held;

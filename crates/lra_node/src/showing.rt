@@ -9,7 +9,7 @@ ghost use Rattle.lra_world.specs.Machines.{IsWorldOf};
 ghost use Rattle.lra_world.specs.Worlds.{State, front_of, set_of};
 ghost use Rattle.lra_node.specs.Asks.{IsNodeOf};
 ghost use Rattle.lra_node.specs.Scripts.{TellsSame, member_line, printed, status_line};
-ghost use Rattle.lra_node.specs.Worlds.{Holds};
+ghost use Rattle.lra_node.specs.NodeHoldings.{Holds};
 
 use crate::telling::refusal_line;
 use lra_id::{LraId, NodeId};

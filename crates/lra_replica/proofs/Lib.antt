@@ -1,10 +1,10 @@
 pub mod Absorbed
-pub mod Answered
-pub mod Empties
-pub mod Hearing
+pub mod EmptyHomes
 pub mod Homes
+pub mod KnownReports
 pub mod Nesting
 pub mod Paging
+pub mod PreparedReplies
 pub mod Rooms
 pub mod SameHomes
 pub mod Tellings

@@ -8,9 +8,9 @@ use Rattle.std.specs.Option.{option_map_or}
 use Rattle.lra_forest.specs.declared.merging.Told.{Told}
 use Rattle.lra_forest.specs.declared.record.Record.{Record}
 use Rattle.lra_forest.specs.Forests.{AreOf, HomeRecords}
-use Rattle.lra_forest.specs.Merging.{held_numbers, taken}
+use Rattle.lra_forest.specs.RecordMerges.{held_numbers, absorbed}
 use Rattle.lra_history.specs.Merging.{AreToldFrom, IsTelling, TellsAll}
-use Rattle.lra_replica.specs.Replicas.{AreHomesFrom, IsKept, Kept, view_of}
+use Rattle.lra_replica.specs.Replicas.{AreHomesFrom, IsReplicaState, ReplicaState, view_of}
 use Rattle.lra_replica.proofs.Homes.{home_records}
 use Rattle.lra_replica.proofs.Rooms.{home_numbered}
 
@@ -24,8 +24,8 @@ IsToldOf home told =
 -- one home more
 pub one_more_told : (homes : List HomeRecords) (told more : List Told) (i : ℕ) (home : HomeRecords) (last : Told) → i < length homes → home ≡ get_or homes i home → more ≡ told ++ last ∷ [] → IsToldOf home last → AllZip IsToldOf (take i homes) told → AllZip IsToldOf (take (i + 1) homes) more
 one_more_told homes told more i home last within is items here so_far =
-    let taken : take (i + 1) homes ≡ take i homes ++ home ∷ [] = take_more homes i home within ∙ ap (λ (h : HomeRecords). take i homes ++ h ∷ []) (sym is) in
-    subst (λ (hs : List HomeRecords). AllZip IsToldOf hs more) (sym taken)
+    let absorbed : take (i + 1) homes ≡ take i homes ++ home ∷ [] = take_more homes i home within ∙ ap (λ (h : HomeRecords). take i homes ++ h ∷ []) (sym is) in
+    subst (λ (hs : List HomeRecords). AllZip IsToldOf hs more) (sym absorbed)
     (subst (λ (ts : List Told). AllZip IsToldOf (take i homes ++ home ∷ []) ts) (sym items) (all_zipped_more IsToldOf (take i homes) told home last so_far here))
 
 -- all homes
@@ -39,7 +39,7 @@ told_numbers k (h ∷ homes) [] each are = absurd each
 told_numbers k (h ∷ homes) (t ∷ told) each are = (each.0.0 ∙ are.0, told_numbers (k + 1) homes told each.1 are.1)
 
 -- what is told of all homes is of one for each node
-pub telling_kept : (kept : Kept) (told : List Told) → AllZip IsToldOf kept.homes told → IsKept kept → IsTelling (record { front = kept.front; purges = kept.purges; homes = told })
+pub telling_kept : (kept : ReplicaState) (told : List Told) → AllZip IsToldOf kept.homes told → IsReplicaState kept → IsTelling (record { front = kept.front; purges = kept.purges; homes = told })
 telling_kept kept told each is = record {
   purges = is.purges;
   homes = AllZip-long IsToldOf kept.homes told each ∙ is.homes;
@@ -62,7 +62,7 @@ told_at (h ∷ homes) (t ∷ told) (suc i) e each =
     let rest = told_at homes told i (omega (arith, e)) each.1 in record { home = rest.home; part = rest.part; at = rest.at; told_at = rest.told_at; is = rest.is }
 
 -- and it is all that the replica has
-pub tells_all : (kept : Kept) (told : List Told) → AllZip IsToldOf kept.homes told → IsKept kept → TellsAll (record { front = kept.front; purges = kept.purges; homes = told }) (view_of kept)
+pub tells_all : (kept : ReplicaState) (told : List Told) → AllZip IsToldOf kept.homes told → IsReplicaState kept → TellsAll (record { front = kept.front; purges = kept.purges; homes = told }) (view_of kept)
 tells_all kept told each is = record {
   front = refl;
   purges = refl;

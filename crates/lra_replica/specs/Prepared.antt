@@ -8,17 +8,17 @@ use Rattle.lra_facts.specs.declared.refusal.Refusal.TheVariants.{NoMemory}
 use Rattle.lra_forest.specs.declared.record.Record.{Record}
 use Rattle.lra_history.specs.declared.command.Command.{Command}
 use Rattle.lra_history.specs.declared.command.CommandReply.TheVariants.{Refused, Known}
-use Rattle.lra_history.specs.Replies.{Judgement, Denied, Old, Taken, judge, reply_of}
+use Rattle.lra_history.specs.Replies.{Judgement, Denied, AlreadyKnown, Accepted, judge, reply_of}
 use Rattle.lra_history.specs.Views.{View, record_at}
 use Rattle.lra_history.specs.Changes.{Change, with_stamp, AddsFact}
 use Rattle.lra_history.specs.declared.command.CommandReply.{CommandReply}
 use Rattle.lra_history.specs.Next.{change_on, judge_on, accepted_on}
 use Rattle.lra_replica.specs.declared.patch.Prepared.{Prepared}
-use Rattle.lra_replica.specs.Replicas.{Fits, Kept}
+use Rattle.lra_replica.specs.Replicas.{Fits, ReplicaState}
 
 -- the refusal of a command, or want of memory, which comes only where the command is taken
 abbrev pub IsDenied : List Fact → View → ℕ → Command → Refusal → Type 0
-IsDenied S view me c refusal = ((refusal ≡ NoMemory) × (judge S view.front me c ≡ Taken)) ⊎ (reply_of S view.front me c ≡ Refused refusal)
+IsDenied S view me c refusal = ((refusal ≡ NoMemory) × (judge S view.front me c ≡ Accepted)) ⊎ (reply_of S view.front me c ≡ Refused refusal)
 
 -- the reply that the definitions give, with its patch, or what denies it
 abbrev pub IsPrepared : List Fact → View → ℕ → Command → Result Prepared Refusal → Type 0
@@ -27,25 +27,25 @@ IsPrepared S view me c (Err refusal) = IsDenied S view me c refusal
 
 -- what is made of a command that meets this refusal, or none
 abbrev pub judged_by : Option Refusal → Judgement
-judged_by None = Taken
+judged_by None = Accepted
 judged_by (Some refusal) = Denied refusal
 
 -- what is made of a command of which this answers whether it is known already, or the refusal
 abbrev pub judged_as : Result Bool Refusal → Judgement
-judged_as (Ok true) = Old
-judged_as (Ok false) = Taken
+judged_as (Ok true) = AlreadyKnown
+judged_as (Ok false) = Accepted
 judged_as (Err refusal) = Denied refusal
 
 -- there is room for the patch
-abbrev pub HasRoom : Result Prepared Refusal → Kept → Type 0
+abbrev pub HasRoom : Result Prepared Refusal → ReplicaState → Type 0
 HasRoom (Ok prepared) kept = IfSome prepared.patch (λ change. Fits change kept)
 HasRoom (Err refusal) kept = Unit {0}
 
 -- What a prepare answers: the refusal; that it is known; or the reply and what is changed, and only there want of memory
 abbrev pub IsAnswer : Judgement → CommandReply → Change → Result Prepared Refusal → Type 0
 IsAnswer (Denied r) reply change result = result ≡ Err r
-IsAnswer Old reply change result = result ≡ Ok (record { reply = Known; patch = None })
-IsAnswer Taken reply change result = (result ≡ Err NoMemory) ⊎ (result ≡ Ok (record { reply = reply; patch = Some change }))
+IsAnswer AlreadyKnown reply change result = result ≡ Ok (record { reply = Known; patch = None })
+IsAnswer Accepted reply change result = (result ≡ Err NoMemory) ⊎ (result ≡ Ok (record { reply = reply; patch = Some change }))
 
 abbrev pub IsNext : View → ℕ → Command → Result Prepared Refusal → Type 0
 IsNext view me c result = IsAnswer (judge_on view me c) (accepted_on view me c) (change_on view me c) result
@@ -54,6 +54,6 @@ IsNext view me c result = IsAnswer (judge_on view me c) (accepted_on view me c) 
 -- refusal. Want of memory comes only where it is taken
 abbrev pub IsReadyNext : View → ℕ → Command → Id → Result Record Refusal → Type 0
 IsReadyNext view me c l (Ok copy) =
-    (judge_on view me c ≡ Taken)
+    (judge_on view me c ≡ Accepted)
     × ((old : Record) × (record_at view l ≡ Some old) × (copy ≡ with_stamp me (count view.front me + 1) old))
-IsReadyNext view me c l (Err refusal) = (judge_on view me c ≡ Denied refusal) ⊎ ((refusal ≡ NoMemory) × (judge_on view me c ≡ Taken))
+IsReadyNext view me c l (Err refusal) = (judge_on view me c ≡ Denied refusal) ⊎ ((refusal ≡ NoMemory) × (judge_on view me c ≡ Accepted))

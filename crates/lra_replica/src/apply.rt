@@ -2,7 +2,7 @@
 ghost use Rattle.std.specs.Prelude.{◌≡◌, ◌≤◌, ◌+◌, ◌==◌, ℕ, List, if◌then◌else◌, length};
 ghost use Rattle.std.specs.List.{AllByRecursion};
 ghost use Rattle.lra_replica.specs.Replicas.{Fits, count_of_home, spare_at, view_of};
-ghost use Rattle.lra_history.specs.Changes.{patched, put_at_home, put_each, take_each, taken_out};
+ghost use Rattle.lra_history.specs.Changes.{patched, put_at_home, put_each, remove_each, remove_at_home};
 
 use crate::{Patch, Replica};
 use lra_forest::Record;
@@ -31,7 +31,7 @@ impl Replica {
     fn remove_all(&mut self, removed: &[LraId])
         ensures front { self.new.front ≡ self.old.front }
         ensures purges { self.new.purges ≡ self.old.purges }
-        ensures records { (view_of self.new).records ≡ take_each removed.now (view_of self.old).records }
+        ensures records { (view_of self.new).records ≡ remove_each removed.now (view_of self.old).records }
         ensures room { (home : ℕ) → 1 ≤ home → spare_at self.old.homes home ≤ spare_at self.new.homes home }
     {
         for id in removed {
@@ -43,7 +43,7 @@ impl Replica {
     fn remove(&mut self, id: LraId)
         ensures front { self.new.front ≡ self.old.front }
         ensures purges { self.new.purges ≡ self.old.purges }
-        ensures records { (view_of self.new).records ≡ taken_out id (view_of self.old).records }
+        ensures records { (view_of self.new).records ≡ remove_at_home id (view_of self.old).records }
         ensures room { (home : ℕ) → 1 ≤ home → spare_at self.old.homes home ≤ spare_at self.new.homes home }
     {
         let place = usize::from(id.home().number()) - 1;

@@ -9,7 +9,7 @@ ghost use Rattle.lra_history.specs.Histories.{History, IsClosed, IsLawful, facts
 ghost use Rattle.lra_history.specs.Merging.{IsAbsorbed, IsMerged, merged};
 ghost use Rattle.lra_replica.specs.Replicas.{Fits, KeepsRoom, view_of};
 ghost use Rattle.lra_history.specs.Changes.{HoldsOnlyChanges, patched};
-ghost use Rattle.lra_history.specs.Shape.{HasShape};
+ghost use Rattle.lra_history.specs.ViewShape.{HasShape};
 ghost use Rattle.lra_history.specs.Views.{IsInOrder, StandsFor, View};
 
 use crate::{Patch, Replica, Taken};
@@ -62,7 +62,7 @@ impl Replica {
             unreachable!();
         };
         let changes = own.taking(alloc, self.front().count(home), reach, told)?;
-        if !own.fits_with(&changes, front) {
+        if !own.keeps_shape_with(&changes, front) {
             return Err(Refusal::BadFrame(0));
         }
         Ok(changes)
@@ -125,7 +125,7 @@ impl Replica {
     /// was purged here. One that is held here alone is removed where the other tells all that it holds at that home and its
     /// front counts the begin, since then it was purged there. The greater of each node's counts and last purges are kept. E16
     /// at place 0 where the view would lose its shape. The patch has only what changes, each once: a record that is kept as
-    /// it was isn't put again. It costs what `Forest::taking` and `fits_with` cost at each home.
+    /// it was isn't put again. It costs what `Forest::taking` and `keeps_shape_with` cost at each home.
     pub fn absorb(&mut self, alloc: Global, taken: Taken) -> Result<Patch, Refusal>
         requires { length self.old.front ≡ length taken.front }
         ensures view { view_of self.new ≡ view_of self.old }
@@ -159,14 +159,14 @@ impl Replica {
         ensures merged { OnOk result (view_of self.new ≡ merged (view_of self.old) (view_of other.now)) }
         ensures is { OnOk result (IsMerged (view_of self.old) (view_of other.now) (view_of self.new)) }
         ensures shape { OnOk result (HasShape (view_of self.new)) }
-        ensures kept { OnErr result (view_of self.new ≡ view_of self.old) }
+        ensures unchanged { OnErr result (view_of self.new ≡ view_of self.old) }
         ensures refused { IfErr result (λ refusal. (refusal ≡ NoMemory) ⊎
             ((refusal ≡ BadFrame 0) × (HasShape (merged (view_of self.old) (view_of other.now)) → ⊥))) }
         ensures union { (h : History) (v w : List ℕ) → IsLawful h → IsClosed h v → IsClosed h w →
             StandsFor (facts h v) (view_of self.old) → StandsFor (facts h w) (view_of other.now) →
             MatchResult result (λ _. StandsFor (facts h (join_fronts v w)) (view_of self.new)) (λ refusal. refusal ≡ NoMemory) }
     {
-        let taken = other.told(alloc)?;
+        let taken = other.tell_all(alloc)?;
         match self.absorb(alloc, taken) {
             Ok(patch) => {
                 self.apply(patch);

@@ -56,7 +56,7 @@ fn numbers_of(alloc: Global, records: &[Record]) -> Result<Vec<u64>, AllocError>
 
 impl Replica {
     /// All that it has, as it is told to another.
-    pub fn told(&self, alloc: Global) -> Result<Taken, AllocError>
+    pub fn tell_all(&self, alloc: Global) -> Result<Taken, AllocError>
         ensures { IfOk result (λ taken. TellsAll taken (view_of self.now)) }
     {
         let mut homes = Vec::new(alloc);

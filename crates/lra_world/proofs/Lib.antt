@@ -1,15 +1,15 @@
 pub mod Acting
 pub mod Agreeing
 mod Belows
-pub mod Changing
 pub mod Delivering
 pub mod Determined
-pub mod Growing
+mod FramesNotTaken
+pub mod GrowingHistories
 pub mod Happening
 pub mod Moving
+pub mod OneReplicaChanged
 pub mod Parting
 pub mod Restarting
-pub mod Rising
-pub mod Standing
 pub mod Starting
-mod Taking
+pub mod StatusesRise
+pub mod WorldsStand

@@ -2,7 +2,7 @@
 ghost use Rattle.std.specs.Prelude.{◌≡◌, ℕ, List, length};
 ghost use Rattle.lra_id.specs.Fronts.{join_fronts};
 ghost use Rattle.lra_history.specs.Histories.{History, IsClosed, IsLawful, facts};
-ghost use Rattle.lra_history.specs.Laws.{IsCurrent};
+ghost use Rattle.lra_history.specs.NodeViews.{IsCurrent};
 ghost use Rattle.lra_history.specs.Merging.{IsAbsorbed, IsClosedView, IsMerged, IsPartOf, Telling, TellsAll, merged};
 ghost use Rattle.lra_history.specs.Views.{IsInOrder, StandsFor, View};
 

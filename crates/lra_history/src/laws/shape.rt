@@ -2,7 +2,7 @@
 ghost use Rattle.std.specs.Prelude.{◌≡◌, ℕ, List};
 ghost use Rattle.lra_history.specs.Histories.{History, IsClosed, IsLawful, facts};
 ghost use Rattle.lra_history.specs.Merging.{IsMerged};
-ghost use Rattle.lra_history.specs.Shape.{HasShape};
+ghost use Rattle.lra_history.specs.ViewShape.{HasShape};
 ghost use Rattle.lra_history.specs.Views.{StandsFor, View};
 
 /// The view of a closed set of a lawful history has the shape, and so has the merge of two such views: no home has more than

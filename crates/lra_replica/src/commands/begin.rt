@@ -6,7 +6,7 @@ ghost use Rattle.lra_history.specs.declared.command.Command.TheVariants.{Begin};
 ghost use Rattle.lra_history.specs.Next.{judge_on};
 ghost use Rattle.lra_replica.specs.Prepared.{judged_by, IsNext, IsReadyNext, HasRoom, IsPrepared};
 ghost use Rattle.lra_history.specs.Readings.{by_view};
-ghost use Rattle.lra_history.specs.Replies.{crowded_by, deep_by, full_by, gone_by, settled_by};
+ghost use Rattle.lra_history.specs.Replies.{crowded_by, deep_by, full_by, gone_by, inactive_by};
 ghost use Rattle.lra_replica.specs.Replicas.{view_of, KeepsRoom};
 ghost use Rattle.lra_facts.specs.declared.fact.Fact.{Fact};
 ghost use Rattle.lra_history.specs.Growth.{IsSettled};
@@ -60,7 +60,7 @@ impl Replica {
     /// The refusal to begin an LRA in this one.
     fn refusal_to_nest(&self, me: NodeId, parent: LraId) -> Option<Refusal>
         requires { me ≤ length self.now.front }
-        ensures { let t = by_view (view_of self.now) in result ≡ first (unknown self.now.front parent ∷ gone_by t parent ∷ away me parent ∷ settled_by t parent ∷ full_by t parent ∷ deep_by t parent ∷ crowded_by t me ∷ []) }
+        ensures { let t = by_view (view_of self.now) in result ≡ first (unknown self.now.front parent ∷ gone_by t parent ∷ away me parent ∷ inactive_by t parent ∷ full_by t parent ∷ deep_by t parent ∷ crowded_by t me ∷ []) }
     {
         if let Some(refusal) = self.refusal_to_number_member(me, parent) {
             return Some(refusal);
@@ -135,7 +135,7 @@ impl Replica {
         }
         let id = self.next_id(me);
         let next = self.fresh_record(alloc, me, None, deadline);
-        let patch = self.change_one(alloc, me, next)?;
+        let patch = self.patch_of_one(alloc, me, next)?;
         Ok(Prepared {
             reply: CommandReply::Began(id, 0),
             patch: Some(patch),
@@ -189,7 +189,7 @@ impl Replica {
             slot,
         };
         let child = self.fresh_record(alloc, me, Some(place), deadline);
-        let patch = self.change_two(alloc, me, next, child)?;
+        let patch = self.patch_of_two(alloc, me, next, child)?;
         Ok(Prepared {
             reply: CommandReply::Began(id, slot),
             patch: Some(patch),

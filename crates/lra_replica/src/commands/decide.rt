@@ -28,7 +28,7 @@ impl Replica {
         ensures judged { (verdict : Verdict) → judge_on (view_of self.now) me (Decide id verdict) ≡ judged_by result }
         ensures left { result ≡ None → count self.now.front me < 281474976710655 }
     {
-        if let Some(denied) = self.refusal_to_change(me, id) {
+        if let Some(denied) = self.refusal_unless_active(me, id) {
             return Some(denied);
         }
         self.refusal_to_number(me)
@@ -83,7 +83,7 @@ impl Replica {
             Ok(status) => status,
             Err(refusal) => return Err(refusal),
         };
-        let patch = self.change_one(alloc, me, next)?;
+        let patch = self.patch_of_one(alloc, me, next)?;
         Ok(Prepared {
             reply: CommandReply::Decided(id, status),
             patch: Some(patch),

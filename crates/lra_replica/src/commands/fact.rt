@@ -66,7 +66,7 @@ impl Replica {
     }
 
     /// The patch of a fact that changes one record, and the room that it needs.
-    pub(crate) fn change_one(
+    pub(crate) fn patch_of_one(
         &mut self,
         alloc: Global,
         me: NodeId,
@@ -95,7 +95,7 @@ impl Replica {
     }
 
     /// The patch of a fact that changes two records of one home, and the room that it needs.
-    pub(crate) fn change_two(
+    pub(crate) fn patch_of_two(
         &mut self,
         alloc: Global,
         me: NodeId,

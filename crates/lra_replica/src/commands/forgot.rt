@@ -1,7 +1,7 @@
 // That a participant was told to forget.
 ghost use Rattle.std.specs.Prelude.{◌≡◌, ◌≤◌, ◌<◌, ◌-◌, OnOk, length, ◌||◌, [], ◌∷◌, List, Ok, false, true};
 ghost use Rattle.lra_id.specs.Fronts.{count};
-ghost use Rattle.lra_history.specs.Growth.{change_at, forgetting, IsSettled};
+ghost use Rattle.lra_history.specs.Growth.{member_changed, forgetting, IsSettled};
 ghost use Rattle.lra_replica.specs.Replicas.{view_of, KeepsRoom};
 ghost use Rattle.lra_facts.specs.declared.fact.Fact.{Fact};
 ghost use Rattle.lra_facts.specs.Refusals.{first, unknown};
@@ -41,7 +41,7 @@ fn forgetting(member: Member) -> Member
 
 /// Notes that the participant with this number was told to forget.
 fn forget_at(members: &mut Members, number: u8) -> Result<(), AllocError>
-    ensures { 1 ≤ number → OnOk result (members.new ≡ change_at forgetting (number - 1) members.old) }
+    ensures { 1 ≤ number → OnOk result (members.new ≡ member_changed forgetting (number - 1) members.old) }
 {
     if let Some(member) = members.get(number) {
         let next = forgetting(member.clone()?);
@@ -63,7 +63,7 @@ impl Replica {
 
     /// Whether a participant was told to forget, where there is such a one.
     fn has_forgotten(&self, id: LraId, member: u8) -> Result<bool, Refusal>
-        ensures { let t = by_view (view_of self.now) in result ≡ answered_of (t.held id) (t.participant id member) (t.told id member) }
+        ensures { let t = by_view (view_of self.now) in result ≡ answered_of (t.held id) (t.participant id member) (t.forgot id member) }
     {
         match self.home_of(id) {
             Ok(home) => home.has_forgotten(id, member),
@@ -73,7 +73,7 @@ impl Replica {
 
     /// Whether a participant is to be told to forget, or was, where there is such a one.
     fn has_to_know(&self, id: LraId, member: u8) -> Result<bool, Refusal>
-        ensures { let t = by_view (view_of self.now) in result ≡ answered_of (t.held id) (t.participant id member) (t.owed id member || t.told id member) }
+        ensures { let t = by_view (view_of self.now) in result ≡ answered_of (t.held id) (t.participant id member) (t.owed id member || t.forgot id member) }
     {
         match self.is_to_forget(id, member) {
             Ok(false) => self.has_forgotten(id, member),
@@ -147,7 +147,7 @@ impl Replica {
         }
         let mut next = self.stamped(id, me)?;
         forget_at(&mut next.members, member)?;
-        let patch = self.change_one(alloc, me, next)?;
+        let patch = self.patch_of_one(alloc, me, next)?;
         Ok(Prepared {
             reply: CommandReply::Forgotten,
             patch: Some(patch),

@@ -76,7 +76,7 @@ impl Replica {
             forgotten: false,
         }))?;
         let member = next.members.len() as u8;
-        let patch = self.change_one(alloc, me, next)?;
+        let patch = self.patch_of_one(alloc, me, next)?;
         Ok(Prepared {
             reply: CommandReply::Joined(id, member),
             patch: Some(patch),

@@ -1,14 +1,14 @@
 // A participant leaves.
 ghost use Rattle.std.specs.Prelude.{◌≡◌, ◌≤◌, ◌<◌, ◌-◌, None, IfOk, length, [], ◌∷◌, List};
 ghost use Rattle.lra_id.specs.Fronts.{count};
-ghost use Rattle.lra_history.specs.Growth.{change_at, leaving, IsSettled};
+ghost use Rattle.lra_history.specs.Growth.{member_changed, leaving, IsSettled};
 ghost use Rattle.lra_replica.specs.Replicas.{view_of, KeepsRoom};
 ghost use Rattle.lra_facts.specs.Refusals.{first, unknown, away};
 ghost use Rattle.lra_history.specs.declared.command.Command.TheVariants.{Leave};
 ghost use Rattle.lra_history.specs.Next.{judge_on};
 ghost use Rattle.lra_replica.specs.Prepared.{judged_by, IsNext, IsReadyNext, HasRoom, IsPrepared};
 ghost use Rattle.lra_history.specs.Readings.{by_view};
-ghost use Rattle.lra_history.specs.Replies.{gone_by, settled_by, stranger_by};
+ghost use Rattle.lra_history.specs.Replies.{gone_by, inactive_by, stranger_by};
 ghost use Rattle.lra_facts.specs.declared.fact.Fact.{Fact};
 ghost use Rattle.lra_history.specs.Views.{StandsFor};
 
@@ -31,7 +31,7 @@ fn leaving(member: &Member) -> Member
 
 /// Marks that the participant with this number left.
 fn leave_from(members: &mut Members, number: u8)
-    ensures { 1 ≤ number → members.new ≡ change_at leaving (number - 1) members.old }
+    ensures { 1 ≤ number → members.new ≡ member_changed leaving (number - 1) members.old }
 {
     if let Some(member) = members.get(number) {
         let next = leaving(member);
@@ -42,7 +42,7 @@ fn leave_from(members: &mut Members, number: u8)
 impl Replica {
     /// The refusal to let a participant leave.
     fn refusal_to_leave(&self, me: NodeId, id: LraId, member: u8) -> Option<Refusal>
-        ensures { let t = by_view (view_of self.now) in result ≡ first (unknown self.now.front id ∷ gone_by t id ∷ away me id ∷ stranger_by t id member ∷ settled_by t id ∷ []) }
+        ensures { let t = by_view (view_of self.now) in result ≡ first (unknown self.now.front id ∷ gone_by t id ∷ away me id ∷ stranger_by t id member ∷ inactive_by t id ∷ []) }
     {
         if let Some(refusal) = self.refusal_at_home(me, id) {
             return Some(refusal);
@@ -50,7 +50,7 @@ impl Replica {
         if let Some(refusal) = self.refusal_of_stranger(id, member) {
             return Some(refusal);
         }
-        self.refusal_of_settled(id)
+        self.refusal_of_inactive(id)
     }
 
     /// The refusal of a leave, if it is refused.
@@ -93,7 +93,7 @@ impl Replica {
     {
         let mut next = self.ready_to_leave(me, id, member)?;
         leave_from(&mut next.members, member);
-        let patch = self.change_one(alloc, me, next)?;
+        let patch = self.patch_of_one(alloc, me, next)?;
         Ok(Prepared {
             reply: CommandReply::Left,
             patch: Some(patch),

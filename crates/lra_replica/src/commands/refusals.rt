@@ -3,7 +3,7 @@ ghost use Rattle.std.specs.Prelude.{◌≡◌, [], ◌∷◌, None, Some, true};
 ghost use Rattle.lra_facts.specs.declared.refusal.Refusal.TheVariants.{NotActive, NotDue};
 ghost use Rattle.lra_facts.specs.Refusals.{first, unknown, away, spent};
 ghost use Rattle.lra_history.specs.Readings.{by_view};
-ghost use Rattle.lra_history.specs.Replies.{full_by, gone_by, settled_by, stranger_by};
+ghost use Rattle.lra_history.specs.Replies.{full_by, gone_by, inactive_by, stranger_by};
 ghost use Rattle.lra_replica.specs.Replicas.{view_of};
 
 use crate::Replica;
@@ -40,18 +40,18 @@ impl Replica {
     }
 
     /// The refusal of what only the home may enter of an LRA that wants nothing yet.
-    pub(crate) fn refusal_to_change(&self, me: NodeId, id: LraId) -> Option<Refusal>
-        ensures { let t = by_view (view_of self.now) in result ≡ first (unknown self.now.front id ∷ gone_by t id ∷ away me id ∷ settled_by t id ∷ []) }
+    pub(crate) fn refusal_unless_active(&self, me: NodeId, id: LraId) -> Option<Refusal>
+        ensures { let t = by_view (view_of self.now) in result ≡ first (unknown self.now.front id ∷ gone_by t id ∷ away me id ∷ inactive_by t id ∷ []) }
     {
         if let Some(refusal) = self.refusal_at_home(me, id) {
             return Some(refusal);
         }
-        self.refusal_of_settled(id)
+        self.refusal_of_inactive(id)
     }
 
     /// The refusal of what wants an LRA that wants nothing yet.
-    pub(crate) fn refusal_of_settled(&self, id: LraId) -> Option<Refusal>
-        ensures { let t = by_view (view_of self.now) in t.held id ≡ true → result ≡ settled_by t id }
+    pub(crate) fn refusal_of_inactive(&self, id: LraId) -> Option<Refusal>
+        ensures { let t = by_view (view_of self.now) in t.held id ≡ true → result ≡ inactive_by t id }
     {
         match self.want(id) {
             Ok(Some(_)) => self.not_active(id),
@@ -71,9 +71,9 @@ impl Replica {
 
     /// The refusal to give a further member number in an LRA.
     pub(crate) fn refusal_to_number_member(&self, me: NodeId, id: LraId) -> Option<Refusal>
-        ensures { let t = by_view (view_of self.now) in result ≡ first (unknown self.now.front id ∷ gone_by t id ∷ away me id ∷ settled_by t id ∷ full_by t id ∷ []) }
+        ensures { let t = by_view (view_of self.now) in result ≡ first (unknown self.now.front id ∷ gone_by t id ∷ away me id ∷ inactive_by t id ∷ full_by t id ∷ []) }
     {
-        if let Some(refusal) = self.refusal_to_change(me, id) {
+        if let Some(refusal) = self.refusal_unless_active(me, id) {
             return Some(refusal);
         }
         self.refusal_of_full(id)

@@ -1,7 +1,7 @@
 // What was heard of an act of a participant.
 ghost use Rattle.std.specs.Prelude.{◌≡◌, ◌≤◌, ◌<◌, ◌-◌, OnOk, length, [], ◌∷◌, List, true, Ok, false};
 ghost use Rattle.lra_id.specs.Fronts.{count};
-ghost use Rattle.lra_history.specs.Growth.{change_at, reporting, IsSettled};
+ghost use Rattle.lra_history.specs.Growth.{member_changed, reporting, IsSettled};
 ghost use Rattle.lra_replica.specs.Replicas.{view_of, KeepsRoom};
 ghost use Rattle.lra_facts.specs.Refusals.{first, unknown};
 ghost use Rattle.lra_history.specs.Next.{judge_on};
@@ -51,7 +51,7 @@ fn report_to(
     act: Act,
     outcome: Outcome,
 ) -> Result<(), AllocError>
-    ensures { 1 ≤ number → OnOk result (members.new ≡ change_at (reporting act outcome) (number - 1) members.old) }
+    ensures { 1 ≤ number → OnOk result (members.new ≡ member_changed (reporting act outcome) (number - 1) members.old) }
 {
     if let Some(member) = members.get(number) {
         let next = reporting(member.clone()?, act, outcome);
@@ -138,7 +138,7 @@ impl Replica {
         }
         let mut next = self.stamped(id, me)?;
         report_to(&mut next.members, member, act, outcome)?;
-        let patch = self.change_one(alloc, me, next)?;
+        let patch = self.patch_of_one(alloc, me, next)?;
         Ok(Prepared {
             reply: CommandReply::Reported,
             patch: Some(patch),

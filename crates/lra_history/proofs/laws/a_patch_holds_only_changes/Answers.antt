@@ -1,4 +1,4 @@
-use Rattle.lra_history.proofs.OnlyChanges.{command_only}
+use Rattle.lra_history.proofs.PatchesOnlyChange.{command_only}
 use Rattle.lra_history.proofs.laws.a_patch_holds_only_changes.Goals as goal
 
 pub returns : goal.returns

@@ -1,4 +1,4 @@
-use Rattle.lra_history.proofs.Entries.{closed_still, current_still, one_more, unmoved}
+use Rattle.lra_history.proofs.OneMoreEntry.{closed_still, current_still, one_more, unmoved}
 use Rattle.lra_history.proofs.laws.an_entry_is_one_more_fact.Goals as goal
 
 pub returns : goal.returns

@@ -1,4 +1,4 @@
-use Rattle.lra_history.proofs.Extending.{empty_view_in}
+use Rattle.lra_history.proofs.PatchedHistories.{empty_view_in}
 use Rattle.lra_history.proofs.laws.no_entries_make_an_empty_view.Goals as goal
 
 pub returns : goal.returns

@@ -1,5 +1,5 @@
-use Rattle.lra_history.proofs.Lattice.{merge_law}
-use Rattle.lra_history.proofs.Unions.{closed_join, current_join}
+use Rattle.lra_history.proofs.MergeIsAJoin.{merge_law}
+use Rattle.lra_history.proofs.JoinedFronts.{closed_join, current_join}
 use Rattle.lra_history.proofs.laws.merging.a_merge_is_the_union.Goals as goal
 
 pub returns : goal.returns

@@ -1,4 +1,4 @@
-use Rattle.lra_history.proofs.Parted.{parted, root_shown, root_whole, shown_parted}
+use Rattle.lra_history.proofs.SplitVerdicts.{parted, root_shown, root_whole, shown_parted}
 use Rattle.lra_history.proofs.laws.rising.no_split_verdict.Goals as goal
 
 pub returns : goal.returns

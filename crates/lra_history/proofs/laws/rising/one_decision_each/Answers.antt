@@ -1,4 +1,4 @@
-use Rattle.lra_history.proofs.Decided.{decided_home, decided_once}
+use Rattle.lra_history.proofs.Decisions.{decided_home, decided_once}
 use Rattle.lra_history.proofs.laws.rising.one_decision_each.Goals as goal
 
 pub returns : goal.returns

@@ -1,4 +1,4 @@
-use Rattle.lra_history.proofs.Risen.{rank_more}
+use Rattle.lra_history.proofs.RanksRise.{rank_more}
 use Rattle.lra_history.proofs.laws.rising.statuses_only_rise.Goals as goal
 
 pub returns : goal.returns

@@ -1,4 +1,4 @@
-use Rattle.lra_history.proofs.Shaped.{closed_shape, merged_shape}
+use Rattle.lra_history.proofs.ViewsHaveShape.{closed_shape, merged_shape}
 use Rattle.lra_history.proofs.laws.shape.views_of_a_history_have_the_shape.Goals as goal
 
 pub returns : goal.returns

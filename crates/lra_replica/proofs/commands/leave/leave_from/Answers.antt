@@ -1,7 +1,7 @@
 use Rattle.std.proofs.Common.{◌-◌, ◌∙◌, sym, ap, set}
 use Rattle.lra_forest.specs.declared.record.Member.{Member}
 use Rattle.lra_history.specs.Growth.{leaving}
-use Rattle.lra_history.proofs.Members.{change_none, change_some, numbered_is}
+use Rattle.lra_history.proofs.OneMemberChanged.{change_none, change_some, numbered_is}
 use Rattle.lra_replica.proofs.commands.leave.leave_from.Goals as goal
 
 pub returns-in-Some : goal.returns-in-Some

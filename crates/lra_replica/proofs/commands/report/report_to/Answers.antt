@@ -1,7 +1,7 @@
 use Rattle.std.proofs.Common.{◌-◌, ◌∙◌, sym, ap, set}
 use Rattle.lra_forest.specs.declared.record.Member.{Member}
 use Rattle.lra_history.specs.Growth.{reporting}
-use Rattle.lra_history.proofs.Members.{change_none, change_some, numbered_is}
+use Rattle.lra_history.proofs.OneMemberChanged.{change_none, change_some, numbered_is}
 use Rattle.lra_replica.proofs.commands.report.report_to.Goals as goal
 
 pub returns-in_ok-clone : goal.returns-in_ok-clone

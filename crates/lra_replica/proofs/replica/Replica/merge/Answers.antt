@@ -3,9 +3,9 @@ use Rattle.lra_history.specs.Merging.{IsAbsorbed, IsMerged, merged}
 use Rattle.lra_history.specs.Changes.{patched}
 use Rattle.lra_replica.specs.Replicas.{view_of}
 use Rattle.lra_history.specs.Views.{View}
-use Rattle.lra_history.proofs.Lattice.{merge_law}
-use Rattle.lra_history.proofs.Shaped.{merged_shape}
-use Rattle.lra_history.proofs.Taking.{merge_is, merge_only}
+use Rattle.lra_history.proofs.MergeIsAJoin.{merge_law}
+use Rattle.lra_history.proofs.ViewsHaveShape.{merged_shape}
+use Rattle.lra_history.proofs.OneMerge.{merge_is, merge_only}
 use Rattle.lra_history.proofs.TellingAll.{absorbed_from, merged_from}
 use Rattle.lra_replica.proofs.replica.Replica.merge.Goals as goal
 

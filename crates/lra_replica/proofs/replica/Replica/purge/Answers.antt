@@ -5,7 +5,7 @@ use Rattle.lra_history.specs.declared.command.CommandReply.TheVariants.{Purged}
 use Rattle.lra_history.specs.Next.{accepted_on, change_on, judge_on}
 use Rattle.lra_history.specs.Changes.{purge_change}
 use Rattle.lra_replica.specs.Replicas.{view_of}
-use Rattle.lra_replica.proofs.Answered.{answer_denied, answer_taken, memory_prepared, prepared_settled}
+use Rattle.lra_replica.proofs.PreparedReplies.{answer_denied, answer_taken, memory_prepared, prepared_settled}
 use Rattle.lra_replica.proofs.replica.Replica.purge.Goals as goal
 
 pub returns-clause-next : goal.returns-clause-next
