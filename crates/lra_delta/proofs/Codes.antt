@@ -23,7 +23,7 @@ IsBytes-take n bytes h i =
       | inr le ↦ rw (get_or_past (take n bytes) i 0 (omega (arith, length-take n bytes))) (omega arith)
     ]
 
--- what a reader took from the front
+-- what a reader took from the start
 pub record Takes (r : Rest) (text : List ℕ) (r' : Rest) : Type 0 where
   pub parts : r.ahead ≡ text ++ r'.ahead
   pub place : r'.place ≡ r.place + length text

@@ -1,32 +1,32 @@
-pub mod Alone
-pub mod AtHomes
-pub mod Beyond
-pub mod Codes
-pub mod Examples
-pub mod Existing
-pub mod Filters
-pub mod Fitted
-pub mod Found
+mod Alone
+mod AtHomes
+mod Beyond
+mod Codes
+mod Examples
+mod Existing
+mod Filters
+mod Fitted
+mod Found
 pub mod FrameCodes
 mod FrameExamples
-pub mod FrameOrder
-pub mod FrameSizes
-pub mod FramesOfHistories
-pub mod Grammar
-pub mod Grown
-pub mod HaveSpellings
-pub mod HomeLists
-pub mod HomeParts
-pub mod LawfulMembers
-pub mod Lengths
-pub mod Loop
+mod FrameOrder
+mod FrameSizes
+mod FramesOfHistories
+mod Grammar
+mod Grown
+mod HaveSpellings
+mod HomeLists
+mod HomeParts
+mod LawfulMembers
+mod Lengths
+mod Loop
 pub mod OfSets
-pub mod OneFrameOfASet
-pub mod Ordered
-pub mod Put
-pub mod RecordCodes
-pub mod Slices
-pub mod TakenIsUnion
-pub mod ToldByFrames
-pub mod ToldLists
-pub mod Widths
+mod OneFrameOfASet
+mod Ordered
+mod Put
+mod RecordCodes
+mod Slices
+mod TakenIsUnion
+mod ToldByFrames
+mod ToldLists
+mod Widths

@@ -172,7 +172,7 @@ ended_at len r = do
   d ← body_at (within len r)
   if d.1.place == r.place + len then Ok (d.0, record { place = d.1.place; limit = r.limit; ahead = d.1.ahead }) else Err (Fault d.1.place)
 
--- a frame at the front, which ends where its length says
+-- a frame at the start, which ends where its length says
 unfoldable pub framed_at : Rest → Read Frame
 framed_at r = do
   letters ← number_at w32 (λ n. n == magic) r
@@ -186,7 +186,7 @@ frame_at r = do
   d ← framed_at r
   if d.1.place == r.limit then Ok d else Err (Fault d.1.place)
 
--- a frame of so many bytes, at the front of these
+-- a frame of so many bytes, at the start of these
 abbrev pub read_of : ℕ → List ℕ → Result Frame Stop
 read_of size bytes = value_of (frame_at (record { place = 0; limit = size; ahead = bytes }))
 

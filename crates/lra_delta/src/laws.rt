@@ -93,7 +93,7 @@ pub fn records_of_a_history_have_a_spelling()
     ensures rules { (front : List ℕ) (kept : Record) → IsTypedRecord kept → KeepsRulesUnder front kept → IsRecordUnder front kept }
 {}
 
-/// What keeps the rules of a frame has one spelling, and no first part of a spelling is another's. So it is of a record under a
+/// What keeps the rules of a frame has one spelling, and no prefix of a spelling is another's. So it is of a record under a
 /// front.
 pub fn one_spelling()
     ensures frame { (a b : Frame) (x y : List ℕ) → IsDelta a → IsDelta b → spelling a ++ x ≡ spelling b ++ y → (a ≡ b) × (x ≡ y) }

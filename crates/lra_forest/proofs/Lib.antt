@@ -2,41 +2,41 @@ pub mod Asked
 pub mod Begins
 pub mod Bools
 pub mod Chained
-pub mod ChangedCounts
-pub mod ChangedRecords
+mod ChangedCounts
+mod ChangedRecords
 pub mod Climbs
-pub mod Collected
-pub mod Depths
+mod Collected
+mod Depths
 pub mod Descents
-pub mod DueByRecord
+mod DueByRecord
 pub mod EqualRecords
-pub mod Exchanges
+mod Exchanges
 pub mod Gathered
 pub mod Gatherings
 pub mod Giving
-pub mod Greatest
-pub mod Lasts
-pub mod Laters
+mod Greatest
+mod Lasts
+mod Laters
 pub mod LeastForgetDuty
-pub mod Makings
-pub mod MemberMerges
+mod Makings
+mod MemberMerges
 pub mod NumberedMembers
 pub mod OneListOfRecords
 pub mod OnlyChanges
 pub mod Overdue
-pub mod Owed
-pub mod Paths
-pub mod Pendings
+mod Owed
+mod Paths
+mod Pendings
 pub mod Places
 pub mod Puts
 pub mod RecordCounts
-pub mod RecordsInPlace
+mod RecordsInPlace
 pub mod Removals
-pub mod Sagas
+mod Sagas
 pub mod Sayings
-pub mod Seeing
-pub mod Shares
+mod Seeing
+mod Shares
 pub mod Standings
-pub mod Takes
+mod Takes
 pub mod Trees
-pub mod Wanting
+mod Wanting

@@ -3,43 +3,43 @@ pub mod Basics
 pub mod ClosedSets
 pub mod CountedByFronts
 pub mod Covered
-pub mod Decisions
+mod Decisions
 pub mod ElementsByHome
-pub mod Examples
-pub mod FactsOfMembers
-pub mod FactsOfRecords
-pub mod FewAtHome
-pub mod FirstRefusals
+mod Examples
+mod FactsOfMembers
+mod FactsOfRecords
+mod FewAtHome
+mod FirstRefusals
 pub mod JoinedFronts
-pub mod LeftAsItWas
+mod LeftAsItWas
 pub mod ListsWithOneMore
-pub mod MergeExamples
+mod MergeExamples
 pub mod MergeIsAJoin
-pub mod MergedMembers
+mod MergedMembers
 pub mod MergedRecords
 pub mod MergedViews
-pub mod NewRecords
+mod NewRecords
 pub mod OneMemberChanged
 pub mod OneMerge
 pub mod OneMoreEntry
 pub mod OneViewOfASet
 pub mod PatchedHistories
 pub mod PatchesAddFacts
-pub mod PatchesOnlyChange
-pub mod Prefixes
-pub mod Purges
-pub mod Ranks
+mod PatchesOnlyChange
+mod Prefixes
+mod Purges
+mod Ranks
 pub mod RanksRise
-pub mod RecordsWithOneMore
-pub mod RemovedByPurge
+mod RecordsWithOneMore
+mod RemovedByPurge
 pub mod ReplyOrRefusal
-pub mod SameChains
+mod SameChains
 pub mod SameReadings
 pub mod SetsToMerge
 pub mod SettledFacts
-pub mod ShapeExamples
+mod ShapeExamples
 pub mod SplitVerdicts
-pub mod StaysSettled
+mod StaysSettled
 pub mod TellingAll
 pub mod TwoClosedSets
 pub mod ViewReplies

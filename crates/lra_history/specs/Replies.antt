@@ -169,8 +169,8 @@ accepted S v node c = accepted_by (by_facts S) (by_facts (entered S v node c)) v
 -- a command is refused, it is known already, or it is taken
 pub data Judgement : Type 0 where
   Denied : Refusal → Judgement
-  Old : Judgement
-  Taken : Judgement
+  AlreadyKnown : Judgement
+  Accepted : Judgement
 
 -- by the first refusal, whether it is known, and the want of numbers, in this order
 abbrev pub judged : Option Refusal → Bool → Option Refusal → Judgement

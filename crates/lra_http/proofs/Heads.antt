@@ -1,4 +1,4 @@
--- Heads at the front of what was read.
+-- Heads at the start of what was read.
 use Rattle.std.proofs.Common.{◌≡◌, ◌≢◌, ℕ, ◌+◌, ◌<◌, ◌≤◌, ◌⊎◌, inl, inr, List, [], ◌∷◌, ◌++◌, length, take, drop, sym, ◌∙◌, ap, refl, append_assoc, arith, Option, Some, None, length-append, append-nil, IfSome, subst, Bool, true, false, cond, nat_le, IsTrue, IsFalse, not, ◌&&◌, ◌||◌, ◌==◌}
 use Rattle.std.proofs.Math.Seq.{take-append_seam}
 use Rattle.std.proofs.lemmas.List.{take-append-le, take-append-drop, length-take, length-map}

@@ -1,4 +1,4 @@
--- Whole responses at the front of the input.
+-- Whole responses at the start of the input.
 use Rattle.std.proofs.Common.{◌≡◌, ℕ, ◌+◌, ◌<◌, ◌⊎◌, inl, inr, Bool, true, false, cond, List, [], ◌∷◌, ◌++◌, length, take, drop, map, sym, ◌∙◌, ap, refl, append-nil, arith, Option, Some, None, length-append, IfSome, IfErr, subst, Result, Ok, Err, codes, IsTrue, IsFalse}
 use Rattle.std.proofs.lemmas.Bool.Decides.{nat_tests}
 use Rattle.std.specs.Io.KnownBytes.{Consumes}
@@ -59,7 +59,7 @@ beside room input P h rest b has = record {
   final = meet h rest b.skipped b.middle b.left room input b.skips b.bytes b.lines has;
 }
 
--- the head at the front is the final one, or an interim one
+-- the head at the start is the final one, or an interim one
 data First (k : ResponseHead) (p : List ℕ) (h : ResponseHead) (rest : List ℕ) : Type 0 where
   the_final : k ≡ h → p ≡ rest → First k p h rest
   skipped : IsTrue (is_interim (status_code k)) → IsFalse (is_switch (status_code k)) → First k p h rest

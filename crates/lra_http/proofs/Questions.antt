@@ -1,4 +1,4 @@
--- Whole requests at the front of the input.
+-- Whole requests at the start of the input.
 use Rattle.std.proofs.Common.{◌≡◌, ℕ, ◌+◌, ◌<◌, ◌⊎◌, inl, inr, Bool, true, false, cond, List, [], ◌∷◌, ◌++◌, length, take, drop, map, sym, ◌∙◌, ap, refl, append-nil, arith, Option, Some, None, length-append, IfSome, IfErr, subst, Result, Ok, Err, codes}
 use Rattle.std.specs.Io.KnownBytes.{Consumes}
 use Rattle.httparse.specs.Grammar.{RequestHead, ReadsRequest, print_request}

@@ -9,9 +9,9 @@ use Rattle.lra_http.specs.Heads.{IsLong}
 use Rattle.lra_http.specs.Responses.{Room, is_interim, is_switch, Skips, bytes_of, lines_of, Behind, Begins, IsUnfinished, IsHopeless, IsSwitched}
 use Rattle.lra_http.proofs.Interims.{not_both}
 
--- ---- two texts at the front of one input
+-- ---- two texts at the start of one input
 
--- the shorter is at the front of the longer
+-- the shorter is at the start of the longer
 pub shorter : (a b rest more : List ℕ) → a ++ rest ≡ b ++ more → length a ≤ length b → b ≡ a ++ drop (length a) b
 shorter a b rest more e short =
     let n = length a in

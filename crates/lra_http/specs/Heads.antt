@@ -1,4 +1,4 @@
--- Heads of messages of either kind, as texts at the front of some bytes.
+-- Heads of messages of either kind, as texts at the start of some bytes.
 use Rattle.std.specs.Prelude.{◌≡◌, ℕ, ◌+◌, ◌<◌, ◌≤◌, ◌⊎◌, ◌≢◌, IsTrue, Bool, true, false, List, ◌++◌, length, Option}
 use Rattle.std.specs.Io.KnownBytes.{Consumes}
 use Rattle.httparse.specs.Ascii.{line_feed}

@@ -27,7 +27,7 @@ is_interim code = nat_le 100 code && nat_lt code 200
 abbrev pub is_switch : ℕ → Bool
 is_switch code = code == 101
 
--- these interim heads stand at the front, and rest follows
+-- these interim heads stand at the start, and rest follows
 abbrev pub Skips : List ResponseHead → List ℕ → List ℕ → Type 0
 Skips [] input rest = input ≡ rest
 Skips (h ∷ heads) input rest =

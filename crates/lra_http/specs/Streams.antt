@@ -24,7 +24,7 @@ most_interrupted = 1024
 abbrev pub HasCause : (failed_before failed_after interrupted : ℕ) → Type 0
 HasCause failed_before failed_after interrupted = (failed_before < failed_after) ⊎ (interrupted ≡ most_interrupted)
 
--- known bytes grow by a front of bs
+-- known bytes grow by a prefix of bs
 abbrev pub AppendsPart : Option (List ℕ) → Option (List ℕ) → List ℕ → Type 0
 AppendsPart old new bs = (front rest : List ℕ) × (bs ≡ front ++ rest) × Appends old new front
 

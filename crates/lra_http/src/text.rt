@@ -104,7 +104,7 @@ fn write_parts<W: Sink>(sink: &mut W, head: &[u8], body: &[u8]) -> Result<(), Wr
     write_all(sink, body, &mut interrupted)
 }
 
-/// Writes a response: its text, or a part from the front of it before a fault. The length of the body stands in the text
+/// Writes a response: its text, or a prefix of it before a fault. The length of the body stands in the text
 /// only if it is among the fields. Errors: `WriteFault`, and `NoMemory` before anything is written.
 pub fn write_response<W: Sink>(
     alloc: Global,
@@ -127,7 +127,7 @@ pub fn write_response<W: Sink>(
     Ok(())
 }
 
-/// Writes a request: its text, or a part from the front of it before a fault. The length of the body stands in the text
+/// Writes a request: its text, or a prefix of it before a fault. The length of the body stands in the text
 /// only if it is among the fields. Errors: `WriteFault`, and `NoMemory` before anything is written.
 pub fn write_request<W: Sink>(
     alloc: Global,

@@ -1,11 +1,11 @@
-pub mod Answering
-pub mod Bases
-pub mod DecimalNumbers
-pub mod LineReadings
-pub mod MemberWords
-pub mod OneAskALine
-pub mod OneTextAScript
-pub mod Runs
-pub mod Splits
-pub mod Steps
-pub mod TwoWords
+mod Answering
+mod Bases
+mod DecimalNumbers
+mod LineReadings
+mod MemberWords
+mod OneAskALine
+mod OneTextAScript
+mod Runs
+mod Splits
+mod Steps
+mod TwoWords

@@ -39,7 +39,7 @@ pub Appends-none : (o : Option (List ℕ)) → Appends o o []
 Appends-none None = tt
 Appends-none (Some x) = sym (append-nil x)
 
--- these lines were taken off the front of an input, whole, and this is left
+-- these lines were taken off the start of an input, whole, and this is left
 pub record IsTaken (input taken left : List ℕ) (whole : List (List ℕ)) : Type 0 where
   pub split : input ≡ taken ++ left
   pub lines : (bs : List ℕ) → lines_of (taken ++ bs) ≡ whole ++ lines_of bs

@@ -198,7 +198,7 @@ abbrev pub Prints : ℕ → State → List ℕ → Machine → (List ℕ → Typ
 Prints nodes s line world was_written = (out : List ℕ) × WasAnswered nodes s line out world × was_written out
 
 -- What a whole script has written, where the bytes of its input are known: the text of its lines from the start, or, after
--- a fault, a part of such a text from its front. `was_written` says which.
+-- a fault, a prefix of such a text. `was_written` says which.
 abbrev pub WritesText : ℕ → (List ℕ → Type 0) → Option (List ℕ) → Type 0
 WritesText nodes was_written None = Unit {0}
 WritesText nodes was_written (Some input) = (out : List ℕ) × ScriptText nodes (start nodes) (lines_of input) out × was_written out

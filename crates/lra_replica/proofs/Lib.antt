@@ -1,10 +1,10 @@
-pub mod Absorbed
-pub mod EmptyHomes
-pub mod Homes
-pub mod KnownReports
-pub mod Nesting
-pub mod Paging
-pub mod PreparedReplies
+mod Absorbed
+mod EmptyHomes
+mod Homes
+mod KnownReports
+mod Nesting
+mod Paging
+mod PreparedReplies
 pub mod Rooms
-pub mod SameHomes
-pub mod Tellings
+mod SameHomes
+mod Tellings

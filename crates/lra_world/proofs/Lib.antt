@@ -1,15 +1,15 @@
-pub mod Acting
+mod Acting
 pub mod Agreeing
 mod Belows
-pub mod Delivering
+mod Delivering
 pub mod Determined
 mod FramesNotTaken
-pub mod GrowingHistories
-pub mod Happening
+mod GrowingHistories
+mod Happening
 pub mod Moving
 pub mod OneReplicaChanged
-pub mod Parting
-pub mod Restarting
-pub mod Starting
-pub mod StatusesRise
-pub mod WorldsStand
+mod Parting
+mod Restarting
+mod Starting
+mod StatusesRise
+mod WorldsStand
