@@ -32,7 +32,7 @@ use Rattle.lra_history.proofs.Basics.{equal_from, equal_itself, held_begun, leng
 use Rattle.lra_history.proofs.AcceptedCommands.{lawful_gives}
 use Rattle.lra_history.proofs.Purges.{ascending_kept}
 use Rattle.lra_history.proofs.ReplyOrRefusal.{held_within}
-use Rattle.lra_history.proofs.ViewsHaveShape.{fitted}
+use Rattle.lra_history.proofs.ViewsHaveShape.{record_in_place}
 
 -- Records that are put
 
@@ -90,7 +90,7 @@ stamped_new S view me l old next settled stands one within some at id stamps the
     let found = found_record S view l old stands some at in
     let named : id_of old ≡ l = ap id_of found.is in
     let same : old ≡ next = some_same old next (sym there ∙ ap (record_at view) (id ∙ named) ∙ at) in
-    let below = (fitted S view settled stands l old some at).stamps me in
+    let below = (record_in_place S view settled stands l old some at).stamps me in
     let long : length old.stamps ≡ length view.front =
     ap (λ (r : Record). length r.stamps) found.is ∙ length-map (nodes_to (length view.front)) (stamp S l) ∙ length_nodes (length view.front) in
     let new : count next.stamps me ≡ count view.front me + 1 =

@@ -144,8 +144,8 @@ module _ (S : List Fact) (view : View) (settled : IsSettled S) (stands : StandsF
           ap (λ (k : ℕ). is_shallow levels k (records_at view.records k) p.num) (sym home) ∙ rest p (held_parent S l p settled.whole held up) (omega (arith, deep, above))
 
   -- a record of the view has its place in it
-  pub in_place : (l : Id) (r : Record) → 1 ≤ l.home → record_at view l ≡ Some r → IsInPlace view.front l.home (records_at view.records l.home) l.num r
-  fitted l r some at =
+  pub record_in_place : (l : Id) (r : Record) → 1 ≤ l.home → record_at view l ≡ Some r → IsInPlace view.front l.home (records_at view.records l.home) l.num r
+  record_in_place l r some at =
       let found = found_record S view l r stands some at in
       let stamps : r.stamps ≡ map (stamp S l) (nodes_to (length view.front)) = ap (λ (x : Record). x.stamps) found.is in
       record {
@@ -169,7 +169,7 @@ closed_shape h v view law closed stands =
       homes = λ home some.
           record {
             few = few home some settled;
-            in_place = λ num r at. fitted S view settled stands (record { home = home; num = num }) r some at;
+            in_place = λ num r at. record_in_place S view settled stands (record { home = home; num = num }) r some at;
           };
       purges = purges_below S view settled stands;
     }

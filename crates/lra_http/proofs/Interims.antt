@@ -91,9 +91,9 @@ pub record Front (room : Room) (input : List ℕ) : Type 0 where
   pub rest : List ℕ
   pub begins : Begins head rest room input
 
-front : (room : Room) (input : List ℕ) (h : ResponseHead) (rest : List ℕ) (skipped : List ResponseHead) (end : List ℕ) (q : Room) → Skips skipped input end
+prefix : (room : Room) (input : List ℕ) (h : ResponseHead) (rest : List ℕ) (skipped : List ResponseHead) (end : List ℕ) (q : Room) → Skips skipped input end
     → bytes_of skipped + q.bytes ≡ room.bytes → lines_of skipped + q.lines ≡ room.lines → Begins h rest q end → Front room input
-front room input h rest [] end q skips bytes lines begins = record {
+prefix room input h rest [] end q skips bytes lines begins = record {
   head = h;
   rest = rest;
   begins = record {
@@ -102,7 +102,7 @@ front room input h rest [] end q skips bytes lines begins = record {
     few = omega (arith, lines, begins.few);
   };
 }
-front room input h rest (j ∷ skipped) end q (next, reads, interim, plain, skips) bytes lines begins = record {
+prefix room input h rest (j ∷ skipped) end q (next, reads, interim, plain, skips) bytes lines begins = record {
   head = j;
   rest = next;
   begins = record {
@@ -114,7 +114,7 @@ front room input h rest (j ∷ skipped) end q (next, reads, interim, plain, skip
 
 -- one with a final head begins with a head
 pub front_of : (room : Room) (input : List ℕ) (h : ResponseHead) (rest : List ℕ) → HasFinal room input h rest → Front room input
-front_of room input h rest (b, final) = front room input h rest b.skipped b.middle b.left b.skips b.bytes b.lines b.holds
+front_of room input h rest (b, final) = prefix room input h rest b.skipped b.middle b.left b.skips b.bytes b.lines b.holds
 
 -- a fault of the head at the start is one of the heads
 pub refuses_front : (room : Room) (input : List ℕ) (fault : Fault) → RefusesHead Response room.bytes room.lines input fault → RefusesHeads room input fault

@@ -52,7 +52,7 @@ Refuses limit input NoMemory = Unit {0}
 
 -- what came of a target so far can still be a text
 abbrev pub IsTextSoFar : List ℕ → Type 0
-IsTextSoFar input = (front rest : List ℕ) → input ≡ front ++ rest → EndsInTarget front → ¬ (NeverHasRequest front)
+IsTextSoFar input = (prefix rest : List ℕ) → input ≡ prefix ++ rest → EndsInTarget prefix → ¬ (NeverHasRequest prefix)
 
 -- the input began with this whole request, and the rest is left
 pub record IsRead (limit : ℕ) (input : List ℕ) (left : Option (List ℕ)) (question : Question) : Type 0 where
