@@ -5,7 +5,7 @@ use Rattle.lra_id.specs.Fronts.{count}
 use Rattle.lra_facts.specs.declared.fact.Fact.{Fact}
 use Rattle.lra_forest.specs.Records.{nodes_to}
 use Rattle.lra_forest.specs.declared.record.Record.{Record}
-use Rattle.lra_history.specs.Growth.{IsMore, IsSettled}
+use Rattle.lra_history.specs.Growth.{IsMore}
 use Rattle.lra_history.specs.Changes.{raised}
 use Rattle.lra_history.specs.Views.{AreRecords, IsCounted, StandsFor, purge_number}
 use Rattle.lra_history.specs.Replies.{entered, next_fact}
@@ -83,20 +83,6 @@ more_entered S v node c counted some =
     }
 
 -- The empty set
-
--- the empty set is settled
-pub empty_settled : IsSettled []
-empty_settled =
-    record {
-      whole = record { nested = tt; parents = λ l p e f. absurd cc };
-      seated = record { once = tt; givers = λ f l m e. absurd m; numbers = λ f l m links k e. absurd k };
-      shallow = λ l e. absurd cc;
-      few = λ l. omega arith;
-      numbered = λ f m. absurd m;
-      named = λ f l m e. absurd m;
-      purged = λ f l m e. absurd m;
-      members = λ f l m k e. absurd k;
-    }
 
 -- a front of zeros counts nothing
 pub zero_at : (n i : ℕ) → ◌≡◌ {A = ℕ} (get_or (replicate n 0) i 0) 0

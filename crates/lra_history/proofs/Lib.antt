@@ -9,7 +9,6 @@ mod Examples
 mod FactsOfMembers
 mod FactsOfRecords
 mod FewAtHome
-mod FirstRefusals
 pub mod JoinedFronts
 mod LeftAsItWas
 pub mod ListsWithOneMore

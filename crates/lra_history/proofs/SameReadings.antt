@@ -11,7 +11,7 @@ use Rattle.lra_facts.specs.declared.fact.Fact.{Fact}
 use Rattle.lra_facts.specs.declared.refusal.Refusal.{Refusal}
 use Rattle.lra_facts.specs.declared.refusal.Refusal.TheVariants.{DepthFull, LrasFull, MembersFull, NotActive, NotDue, NotEnded, NotHeld, NotRoot, StillToForget, UnknownMember}
 use Rattle.lra_facts.specs.Refusals.{unless, first, unknown, away, spent}
-use Rattle.lra_facts.specs.Sets.{IsNumbered, is_held, shows_now, want}
+use Rattle.lra_facts.specs.Sets.{IsNumbered, is_held, want}
 use Rattle.lra_forest.specs.declared.duties.Due.{Due}
 use Rattle.lra_forest.specs.declared.record.Record.{Record}
 use Rattle.lra_forest.specs.Forests.{is_of}
@@ -259,16 +259,6 @@ judge_alike nodes t u v node c plain alike =
 pub judge_view : (S : List Fact) (view : View) (me : ℕ) (c : Command) → IsPlain (length view.front) me c → IsSettled S → StandsFor S view → judge_on view me c ≡ judge S view.front me c
 judge_view S view me c plain settled stands =
     judge_alike (length view.front) (by_view view) (by_facts S) view.front me c plain (view_alike S view settled stands) ∙ judge_facts S view.front me c
-
--- what is answered of an LRA
-pub shown_alike : (S : List Fact) (view : View) (l : Id) → IsSettled S → StandsFor S view → answered ((by_view view).held l) ((by_view view).shows l) ≡ answered (is_held S l) (shows_now S l)
-shown_alike S view l settled stands =
-    let alike = view_alike S view settled stands in
-    ap (λ (b : Bool). answered b ((by_view view).shows l)) (alike.held l) ∙ by (is_held S l) (alike.shows l)
-  where
-    by : (b : Bool) → (b ≡ true → (by_view view).shows l ≡ shows_now S l) → answered b ((by_view view).shows l) ≡ answered b (shows_now S l)
-    by true same = ap (λ s. Ok s) (same refl)
-    by false same = refl
 
 -- what it wants
 pub want_alike : (S : List Fact) (view : View) (l : Id) → IsSettled S → StandsFor S view → answered ((by_view view).held l) ((by_view view).want l) ≡ answered (is_held S l) (want S l)

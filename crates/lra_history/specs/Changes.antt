@@ -1,6 +1,6 @@
 -- What a patch changes in a view, and when that adds exactly one fact.
 use mathlib.Core.Bool.{not}
-use Rattle.std.specs.Prelude.{◌≡◌, ◌+◌, ◌-◌, ◌==◌, ℕ, true, Some, List, [], ◌∷◌, length, filter, replicate, slice_set, Option, None}
+use Rattle.std.specs.Prelude.{◌≡◌, ◌+◌, ◌-◌, ◌==◌, ℕ, true, Some, List, [], ◌∷◌, length, filter, slice_set, Option, None}
 use Rattle.lra_id.specs.Ids.{Id}
 use Rattle.lra_id.specs.Fronts.{count}
 use Rattle.lra_facts.specs.declared.fact.Fact.{Fact}
@@ -13,7 +13,7 @@ use Rattle.lra_forest.specs.Places.{put_record}
 use Rattle.lra_forest.specs.declared.record.Place.{Place}
 use Rattle.lra_history.specs.Views.{View, record_at, records_at, StandsFor}
 use Rattle.lra_history.specs.declared.command.Command.{Command}
-use Rattle.lra_history.specs.Growth.{IsMore, stamped}
+use Rattle.lra_history.specs.Growth.{IsMore, begun_record, stamped}
 use Rattle.lra_history.specs.Replies.{AlreadyKnown, Accepted, judge, next_fact}
 
 -- what is put into a view and taken out of it
@@ -59,7 +59,7 @@ HoldsOnlyChanges view change =
 
 -- a front with one more of a node
 abbrev pub raised : List ℕ → ℕ → List ℕ
-raised v node = slice_set v (node - 1) (count v node + 1)
+raised v node = stamped node (count v node + 1) v
 
 -- what a fact of a node changes where it changes one record
 abbrev pub one_change : View → ℕ → Record → Change
@@ -94,16 +94,7 @@ AddsFact S view me c (Some change) =
 
 -- the record of an LRA that a node begins with its next fact
 abbrev pub fresh_record : List ℕ → ℕ → Option Place → ℕ → Record
-fresh_record v me parent deadline =
-    record {
-      home = me;
-      num = count v me + 1;
-      parent = parent;
-      deadline = deadline;
-      decision = None;
-      stamps = stamped me (count v me + 1) (replicate (length v) 0);
-      members = [];
-    }
+fresh_record v me parent deadline = begun_record (length v) me (count v me + 1) parent deadline
 
 -- with the number of a node's next fact
 abbrev pub with_stamp : ℕ → ℕ → Record → Record

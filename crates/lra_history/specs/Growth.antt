@@ -111,14 +111,19 @@ abbrev pub next_place : List Fact → Option Id → Option Place
 next_place S None = None
 next_place S (Some p) = Some (record { number = p.num; slot = numbers_given S p + 1 })
 
-abbrev pub new_record : ℕ → List Fact → Fact → Option Id → ℕ → Record
-new_record nodes S f parent deadline =
+-- as the fact of its home with this number
+abbrev pub begun_record : (nodes home num : ℕ) → Option Place → ℕ → Record
+begun_record nodes home num parent deadline =
     record {
-      home = f.origin;
-      num = f.num;
-      parent = next_place S parent;
+      home = home;
+      num = num;
+      parent = parent;
       deadline = deadline;
       decision = None;
-      stamps = stamped f.origin f.num (replicate nodes 0);
+      stamps = stamped home num (replicate nodes 0);
       members = [];
     }
+
+-- in a set
+abbrev pub new_record : ℕ → List Fact → Fact → Option Id → ℕ → Record
+new_record nodes S f parent deadline = begun_record nodes f.origin f.num (next_place S parent) deadline

@@ -437,13 +437,6 @@ module _ (a : View) (telling : Telling) (kept : ReplicaState) (patch old : Chang
       (subst (λ (v : View). AreTakenAt v told reach (records_at c.records told.records.home)) (sym so.view) there)
       (subst (λ (v : List ℕ). AreInShape v told.records.home (records_at c.records told.records.home)) (front ∙ sym so.front) (shape.homes told.records.home low))
 
--- all homes are taken where none is left
-pub all_taken : (a : View) (telling : Telling) (kept : ReplicaState) (patch old : Change) → IsTelling telling → length a.front ≡ length telling.front → IsTakenSo a telling kept patch old [] → IsTakenTo a telling kept.homes patch (length a.front)
-all_taken a telling kept patch old is nodes so =
-    let size : length telling.homes ≡ length so.done + length {A = Told} [] = ap (λ (ts : List Told). length ts) so.all ∙ length-append so.done [] in
-    let n : length so.done ≡ length a.front = omega (arith, size, nodes, is.homes) in
-    subst (λ (k : ℕ). IsTakenTo a telling kept.homes patch k) n so.so
-
 -- The whole patch
 
 module _ (kept after : ReplicaState) (telling : Telling) (change : Change) (is : IsReplicaState kept) (told : IsTelling telling) (nodes : length kept.front ≡ length telling.front)

@@ -30,7 +30,7 @@ use Rattle.lra_history.specs.declared.command.CommandReply.TheVariants.{Began, D
 use Rattle.lra_history.specs.Growth.{IsSettled, member_changed, forgetting, joined, leaving, record_after, reporting}
 use Rattle.lra_history.specs.Next.{accepted_on, change_on, changed, judge_on, next_fact_on, member_shown_on, no_change, shown_on}
 use Rattle.lra_history.specs.Changes.{fresh_record, with_stamp, Change, one_change, patched, two_changes}
-use Rattle.lra_history.specs.Replies.{member_shown, shown_of, refusal_by, Denied, Judgement, AlreadyKnown, Accepted, accepted, after, judge, reply_by}
+use Rattle.lra_history.specs.Replies.{member_shown, shown_of, refusal_by, Denied, Judgement, AlreadyKnown, Accepted, accepted, judge, reply_by}
 use Rattle.lra_history.specs.Readings.{at_home, by_view}
 use Rattle.lra_history.specs.Views.{StandsFor, View, record_at, records_at}
 use Rattle.lra_history.proofs.SameReadings.{IsPlain, forgot_passed, judge_view, report_passed, view_alike}

@@ -7,8 +7,7 @@ use Rattle.std.proofs.Math.Seq.{map-set_same}
 use Rattle.std.specs.List.{AllByRecursion}
 use Rattle.lra_forest.specs.declared.record.Record.{Record}
 use Rattle.lra_forest.specs.Forests.{AreOf, HomeRecords}
-use Rattle.lra_history.specs.Changes.{Change}
-use Rattle.lra_replica.specs.Replicas.{Fits, ReplicaState, IsReplicaState, AreHomesFrom, count_of_home, spare_at}
+use Rattle.lra_replica.specs.Replicas.{ReplicaState, IsReplicaState, AreHomesFrom, count_of_home, spare_at}
 
 homes_with : (k : ℕ) (homes : List HomeRecords) (i : ℕ) (new d : HomeRecords) → i < length homes → new.home ≡ (get_or homes i d).home → AreHomesFrom k homes → AreHomesFrom k (set homes i new)
 homes_with k [] i new d e same are = tt
@@ -111,43 +110,12 @@ pub none_left : {X : Type 0} (xs : List X) → length xs ≡ 0 → xs ≡ []
 none_left [] e = refl
 none_left (x ∷ xs) e = absurd (omega (arith, e))
 
-home_count : (home : ℕ) (r : Record) (rs : List Record) → count_of_home home (r ∷ rs) ≡ cond (r.home == home) 1 0 + count_of_home home rs
-home_count home r rs = by (r.home == home)
-  where
-    by : (b : Bool) → length (cond b (r ∷ filter (λ (q : Record). q.home == home) rs) (filter (λ (q : Record). q.home == home) rs)) ≡ cond b 1 0 + count_of_home home rs
-    by true = omega arith
-    by false = omega arith
-
 at_home : (n : ℕ) (r : Record) (kept : ReplicaState) (home : ℕ) → n ≤ spare_at kept.homes r.home → cond (r.home == home) n 0 ≤ spare_at kept.homes home
 at_home n r kept home room = by (r.home == home) refl
   where
     by : (b : Bool) → (r.home == home) ≡ b → cond b n 0 ≤ spare_at kept.homes home
     by true t = let same : r.home ≡ home = grind (arith, nat_tests, t) in omega (arith, room, ap (spare_at kept.homes) same)
     by false t = omega arith
-
--- a patch of one record fits where there is room for one more at its home
-pub one_fits : (next : Record) (kept : ReplicaState) (change : Change) → change.records ≡ next ∷ [] → length change.front ≡ length kept.front → length change.purges ≡ length kept.front → next.home ≤ length kept.front → 1 ≤ spare_at kept.homes next.home → Fits change kept
-one_fits next kept change e front purges there room =
-    record {
-      front = front;
-      purges = purges;
-      homes = rw e (there, tt);
-      room = λ home some. omega (arith, ap (count_of_home home) e, home_count home next [], at_home 1 next kept home room);
-    }
-
--- and one of two records of a home where there is room for two
-pub two_fit : (first second : Record) (kept : ReplicaState) (change : Change) → change.records ≡ first ∷ second ∷ [] → second.home ≡ first.home → length change.front ≡ length kept.front → length change.purges ≡ length kept.front → first.home ≤ length kept.front → 2 ≤ spare_at kept.homes first.home → Fits change kept
-two_fit first second kept change e same front purges there room =
-    record {
-      front = front;
-      purges = purges;
-      homes = rw e (there, (omega (arith, there, same), tt));
-      room = λ home some. omega (arith, ap (count_of_home home) e, home_count home first (second ∷ []), home_count home second [], ap {B = ℕ} (λ (n : ℕ). cond (n == home) 1 0) same, both home (first.home == home) refl);
-    }
-  where
-    both : (home : ℕ) (b : Bool) → (first.home == home) ≡ b → cond b 1 0 + cond b 1 0 ≤ spare_at kept.homes home
-    both home true t = let at : first.home ≡ home = grind (arith, nat_tests, t) in omega (arith, room, ap (spare_at kept.homes) at)
-    both home false t = omega arith
 
 -- a home of which only the room changed
 pub same_records : (homes : List HomeRecords) (i : ℕ) (new d : HomeRecords) → new.records ≡ (get_or homes i d).records → map (λ (h : HomeRecords). h.records) (set homes i new) ≡ map (λ (h : HomeRecords). h.records) homes

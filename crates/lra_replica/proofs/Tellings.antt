@@ -8,7 +8,7 @@ use Rattle.std.specs.Option.{option_map_or}
 use Rattle.lra_forest.specs.declared.merging.Told.{Told}
 use Rattle.lra_forest.specs.declared.record.Record.{Record}
 use Rattle.lra_forest.specs.Forests.{AreOf, HomeRecords}
-use Rattle.lra_forest.specs.RecordMerges.{held_numbers, absorbed}
+use Rattle.lra_forest.specs.RecordMerges.{held_numbers}
 use Rattle.lra_history.specs.Merging.{AreToldFrom, IsTelling, TellsAll}
 use Rattle.lra_replica.specs.Replicas.{AreHomesFrom, IsReplicaState, ReplicaState, view_of}
 use Rattle.lra_replica.proofs.Homes.{home_records}
