@@ -10,6 +10,7 @@ use Rattle.lra_forest.specs.declared.record.Record.{Record}
 use Rattle.lra_forest.specs.Forests.{AreOf, is_of}
 use Rattle.lra_forest.specs.Records.{nodes_to}
 use Rattle.lra_forest.specs.Standing.{Stands}
+use Rattle.lra_history.specs.Growth.{IsSettled}
 
 -- a front, the last purge of each home, and the records of each home in order of their numbers
 pub record View : Type 0 where
@@ -58,3 +59,7 @@ pub record StandsFor (S : List Fact) (view : View) : Type 0 where
 -- the view of no facts
 abbrev pub empty_view : ℕ → View
 empty_view nodes = record { front = replicate nodes 0; purges = replicate nodes 0; records = replicate nodes [] }
+
+-- this holds of each settled set that the view stands for
+abbrev pub OfItsSet : View → (List Fact → Type 0) → Type 0
+OfItsSet view P = (S : List Fact) → IsSettled S → StandsFor S view → P S

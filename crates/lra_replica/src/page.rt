@@ -1,16 +1,14 @@
 // Pages of what a node holds.
 ghost use Rattle.std.specs.Prelude.{◌≡◌, ◌≤◌, ◌∷◌, [], List, None, Some, IfErr, IfOk, if◌then◌else◌, length};
 ghost use Rattle.lra_id.specs.Ids.{is_fact_number};
-ghost use Rattle.lra_facts.specs.declared.fact.Fact.{Fact};
 ghost use Rattle.lra_facts.specs.declared.refusal.Refusal.TheVariants.{NoMemory};
 ghost use Rattle.lra_forest.specs.declared.record.Record.{Record};
 ghost use Rattle.lra_forest.specs.Forests.{id_of};
-ghost use Rattle.lra_history.specs.Growth.{IsSettled};
 ghost use Rattle.lra_replica.specs.Pages.{IsFirstBeyond, IsNext, IsNextAt, IsNextRow, IsPage};
 ghost use Rattle.lra_history.specs.Readings.{by_view};
 ghost use Rattle.lra_replica.specs.Replicas.{IsReplicaState, view_of};
 ghost use Rattle.lra_history.specs.Replies.{by_facts};
-ghost use Rattle.lra_history.specs.Views.{StandsFor};
+ghost use Rattle.lra_history.specs.Views.{OfItsSet};
 
 use crate::Replica;
 use lra_facts::Refusal;
@@ -157,7 +155,7 @@ impl Replica {
     /// at each home between, and what it shows costs as much as `status`.
     pub fn page(&self, alloc: Global, after: Option<LraId>) -> Result<Page, Refusal>
         ensures page { IfOk result (λ page. IsPage (by_view (view_of self.now)) after page) }
-        ensures settled { (S : List Fact) → IsSettled S → StandsFor S (view_of self.now) → IfOk result (λ page. IsPage (by_facts S) after page) }
+        ensures settled { OfItsSet (view_of self.now) (λ S. IfOk result (λ page. IsPage (by_facts S) after page)) }
         ensures cause { IfErr result (λ refusal. refusal ≡ NoMemory) }
     {
         Ok(self.next_rows(alloc, after)?)

@@ -1,10 +1,8 @@
 // Any command as a prepared patch.
-ghost use Rattle.std.specs.Prelude.{◌≡◌, ◌≤◌, List, length};
-ghost use Rattle.lra_facts.specs.declared.fact.Fact.{Fact};
-ghost use Rattle.lra_history.specs.Growth.{IsSettled};
+ghost use Rattle.std.specs.Prelude.{◌≡◌, ◌≤◌, length};
 ghost use Rattle.lra_replica.specs.Prepared.{IsNext, HasRoom, IsPrepared};
 ghost use Rattle.lra_replica.specs.Replicas.{KeepsRoom, view_of};
-ghost use Rattle.lra_history.specs.Views.{StandsFor};
+ghost use Rattle.lra_history.specs.Views.{OfItsSet};
 
 use crate::{Prepared, Replica};
 use lra_facts::Refusal;
@@ -25,7 +23,7 @@ impl Replica {
         ensures room { HasRoom result self.new }
         ensures stays { KeepsRoom self.old self.new }
         ensures next { IsNext (view_of self.old) me command result }
-        ensures prepared { (S : List Fact) → IsSettled S → StandsFor S (view_of self.old) → IsPrepared S (view_of self.old) me command result }
+        ensures prepared { OfItsSet (view_of self.old) (λ S. IsPrepared S (view_of self.old) me command result) }
     {
         match command {
             Command::Begin { parent, deadline } => self.begin(alloc, me, parent, deadline),

@@ -1,5 +1,5 @@
 // The begin of an LRA, top-level or nested.
-ghost use Rattle.std.specs.Prelude.{◌≡◌, ◌≤◌, ◌<◌, ℕ, [], ◌∷◌, List, None, Some, length, true, ◌+◌, IfOk};
+ghost use Rattle.std.specs.Prelude.{◌≡◌, ◌≤◌, ◌<◌, ℕ, [], ◌∷◌, None, Some, length, true, ◌+◌, IfOk};
 ghost use Rattle.lra_facts.specs.Refusals.{first, unknown, away};
 ghost use Rattle.lra_id.specs.Fronts.{count};
 ghost use Rattle.lra_history.specs.declared.command.Command.TheVariants.{Begin};
@@ -8,10 +8,8 @@ ghost use Rattle.lra_replica.specs.Prepared.{judged_by, IsNext, IsReadyNext, Has
 ghost use Rattle.lra_history.specs.Readings.{by_view};
 ghost use Rattle.lra_history.specs.Replies.{crowded_by, deep_by, full_by, gone_by, inactive_by};
 ghost use Rattle.lra_replica.specs.Replicas.{view_of, KeepsRoom};
-ghost use Rattle.lra_facts.specs.declared.fact.Fact.{Fact};
-ghost use Rattle.lra_history.specs.Growth.{IsSettled};
 ghost use Rattle.lra_history.specs.Changes.{fresh_record};
-ghost use Rattle.lra_history.specs.Views.{StandsFor};
+ghost use Rattle.lra_history.specs.Views.{OfItsSet};
 
 use crate::commands::fact::stamp;
 use crate::{Prepared, Replica};
@@ -127,8 +125,7 @@ impl Replica {
         ensures room { HasRoom result self.new }
         ensures stays { KeepsRoom self.old self.new }
         ensures next { IsNext (view_of self.old) me (Begin None deadline) result }
-        ensures prepared { (S : List Fact) → IsSettled S → StandsFor S (view_of self.old) →
-            IsPrepared S (view_of self.old) me (Begin None deadline) result }
+        ensures prepared { OfItsSet (view_of self.old) (λ S. IsPrepared S (view_of self.old) me (Begin None deadline) result) }
     {
         if let Some(refusal) = self.refusal_of_root(me) {
             return Err(refusal);
@@ -176,8 +173,7 @@ impl Replica {
         ensures room { HasRoom result self.new }
         ensures stays { KeepsRoom self.old self.new }
         ensures next { IsNext (view_of self.old) me (Begin (Some parent) deadline) result }
-        ensures prepared { (S : List Fact) → IsSettled S → StandsFor S (view_of self.old) →
-            IsPrepared S (view_of self.old) me (Begin (Some parent) deadline) result }
+        ensures prepared { OfItsSet (view_of self.old) (λ S. IsPrepared S (view_of self.old) me (Begin (Some parent) deadline) result) }
     {
         let _ = me.number();
         let mut next = self.ready_to_nest(me, parent)?;
@@ -210,8 +206,7 @@ impl Replica {
         ensures room { HasRoom result self.new }
         ensures stays { KeepsRoom self.old self.new }
         ensures next { IsNext (view_of self.old) me (Begin parent deadline) result }
-        ensures prepared { (S : List Fact) → IsSettled S → StandsFor S (view_of self.old) →
-            IsPrepared S (view_of self.old) me (Begin parent deadline) result }
+        ensures prepared { OfItsSet (view_of self.old) (λ S. IsPrepared S (view_of self.old) me (Begin parent deadline) result) }
     {
         match parent {
             Some(parent) => self.nest(alloc, me, parent, deadline),

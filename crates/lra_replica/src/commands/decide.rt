@@ -1,18 +1,16 @@
 // An LRA is closed or cancelled.
-ghost use Rattle.std.specs.Prelude.{◌≡◌, ◌≤◌, ◌<◌, List, None, length, true, Ok, IfOk, is_some};
+ghost use Rattle.std.specs.Prelude.{◌≡◌, ◌≤◌, ◌<◌, None, length, true, Ok, IfOk, is_some};
 ghost use Rattle.lra_id.specs.Fronts.{count};
 ghost use Rattle.lra_states.specs.declared.outcome.Verdict.{Verdict};
 ghost use Rattle.lra_history.specs.declared.command.Command.TheVariants.{Decide};
 ghost use Rattle.lra_history.specs.Next.{judge_on};
 ghost use Rattle.lra_replica.specs.Prepared.{judged_by, IsNext, IsReadyNext, HasRoom, IsPrepared};
 ghost use Rattle.lra_replica.specs.Replicas.{view_of, KeepsRoom};
-ghost use Rattle.lra_facts.specs.declared.fact.Fact.{Fact};
 ghost use Rattle.lra_forest.specs.Forests.{id_of};
 ghost use Rattle.lra_forest.specs.Places.{put_record};
 ghost use Rattle.lra_forest.specs.Said.{shown_at};
 ghost use Rattle.lra_forest.specs.Shape.{found_at};
-ghost use Rattle.lra_history.specs.Growth.{IsSettled};
-ghost use Rattle.lra_history.specs.Views.{StandsFor, record_at, records_at};
+ghost use Rattle.lra_history.specs.Views.{OfItsSet, record_at, records_at};
 
 use crate::{Prepared, Replica};
 use lra_facts::Refusal;
@@ -74,7 +72,7 @@ impl Replica {
         ensures room { HasRoom result self.new }
         ensures stays { KeepsRoom self.old self.new }
         ensures next { IsNext (view_of self.old) me (Decide id verdict) result }
-        ensures prepared { (S : List Fact) → IsSettled S → StandsFor S (view_of self.old) → IsPrepared S (view_of self.old) me (Decide id verdict) result }
+        ensures prepared { OfItsSet (view_of self.old) (λ S. IsPrepared S (view_of self.old) me (Decide id verdict) result) }
     {
         let mut next = self.ready_to_decide(me, id)?;
         next.decision = Some(verdict);

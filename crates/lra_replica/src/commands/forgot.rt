@@ -1,9 +1,8 @@
 // That a participant was told to forget.
-ghost use Rattle.std.specs.Prelude.{◌≡◌, ◌≤◌, ◌<◌, ◌-◌, OnOk, length, ◌||◌, [], ◌∷◌, List, Ok, false, true};
+ghost use Rattle.std.specs.Prelude.{◌≡◌, ◌≤◌, ◌<◌, ◌-◌, OnOk, length, ◌||◌, [], ◌∷◌, Ok, false, true};
 ghost use Rattle.lra_id.specs.Fronts.{count};
-ghost use Rattle.lra_history.specs.Growth.{member_changed, forgetting, IsSettled};
+ghost use Rattle.lra_history.specs.Growth.{member_changed, forgetting};
 ghost use Rattle.lra_replica.specs.Replicas.{view_of, KeepsRoom};
-ghost use Rattle.lra_facts.specs.declared.fact.Fact.{Fact};
 ghost use Rattle.lra_facts.specs.Refusals.{first, unknown};
 ghost use Rattle.lra_forest.specs.Participants.{answered_of};
 ghost use Rattle.lra_history.specs.declared.command.Command.TheVariants.{Forgot};
@@ -11,7 +10,7 @@ ghost use Rattle.lra_replica.specs.Prepared.{IsNext, HasRoom, IsPrepared, judged
 ghost use Rattle.lra_history.specs.Next.{judge_on};
 ghost use Rattle.lra_history.specs.Readings.{by_view};
 ghost use Rattle.lra_history.specs.Replies.{gone_by, stranger_by, unowed_by};
-ghost use Rattle.lra_history.specs.Views.{StandsFor};
+ghost use Rattle.lra_history.specs.Views.{OfItsSet};
 
 use crate::{Prepared, Replica};
 use lra_facts::Refusal;
@@ -136,7 +135,7 @@ impl Replica {
         ensures room { HasRoom result self.new }
         ensures stays { KeepsRoom self.old self.new }
         ensures next { IsNext (view_of self.old) me (Forgot id member) result }
-        ensures prepared { (S : List Fact) → IsSettled S → StandsFor S (view_of self.old) → IsPrepared S (view_of self.old) me (Forgot id member) result }
+        ensures prepared { OfItsSet (view_of self.old) (λ S. IsPrepared S (view_of self.old) me (Forgot id member) result) }
     {
         let known = self.knows_forgot(me, id, member)?;
         if known {

@@ -1,14 +1,12 @@
 // A participant joins.
-ghost use Rattle.std.specs.Prelude.{◌≡◌, ◌≤◌, ◌<◌, List, None, length, IfOk};
+ghost use Rattle.std.specs.Prelude.{◌≡◌, ◌≤◌, ◌<◌, None, length, IfOk};
 ghost use Rattle.lra_id.specs.Fronts.{count};
 ghost use Rattle.lra_facts.specs.declared.links.Links.{Links};
 ghost use Rattle.lra_history.specs.declared.command.Command.TheVariants.{Join};
 ghost use Rattle.lra_history.specs.Next.{judge_on};
 ghost use Rattle.lra_replica.specs.Prepared.{judged_by, IsNext, IsReadyNext, HasRoom, IsPrepared};
 ghost use Rattle.lra_replica.specs.Replicas.{view_of, KeepsRoom};
-ghost use Rattle.lra_facts.specs.declared.fact.Fact.{Fact};
-ghost use Rattle.lra_history.specs.Growth.{IsSettled};
-ghost use Rattle.lra_history.specs.Views.{StandsFor};
+ghost use Rattle.lra_history.specs.Views.{OfItsSet};
 
 use crate::{Prepared, Replica};
 use lra_facts::{Links, Refusal};
@@ -63,7 +61,7 @@ impl Replica {
         ensures room { HasRoom result self.new }
         ensures stays { KeepsRoom self.old self.new }
         ensures next { IsNext (view_of self.old) me (Join id links) result }
-        ensures prepared { (S : List Fact) → IsSettled S → StandsFor S (view_of self.old) → IsPrepared S (view_of self.old) me (Join id links) result }
+        ensures prepared { OfItsSet (view_of self.old) (λ S. IsPrepared S (view_of self.old) me (Join id links) result) }
     {
         let mut next = match self.ready_to_join(me, id) {
             Ok(copy) => copy,

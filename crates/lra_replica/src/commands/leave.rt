@@ -1,7 +1,7 @@
 // A participant leaves.
-ghost use Rattle.std.specs.Prelude.{◌≡◌, ◌≤◌, ◌<◌, ◌-◌, None, IfOk, length, [], ◌∷◌, List};
+ghost use Rattle.std.specs.Prelude.{◌≡◌, ◌≤◌, ◌<◌, ◌-◌, None, IfOk, length, [], ◌∷◌};
 ghost use Rattle.lra_id.specs.Fronts.{count};
-ghost use Rattle.lra_history.specs.Growth.{member_changed, leaving, IsSettled};
+ghost use Rattle.lra_history.specs.Growth.{member_changed, leaving};
 ghost use Rattle.lra_replica.specs.Replicas.{view_of, KeepsRoom};
 ghost use Rattle.lra_facts.specs.Refusals.{first, unknown, away};
 ghost use Rattle.lra_history.specs.declared.command.Command.TheVariants.{Leave};
@@ -9,8 +9,7 @@ ghost use Rattle.lra_history.specs.Next.{judge_on};
 ghost use Rattle.lra_replica.specs.Prepared.{judged_by, IsNext, IsReadyNext, HasRoom, IsPrepared};
 ghost use Rattle.lra_history.specs.Readings.{by_view};
 ghost use Rattle.lra_history.specs.Replies.{gone_by, inactive_by, stranger_by};
-ghost use Rattle.lra_facts.specs.declared.fact.Fact.{Fact};
-ghost use Rattle.lra_history.specs.Views.{StandsFor};
+ghost use Rattle.lra_history.specs.Views.{OfItsSet};
 
 use crate::{Prepared, Replica};
 use lra_facts::Refusal;
@@ -89,7 +88,7 @@ impl Replica {
         ensures room { HasRoom result self.new }
         ensures stays { KeepsRoom self.old self.new }
         ensures next { IsNext (view_of self.old) me (Leave id member) result }
-        ensures prepared { (S : List Fact) → IsSettled S → StandsFor S (view_of self.old) → IsPrepared S (view_of self.old) me (Leave id member) result }
+        ensures prepared { OfItsSet (view_of self.old) (λ S. IsPrepared S (view_of self.old) me (Leave id member) result) }
     {
         let mut next = self.ready_to_leave(me, id, member)?;
         leave_from(&mut next.members, member);

@@ -1,20 +1,18 @@
 // A purge of a root and all that is nested in it.
-ghost use Rattle.std.specs.Prelude.{◌≡◌, ◌≤◌, ◌<◌, [], ◌∷◌, List, None, Some, true, IfOk, length};
+ghost use Rattle.std.specs.Prelude.{◌≡◌, ◌≤◌, ◌<◌, [], ◌∷◌, None, Some, true, IfOk, length};
 ghost use Rattle.lra_id.specs.Fronts.{count};
-ghost use Rattle.lra_facts.specs.declared.fact.Fact.{Fact};
 ghost use Rattle.lra_facts.specs.declared.refusal.Refusal.TheVariants.{NotEnded};
 ghost use Rattle.lra_facts.specs.Refusals.{first, unknown, away};
 ghost use Rattle.lra_forest.specs.Said.{ids_below};
 ghost use Rattle.lra_forest.specs.Standing.{answered};
 ghost use Rattle.lra_history.specs.declared.command.Command.TheVariants.{Purge};
-ghost use Rattle.lra_history.specs.Growth.{IsSettled};
 ghost use Rattle.lra_replica.specs.Prepared.{IsNext, HasRoom, IsPrepared, judged_by};
 ghost use Rattle.lra_history.specs.Next.{judge_on};
 ghost use Rattle.lra_history.specs.Readings.{at_home, by_view};
 ghost use Rattle.lra_replica.specs.Replicas.{Fits, KeepsRoom, view_of};
 ghost use Rattle.lra_history.specs.Changes.{purge_change};
 ghost use Rattle.lra_history.specs.Replies.{gone_by, nested_by, running_by, unforgotten_by};
-ghost use Rattle.lra_history.specs.Views.{StandsFor, records_at};
+ghost use Rattle.lra_history.specs.Views.{OfItsSet, records_at};
 
 use crate::{Patch, Prepared, Replica};
 use lra_facts::Refusal;
@@ -153,7 +151,7 @@ impl Replica {
         ensures room { HasRoom result self.new }
         ensures stays { KeepsRoom self.old self.new }
         ensures next { IsNext (view_of self.old) me (Purge root) result }
-        ensures prepared { (S : List Fact) → IsSettled S → StandsFor S (view_of self.old) → IsPrepared S (view_of self.old) me (Purge root) result }
+        ensures prepared { OfItsSet (view_of self.old) (λ S. IsPrepared S (view_of self.old) me (Purge root) result) }
     {
         if let Some(refusal) = self.refusal_of_purge(me, root) {
             return Err(refusal);

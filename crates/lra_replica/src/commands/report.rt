@@ -1,16 +1,15 @@
 // What was heard of an act of a participant.
-ghost use Rattle.std.specs.Prelude.{◌≡◌, ◌≤◌, ◌<◌, ◌-◌, OnOk, length, [], ◌∷◌, List, true, Ok, false};
+ghost use Rattle.std.specs.Prelude.{◌≡◌, ◌≤◌, ◌<◌, ◌-◌, OnOk, length, [], ◌∷◌, true, Ok, false};
 ghost use Rattle.lra_id.specs.Fronts.{count};
-ghost use Rattle.lra_history.specs.Growth.{member_changed, reporting, IsSettled};
+ghost use Rattle.lra_history.specs.Growth.{member_changed, reporting};
 ghost use Rattle.lra_replica.specs.Replicas.{view_of, KeepsRoom};
 ghost use Rattle.lra_facts.specs.Refusals.{first, unknown};
 ghost use Rattle.lra_history.specs.Next.{judge_on};
 ghost use Rattle.lra_history.specs.Readings.{by_view};
 ghost use Rattle.lra_history.specs.Replies.{gone_by, stranger_by, unasked_by};
-ghost use Rattle.lra_facts.specs.declared.fact.Fact.{Fact};
 ghost use Rattle.lra_history.specs.declared.command.Command.TheVariants.{Report};
 ghost use Rattle.lra_replica.specs.Prepared.{IsNext, HasRoom, IsPrepared, judged_as};
-ghost use Rattle.lra_history.specs.Views.{StandsFor};
+ghost use Rattle.lra_history.specs.Views.{OfItsSet};
 
 use crate::{Prepared, Replica};
 use lra_facts::Refusal;
@@ -126,8 +125,7 @@ impl Replica {
         ensures room { HasRoom result self.new }
         ensures stays { KeepsRoom self.old self.new }
         ensures next { IsNext (view_of self.old) me (Report id member act outcome) result }
-        ensures prepared { (S : List Fact) → IsSettled S → StandsFor S (view_of self.old) →
-            IsPrepared S (view_of self.old) me (Report id member act outcome) result }
+        ensures prepared { OfItsSet (view_of self.old) (λ S. IsPrepared S (view_of self.old) me (Report id member act outcome) result) }
     {
         let known = self.knows_report(me, id, member, act, outcome)?;
         if known {
