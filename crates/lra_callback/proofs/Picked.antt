@@ -20,7 +20,7 @@ use Rattle.lra_callback.specs.declared.answer.Kind.TheVariants.{Complete, Compen
 use Rattle.lra_callback.specs.declared.duty.Duty.{Duty}
 use Rattle.lra_callback.specs.declared.duty.Errand.{Errand}
 use Rattle.lra_callback.specs.declared.duty.Errand.TheVariants.{Call, Release}
-use Rattle.lra_callback.specs.Duties.{IsDuty, act_wanted, asks_status, comes_first, due_of, is_act_wanted, is_owed, link_given, stage}
+use Rattle.lra_callback.specs.CallDuties.{IsDuty, act_wanted, asks_status, comes_first, due_of, is_act_wanted, is_owed, link_given, stage}
 use Rattle.lra_callback.specs.Errands.{act_from, due_by, duty_from, kind_from, kind_of_act}
 use Rattle.lra_callback.proofs.Ready.{IsReady, link_is, ready}
 

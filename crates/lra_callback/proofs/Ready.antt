@@ -22,7 +22,7 @@ use Rattle.lra_callback.specs.declared.answer.Kind.TheVariants.{Status}
 use Rattle.lra_callback.specs.declared.duty.Duty.{Duty}
 use Rattle.lra_callback.specs.declared.duty.Errand.{Errand}
 use Rattle.lra_callback.specs.declared.duty.Errand.TheVariants.{Call, Release}
-use Rattle.lra_callback.specs.Duties.{act_wanted, asks_status, is_busy, link_for, link_given}
+use Rattle.lra_callback.specs.CallDuties.{act_wanted, asks_status, is_busy, link_for, link_given}
 use Rattle.lra_callback.specs.Errands.{act_from, due_by, duty_from, kind_from, kind_in, kind_of_act}
 
 -- it joined and stayed, an act is wanted, and a link was given

@@ -16,7 +16,7 @@ use Rattle.lra_callback.specs.declared.answer.Kind.TheVariants.{Complete, Compen
 use Rattle.lra_callback.specs.declared.duty.Duty.{Duty}
 use Rattle.lra_callback.specs.declared.duty.Errand.{Errand}
 use Rattle.lra_callback.specs.declared.duty.Errand.TheVariants.{Call, Release}
-use Rattle.lra_callback.specs.Duties.{act_wanted, asks_status, is_busy, link_given}
+use Rattle.lra_callback.specs.CallDuties.{act_wanted, asks_status, is_busy, link_given}
 
 -- what has to be due of a participant
 abbrev pub due_by : Errand → List Fact → Id → ℕ → Bool

@@ -1,5 +1,5 @@
 pub mod Answers
-pub mod Duties
+pub mod CallDuties
+pub mod CallRequests
+pub mod CallWords
 pub mod Errands
-pub mod Names
-pub mod Requests

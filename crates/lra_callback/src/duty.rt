@@ -6,10 +6,10 @@ ghost use Rattle.lra_facts.specs.declared.refusal.Refusal.TheVariants.{NoMemory}
 ghost use Rattle.lra_facts.specs.Lists.{In};
 ghost use Rattle.lra_forest.specs.declared.duties.Due.{Due};
 ghost use Rattle.lra_forest.specs.Dues.{AreAll, IsDueAt};
-ghost use Rattle.lra_replica.specs.Growth.{IsSettled};
+ghost use Rattle.lra_history.specs.Growth.{IsSettled};
 ghost use Rattle.lra_replica.specs.Replicas.{view_of};
-ghost use Rattle.lra_replica.specs.Views.{StandsFor};
-ghost use Rattle.lra_callback.specs.Duties.{IsDuty, act_wanted, comes_first, link_for};
+ghost use Rattle.lra_history.specs.Views.{StandsFor};
+ghost use Rattle.lra_callback.specs.CallDuties.{IsDuty, act_wanted, comes_first, link_for};
 ghost use Rattle.lra_callback.specs.Errands.{act_from, due_by, duty_from, kind_by, kind_in, kind_of_act};
 
 use crate::Kind;

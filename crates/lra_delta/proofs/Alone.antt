@@ -7,15 +7,15 @@ use Rattle.lra_id.specs.Fronts.{count}
 use Rattle.lra_facts.specs.Lists.{In}
 use Rattle.lra_forest.specs.declared.record.Record.{Record}
 use Rattle.lra_forest.proofs.Bools.{all_in}
-use Rattle.lra_replica.proofs.Histories.{closed_settled}
-use Rattle.lra_replica.proofs.Proper.{closed_proper}
-use Rattle.lra_replica.proofs.Shaped.{closed_shape}
-use Rattle.lra_replica.specs.Histories.{History, IsClosed, IsLawful, facts}
-use Rattle.lra_replica.specs.Views.{StandsFor, View, records_at}
+use Rattle.lra_history.proofs.ClosedSets.{closed_settled}
+use Rattle.lra_history.proofs.SetsToMerge.{closed_proper}
+use Rattle.lra_history.proofs.ViewsHaveShape.{closed_shape}
+use Rattle.lra_history.specs.Histories.{History, IsClosed, IsLawful, facts}
+use Rattle.lra_history.specs.Views.{StandsFor, View, records_at}
 use Rattle.lra_delta.specs.Frames.{frame_of, is_beyond, live_at}
-use Rattle.lra_delta.specs.Grammar.{FitsIn}
+use Rattle.lra_delta.specs.Grammar.{KeepsRulesIn}
 use Rattle.lra_delta.specs.Order.{Follows}
-use Rattle.lra_delta.specs.OneRecord.{FitsUnder, IsRecordUnder, under}
+use Rattle.lra_delta.specs.OneRecord.{KeepsRulesUnder, IsRecordUnder, under}
 use Rattle.lra_delta.specs.Rules.{is_home, is_next, start}
 use Rattle.lra_delta.specs.Typed.{HasLinks, IsTypedRecord}
 use Rattle.lra_delta.proofs.Beyond.{below_from}
@@ -32,7 +32,7 @@ first_next : (home num : ℕ) → 1 ≤ home → is_next start home num ≡ true
 first_next home num some = rw (no_home home some) refl
 
 -- so has what fits under a front
-pub is_record_under : (front : List ℕ) (kept : Record) → IsTypedRecord kept → FitsUnder front kept → IsRecordUnder front kept
+pub is_record_under : (front : List ℕ) (kept : Record) → IsTypedRecord kept → KeepsRulesUnder front kept → IsRecordUnder front kept
 is_record_under front kept typed is =
     let follows : Follows (length front) start kept = (first_home (length front) kept.home is.some is.high, first_next kept.home kept.num is.some) in
     is_record (under front) start kept is.few is.small is.fits follows typed.deadline (recursion_from_All HasLinks kept.members typed.links)
@@ -44,7 +44,7 @@ zero_count (suc n) (suc i) = zero_count n i
 
 -- and what a node of a lawful history keeps fits under its front
 pub fits_under : (h : History) (w : List ℕ) (view : View) (home : ℕ) (kept : Record) → IsLawful h → IsClosed h w → StandsFor (facts h w) view → length view.front ≤ 8
-    → 1 ≤ home → home ≤ length view.front → In kept (records_at view.records home) → FitsUnder view.front kept
+    → 1 ≤ home → home ≤ length view.front → In kept (records_at view.records home) → KeepsRulesUnder view.front kept
 fits_under h w view home kept law closed stands few low high m =
     let S = facts h w in
     let zeros : List ℕ = replicate (length view.front) 0 in
@@ -54,7 +54,7 @@ fits_under h w view home kept law closed stands few low high m =
     let own : 1 ≤ count kept.stamps kept.home = own_counted S view zeros settled proper shape stands home kept low high m in
     let mine : kept.home ≡ home = all_in (λ (r : Record). r.home ≡ home) (records_at view.records home) (stands.records home low high).order.homes kept m in
     let new : is_beyond zeros kept.stamps ≡ true = by kept.stamps kept.home (length view.front) own (is_beyond zeros kept.stamps) refl in
-    let fits : FitsIn zeros view.front (live_at (frame_of view zeros).live home) kept = record_fits S view zeros settled proper shape stands home kept low high m new in
+    let fits : KeepsRulesIn zeros view.front (live_at (frame_of view zeros).live home) kept = record_fits S view zeros settled proper shape stands home kept low high m new in
     record {
       few = few;
       small = small_counts S view.front settled stands.front;

@@ -4,8 +4,8 @@ use Rattle.std.specs.Prelude.{◌==◌, slice_set}
 use Rattle.std.specs.List.{AllByRecursion}
 use Rattle.lra_forest.specs.declared.merging.Told.{Told}
 use Rattle.lra_forest.specs.declared.record.Record.{Record}
-use Rattle.lra_replica.specs.Merging.{AreToldFrom}
-use Rattle.lra_replica.specs.Views.{records_at}
+use Rattle.lra_history.specs.Merging.{AreToldFrom}
+use Rattle.lra_history.specs.Views.{records_at}
 use Rattle.lra_delta.specs.declared.input.Stop.{Stop}
 use Rattle.lra_delta.specs.declared.order.Last.{Last}
 use Rattle.lra_delta.specs.Order.{AreInOrder, ArePut, lists, records_told}

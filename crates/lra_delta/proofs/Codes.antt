@@ -8,7 +8,7 @@ use Rattle.std.proofs.lemmas.List.Concat.{flat_map-cons}
 use Rattle.std.proofs.lemmas.Nat.{be_bytes_2, be_bytes_4, be_bytes_8, from_be_bytes-to_be_bytes_2, from_be_bytes-to_be_bytes_4, from_be_bytes-to_be_bytes_8}
 use Rattle.lra_delta.specs.declared.input.Stop.{Stop}
 use Rattle.lra_delta.specs.declared.input.Stop.TheVariants.{Fault, Cut, ReadFault, Memory}
-use Rattle.lra_delta.specs.Fields.{Rest, Read, ◌>>=◌, past, cells_at, whole_at, number_at, each_at, Along}
+use Rattle.lra_delta.specs.FrameFields.{Rest, Read, ◌>>=◌, past, cells_at, whole_at, number_at, each_at, Along}
 
 abbrev pub IsBytes : List ℕ → Type 0
 IsBytes bytes = (i : ℕ) → get_or bytes i 0 < 256
@@ -23,7 +23,7 @@ IsBytes-take n bytes h i =
       | inr le ↦ rw (get_or_past (take n bytes) i 0 (omega (arith, length-take n bytes))) (omega arith)
     ]
 
--- what a reader took from the front
+-- what a reader took from the start
 pub record Takes (r : Rest) (text : List ℕ) (r' : Rest) : Type 0 where
   pub parts : r.ahead ≡ text ++ r'.ahead
   pub place : r'.place ≡ r.place + length text

@@ -16,13 +16,13 @@ use Rattle.lra_forest.specs.declared.record.Member.{Member}
 use Rattle.lra_forest.specs.declared.record.Member.TheVariants.{Nested, Participant, Left}
 use Rattle.lra_forest.specs.declared.record.Place.{Place}
 use Rattle.lra_forest.specs.declared.record.Record.{Record}
-use Rattle.lra_forest.specs.Merging.{home_stamp, linked}
+use Rattle.lra_forest.specs.RecordMerges.{home_stamp, linked}
 use Rattle.lra_delta.specs.declared.order.Last.{Last}
 use Rattle.lra_delta.specs.Order.{Follows}
 use Rattle.lra_delta.proofs.HomeLists.{home_parts}
-use Rattle.lra_delta.specs.Fields.{Along}
+use Rattle.lra_delta.specs.FrameFields.{Along}
 use Rattle.lra_delta.specs.Frames.{IsRising, live_at}
-use Rattle.lra_delta.specs.Grammar.{FitsIn, IsLinked, IsPlaced, nested_numbers}
+use Rattle.lra_delta.specs.Grammar.{KeepsRulesIn, IsLinked, IsPlaced, nested_numbers}
 use Rattle.lra_delta.specs.Spelling.{flag_mark, outcome_mark}
 use Rattle.lra_delta.specs.Typed.{AreLinks, HasLinks}
 use Rattle.lra_delta.specs.Rules.{Context, IsLink, IsMember, IsParent, IsParticipant, IsRecord, at_most, is_among, is_given_length, is_mark_for, is_next, is_nested, is_outcome_for, next_nested}
@@ -122,7 +122,7 @@ before i = omega arith
 pub at_place : (v : List ℕ) (i : ℕ) → count v (suc i) ≡ slice_index v i
 at_place v i = ap (λ (n : ℕ). slice_index v n) (before i)
 
-pub record_fits : (k : Context) (last : Last) (r : Record) → length k.front ≤ 8 → ((node : ℕ) → count k.front node < 2 ^ 48) → FitsIn k.base k.front (live_at k.lives r.home) r
+pub record_fits : (k : Context) (last : Last) (r : Record) → length k.front ≤ 8 → ((node : ℕ) → count k.front node < 2 ^ 48) → KeepsRulesIn k.base k.front (live_at k.lives r.home) r
     → Follows (length k.front) last r → r.deadline < 2 ^ 64 → AllByRecursion HasLinks r.members → IsRecord k last r
 record_fits k last r nodes small f follows deadline kept =
     let home = home_parts (length k.front) last.home r.home follows.0 in

@@ -9,7 +9,7 @@ use Rattle.std.proofs.lemmas.List.{append-nil, nil_from_length}
 use Rattle.lra_delta.specs.declared.input.Stop.TheVariants.{Fault}
 use Rattle.lra_forest.specs.declared.record.Record.{Record}
 use Rattle.lra_delta.specs.Frames.{Frame}
-use Rattle.lra_delta.specs.Fields.{Rest, Read, ◌>>=◌, value_of, Along}
+use Rattle.lra_delta.specs.FrameFields.{Rest, Read, ◌>>=◌, value_of, Along}
 use Rattle.lra_delta.specs.Spelling.{live_mark, live_body, live_list, live, record_text, records, body, flat, magic, spelling}
 use Rattle.lra_delta.specs.Rules.{Context, start, after, is_record_count, IsRecord, is_live_mark, is_live_count, is_live_number, AreLive, IsLive, is_node_count, are_counts, is_front, at_most, IsBody, IsDelta, is_frame_length, by_home}
 use Rattle.lra_delta.specs.OneRecord.{IsRecordUnder, alone_at, record_in, under}

@@ -4,7 +4,7 @@ use Rattle.std.specs.Prelude.{slice_set}
 use Rattle.lra_states.specs.declared.outcome.Verdict.TheVariants.{Close}
 use Rattle.lra_delta.specs.declared.input.Stop.TheVariants.{Fault, Cut}
 use Rattle.lra_delta.specs.Frames.{Frame}
-use Rattle.lra_delta.specs.Fields.{each_at, many_at, vector_at}
+use Rattle.lra_delta.specs.FrameFields.{each_at, many_at, vector_at}
 use Rattle.lra_delta.specs.Spelling.{place, parent, counted, participant, member, members, record_text, live_list, live, records, body, spelling}
 use Rattle.lra_delta.specs.Reading.{place_at, parent_by, parent_at, decision_at, text_at, link_at, participant_at, member_by, member_at, members_at, record_at, records_at, live_list_at, live_by, live_at, body_at, ended_at, framed_at, frame_at, frame_in}
 

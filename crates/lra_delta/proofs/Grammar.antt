@@ -10,25 +10,25 @@ use Rattle.lra_facts.specs.Lists.{In}
 use Rattle.lra_facts.proofs.Membership.{filter_in, map_in}
 use Rattle.lra_forest.specs.declared.record.Record.{Record}
 use Rattle.lra_forest.specs.Forests.{IsAscending, is_of}
-use Rattle.lra_forest.specs.Merging.{home_stamp}
+use Rattle.lra_forest.specs.RecordMerges.{home_stamp}
 use Rattle.lra_forest.specs.Records.{members_of, nodes_to, stamp}
 use Rattle.lra_forest.proofs.Bools.{all_from, all_in}
-use Rattle.lra_replica.specs.Growth.{IsSettled}
-use Rattle.lra_replica.specs.Histories.{History, IsClosed, IsLawful, facts}
-use Rattle.lra_replica.specs.Shape.{HasShape}
-use Rattle.lra_replica.specs.Views.{IsCounted, StandsFor, View, purge_number, record_at, records_at}
-use Rattle.lra_replica.proofs.Adding.{FoundRecord, found_record}
-use Rattle.lra_replica.proofs.Basics.{held_begun, length_nodes}
-use Rattle.lra_replica.proofs.Histories.{closed_settled}
-use Rattle.lra_replica.proofs.Homes.{begun_covered}
-use Rattle.lra_replica.proofs.MergedRecords.{count_nodes}
-use Rattle.lra_replica.proofs.Proper.{closed_proper}
-use Rattle.lra_replica.proofs.Shaped.{closed_shape}
-use Rattle.lra_replica.proofs.Together.{IsProper}
+use Rattle.lra_history.specs.Growth.{IsSettled}
+use Rattle.lra_history.specs.Histories.{History, IsClosed, IsLawful, facts}
+use Rattle.lra_history.specs.ViewShape.{HasShape}
+use Rattle.lra_history.specs.Views.{IsCounted, StandsFor, View, purge_number, record_at, records_at}
+use Rattle.lra_history.proofs.PatchesAddFacts.{FoundRecord, found_record}
+use Rattle.lra_history.proofs.Basics.{held_begun, length_nodes}
+use Rattle.lra_history.proofs.ClosedSets.{closed_settled}
+use Rattle.lra_history.proofs.Covered.{begun_covered}
+use Rattle.lra_history.proofs.MergedRecords.{count_nodes}
+use Rattle.lra_history.proofs.SetsToMerge.{closed_proper}
+use Rattle.lra_history.proofs.ViewsHaveShape.{closed_shape}
+use Rattle.lra_history.proofs.TwoClosedSets.{IsProper}
 use Rattle.lra_delta.specs.Frames.{IsRising, frame_of, is_beyond, live_at}
-use Rattle.lra_delta.specs.Grammar.{AreLive, FitsIn, IsLinked, IsOfGrammar, nested_numbers}
+use Rattle.lra_delta.specs.Grammar.{AreLive, KeepsRulesIn, IsLinked, IsOfGrammar, nested_numbers}
 use Rattle.lra_delta.proofs.Filters.{rising_numbers}
-use Rattle.lra_delta.proofs.Members.{few_members, members_linked, nested_in_order, nested_within, own_begin, placed_well}
+use Rattle.lra_delta.proofs.LawfulMembers.{few_members, members_linked, nested_in_order, nested_within, own_begin, placed_well}
 use Rattle.lra_delta.proofs.OfSets.{frame_stands, live_is, numbers_held, records_are}
 
 -- Records among those of a home
@@ -124,7 +124,7 @@ module _ (S : List Fact) (view : View) (base : List ℕ) (settled : IsSettled S)
       omega (arith, own_stamp, own_begin S l (held_begun S l found.held), (number_of_view home r low high m).0)
 
   -- a record that is told fits
-  pub record_fits : (home : ℕ) (r : Record) → 1 ≤ home → home ≤ length view.front → In r (records_at view.records home) → is_beyond base r.stamps ≡ true → FitsIn base view.front (live_at (frame_of view base).live home) r
+  pub record_fits : (home : ℕ) (r : Record) → 1 ≤ home → home ≤ length view.front → In r (records_at view.records home) → is_beyond base r.stamps ≡ true → KeepsRulesIn base view.front (live_at (frame_of view base).live home) r
   record_fits home r low high m new =
       let l : Id = record { home = home; num = r.num } in
       let found = record_of_view home r low high m in
@@ -141,7 +141,7 @@ module _ (S : List Fact) (view : View) (base : List ℕ) (settled : IsSettled S)
             ap (list_any (λ n. n == r.num)) (sym (live_told home nums low high e)) ∙ (numbers_held S view base stands home low high).held r.num ∙ found.held;
         placed = λ place e. placed_well S view.front settled stands.front l begun place (sym (ap (λ (x : Record). x.parent) found.is) ∙ e);
         nodes = ap (λ (v : List ℕ). length v) stamps ∙ length-map (nodes_to nodes) (stamp S l) ∙ length_nodes nodes;
-        within = ((shape.homes home low).fitted r.num r (found_at_home home r low high m)).stamps;
+        within = ((shape.homes home low).in_place r.num r (found_at_home home r low high m)).stamps;
         own = omega (arith, own_stamp, own_begin S l begun);
         new = new;
         few = let size = ap (λ ms. length ms) members in omega (arith, size, few_members S settled l);

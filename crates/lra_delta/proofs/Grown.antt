@@ -2,7 +2,7 @@
 use Rattle.std.proofs.Common.{◌≡◌, ℕ, ◌+◌, ◌≤◌, false, ltb, List, ◌++◌, length, take, drop, Ok, refl, ap, ◌∙◌, append_assoc, arith}
 use Rattle.std.proofs.lemmas.Bool.{le-ltb}
 use Rattle.std.proofs.lemmas.List.{take_at, drop_at, length-append}
-use Rattle.lra_delta.specs.Fields.{cells_at}
+use Rattle.lra_delta.specs.FrameFields.{cells_at}
 use Rattle.lra_delta.specs.Seen.{Begins}
 
 pub begins_before : (taken got whole : List ℕ) → Begins (taken ++ got) whole → Begins taken whole

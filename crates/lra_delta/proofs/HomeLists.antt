@@ -1,17 +1,16 @@
 -- records in order of their homes, one list and one list for each home
 use Rattle.std.proofs.Common.{◌≡◌, ◌≤◌, ◌<◌, ℕ, zero, suc, List, [], ◌∷◌, ◌++◌, refl, sym, ap, ◌∙◌, Bool, true, false, cond, arith, inl, inr, length, filter, map, nat_le}
 use Rattle.std.specs.Prelude.{◌==◌, slice_set}
-use Rattle.std.proofs.lemmas.Bool.{eqb-true}
+use Rattle.std.proofs.lemmas.Bool.{eqb-true, cases_lt}
 use Rattle.std.specs.List.{AllByRecursion}
-use Rattle.std.proofs.lemmas.Bool.{cases_lt}
 use Rattle.std.proofs.lemmas.Bool.Decides.{nat_tests}
 use Rattle.std.proofs.lemmas.List.{map-append, append-nil, length-map}
 use Rattle.std.proofs.lemmas.Grind.{flat_map-append}
 use Rattle.lra_forest.specs.declared.record.Record.{Record}
 use Rattle.lra_forest.specs.Records.{nodes_to}
-use Rattle.lra_replica.proofs.Basics.{length_nodes}
+use Rattle.lra_history.proofs.Basics.{length_nodes}
 use Rattle.lra_delta.specs.declared.order.Last.{Last}
-use Rattle.lra_delta.specs.Fields.{Along}
+use Rattle.lra_delta.specs.FrameFields.{Along}
 use Rattle.lra_delta.specs.Spelling.{flat}
 use Rattle.lra_delta.specs.Rules.{Context, IsRecord, after, by_home, is_home}
 

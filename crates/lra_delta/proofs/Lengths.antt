@@ -10,7 +10,7 @@ use Rattle.lra_forest.specs.declared.record.Participant.{Participant as Particip
 use Rattle.lra_forest.specs.declared.record.Place.{Place}
 use Rattle.lra_forest.specs.declared.record.Record.{Record}
 use Rattle.lra_delta.specs.Frames.{Frame}
-use Rattle.lra_delta.specs.Sizes.{frame_size, link_size, links_size, live_size, member_size, place_size, record_size}
+use Rattle.lra_delta.specs.FrameSizes.{frame_size, link_size, links_size, live_size, member_size, place_size, record_size}
 use Rattle.lra_delta.specs.Spelling.{body, byte, counted, decision_mark, flat, link_text, live, live_list, member, members, number, parent, participant, place, record_text, records, two_bytes, vector}
 use Rattle.lra_delta.proofs.RecordCodes.{length-vector}
 

@@ -1,32 +1,32 @@
-pub mod Alone
-pub mod AtHomes
-pub mod Beyond
-pub mod Codes
-pub mod Examples
-pub mod Existing
-pub mod Filters
-pub mod Fitted
-pub mod Found
+mod Alone
+mod AtHomes
+mod Beyond
+mod Codes
+mod Examples
+mod Existing
+mod Filters
+mod Fitted
+mod Found
 pub mod FrameCodes
 mod FrameExamples
-pub mod Grammar
-pub mod Grown
-pub mod Histories
-pub mod HomeLists
-pub mod Lengths
-pub mod Loop
-pub mod Members
+mod FrameOrder
+mod FrameSizes
+mod FramesOfHistories
+mod Grammar
+mod Grown
+mod HaveSpellings
+mod HomeLists
+mod HomeParts
+mod LawfulMembers
+mod Lengths
+mod Loop
 pub mod OfSets
-pub mod Ordered
-pub mod Parts
-pub mod Placed
-pub mod Put
-pub mod RecordCodes
-pub mod Sizes
-pub mod Slices
-pub mod Spelled
-pub mod Tellings
-pub mod ToldLists
-pub mod Unions
-pub mod Uniqueness
-pub mod Widths
+mod OneFrameOfASet
+mod Ordered
+mod Put
+mod RecordCodes
+mod Slices
+mod TakenIsUnion
+mod ToldByFrames
+mod ToldLists
+mod Widths

@@ -5,7 +5,7 @@ use Rattle.std.proofs.lemmas.List.{append-nil}
 use Rattle.lra_delta.specs.declared.input.Stop.{Stop}
 use Rattle.lra_delta.specs.declared.input.Stop.TheVariants.{Fault, Cut, ReadFault, Memory}
 use Rattle.lra_http.specs.Streams.{most_interrupted}
-use Rattle.lra_delta.specs.Fields.{Rest, Read, ◌>>=◌, Stops, each_at}
+use Rattle.lra_delta.specs.FrameFields.{Rest, Read, ◌>>=◌, Stops, each_at}
 use Rattle.lra_delta.specs.Seen.{Seen, Reads, Begins, rest_in}
 
 -- the value of a step that did not fail
@@ -20,71 +20,71 @@ pub ok_is : {A : Type 0} (x y : A) → done x ≡ done y → x ≡ y
 ok_is x y e = cc
 
 -- what was read before, and what is still read
-abbrev pub with_front : {A : Type 0} → List A → Read (List A) → Read (List A)
-with_front front read = read >>= λ x. Ok (front ++ x.0, x.1)
+abbrev pub with_prefix : {A : Type 0} → List A → Read (List A) → Read (List A)
+with_prefix prefix read = read >>= λ x. Ok (prefix ++ x.0, x.1)
 
-regroup : {A : Type 0} (front : List A) (n : A) (read : Read (List A)) → with_front front (read >>= λ x. Ok (n ∷ x.0, x.1)) ≡ with_front (front ++ n ∷ []) read
-regroup {A} front n (Ok x) = ap (λ (ns : List A). Ok (ns, x.1)) (simp append_assoc)
-regroup front n (Err f) = refl
+regroup : {A : Type 0} (prefix : List A) (n : A) (read : Read (List A)) → with_prefix prefix (read >>= λ x. Ok (n ∷ x.0, x.1)) ≡ with_prefix (prefix ++ n ∷ []) read
+regroup {A} prefix n (Ok x) = ap (λ (ns : List A). Ok (ns, x.1)) (simp append_assoc)
+regroup prefix n (Err f) = refl
 
-one_more : {S A : Type 0} (item : S → Rest → Read A) (next : S → A → S) (front : List A) (left more : ℕ) (s : S) (r : Rest) (x : A) (after : Rest) (total : Read (List A)) → left ≡ suc more → item s r ≡ Ok (x, after)
-    → with_front front (each_at item next left s r) ≡ total → with_front (front ++ x ∷ []) (each_at item next more (next s x) after) ≡ total
+one_more : {S A : Type 0} (item : S → Rest → Read A) (next : S → A → S) (prefix : List A) (left more : ℕ) (s : S) (r : Rest) (x : A) (after : Rest) (total : Read (List A)) → left ≡ suc more → item s r ≡ Ok (x, after)
+    → with_prefix prefix (each_at item next left s r) ≡ total → with_prefix (prefix ++ x ∷ []) (each_at item next more (next s x) after) ≡ total
 unfolding each_at
-one_more item next front left more s r x after total k h so_far =
-    let one : with_front front (each_at item next left s r) ≡ with_front (front ++ x ∷ []) (each_at item next more (next s x) after) = rw (k, h) (regroup front x (each_at item next more (next s x) after)) in
+one_more item next prefix left more s r x after total k h so_far =
+    let one : with_prefix prefix (each_at item next left s r) ≡ with_prefix (prefix ++ x ∷ []) (each_at item next more (next s x) after) = rw (k, h) (regroup prefix x (each_at item next more (next s x) after)) in
     sym one ∙ so_far
 
-stops : {S A : Type 0} (item : S → Rest → Read A) (next : S → A → S) (e : Stop) (front : List A) (left more : ℕ) (s : S) (r : Rest) (total : Read (List A)) → left ≡ suc more → Stops e (item s r)
-    → with_front front (each_at item next left s r) ≡ total → Stops e total
+stops : {S A : Type 0} (item : S → Rest → Read A) (next : S → A → S) (e : Stop) (prefix : List A) (left more : ℕ) (s : S) (r : Rest) (total : Read (List A)) → left ≡ suc more → Stops e (item s r)
+    → with_prefix prefix (each_at item next left s r) ≡ total → Stops e total
 unfolding each_at
-stops item next Memory front left more s r total k h so_far = tt
-stops item next Cut front left more s r total k h so_far =
-    let one : with_front front (each_at item next left s r) ≡ Err Cut = rw (k, h) refl in
+stops item next Memory prefix left more s r total k h so_far = tt
+stops item next Cut prefix left more s r total k h so_far =
+    let one : with_prefix prefix (each_at item next left s r) ≡ Err Cut = rw (k, h) refl in
     sym so_far ∙ one
-stops item next ReadFault front left more s r total k h so_far =
-    let one : with_front front (each_at item next left s r) ≡ Err Cut = rw (k, h) refl in
+stops item next ReadFault prefix left more s r total k h so_far =
+    let one : with_prefix prefix (each_at item next left s r) ≡ Err Cut = rw (k, h) refl in
     sym so_far ∙ one
-stops item next (Fault place) front left more s r total k h so_far =
-    let one : with_front front (each_at item next left s r) ≡ Err (Fault place) = rw (k, h) refl in
+stops item next (Fault place) prefix left more s r total k h so_far =
+    let one : with_prefix prefix (each_at item next left s r) ≡ Err (Fault place) = rw (k, h) refl in
     sym so_far ∙ one
 
 -- where a loop stands: so many items are left to be read
 abbrev pub SoFar : {S A : Type 0} → (S → Rest → Read A) → (S → A → S) → ℕ → S → Seen → List A → ℕ → S → Seen → Type 0
-SoFar item next count start old front left s now =
+SoFar item next count start old prefix left s now =
     (now.first ≡ old.first)
-    × ((whole : List ℕ) → Begins now.taken whole → Begins old.taken whole × (with_front front (each_at item next left s (rest_in whole now)) ≡ each_at item next count start (rest_in whole old)))
+    × ((whole : List ℕ) → Begins now.taken whole → Begins old.taken whole × (with_prefix prefix (each_at item next left s (rest_in whole now)) ≡ each_at item next count start (rest_in whole old)))
     × (old.now.counted < most_interrupted → now.now.counted < most_interrupted)
 
 pub begins : {S A : Type 0} (item : S → Rest → Read A) (next : S → A → S) (count : ℕ) (start : S) (old : Seen) → SoFar item next count start old [] count start old
 begins item next count start old = (refl, (λ whole f. (f, same (each_at item next count start (rest_in whole old)))), λ few. few)
   where
-    same : {A : Type 0} (read : Read (List A)) → with_front [] read ≡ read
+    same : {A : Type 0} (read : Read (List A)) → with_prefix [] read ≡ read
     same (Ok x) = refl
     same (Err e) = refl
 
-pub goes_on : {S A X : Type 0} (item : S → Rest → Read A) (next : S → A → S) (count : ℕ) (start : S) (old : Seen) (front : List A) (i : ℕ) (s : S) (now after : Seen) (view : X → A) (x : X)
-    → i < count → SoFar item next count start old front (count - i) s now → Reads now after view (Ok x) (item s)
-    → SoFar item next count start old (front ++ view x ∷ []) (count - (i + 1)) (next s (view x)) after
-goes_on item next count start old front i s now after view x lt so_far read = (
+pub goes_on : {S A X : Type 0} (item : S → Rest → Read A) (next : S → A → S) (count : ℕ) (start : S) (old : Seen) (prefix : List A) (i : ℕ) (s : S) (now after : Seen) (view : X → A) (x : X)
+    → i < count → SoFar item next count start old prefix (count - i) s now → Reads now after view (Ok x) (item s)
+    → SoFar item next count start old (prefix ++ view x ∷ []) (count - (i + 1)) (next s (view x)) after
+goes_on item next count start old prefix i s now after view x lt so_far read = (
   read.0 ∙ so_far.0,
   (λ whole f.
       let r = read.2 whole f in
       let p = so_far.1 whole r.0 in
-      (p.0, one_more item next front (count - i) (count - (i + 1)) s (rest_in whole now) (view x) (rest_in whole after) _ (omega (arith, lt)) r.1 p.1)),
+      (p.0, one_more item next prefix (count - i) (count - (i + 1)) s (rest_in whole now) (view x) (rest_in whole after) _ (omega (arith, lt)) r.1 p.1)),
   λ few. read.3 (so_far.2 few),
 )
 
-pub ends : {S A : Type 0} (item : S → Rest → Read A) (next : S → A → S) (count : ℕ) (start : S) (old : Seen) (front : List A) (i : ℕ) (s : S) (now after : Seen) (e : Stop)
-    → i < count → SoFar item next count start old front (count - i) s now → Reads now after (λ (x : A). x) (Err e) (item s)
+pub ends : {S A : Type 0} (item : S → Rest → Read A) (next : S → A → S) (count : ℕ) (start : S) (old : Seen) (prefix : List A) (i : ℕ) (s : S) (now after : Seen) (e : Stop)
+    → i < count → SoFar item next count start old prefix (count - i) s now → Reads now after (λ (x : A). x) (Err e) (item s)
     → Reads old after (λ (xs : List A). xs) (Err e) (each_at item next count start)
-ends item next count start old front i s now after e lt so_far read =
+ends item next count start old prefix i s now after e lt so_far read =
     let r = read in (
       r.0 ∙ so_far.0,
       r.1,
       (λ whole f.
           let q = r.2 whole f in
           let p = so_far.1 whole q.0 in
-          (p.0, stops item next e front (count - i) (count - (i + 1)) s (rest_in whole now) _ (omega (arith, lt)) q.1 p.1)),
+          (p.0, stops item next e prefix (count - i) (count - (i + 1)) s (rest_in whole now) _ (omega (arith, lt)) q.1 p.1)),
       λ few. tt,
     )
 
@@ -97,7 +97,7 @@ is_done {S} {A} item next count start old i s now views y le so_far =
       tt,
       (λ whole f.
           let p = so_far.1 whole f in
-          let one : with_front (views y) (each_at item next (count - i) s (rest_in whole now)) ≡ Ok (views y, rest_in whole now) = rw k (ap (λ (ns : List A). Ok (ns, rest_in whole now)) (append-nil (views y))) in
+          let one : with_prefix (views y) (each_at item next (count - i) s (rest_in whole now)) ≡ Ok (views y, rest_in whole now) = rw k (ap (λ (ns : List A). Ok (ns, rest_in whole now)) (append-nil (views y))) in
           (p.0, sym p.1 ∙ one)),
       so_far.2,
     )

@@ -5,7 +5,7 @@ use Rattle.std.proofs.lemmas.List.Elements.{All-from_recursion, All-push, recurs
 use Rattle.std.proofs.lemmas.List.{append-nil, take_more}
 use Rattle.std.proofs.lemmas.Grind.{flat_map-append}
 use Rattle.lra_forest.specs.declared.merging.Told.{Told}
-use Rattle.lra_forest.specs.Merging.{held_numbers}
+use Rattle.lra_forest.specs.RecordMerges.{held_numbers}
 use Rattle.lra_delta.specs.Order.{lists, records_told}
 use Rattle.lra_delta.specs.Spelling.{flat, live, record_text}
 use Rattle.lra_delta.specs.Typed.{IsTypedRecord}

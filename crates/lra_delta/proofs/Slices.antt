@@ -5,7 +5,7 @@ use Rattle.lra_http.specs.Streams.{HasCause}
 use Rattle.std.proofs.lemmas.List.{take-append-drop}
 use Rattle.lra_delta.specs.declared.input.Stop.{Stop}
 use Rattle.lra_delta.specs.declared.input.Stop.TheVariants.{Fault, Cut, ReadFault, Memory}
-use Rattle.lra_delta.specs.Fields.{Gives, Read, Rest, value_of}
+use Rattle.lra_delta.specs.FrameFields.{Gives, Read, Rest, value_of}
 use Rattle.lra_delta.specs.Seen.{Seen, Start, Answers, Whole, HasReason, Begins, Standing, of_slice, telling}
 
 abbrev some : List ℕ → Option (List ℕ)

@@ -4,9 +4,9 @@ use Rattle.std.specs.Prelude.{◌==◌, OnOk, slice_get, slice_set}
 use Rattle.std.proofs.lemmas.List.{map-append, length-map}
 use Rattle.lra_forest.specs.declared.merging.Told.{Told}
 use Rattle.lra_forest.specs.declared.record.Record.{Record}
-use Rattle.lra_forest.specs.Merging.{held_numbers}
+use Rattle.lra_forest.specs.RecordMerges.{held_numbers}
 use Rattle.lra_forest.specs.Records.{nodes_to}
-use Rattle.lra_replica.specs.Merging.{AreToldFrom}
+use Rattle.lra_history.specs.Merging.{AreToldFrom}
 use Rattle.lra_delta.specs.declared.order.Last.{Last}
 use Rattle.lra_delta.specs.Rules.{after, by_home}
 use Rattle.lra_delta.proofs.HomeLists.{length_homes}

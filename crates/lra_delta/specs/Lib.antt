@@ -1,5 +1,6 @@
 pub mod Answer
-pub mod Fields
+pub mod FrameFields
+pub mod FrameSizes
 pub mod Frames
 pub mod Grammar
 pub mod Logs
@@ -9,8 +10,7 @@ pub mod Reading
 pub mod Rules
 pub mod Seen
 pub mod Sending
-pub mod Sizes
 pub mod Spelling
-pub mod Taking
+pub mod TakenFrames
 pub mod Typed
-pub mod Written
+pub mod WrittenSoFar

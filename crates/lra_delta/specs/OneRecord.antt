@@ -4,8 +4,8 @@ use Rattle.lra_id.specs.Fronts.{count}
 use Rattle.lra_forest.specs.declared.record.Record.{Record}
 use Rattle.lra_delta.specs.declared.input.Stop.{Stop}
 use Rattle.lra_delta.specs.declared.input.Stop.TheVariants.{Fault}
-use Rattle.lra_delta.specs.Fields.{Rest, Read, ◌>>=◌, value_of}
-use Rattle.lra_delta.specs.Grammar.{FitsIn}
+use Rattle.lra_delta.specs.FrameFields.{Rest, Read, ◌>>=◌, value_of}
+use Rattle.lra_delta.specs.Grammar.{KeepsRulesIn}
 use Rattle.lra_delta.specs.Rules.{Context, IsRecord, start, told_context}
 use Rattle.lra_delta.specs.Reading.{record_at}
 
@@ -14,12 +14,12 @@ under front = told_context (replicate (length front) 0) front []
 
 -- The record fits under this front, of at most 8 nodes and with numbers of 48 bits: it is of one of the nodes, and would fit in
 -- a frame with base zero
-pub record FitsUnder (front : List ℕ) (kept : Record) : Type 0 where
+pub record KeepsRulesUnder (front : List ℕ) (kept : Record) : Type 0 where
   pub few : length front ≤ 8
   pub small : (node : ℕ) → count front node < 2 ^ 48
   pub some : 1 ≤ kept.home
   pub high : kept.home ≤ length front
-  pub fits : FitsIn (replicate (length front) 0) front None kept
+  pub fits : KeepsRulesIn (replicate (length front) 0) front None kept
 
 -- what has a spelling as one record
 abbrev pub IsRecordUnder : (front : List ℕ) → Record → Type 0

@@ -2,11 +2,11 @@
 use Rattle.std.specs.Prelude.{◌≡◌, ◌+◌, ℕ, [], true, List, OnOk, Option, Result, map, slice_index}
 use Rattle.lra_forest.specs.declared.record.Record.{Record}
 use Rattle.lra_forest.specs.declared.merging.Told.{Told}
-use Rattle.lra_forest.specs.Merging.{held_numbers}
-use Rattle.lra_replica.specs.Merging.{AreToldFrom}
+use Rattle.lra_forest.specs.RecordMerges.{held_numbers}
+use Rattle.lra_history.specs.Merging.{AreToldFrom}
 use Rattle.lra_delta.specs.declared.order.Last.{Last}
 use Rattle.lra_delta.specs.declared.input.Stop.{Stop}
-use Rattle.lra_delta.specs.Fields.{Along, Rest, Read}
+use Rattle.lra_delta.specs.FrameFields.{Along, Rest, Read}
 use Rattle.lra_delta.specs.Rules.{after, by_home, is_home, is_next}
 use Rattle.lra_delta.specs.Reading.{live_at}
 use Rattle.lra_delta.specs.Seen.{Reads, Seen}

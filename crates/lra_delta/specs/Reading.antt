@@ -15,7 +15,7 @@ use Rattle.lra_forest.specs.declared.record.Record.{Record}
 use Rattle.lra_facts.specs.LinkTexts.{is_kept}
 use Rattle.lra_delta.specs.Frames.{Frame}
 use Rattle.lra_delta.specs.declared.order.Last.{Last}
-use Rattle.lra_delta.specs.Fields.{Rest, Read, ◌>>=◌, value_of, whole_at, number_at, cells_at, vector_at, each_at}
+use Rattle.lra_delta.specs.FrameFields.{Rest, Read, ◌>>=◌, value_of, whole_at, number_at, cells_at, vector_at, each_at}
 use Rattle.lra_delta.specs.Spelling.{magic}
 use Rattle.lra_delta.specs.Rules.{is_mark, is_above, is_slot, is_decision, is_outcome, is_outcome_for, is_mark_for, is_length, is_given_length, is_kept_or_none, is_nested, next_nested, is_member_count, is_node_count, are_counts, at_most, is_front, is_live_mark, is_live_count, is_live_number, Context, is_home, is_number, are_stamps, start, after, is_record_count, is_frame_length, by_home}
 
@@ -172,7 +172,7 @@ ended_at len r = do
   d ← body_at (within len r)
   if d.1.place == r.place + len then Ok (d.0, record { place = d.1.place; limit = r.limit; ahead = d.1.ahead }) else Err (Fault d.1.place)
 
--- a frame at the front, which ends where its length says
+-- a frame at the start, which ends where its length says
 unfoldable pub framed_at : Rest → Read Frame
 framed_at r = do
   letters ← number_at w32 (λ n. n == magic) r
@@ -186,7 +186,7 @@ frame_at r = do
   d ← framed_at r
   if d.1.place == r.limit then Ok d else Err (Fault d.1.place)
 
--- a frame of so many bytes, at the front of these
+-- a frame of so many bytes, at the start of these
 abbrev pub read_of : ℕ → List ℕ → Result Frame Stop
 read_of size bytes = value_of (frame_at (record { place = 0; limit = size; ahead = bytes }))
 

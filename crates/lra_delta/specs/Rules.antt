@@ -8,11 +8,11 @@ use Rattle.lra_forest.specs.declared.record.Member.TheVariants.{Nested, Particip
 use Rattle.lra_forest.specs.declared.record.Record.{Record}
 use Rattle.lra_facts.specs.LinkTexts.{is_kept}
 use Rattle.lra_forest.specs.declared.merging.Told.{Told}
-use Rattle.lra_forest.specs.Merging.{held_numbers}
+use Rattle.lra_forest.specs.RecordMerges.{held_numbers}
 use Rattle.lra_forest.specs.Records.{nodes_to}
 use Rattle.lra_delta.specs.Frames.{Frame, is_beyond, live_at}
 use Rattle.lra_delta.specs.declared.order.Last.{Last}
-use Rattle.lra_delta.specs.Fields.{Along}
+use Rattle.lra_delta.specs.FrameFields.{Along}
 use Rattle.lra_delta.specs.Spelling.{body, flat, outcome_mark, flag_mark}
 
 abbrev pub is_mark : ℕ → Bool

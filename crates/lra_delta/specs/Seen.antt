@@ -4,7 +4,7 @@ use Rattle.std.specs.Borrow.{GName}
 use Rattle.lra_http.specs.Streams.{HasCause, most_interrupted}
 use Rattle.lra_delta.specs.declared.input.Stop.{Stop}
 use Rattle.lra_delta.specs.declared.input.Stop.TheVariants.{Fault, Cut, ReadFault, Memory}
-use Rattle.lra_delta.specs.Fields.{Rest, Read, Gives, value_of}
+use Rattle.lra_delta.specs.FrameFields.{Rest, Read, Gives, value_of}
 
 -- how a source stands: the bytes that are left, where they are known, its failed and interrupted calls, and the count of interrupted calls of the message
 pub record Standing : Type 0 where

@@ -1,6 +1,6 @@
 // A byte vector as an output.
 ghost use Rattle.std.specs.Prelude.{◌≡◌, [], false, IfOk};
-ghost use Rattle.lra_delta.specs.Written.{no_sink};
+ghost use Rattle.lra_delta.specs.WrittenSoFar.{no_sink};
 
 use crate::log::Log;
 use crate::output::Output;

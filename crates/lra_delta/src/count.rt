@@ -1,6 +1,6 @@
 // The length of what is put.
 ghost use Rattle.std.specs.Prelude.{◌≡◌, ◌%◌, ◌^◌, length, []};
-ghost use Rattle.lra_delta.specs.Written.{no_sink};
+ghost use Rattle.lra_delta.specs.WrittenSoFar.{no_sink};
 
 use crate::log::Log;
 use crate::output::Output;

@@ -1,7 +1,7 @@
 // Numbers and texts of a frame.
 ghost use Rattle.std.specs.Prelude.{◌≤◌, ◌≡◌, ◌+◌, length, IfOk};
 ghost use Rattle.std.specs.Int.{w8, w16, w32, w64};
-ghost use Rattle.lra_delta.specs.Fields.{whole_at, cells_at};
+ghost use Rattle.lra_delta.specs.FrameFields.{whole_at, cells_at};
 ghost use Rattle.lra_delta.specs.Seen.{Reads};
 
 use crate::input::{Input, Stop};

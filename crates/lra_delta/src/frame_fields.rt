@@ -1,15 +1,14 @@
 // The fields of a frame before and after its records.
 ghost use Rattle.std.specs.Prelude.{[], ◌≡◌, ◌++◌, ◌∷◌, ◌+◌, ◌-◌, ◌*◌, ◌≤◌, ◌<◌, ◌==◌, ℕ, List, Option, length, map, replicate, slice_index, slice_set, true, IfOk, OnOk};
 ghost use Rattle.std.specs.Int.{w8, w16, w32, w64};
-ghost use Rattle.lra_forest.specs.Merging.{held_numbers};
+ghost use Rattle.lra_forest.specs.RecordMerges.{held_numbers};
 ghost use Rattle.lra_forest.specs.declared.merging.Told.{Told};
 ghost use Rattle.std.specs.List.{AllByRecursion};
-ghost use Rattle.lra_replica.specs.Merging.{AreToldFrom};
-ghost use Rattle.lra_replica.specs.Views.{records_at as records_of_home};
+ghost use Rattle.lra_history.specs.Merging.{AreToldFrom};
+ghost use Rattle.lra_history.specs.Views.{records_at as records_of_home};
 ghost use Rattle.lra_delta.specs.Seen.{Answers, Reads};
-ghost use Rattle.lra_delta.specs.Fields.{each_at, number_at, vector_at};
-ghost use Rattle.lra_delta.specs.Rules.{are_counts, at_most, by_home, is_frame_length, is_front, is_live_number, is_node_count, start, told_context};
-ghost use Rattle.lra_delta.specs.Rules.{after as after_lem};
+ghost use Rattle.lra_delta.specs.FrameFields.{each_at, number_at, vector_at};
+ghost use Rattle.lra_delta.specs.Rules.{are_counts, at_most, by_home, is_frame_length, is_front, is_live_number, is_node_count, start, told_context, after as after_lem};
 ghost use Rattle.lra_delta.specs.Reading.{body_at, frame_at, live_at, live_list_at, record_at, records_at};
 ghost use Rattle.lra_delta.specs.Spelling.{magic};
 ghost use Rattle.lra_delta.specs.Order.{AreEmpty, ArePutAs, lists, live_of_place, next_place, records_told};
@@ -33,7 +32,7 @@ fn are_counts(ns: &[u64]) -> bool
 }
 
 /// What the taker has to have.
-#[tactic(auto, unfolding(crate::specs::Fields::vector_at))]
+#[tactic(auto, unfolding(crate::specs::FrameFields::vector_at))]
 fn base_of<I: Input>(nodes: u8, input: &mut I) -> Result<Front, Stop>
     requires some { 1 ≤ nodes }
     requires few { nodes ≤ 8 }
@@ -49,7 +48,7 @@ fn base_of<I: Input>(nodes: u8, input: &mut I) -> Result<Front, Stop>
 }
 
 /// How many facts the sender has: none fewer than the base.
-#[tactic(auto, unfolding(crate::specs::Fields::vector_at))]
+#[tactic(auto, unfolding(crate::specs::FrameFields::vector_at))]
 fn front_of<I: Input>(nodes: u8, base: &Front, input: &mut I) -> Result<Front, Stop>
     requires some { 1 ≤ nodes }
     requires few { nodes ≤ 8 }
@@ -65,7 +64,7 @@ fn front_of<I: Input>(nodes: u8, base: &Front, input: &mut I) -> Result<Front, S
 }
 
 /// The number of each home's last purge: within the front.
-#[tactic(auto, unfolding(crate::specs::Fields::vector_at))]
+#[tactic(auto, unfolding(crate::specs::FrameFields::vector_at))]
 fn purges_of<I: Input>(nodes: u8, front: &Front, input: &mut I) -> Result<Front, Stop>
     requires some { 1 ≤ nodes }
     requires few { nodes ≤ 8 }

@@ -2,7 +2,7 @@
 ghost use Rattle.std.specs.Prelude.{◌≡◌, ◌≤◌, ◌%◌, ◌^◌, ◌++◌, length, IfOk};
 ghost use Rattle.std.specs.List.{All, flat_map};
 ghost use Rattle.lra_forest.specs.declared.merging.Told.{Told};
-ghost use Rattle.lra_forest.specs.Merging.{held_numbers};
+ghost use Rattle.lra_forest.specs.RecordMerges.{held_numbers};
 ghost use Rattle.lra_delta.specs.Grammar.{IsOfGrammar};
 ghost use Rattle.lra_delta.specs.Order.{lists, records_told};
 ghost use Rattle.lra_delta.specs.Rules.{IsDelta};

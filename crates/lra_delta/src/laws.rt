@@ -7,18 +7,18 @@ ghost use Rattle.lra_facts.specs.Lists.{In};
 ghost use Rattle.lra_facts.specs.Sets.{is_purge};
 ghost use Rattle.lra_forest.specs.declared.record.Record.{Record};
 ghost use Rattle.lra_forest.specs.Records.{is_about};
-ghost use Rattle.lra_replica.specs.Histories.{History, IsClosed, IsLawful, facts};
-ghost use Rattle.lra_replica.specs.Merging.{merged};
-ghost use Rattle.lra_replica.specs.Shape.{HasShape};
-ghost use Rattle.lra_replica.specs.Views.{IsCounted, StandsFor, View, purge_number, records_at};
+ghost use Rattle.lra_history.specs.Histories.{History, IsClosed, IsLawful, facts};
+ghost use Rattle.lra_history.specs.Merging.{merged};
+ghost use Rattle.lra_history.specs.ViewShape.{HasShape};
+ghost use Rattle.lra_history.specs.Views.{IsCounted, StandsFor, View, purge_number, records_at};
 ghost use Rattle.lra_delta.specs.Frames.{Frame, IsFrame, frame_of, has_news};
 ghost use Rattle.lra_delta.specs.Grammar.{IsOfGrammar};
 ghost use Rattle.lra_delta.specs.Rules.{IsDelta};
-ghost use Rattle.lra_delta.specs.OneRecord.{FitsUnder, IsRecordUnder};
+ghost use Rattle.lra_delta.specs.OneRecord.{KeepsRulesUnder, IsRecordUnder};
 ghost use Rattle.lra_delta.specs.Reading.{frame_in};
 ghost use Rattle.lra_delta.specs.Spelling.{record_text, spelling};
-ghost use Rattle.lra_delta.specs.Sizes.{IsShort, frame_size};
-ghost use Rattle.lra_delta.specs.Taking.{IsTaken};
+ghost use Rattle.lra_delta.specs.FrameSizes.{IsShort, frame_size};
+ghost use Rattle.lra_delta.specs.TakenFrames.{IsTaken};
 ghost use Rattle.lra_delta.specs.Typed.{IsTyped, IsTypedRecord};
 
 /// The frame of a view that stands for a set is the frame of the set.
@@ -27,7 +27,7 @@ pub fn the_frame_of_a_view_is_that_of_its_set()
 {}
 
 /// A set has one frame since a base, of so many nodes.
-#[tactic(auto, using(crate::proofs::Uniqueness::one_frame))]
+#[tactic(auto, using(crate::proofs::OneFrameOfASet::one_frame))]
 pub fn a_set_has_one_frame()
     ensures { (S : List Fact) (base : List ℕ) (a b : Frame) → length a.front ≡ length b.front → IsFrame S base a → IsFrame S base b → a ≡ b }
 {}
@@ -70,7 +70,7 @@ pub fn frames_of_a_history_keep_the_rules()
 {}
 
 /// A frame that keeps the rules is no longer than a frame can be, where no link is longer than links can be.
-#[tactic(auto, using(crate::proofs::Sizes::frame_most))]
+#[tactic(auto, using(crate::proofs::FrameSizes::frame_most))]
 pub fn frames_are_not_too_long()
     ensures { (frame : Frame) → IsOfGrammar frame → length frame.front ≤ 8 → IsShort frame → frame_size frame ≤ 67108855 }
 {}
@@ -89,11 +89,11 @@ pub fn frames_of_a_history_have_a_spelling()
 pub fn records_of_a_history_have_a_spelling()
     ensures fit { (h : History) (w : List ℕ) (view : View) (home : ℕ) (kept : Record) → IsLawful h → IsClosed h w →
         StandsFor (facts h w) view → length view.front ≤ 8 → 1 ≤ home → home ≤ length view.front →
-        In kept (records_at view.records home) → FitsUnder view.front kept }
-    ensures rules { (front : List ℕ) (kept : Record) → IsTypedRecord kept → FitsUnder front kept → IsRecordUnder front kept }
+        In kept (records_at view.records home) → KeepsRulesUnder view.front kept }
+    ensures rules { (front : List ℕ) (kept : Record) → IsTypedRecord kept → KeepsRulesUnder front kept → IsRecordUnder front kept }
 {}
 
-/// What keeps the rules of a frame has one spelling, and no first part of a spelling is another's. So it is of a record under a
+/// What keeps the rules of a frame has one spelling, and no prefix of a spelling is another's. So it is of a record under a
 /// front.
 pub fn one_spelling()
     ensures frame { (a b : Frame) (x y : List ℕ) → IsDelta a → IsDelta b → spelling a ++ x ≡ spelling b ++ y → (a ≡ b) × (x ≡ y) }

@@ -2,7 +2,7 @@
 ghost use Rattle.std.specs.Prelude.{◌≡◌, ℕ, List, IfOk, Ok, length};
 ghost use Rattle.lra_forest.specs.declared.record.Record.{Record};
 ghost use Rattle.lra_delta.specs.Answer.{Decodes};
-ghost use Rattle.lra_delta.specs.OneRecord.{FitsUnder, IsRecordUnder, alone_at, record_in};
+ghost use Rattle.lra_delta.specs.OneRecord.{KeepsRulesUnder, IsRecordUnder, alone_at, record_in};
 ghost use Rattle.lra_delta.specs.Seen.{Answers};
 ghost use Rattle.lra_delta.specs.Spelling.{record_text};
 
@@ -67,7 +67,7 @@ pub fn decode_record(alloc: Global, bytes: &[u8], front: &Front) -> Result<Recor
 /// The bytes that spell a record. Under a front where it fits they are read as itself again.
 pub fn encode_record(alloc: Global, kept: &Record) -> Result<Vec<u8>, AllocError>
     ensures text { IfOk result (λ bytes. bytes.items ≡ record_text kept.now) }
-    ensures rules { (front : List ℕ) → FitsUnder front kept.now → IsRecordUnder front kept.now }
+    ensures rules { (front : List ℕ) → KeepsRulesUnder front kept.now → IsRecordUnder front kept.now }
 {
     let mut out = Buffer::new(alloc);
     put_record(&mut out, kept);

@@ -1,6 +1,6 @@
 // What a frame is written to.
 ghost use Rattle.std.specs.Prelude.{◌≡◌, ◌++◌, ℕ, List};
-ghost use Rattle.lra_delta.specs.Written.{Start};
+ghost use Rattle.lra_delta.specs.WrittenSoFar.{Start};
 
 /// What a frame is written to, field by field. One that meets a fault keeps it, and takes no more.
 pub trait Output {

@@ -3,10 +3,10 @@ ghost use Rattle.std.specs.Prelude.{[], ◌≡◌, ◌+◌, ◌-◌, ◌*◌, �
 ghost use Rattle.std.specs.Int.{w8, w64};
 ghost use Rattle.std.specs.List.{list_any};
 ghost use Rattle.lra_id.specs.Fronts.{count};
-ghost use Rattle.lra_forest.specs.Merging.{held_numbers};
+ghost use Rattle.lra_forest.specs.RecordMerges.{held_numbers};
 ghost use Rattle.lra_delta.specs.Order.{Follows};
 ghost use Rattle.lra_delta.specs.Seen.{Reads};
-ghost use Rattle.lra_delta.specs.Fields.{each_at, many_at, number_at, vector_at, whole_at};
+ghost use Rattle.lra_delta.specs.FrameFields.{each_at, many_at, number_at, vector_at, whole_at};
 ghost use Rattle.lra_delta.specs.Frames.{is_beyond, live_at};
 ghost use Rattle.lra_delta.specs.Rules.{are_stamps, at_most, is_among, is_home, is_mark_for, is_next, is_number, is_outcome, is_outcome_for, next_nested, told_context};
 ghost use Rattle.lra_delta.specs.Reading.{decision_at, link_at, member_at, members_at, outcome_of, parent_at, participant_at, place_at, record_at, text_at};
@@ -270,7 +270,7 @@ fn each_number<I: Input>(count: u8, input: &mut I) -> Result<Front, Stop>
 }
 
 /// A vector of so many numbers: one field.
-#[tactic(auto, unfolding(crate::specs::Fields::many_at))]
+#[tactic(auto, unfolding(crate::specs::FrameFields::many_at))]
 pub(crate) fn many_of<I: Input>(count: u8, input: &mut I) -> Result<Front, Stop>
     requires some { 1 ≤ count }
     requires few { count ≤ 8 }
@@ -394,7 +394,7 @@ fn are_stamps(base: &Front, front: &Front, home: NodeId, num: u64, stamps: &Fron
 }
 
 /// The stamps of a record.
-#[tactic(auto, unfolding(crate::specs::Fields::vector_at))]
+#[tactic(auto, unfolding(crate::specs::FrameFields::vector_at))]
 fn stamps_of<I: Input>(
     base: &Front,
     front: &Front,

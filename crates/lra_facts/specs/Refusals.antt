@@ -34,8 +34,8 @@ abbrev pub stranger : List Fact → Id → ℕ → Option Refusal
 stranger S l m = unless (is_participant S l m) UnknownMember
 
 -- it wants something already
-abbrev pub settled : List Fact → Id → Option Refusal
-settled S l = unless (is_none (want S l)) (NotActive (shows_now S l))
+abbrev pub inactive : List Fact → Id → Option Refusal
+inactive S l = unless (is_none (want S l)) (NotActive (shows_now S l))
 
 -- what it wants does not demand the act of the participant
 abbrev pub unasked : List Fact → Id → ℕ → Act → Option Refusal

@@ -12,20 +12,20 @@ ghost use Rattle.lra_facts.specs.Laws.{AreJoinedOnce, AreNumberedOnce, Falls, Is
 ghost use Rattle.lra_facts.specs.Sets.{NamesEarlier, chain, heard, is_decided, member_status, parent_of, status, want};
 
 /// An LRA has one chain: itself and the chain of its parent. Numbers fall along it, at one home.
-#[tactic(auto, using(crate::proofs::Chains::chain_is, crate::proofs::Growing::chain_falls))]
+#[tactic(auto, using(crate::proofs::Chains::chain_is, crate::proofs::MoreFacts::chain_falls))]
 pub fn numbers_fall_along_a_chain()
     ensures chain { (S : List Fact) (l : Id) → AllByRecursion NamesEarlier S → chain S l ≡ l ∷ option_map_or (chain S) (parent_of S l) [] }
     ensures falls { (S : List Fact) (l : Id) → AllByRecursion NamesEarlier S → Falls (chain S l) }
 {}
 
 /// An LRA wants Cancel as soon as one of its chain is cancelled, whatever comes later.
-#[tactic(auto, using(crate::proofs::Growing::cancel_stays))]
+#[tactic(auto, using(crate::proofs::MoreFacts::cancel_stays))]
 pub fn a_cancel_stays()
     ensures { (S later : List Fact) (a l : Id) → In a (chain S l) → is_decided S Cancel a ≡ true → want (S ++ later) l ≡ Some Cancel }
 {}
 
 /// The greatest outcome is heard, whatever the order of the reports.
-#[tactic(auto, using(crate::proofs::Growing::heard_append, crate::proofs::Orders::heard_same))]
+#[tactic(auto, using(crate::proofs::MoreFacts::heard_append, crate::proofs::Orders::heard_same))]
 pub fn the_greatest_outcome_is_heard()
     ensures greatest { (S T : List Fact) (l : Id) (m : ℕ) (act : Act) → heard (S ++ T) l m act ≡ greater (heard S l m act) (heard T l m act) }
     ensures any_order { (S T : List Fact) → IsSameSet S T → (l : Id) (m : ℕ) (act : Act) → heard S l m act ≡ heard T l m act }

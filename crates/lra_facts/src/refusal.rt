@@ -1,6 +1,6 @@
 // Why a call is refused.
 ghost use Rattle.std.specs.Prelude.{◌≡◌, Some};
-ghost use Rattle.lra_facts.specs.Texts.{refusal_text};
+ghost use Rattle.lra_facts.specs.RefusalTexts.{refusal_text};
 
 use lra_id::{Front, LraId, NodeId};
 use lra_states::LraStatus;

@@ -22,11 +22,11 @@ use Rattle.lra_forest.specs.declared.record.Participant.{Participant as Particip
 use Rattle.lra_forest.specs.declared.record.Place.{Place}
 use Rattle.lra_forest.specs.declared.record.Record.{Record}
 use Rattle.lra_forest.specs.Forests.{id_of, is_of}
-use Rattle.lra_forest.specs.Numbers.{numbered}
+use Rattle.lra_forest.specs.MembersByNumber.{numbered}
 use Rattle.lra_forest.specs.Owings.{completing_by, forgetting_at, owed_by, owes, owes_at, owing_at, owing_of}
 use Rattle.lra_forest.specs.Participants.{answered_of, participant_at}
 use Rattle.lra_forest.specs.Records.{members_of, record_of}
-use Rattle.lra_forest.specs.Said.{first_owed, ids_below, is_below, is_ended_at, is_over_at, is_owed, is_owed_at, is_owed_member, is_root_at, is_told_at, is_under_at, participant_of, records_up, want_at}
+use Rattle.lra_forest.specs.Said.{first_owed, ids_below, is_below, is_ended_at, is_over_at, is_owed, is_owed_at, is_owed_member, is_root_at, is_forgot_at, is_under_at, participant_of, records_up, want_at}
 use Rattle.lra_forest.specs.Shape.{found_at}
 use Rattle.lra_forest.specs.Standing.{IsNested, IsSeated, IsWhole, Stands}
 use Rattle.lra_forest.specs.Statuses.{status_in}
@@ -34,7 +34,7 @@ use Rattle.lra_forest.proofs.Asked.{answer_known, unknown_is}
 use Rattle.lra_forest.proofs.Bools.{and_left}
 use Rattle.lra_forest.proofs.Depths.{depth_above}
 use Rattle.lra_forest.proofs.Descents.{some_depth}
-use Rattle.lra_forest.proofs.Errands.{due_none, due_owes, joined_is, nested_is}
+use Rattle.lra_forest.proofs.DueByRecord.{due_none, due_owes, joined_is, nested_is}
 use Rattle.lra_forest.proofs.Gatherings.{find_in}
 use Rattle.lra_forest.proofs.Overdue.{at, held_number, number_passes}
 use Rattle.lra_forest.proofs.Sayings.{ended_said, up_more, up_root, want_said}
@@ -230,7 +230,7 @@ owed_said nodes S records l m whole nest seated stands held =
         ∙ ap (λ (owing : Owing). owes owing p) (owing_said Forget nodes l.home S records (record_of nodes S l) whole nest stands found)
         ∙ sym (due_owes Forget S l m p seated e)
 
-pub told_said : (nodes : ℕ) (S : List Fact) (records : List Record) (l : Id) (m : ℕ) → IsSeated S → Stands nodes l.home S records → is_held S l ≡ true → is_participant S l m ≡ true → is_told_at (found_at l.home records) l.num m ≡ has_forgot S l m
+pub told_said : (nodes : ℕ) (S : List Fact) (records : List Record) (l : Id) (m : ℕ) → IsSeated S → Stands nodes l.home S records → is_held S l ≡ true → is_participant S l m ≡ true → is_forgot_at (found_at l.home records) l.num m ≡ has_forgot S l m
 told_said nodes S records l m seated stands held some =
     let found = stands_at nodes l.home S records l stands refl held in
     ap (λ (o : Option Record). option_map_or (λ (p : ParticipantRecord). p.forgotten) (participant_at (numbered (option_map_or (λ (q : Record). q.members) o []) m)) false) found

@@ -1,42 +1,42 @@
-pub mod Alike
 pub mod Asked
-pub mod Begun
+pub mod Begins
 pub mod Bools
 pub mod Chained
-pub mod Changing
-pub mod Counting
-pub mod Depths
+mod ChangedCounts
+mod ChangedRecords
+pub mod Climbs
+mod Collected
+mod Depths
 pub mod Descents
+mod DueByRecord
+pub mod EqualRecords
+mod Exchanges
+pub mod Gathered
 pub mod Gatherings
-pub mod Exchanges
-pub mod Fitting
 pub mod Giving
-pub mod Makings
-pub mod MemberMerges
+mod Greatest
+mod Lasts
+mod Laters
+pub mod LeastForgetDuty
+mod Makings
+mod MemberMerges
+pub mod NumberedMembers
+pub mod OneListOfRecords
 pub mod OnlyChanges
 pub mod Overdue
+mod Owed
+mod Paths
+mod Pendings
 pub mod Places
 pub mod Puts
+pub mod RecordCounts
+mod RecordsInPlace
 pub mod Removals
+mod Sagas
 pub mod Sayings
-pub mod Seats
-pub mod Seeing
-pub mod Sizes
+mod Seeing
+mod Shares
 pub mod Standings
-pub mod Takes
+mod Takes
 pub mod Trees
-pub mod Uniqueness
-pub mod Wanting
-pub mod Lasts
-pub mod Laters
-pub mod Greatest
-pub mod Paths
-pub mod Pendings
-pub mod Sagas
-pub mod Shares
-pub mod Gathered
-pub mod Collected
-pub mod Climbs
-pub mod Owed
-pub mod Errands
-pub mod Firsts
+mod Wanting

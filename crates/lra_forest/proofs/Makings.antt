@@ -12,7 +12,7 @@ use Rattle.lra_forest.specs.Places.{put_record}
 use Rattle.lra_forest.specs.Records.{record_of}
 use Rattle.lra_forest.proofs.Bools.{and_left, and_right}
 use Rattle.lra_forest.proofs.Puts.{put_are_of, put_find}
-use Rattle.lra_forest.proofs.Seats.{same_is}
+use Rattle.lra_forest.proofs.NumberedMembers.{same_is}
 
 -- the records are those of the LRAs that are held and were begun so far
 abbrev pub StandSoFar : ℕ → ℕ → List Fact → List Fact → List Record → Type 0

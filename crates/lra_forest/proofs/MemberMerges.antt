@@ -3,8 +3,8 @@ use Rattle.std.proofs.Common.{◌≡◌, ◌+◌, ◌-◌, ◌==◌, ℕ, zero, 
 use Rattle.std.proofs.lemmas.Bool.Decides.{nat_tests}
 use Rattle.lra_forest.specs.declared.record.Member.{Member}
 use Rattle.lra_forest.specs.declared.record.Member.TheVariants.{Left}
-use Rattle.lra_forest.specs.Merging.{merged_member, merged_members}
-use Rattle.lra_forest.specs.Numbers.{numbered}
+use Rattle.lra_forest.specs.RecordMerges.{merged_member, merged_members}
+use Rattle.lra_forest.specs.MembersByNumber.{numbered}
 
 -- the first i members are merged
 abbrev pub merged_to : ℕ → List Member → List Member → List Member

@@ -7,7 +7,7 @@ use Rattle.lra_id.specs.Ids.{Id}
 use Rattle.lra_facts.specs.Lists.{In}
 use Rattle.lra_forest.specs.declared.record.Record.{Record}
 use Rattle.lra_forest.specs.Forests.{AreOf, IsAscending, id_of}
-use Rattle.lra_forest.specs.Merging.{brought, is_gone}
+use Rattle.lra_forest.specs.RecordMerges.{brought, is_gone}
 use Rattle.lra_forest.specs.OnlyChanges.{AreOnlyChanges, IsPut, ids_lost, is_lost}
 use Rattle.lra_forest.specs.Shape.{found_at}
 use Rattle.lra_forest.proofs.Bools.{all_from, all_in, and_left}

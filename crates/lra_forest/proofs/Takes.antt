@@ -8,11 +8,11 @@ use Rattle.lra_id.specs.Ids.{Id}
 use Rattle.lra_facts.proofs.Chains.{drop_at}
 use Rattle.lra_forest.specs.declared.record.Record.{Record}
 use Rattle.lra_forest.specs.Forests.{AreOf, id_of, is_of}
-use Rattle.lra_forest.specs.Merging.{brought, changed_by, home_stamp, is_gone, merged_record, taken}
+use Rattle.lra_forest.specs.RecordMerges.{brought, changed_by, home_stamp, is_gone, merged_record, absorbed}
 use Rattle.lra_forest.specs.OnlyChanges.{IsPut}
 use Rattle.lra_forest.specs.Places.{put_record}
 use Rattle.lra_forest.specs.Shape.{found_at}
-use Rattle.lra_forest.proofs.Changing.{found_changed, found_kept, found_own, keep, none_after, stays}
+use Rattle.lra_forest.proofs.ChangedRecords.{found_changed, found_kept, found_own, keep, none_after, stays}
 use Rattle.lra_forest.proofs.Puts.{put_find}
 
 abbrev at : ℕ → ℕ → Id
@@ -211,7 +211,7 @@ pub takes : (home told : ℕ) (covered : Bool) (held : Option (List ℕ)) (remov
     → AllByRecursion (λ l. l.home ≡ home) removed
     → AreGone (λ n. is_none (found_at home other n) && is_gone told held n) home own removed
     → IsPut (found_at home own num) (brought covered (found_at home own num) (found_at home other num)) (found_at home changed num)
-    → found_at home (changed_by removed changed own) num ≡ taken covered (is_gone told held num) (found_at home own num) (found_at home other num)
+    → found_at home (changed_by removed changed own) num ≡ absorbed covered (is_gone told held num) (found_at home own num) (found_at home other num)
 takes home told covered held removed changed own other num c h homes gone put =
     found_changed home removed changed own num c h
     ∙ ap (option_or (found_at home changed num)) (found_kept home removed own num h)
@@ -229,7 +229,7 @@ takes home told covered held removed changed own other num c h homes gone put =
     flip r false = refl
 
     by : (o : Option Record) → found_at home own num ≡ o → (n : Option Record) → found_at home other num ≡ n → (p : Option Record) → IsPut o (brought covered o n) p
-        → option_or p (keep (stays removed) o) ≡ taken covered (is_gone told held num) o n
+        → option_or p (keep (stays removed) o) ≡ absorbed covered (is_gone told held num) o n
     by o e None f (Some x) put = absurd (let no = put.0 in cc)
     by None e (Some t) f (Some x) put = sym put.0
     by (Some r) e (Some t) f (Some x) put = sym put.0

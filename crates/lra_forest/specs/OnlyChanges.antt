@@ -5,7 +5,7 @@ use Rattle.std.specs.List.Sorted.{IsStrictlyIncreasing}
 use Rattle.lra_id.specs.Ids.{Id}
 use Rattle.lra_forest.specs.declared.record.Record.{Record}
 use Rattle.lra_forest.specs.Forests.{AreOf, id_of}
-use Rattle.lra_forest.specs.Merging.{is_gone}
+use Rattle.lra_forest.specs.RecordMerges.{is_gone}
 use Rattle.lra_forest.specs.Shape.{found_at}
 
 -- What is put of an LRA of which one record is held and another, or none, is to be kept: the one to be kept, where it isn't the one

@@ -22,7 +22,7 @@ use Rattle.lra_forest.specs.declared.record.Participant.{Participant as Particip
 use Rattle.lra_forest.specs.declared.record.Place.{Place}
 use Rattle.lra_forest.specs.declared.record.Record.{Record}
 use Rattle.lra_forest.specs.Forests.{id_of}
-use Rattle.lra_forest.specs.Numbers.{numbered}
+use Rattle.lra_forest.specs.MembersByNumber.{numbered}
 use Rattle.lra_forest.specs.Overdue.{is_past}
 use Rattle.lra_forest.specs.Participants.{heard_by, participant_at}
 use Rattle.lra_forest.specs.Statuses.{shows_within, status_at, status_in}
@@ -131,8 +131,8 @@ abbrev pub is_owed_at : (ℕ → Option Record) → ℕ → ℕ → Bool
 is_owed_at at num m = option_map_or (λ (r : Record). option_map_or (is_owed at r) (participant_of at num m) false) (at num) false
 
 -- the participant with a member number was told
-abbrev pub is_told_at : (ℕ → Option Record) → ℕ → ℕ → Bool
-is_told_at at num m = option_map_or (λ (p : ParticipantRecord). p.forgotten) (participant_of at num m) false
+abbrev pub is_forgot_at : (ℕ → Option Record) → ℕ → ℕ → Bool
+is_forgot_at at num m = option_map_or (λ (p : ParticipantRecord). p.forgotten) (participant_of at num m) false
 
 -- the member is a participant that is to be told
 abbrev pub is_owed_member : (ℕ → Option Record) → Record → Member → Bool

@@ -8,8 +8,8 @@ use Rattle.lra_forest.specs.declared.record.Place.{Place}
 use Rattle.lra_forest.specs.declared.record.Record.{Record}
 use Rattle.lra_forest.specs.declared.merging.Changes.{Changes}
 use Rattle.lra_forest.specs.Forests.{HomeRecords, is_of}
-use Rattle.lra_forest.specs.Merging.{changed_by}
-use Rattle.lra_forest.specs.Numbers.{numbered}
+use Rattle.lra_forest.specs.RecordMerges.{changed_by}
+use Rattle.lra_forest.specs.MembersByNumber.{numbered}
 
 -- the record of the LRA that the home began with its fact of this number
 abbrev pub found_at : (home : ℕ) → List Record → (num : ℕ) → Option Record
@@ -30,20 +30,20 @@ pub record IsNestedAt (home : ℕ) (records : List Record) (num : ℕ) (place : 
 
 -- The record r of the LRA with this number has its place among the records. They have its parent, if it names one, with the
 -- LRA as the member there, and each LRA that is nested in it. It is no deeper than 8, and no stamp is beyond the front
-pub record IsFitted (front : List ℕ) (home : ℕ) (records : List Record) (num : ℕ) (r : Record) : Type 0 where
+pub record IsInPlace (front : List ℕ) (home : ℕ) (records : List Record) (num : ℕ) (r : Record) : Type 0 where
   pub parent : (place : Place) → r.parent ≡ Some place → IsNestedAt home records num place
   pub nested : (child : ℕ) → In (Nested child) r.members → is_some (found_at home records child) ≡ true
   pub shallow : is_shallow 8 home records num ≡ true
   pub stamps : IsBelow r.stamps front
 
 -- of the LRA with this number the record has its place, if there is one
-abbrev pub FitsAt : (front : List ℕ) (home : ℕ) (records : List Record) (num : ℕ) → Type 0
-FitsAt front home records num = (r : Record) → found_at home records num ≡ Some r → IsFitted front home records num r
+abbrev pub IsInPlaceAt : (front : List ℕ) (home : ℕ) (records : List Record) (num : ℕ) → Type 0
+IsInPlaceAt front home records num = (r : Record) → found_at home records num ≡ Some r → IsInPlace front home records num r
 
 -- there are no more than 256, and each has its place
 pub record AreInShape (front : List ℕ) (home : ℕ) (records : List Record) : Type 0 where
   pub few : length records ≤ 256
-  pub fitted : (num : ℕ) → FitsAt front home records num
+  pub in_place : (num : ℕ) → IsInPlaceAt front home records num
 
 -- the records of a home once they are changed
 abbrev pub records_after : Changes → HomeRecords → List Record

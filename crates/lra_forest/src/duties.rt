@@ -11,7 +11,7 @@ ghost use Rattle.lra_forest.specs.Dues.{AreAll, IsDueAt, IsShare, is_before, is_
 ghost use Rattle.lra_forest.specs.Forests.{is_of};
 ghost use Rattle.lra_forest.specs.Owings.{IsLastRoot, completing_by, duty_of, forgetting_at, owed_by, owes, owes_at, owing_at};
 ghost use Rattle.lra_forest.specs.Participants.{answered_of};
-ghost use Rattle.lra_forest.specs.Said.{is_ended_at, is_over_at, is_owed_at, is_told_at, is_under_at, least_owed_of, owed_below, participant_of};
+ghost use Rattle.lra_forest.specs.Said.{is_ended_at, is_over_at, is_owed_at, is_forgot_at, is_under_at, least_owed_of, owed_below, participant_of};
 ghost use Rattle.lra_forest.specs.Shape.{found_at};
 ghost use Rattle.lra_forest.specs.Standing.{IsNested, IsSeated, IsWhole, Stands};
 ghost use Rattle.lra_forest.specs.Wants.{wants_cancel};
@@ -433,7 +433,7 @@ impl Forest {
     /// Whether the participant of an LRA with this member number was told that it may forget.
     pub fn has_forgotten(&self, id: LraId, member: u8) -> Result<bool, Refusal>
         ensures says { let at = found_at id.home self.now.records in
-            result ≡ answered_of (is_some (at id.num)) (is_some (participant_of at id.num member)) (is_told_at at id.num member) }
+            result ≡ answered_of (is_some (at id.num)) (is_some (participant_of at id.num member)) (is_forgot_at at id.num member) }
         ensures refused { result ≡ Err NotHeld ↔ (find (is_of id) self.now.records ≡ None) }
     {
         let Some(record) = self.get(id) else {

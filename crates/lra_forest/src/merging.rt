@@ -3,7 +3,7 @@ ghost use Rattle.std.specs.Prelude.{◌≡◌, ◌==◌, ℕ, Some, None, false,
 ghost use Rattle.std.specs.Option.{option_copied};
 ghost use Rattle.lra_id.specs.Ids.{Id};
 ghost use Rattle.lra_forest.specs.Forests.{AreOf, id_of};
-ghost use Rattle.lra_forest.specs.Merging.{brought, changed_by, held_numbers, home_stamp, is_gone, is_unlisted, linked, merged_member, merged_members, merged_participant, merged_record, taken};
+ghost use Rattle.lra_forest.specs.RecordMerges.{brought, changed_by, held_numbers, home_stamp, is_gone, is_unlisted, linked, merged_member, merged_members, merged_participant, merged_record, absorbed};
 ghost use Rattle.lra_forest.specs.OnlyChanges.{AreOnlyChanges, IsPut, ids_lost, is_lost};
 ghost use Rattle.lra_forest.specs.Shape.{found_at};
 
@@ -244,7 +244,7 @@ impl Forest {
             AreOf self.now.home (changed_by changes.removed.items changes.records.records self.now.records)) }
         ensures taken { IfOk result (λ changes. (num : ℕ) →
             found_at self.now.home (changed_by changes.removed.items changes.records.records self.now.records) num
-            ≡ taken (nat_le num mine) (is_gone told (held_numbers other.held) num)
+            ≡ absorbed (nat_le num mine) (is_gone told (held_numbers other.held) num)
             (found_at self.now.home self.now.records num) (found_at self.now.home other.records.records num)) }
     {
         // What these ensure is needed: both are in order.

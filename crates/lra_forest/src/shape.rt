@@ -6,8 +6,8 @@ ghost use Rattle.lra_facts.specs.Lists.{In};
 ghost use Rattle.lra_forest.specs.declared.record.Member.TheVariants.{Nested};
 ghost use Rattle.lra_forest.specs.declared.record.Place.{Place as PlaceRecord};
 ghost use Rattle.lra_forest.specs.Forests.{is_of};
-ghost use Rattle.lra_forest.specs.Merging.{changed_by, without};
-ghost use Rattle.lra_forest.specs.Shape.{found_at, is_shallow, records_after, AreInShape, FitsAt, IsFitted, IsNestedAt};
+ghost use Rattle.lra_forest.specs.RecordMerges.{changed_by, without};
+ghost use Rattle.lra_forest.specs.Shape.{found_at, is_shallow, records_after, AreInShape, IsInPlaceAt, IsInPlace, IsNestedAt};
 
 use crate::{Changes, Forest, MOST_DEPTH, Member, Place, Record};
 use lra_id::{Front, LraId};
@@ -122,9 +122,9 @@ impl Forest {
     }
 
     /// Whether a record has its place among the records once they are changed, under a front.
-    fn is_fitted(&self, changes: &Changes, front: &Front, num: u64, kept: &Record) -> bool
+    fn is_in_place(&self, changes: &Changes, front: &Front, num: u64, kept: &Record) -> bool
         requires { changes.now.records.home ≡ self.now.home }
-        ensures { IsTrue result ↔ IsFitted front.now self.now.home (records_after changes.now self.now) num kept.now }
+        ensures { IsTrue result ↔ IsInPlace front.now self.now.home (records_after changes.now self.now) num kept.now }
     {
         self.has_parent(changes, num, kept.parent)
             && self.has_nested(changes, kept.members.as_slice())
@@ -133,24 +133,24 @@ impl Forest {
     }
 
     /// Whether the record of the LRA with this number has its place once the records are changed, if there is one.
-    fn fits_at(&self, changes: &Changes, front: &Front, num: u64) -> bool
+    fn is_in_place_at(&self, changes: &Changes, front: &Front, num: u64) -> bool
         requires { changes.now.records.home ≡ self.now.home }
-        ensures { IsTrue result ↔ FitsAt front.now self.now.home (records_after changes.now self.now) num }
+        ensures { IsTrue result ↔ IsInPlaceAt front.now self.now.home (records_after changes.now self.now) num }
     {
         match self.changed_at(changes, num) {
-            Some(record) => self.is_fitted(changes, front, num, record),
+            Some(record) => self.is_in_place(changes, front, num, record),
             None => true,
         }
     }
 
     /// Whether of each of these LRAs the record has its place once the records are changed.
-    fn fit(&self, changes: &Changes, front: &Front, records: &[Record]) -> bool
+    fn are_in_place(&self, changes: &Changes, front: &Front, records: &[Record]) -> bool
         requires { changes.now.records.home ≡ self.now.home }
         ensures { IsTrue result ↔
-            AllByRecursion (λ r. FitsAt front.now self.now.home (records_after changes.now self.now) r.num) records.now }
+            AllByRecursion (λ r. IsInPlaceAt front.now self.now.home (records_after changes.now self.now) r.num) records.now }
     {
         for record in records {
-            if !self.fits_at(changes, front, record.num) {
+            if !self.is_in_place_at(changes, front, record.num) {
                 return false;
             }
         }
@@ -205,7 +205,7 @@ impl Forest {
     /// record names is there and has it as the member at its place, each nested LRA is there, none is deeper than 8, and no
     /// stamp is beyond the front. The records stay as they are. For each record it looks up its parents and its nested LRAs:
     /// by halving, and each time among those that are removed.
-    pub fn fits_with(&self, changes: &Changes, front: &Front) -> bool
+    pub fn keeps_shape_with(&self, changes: &Changes, front: &Front) -> bool
         requires { changes.now.records.home ≡ self.now.home }
         ensures { IsTrue result ↔
             AreInShape front.now self.now.home (changed_by changes.now.removed.items changes.now.records.records self.now.records) }
@@ -213,7 +213,7 @@ impl Forest {
         if !self.is_few(changes) {
             return false;
         }
-        self.fit(changes, front, self.records())
-            && self.fit(changes, front, changes.records.records())
+        self.are_in_place(changes, front, self.records())
+            && self.are_in_place(changes, front, changes.records.records())
     }
 }

@@ -51,7 +51,7 @@ read_is room mid new bytes headers spans (taken, read) parts =
       few = let few = read.few in let own = parts.count in omega (arith, few, own, count, lines);
     }
 
--- the head stands at the front of what was left
+-- the head stands at the start of what was left
 begins_is : (room : Room) (middle next : List ℕ) (bytes : List ℕ) (headers : List HeaderSpan) (spans : ResponseSpans)
     → (r : Read room (Some middle) (Some next) bytes headers spans) → Begins r.parts.head next room middle
 begins_is room middle next bytes headers spans r = record {

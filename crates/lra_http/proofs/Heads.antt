@@ -1,4 +1,4 @@
--- Heads at the front of what was read.
+-- Heads at the start of what was read.
 use Rattle.std.proofs.Common.{◌≡◌, ◌≢◌, ℕ, ◌+◌, ◌<◌, ◌≤◌, ◌⊎◌, inl, inr, List, [], ◌∷◌, ◌++◌, length, take, drop, sym, ◌∙◌, ap, refl, append_assoc, arith, Option, Some, None, length-append, append-nil, IfSome, subst, Bool, true, false, cond, nat_le, IsTrue, IsFalse, not, ◌&&◌, ◌||◌, ◌==◌}
 use Rattle.std.proofs.Math.Seq.{take-append_seam}
 use Rattle.std.proofs.lemmas.List.{take-append-le, take-append-drop, length-take, length-map}
@@ -39,18 +39,18 @@ over_of Response room bytes more text rest lines over (h, valid, e, count) same 
     omega (arith, count)
 
 pub exceeds_more : (kind : Kind) (room : ℕ) (bytes more : List ℕ) → Exceeds kind room bytes → Exceeds kind room (bytes ++ more)
-exceeds_more Request room bytes more (front, rest, same, h, reads, many) =
-    (front, rest ++ more, ap (λ (t : List ℕ). t ++ more) same ∙ append_assoc front rest more, h, reads, many)
-exceeds_more Response room bytes more (front, rest, same, h, reads, many) =
-    (front, rest ++ more, ap (λ (t : List ℕ). t ++ more) same ∙ append_assoc front rest more, h, reads, many)
+exceeds_more Request room bytes more (prefix, rest, same, h, reads, many) =
+    (prefix, rest ++ more, ap (λ (t : List ℕ). t ++ more) same ∙ append_assoc prefix rest more, h, reads, many)
+exceeds_more Response room bytes more (prefix, rest, same, h, reads, many) =
+    (prefix, rest ++ more, ap (λ (t : List ℕ). t ++ more) same ∙ append_assoc prefix rest more, h, reads, many)
 
 -- ---- a head ends in a line feed
 
 abbrev pub EndsInLine : List ℕ → Type 0
-EndsInLine text = (front : List ℕ) × (text ≡ front ++ line_feed ∷ [])
+EndsInLine text = (prefix : List ℕ) × (text ≡ prefix ++ line_feed ∷ [])
 
 ends_append : (a b : List ℕ) → EndsInLine b → EndsInLine (a ++ b)
-ends_append a b (front, e) = (a ++ front, ap (λ (t : List ℕ). a ++ t) e ∙ sym (append_assoc a front (line_feed ∷ [])))
+ends_append a b (prefix, e) = (a ++ prefix, ap (λ (t : List ℕ). a ++ t) e ∙ sym (append_assoc a prefix (line_feed ∷ [])))
 
 ends_line : (e : LineEnd) → EndsInLine (print_end e)
 ends_line crlf = (13 ∷ [], refl)
@@ -77,13 +77,13 @@ some_head kind text lines is =
 -- ---- one byte more
 
 -- a head of a longer text that is no longer than the front is a head of the front
-pub short_head : (kind : Kind) (front more text rest : List ℕ) (lines : ℕ) → HasNoHead kind front → IsHead kind text lines
-    → front ++ more ≡ text ++ rest → length text ≤ length front → ⊥
-short_head kind front more text rest lines none is e short =
+pub short_head : (kind : Kind) (prefix more text rest : List ℕ) (lines : ℕ) → HasNoHead kind prefix → IsHead kind text lines
+    → prefix ++ more ≡ text ++ rest → length text ≤ length prefix → ⊥
+short_head kind prefix more text rest lines none is e short =
     let n = length text in
-    let same : text ≡ take n front =
-    sym (take-append_seam text rest) ∙ ap (take n) (sym e) ∙ take-append-le n front more short in
-    none_of kind front text (drop n front) lines none is (sym (take-append-drop n front) ∙ ap (λ (t : List ℕ). t ++ drop n front) (sym same))
+    let same : text ≡ take n prefix =
+    sym (take-append_seam text rest) ∙ ap (take n) (sym e) ∙ take-append-le n prefix more short in
+    none_of kind prefix text (drop n prefix) lines none is (sym (take-append-drop n prefix) ∙ ap (λ (t : List ℕ). t ++ drop n prefix) (sym same))
 
 pub nothing : (kind : Kind) → HasNoHead kind []
 nothing kind = none_from kind [] (λ text rest lines is e.
@@ -131,10 +131,10 @@ space_here : (b : List ℕ) → HasSpace (space ∷ b)
 space_here b = ([], b, refl)
 
 space_left : (a b : List ℕ) → HasSpace a → HasSpace (a ++ b)
-space_left a b (front, rest, e) = (front, rest ++ b, ap (λ (t : List ℕ). t ++ b) e ∙ append_assoc front (space ∷ rest) b)
+space_left a b (prefix, rest, e) = (prefix, rest ++ b, ap (λ (t : List ℕ). t ++ b) e ∙ append_assoc prefix (space ∷ rest) b)
 
 space_right : (a b : List ℕ) → HasSpace b → HasSpace (a ++ b)
-space_right a b (front, rest, e) = (a ++ front, rest, ap (λ (t : List ℕ). a ++ t) e ∙ sym (append_assoc a front (space ∷ rest)))
+space_right a b (prefix, rest, e) = (a ++ prefix, rest, ap (λ (t : List ℕ). a ++ t) e ∙ sym (append_assoc a prefix (space ∷ rest)))
 
 space_request : (h : RequestHead) → HasSpace (print_request h)
 unfolding print_request
@@ -196,7 +196,7 @@ pub bad_head : (kind : Kind) (most : ℕ) (old new : Option (List ℕ)) (head it
 bad_head kind most None new head items byte e taken short never = tt
 bad_head kind most (Some input) None head items byte e taken short never = absurd taken
 bad_head kind most (Some input) (Some left) head items byte e taken short never = record {
-  front = items;
+  prefix = items;
   rest = left;
   whole = taken;
   short = let size : length items ≡ length head + 1 = ap length e ∙ length-append head (byte ∷ []) in omega (arith, size, short);
@@ -226,7 +226,7 @@ long_head kind most room (Some input) (Some left) head items byte e taken none s
     let regroup : input ≡ head ++ (byte ∷ left) =
     taken ∙ ap (λ (t : List ℕ). t ++ left) e ∙ append_assoc head (byte ∷ []) left in
     let size : length items ≡ length head + 1 = ap length e ∙ length-append head (byte ∷ []) in (
-      inl (record { front = items; rest = left; whole = taken; long = omega (arith, size, long, short); may = becomes kind head items byte e none may }),
+      inl (record { prefix = items; rest = left; whole = taken; long = omega (arith, size, long, short); may = becomes kind head items byte e none may }),
       λ text rest lines is same fits few.
           short_head kind head (byte ∷ left) text rest lines none is (sym regroup ∙ same) (omega (arith, size, long, fits)),
     )

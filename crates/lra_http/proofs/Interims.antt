@@ -12,7 +12,7 @@ use Rattle.lra_http.specs.Responses.{Room, head_room, is_interim, is_switch, Ski
 pub not_both : (b : Bool) → IsTrue b → IsFalse b → ⊥
 not_both b t f = let e : true ≡ false = sym t ∙ f in absurd (cc)
 
--- an interim head at the front of the input, and the room that it leaves
+-- an interim head at the start of the input, and the room that it leaves
 pub record Interim (room left : Room) (input middle : List ℕ) : Type 0 where
   pub head : ResponseHead
   pub reads : ReadsResponse input head middle
@@ -34,7 +34,7 @@ behind_more room left input middle P i b = record {
   holds = b.holds;
 }
 
--- what holds at the front holds behind no head
+-- what holds at the start holds behind no head
 pub behind_none : (room : Room) (input : List ℕ) (P : Room → List ℕ → Type 0) → P room input → Behind room P input
 behind_none room input P h = record { skipped = []; middle = input; left = room; skips = refl; bytes = omega arith; lines = omega arith; holds = h }
 
@@ -84,16 +84,16 @@ refuses_more room left input middle i LengthNeeded h = absurd h
 refuses_more room left input middle i NotOffered h = absurd h
 refuses_more room left input middle i WriteFault h = absurd h
 
--- ---- the head at the front
+-- ---- the head at the start
 
 pub record Front (room : Room) (input : List ℕ) : Type 0 where
   pub head : ResponseHead
   pub rest : List ℕ
   pub begins : Begins head rest room input
 
-front : (room : Room) (input : List ℕ) (h : ResponseHead) (rest : List ℕ) (skipped : List ResponseHead) (end : List ℕ) (q : Room) → Skips skipped input end
+prefix : (room : Room) (input : List ℕ) (h : ResponseHead) (rest : List ℕ) (skipped : List ResponseHead) (end : List ℕ) (q : Room) → Skips skipped input end
     → bytes_of skipped + q.bytes ≡ room.bytes → lines_of skipped + q.lines ≡ room.lines → Begins h rest q end → Front room input
-front room input h rest [] end q skips bytes lines begins = record {
+prefix room input h rest [] end q skips bytes lines begins = record {
   head = h;
   rest = rest;
   begins = record {
@@ -102,7 +102,7 @@ front room input h rest [] end q skips bytes lines begins = record {
     few = omega (arith, lines, begins.few);
   };
 }
-front room input h rest (j ∷ skipped) end q (next, reads, interim, plain, skips) bytes lines begins = record {
+prefix room input h rest (j ∷ skipped) end q (next, reads, interim, plain, skips) bytes lines begins = record {
   head = j;
   rest = next;
   begins = record {
@@ -114,9 +114,9 @@ front room input h rest (j ∷ skipped) end q (next, reads, interim, plain, skip
 
 -- one with a final head begins with a head
 pub front_of : (room : Room) (input : List ℕ) (h : ResponseHead) (rest : List ℕ) → HasFinal room input h rest → Front room input
-front_of room input h rest (b, final) = front room input h rest b.skipped b.middle b.left b.skips b.bytes b.lines b.holds
+front_of room input h rest (b, final) = prefix room input h rest b.skipped b.middle b.left b.skips b.bytes b.lines b.holds
 
--- a fault of the head at the front is one of the heads
+-- a fault of the head at the start is one of the heads
 pub refuses_front : (room : Room) (input : List ℕ) (fault : Fault) → RefusesHead Response room.bytes room.lines input fault → RefusesHeads room input fault
 refuses_front room input Cut (none, may, short) =
     (λ h rest has. let f = front_of room input h rest has in none f.head f.rest f.begins.reads, behind_none room input IsUnfinished (none, may, short))

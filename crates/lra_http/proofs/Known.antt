@@ -35,16 +35,16 @@ part_kept old mid new n bs p q = part_of_take old new n bs (Keeps-appends old mi
 pub part_before : {A E : Type 0} (result : Result A E) (old new : Option (List ℕ)) (head body : List ℕ) → AppendsPart old new head
     → OnErr result (AppendsPart old new (head ++ body))
 part_before (Ok a) old new head body p = tt
-part_before (Err e) old new head body (front, rest, whole, h) =
-    (front, rest ++ body, ap (λ (l : List ℕ). l ++ body) whole ∙ append_assoc front rest body, h)
+part_before (Err e) old new head body (prefix, rest, whole, h) =
+    (prefix, rest ++ body, ap (λ (l : List ℕ). l ++ body) whole ∙ append_assoc prefix rest body, h)
 
 -- all of what comes first, and a part of what follows
 pub part_after : {A E : Type 0} (result : Result A E) (old mid new : Option (List ℕ)) (head body : List ℕ) → Appends old mid head
     → OnErr result (AppendsPart mid new body) → OnErr result (AppendsPart old new (head ++ body))
 part_after (Ok a) old mid new head body p q = tt
-part_after (Err e) old mid new head body p (front, rest, whole, h) = (
-  head ++ front,
+part_after (Err e) old mid new head body p (prefix, rest, whole, h) = (
+  head ++ prefix,
   rest,
-  ap (λ (l : List ℕ). head ++ l) whole ∙ sym (append_assoc head front rest),
-  Appends-trans old mid new head front p h,
+  ap (λ (l : List ℕ). head ++ l) whole ∙ sym (append_assoc head prefix rest),
+  Appends-trans old mid new head prefix p h,
 )

@@ -1,4 +1,4 @@
--- Whole responses at the front of the input.
+-- Whole responses at the start of the input.
 use Rattle.std.proofs.Common.{◌≡◌, ℕ, ◌+◌, ◌<◌, ◌⊎◌, inl, inr, Bool, true, false, cond, List, [], ◌∷◌, ◌++◌, length, take, drop, map, sym, ◌∙◌, ap, refl, append-nil, arith, Option, Some, None, length-append, IfSome, IfErr, subst, Result, Ok, Err, codes, IsTrue, IsFalse}
 use Rattle.std.proofs.lemmas.Bool.Decides.{nat_tests}
 use Rattle.std.specs.Io.KnownBytes.{Consumes}
@@ -11,8 +11,8 @@ use Rattle.lra_http.specs.declared.fault.Fault.{Fault}
 use Rattle.lra_http.specs.declared.fault.Fault.TheVariants.{Cut, ReadFault, WriteFault, HeadTooLong, BodyTooLong, BadHead, LengthNeeded, NotOffered, NoMemory}
 use Rattle.lra_http.specs.declared.message.Response.{Response as Answer}
 use Rattle.lra_http.specs.Bodies.{RefusesBody}
-use Rattle.lra_http.specs.Fields.{field_bytes, values, is_number, is_bare, without_body, stated_length, response_length}
-use Rattle.lra_http.specs.Responses.{Room, head_room, is_interim, is_switch, Skips, bytes_of, lines_of, Behind, Begins, HasFinal, stated, IsResponse, HasNoResponse, IsHopeless, IsSwitched, RefusesHeads, HasFault, Refuses, IsTaken, ArePartsOf, IsFinalRead}
+use Rattle.lra_http.specs.HeadFields.{field_bytes, values, is_number, is_bare, without_body, stated_length, response_length}
+use Rattle.lra_http.specs.Responses.{Room, head_room, is_interim, is_switch, Skips, bytes_of, lines_of, Behind, Begins, HasFinal, stated, IsResponse, HasNoResponse, IsHopeless, IsSwitched, RefusesHeads, HasFault, Refuses, IsRead, ArePartsOf, IsFinalRead}
 use Rattle.lra_http.proofs.Interims.{not_both, Interim, final_less, front_of}
 
 -- ---- an input has one final head
@@ -59,7 +59,7 @@ beside room input P h rest b has = record {
   final = meet h rest b.skipped b.middle b.left room input b.skips b.bytes b.lines has;
 }
 
--- the head at the front is the final one, or an interim one
+-- the head at the start is the final one, or an interim one
 data First (k : ResponseHead) (p : List ℕ) (h : ResponseHead) (rest : List ℕ) : Type 0 where
   the_final : k ≡ h → p ≡ rest → First k p h rest
   skipped : IsTrue (is_interim (status_code k)) → IsFalse (is_switch (status_code k)) → First k p h rest
@@ -248,14 +248,14 @@ pub exit_taken : (limit : ℕ) (old left new : Option (List ℕ)) (bytes looked 
     → IsFinalRead old left bytes → looked ≡ bytes → ArePartsOf looked headers spans
     → response_length limit spans.code (map (header_bytes bytes) (take spans.headers headers)) ≡ Ok size
     → answer.body ≡ items → length items ≡ size → Consumes left new items → answer.status ≡ spans.code
-    → map field_bytes answer.fields ≡ map (header_bytes bytes) (take spans.headers headers) → IfSome old (λ input. IsTaken head_room limit input new answer)
+    → map field_bytes answer.fields ≡ map (header_bytes bytes) (take spans.headers headers) → IfSome old (λ input. IsRead head_room limit input new answer)
 exit_taken limit None left new bytes looked headers spans size answer items f same p e body size_is taken code fields = tt
 exit_taken limit (Some input) left new bytes looked headers spans size answer items f same p e body size_is taken code fields =
     let final = final_parts limit input left bytes headers spans f (subst (λ (b : List ℕ). ArePartsOf b headers spans) same p) in
     took new final (rw body (subst (λ (o : Option (List ℕ)). Consumes o new items) final.left_is taken))
   where
     took : (new : Option (List ℕ)) → (final : Final limit input left bytes headers spans) → Consumes (Some final.rest) new answer.body
-        → IsTaken head_room limit input new answer
+        → IsRead head_room limit input new answer
     took None final taken = absurd taken
     took (Some more) final taken = record {
       head = final.head;

@@ -1,4 +1,4 @@
--- Whole requests at the front of the input.
+-- Whole requests at the start of the input.
 use Rattle.std.proofs.Common.{◌≡◌, ℕ, ◌+◌, ◌<◌, ◌⊎◌, inl, inr, Bool, true, false, cond, List, [], ◌∷◌, ◌++◌, length, take, drop, map, sym, ◌∙◌, ap, refl, append-nil, arith, Option, Some, None, length-append, IfSome, IfErr, subst, Result, Ok, Err, codes}
 use Rattle.std.specs.Io.KnownBytes.{Consumes}
 use Rattle.httparse.specs.Grammar.{RequestHead, ReadsRequest, print_request}
@@ -11,9 +11,9 @@ use Rattle.lra_http.specs.declared.fault.Fault.TheVariants.{Cut, ReadFault, Writ
 use Rattle.lra_http.specs.declared.head.Kind.TheVariants.{Request}
 use Rattle.lra_http.specs.declared.message.Request.{Request as Question}
 use Rattle.lra_http.specs.Bodies.{RefusesBody}
-use Rattle.lra_http.specs.Fields.{field_bytes, values, is_number, asked_length, request_length}
+use Rattle.lra_http.specs.HeadFields.{field_bytes, values, is_number, asked_length, request_length}
 use Rattle.lra_http.specs.Heads.{IsHead, IsHeadRead, RefusesHead}
-use Rattle.lra_http.specs.Requests.{stated, HasHead, HasFault, HasNoRequest, IsRequest, Refuses, IsTaken, ArePartsOf}
+use Rattle.lra_http.specs.Requests.{stated, HasHead, HasFault, HasNoRequest, IsRequest, Refuses, IsRead, ArePartsOf}
 
 -- the parser's spans of bytes that are a head
 pub parts_are : (bytes : List ℕ) (headers : List HeaderSpan) (spans : RequestSpans) (lines : ℕ) → IsHead Request bytes lines
@@ -169,14 +169,14 @@ pub exit_taken : (limit : ℕ) (old left new : Option (List ℕ)) (bytes looked 
     → request_length limit spans.version (map (header_bytes bytes) (take spans.headers headers)) ≡ Ok size
     → question.body ≡ items → length items ≡ size → Consumes left new items
     → question.method ≡ span_bytes bytes spans.method → question.target ≡ span_bytes bytes spans.path
-    → map field_bytes question.fields ≡ map (header_bytes bytes) (take spans.headers headers) → IfSome old (λ input. IsTaken limit input new question)
+    → map field_bytes question.fields ≡ map (header_bytes bytes) (take spans.headers headers) → IfSome old (λ input. IsRead limit input new question)
 exit_taken limit None left new bytes looked headers spans size question items f same p e body size_is taken method target fields = tt
 exit_taken limit (Some input) left new bytes looked headers spans size question items f same p e body size_is taken method target fields =
     let first = first_parts limit input left bytes headers spans f (subst (λ (b : List ℕ). ArePartsOf b headers spans) same p) in
     took new first (rw body (subst (λ (o : Option (List ℕ)). Consumes o new items) first.left_is taken))
   where
     took : (new : Option (List ℕ)) → (first : First limit input left bytes headers spans) → Consumes (Some first.rest) new question.body
-        → IsTaken limit input new question
+        → IsRead limit input new question
     took None first taken = absurd taken
     took (Some more) first taken = record {
       head = first.head;

@@ -30,37 +30,37 @@ data Reason (limit : ℕ) (input : List ℕ) (fault : Fault) : Type 0 where
 -- ---- no two of them
 
 -- bytes that can become a head have no front that never can
-never_may : (front rest bytes : List ℕ) → NeverHasRequest front → bytes ≡ front ++ rest
+never_may : (prefix rest bytes : List ℕ) → NeverHasRequest prefix → bytes ≡ prefix ++ rest
     → ((more : List ℕ) × (h : RequestHead) × ReadsRequest (bytes ++ more) h []) → ⊥
-never_may front rest bytes never whole (more, h, reads) =
-    let joined : bytes ++ more ≡ front ++ (rest ++ more) = ap (λ (t : List ℕ). t ++ more) whole ∙ append_assoc front rest more in
+never_may prefix rest bytes never whole (more, h, reads) =
+    let joined : bytes ++ more ≡ prefix ++ (rest ++ more) = ap (λ (t : List ℕ). t ++ more) whole ∙ append_assoc prefix rest more in
     never (rest ++ more) h [] (subst (λ (t : List ℕ). ReadsRequest t h []) joined reads)
 
-never_longer : (front rest bytes : List ℕ) → NeverHasRequest front → bytes ≡ front ++ rest → NeverHasRequest bytes
-never_longer front rest bytes never whole = λ more h after reads.
-    let joined : bytes ++ more ≡ front ++ (rest ++ more) = ap (λ (t : List ℕ). t ++ more) whole ∙ append_assoc front rest more in
+never_longer : (prefix rest bytes : List ℕ) → NeverHasRequest prefix → bytes ≡ prefix ++ rest → NeverHasRequest bytes
+never_longer prefix rest bytes never whole = λ more h after reads.
+    let joined : bytes ++ more ≡ prefix ++ (rest ++ more) = ap (λ (t : List ℕ). t ++ more) whole ∙ append_assoc prefix rest more in
     never (rest ++ more) h after (subst (λ (t : List ℕ). ReadsRequest t h after) joined reads)
 
-hopeless_front : (front rest bytes behind input : List ℕ) → IsTextSoFar input → NeverHasRequest front → bytes ≡ front ++ rest → input ≡ bytes ++ behind
+hopeless_front : (prefix rest bytes behind input : List ℕ) → IsTextSoFar input → NeverHasRequest prefix → bytes ≡ prefix ++ rest → input ≡ bytes ++ behind
     → MayBecomeRequest bytes → ⊥
-hopeless_front front rest bytes behind input text never whole is (inl may) = never_may front rest bytes never whole may
-hopeless_front front rest bytes behind input text never whole is (inr target) =
-    text bytes behind is target (never_longer front rest bytes never whole)
+hopeless_front prefix rest bytes behind input text never whole is (inl may) = never_may prefix rest bytes never whole may
+hopeless_front prefix rest bytes behind input text never whole is (inr target) =
+    text bytes behind is target (never_longer prefix rest bytes never whole)
 
 cut_or_bad : (input : List ℕ) → IsTextSoFar input → IsUnfinished input → IsHopeless input → ⊥
-cut_or_bad input text (none, may, short) n = hopeless_front n.front n.rest input [] input text n.never n.whole (sym (append-nil input)) may
+cut_or_bad input text (none, may, short) n = hopeless_front n.prefix n.rest input [] input text n.never n.whole (sym (append-nil input)) may
 
 cut_or_long : (input : List ℕ) → IsUnfinished input → IsLengthy input → ⊥
 cut_or_long input (none, may, short) (l, within) =
-    let sizes : length input ≡ length l.front + length l.rest = ap length l.whole ∙ length-append l.front l.rest in
+    let sizes : length input ≡ length l.prefix + length l.rest = ap length l.whole ∙ length-append l.prefix l.rest in
     let long = l.long in omega (arith, sizes, short, long)
 
 bad_or_long : (input : List ℕ) → IsTextSoFar input → IsHopeless input → IsLengthy input → ⊥
 bad_or_long input text n (l, within) =
     let short = n.short in
     let long = l.long in
-    hopeless_front n.front (drop (length n.front) l.front) l.front l.rest input text n.never
-    (shorter n.front l.front n.rest l.rest (sym n.whole ∙ l.whole) (omega (arith, short, long))) l.whole l.may
+    hopeless_front n.prefix (drop (length n.prefix) l.prefix) l.prefix l.rest input text n.never
+    (shorter n.prefix l.prefix n.rest l.rest (sym n.whole ∙ l.whole) (omega (arith, short, long))) l.whole l.may
 
 cut_or_final : (input : List ℕ) (h : RequestHead) (rest : List ℕ) → IsUnfinished input → HasHead input h rest → ⊥
 cut_or_final input h rest (none, may, short) has = none h rest has.reads

@@ -9,9 +9,9 @@ use Rattle.lra_http.specs.Heads.{IsLong}
 use Rattle.lra_http.specs.Responses.{Room, is_interim, is_switch, Skips, bytes_of, lines_of, Behind, Begins, IsUnfinished, IsHopeless, IsSwitched}
 use Rattle.lra_http.proofs.Interims.{not_both}
 
--- ---- two texts at the front of one input
+-- ---- two texts at the start of one input
 
--- the shorter is at the front of the longer
+-- the shorter is at the start of the longer
 pub shorter : (a b rest more : List ℕ) → a ++ rest ≡ b ++ more → length a ≤ length b → b ≡ a ++ drop (length a) b
 shorter a b rest more e short =
     let n = length a in
@@ -50,13 +50,13 @@ long_at most bytes h rest l reads fits =
     let text = print_response h in
     let size = l.long in
     let may = l.may in
-    let front : l.front ≡ text ++ drop (length text) l.front =
-    shorter text l.front rest l.rest (sym reads.1 ∙ l.whole) (omega (arith, fits, size)) in
-    let joined : l.front ++ may.0 ≡ text ++ (drop (length text) l.front ++ may.0) =
-    ap (λ (t : List ℕ). t ++ may.0) front ∙ append_assoc text (drop (length text) l.front) may.0 in
-    let same = response_unique (l.front ++ may.0) h may.1 (drop (length text) l.front ++ may.0) [] (reads.0, joined) may.2 in
-    let sizes : length l.front + length may.0 ≡ length text =
-    sym (length-append l.front may.0) ∙ ap length (joined ∙ ap (λ (t : List ℕ). text ++ t) same.1 ∙ append-nil text) in
+    let prefix : l.prefix ≡ text ++ drop (length text) l.prefix =
+    shorter text l.prefix rest l.rest (sym reads.1 ∙ l.whole) (omega (arith, fits, size)) in
+    let joined : l.prefix ++ may.0 ≡ text ++ (drop (length text) l.prefix ++ may.0) =
+    ap (λ (t : List ℕ). t ++ may.0) prefix ∙ append_assoc text (drop (length text) l.prefix) may.0 in
+    let same = response_unique (l.prefix ++ may.0) h may.1 (drop (length text) l.prefix ++ may.0) [] (reads.0, joined) may.2 in
+    let sizes : length l.prefix + length may.0 ≡ length text =
+    sym (length-append l.prefix may.0) ∙ ap length (joined ∙ ap (λ (t : List ℕ). text ++ t) same.1 ∙ append-nil text) in
     omega (arith, sizes, fits, size)
 
 pub lengthy_halts : Halts IsLengthy
@@ -108,12 +108,12 @@ one_place P Q hp hq room input a b =
 
 pub unfinished_or_hopeless : (room : Room) (bytes : List ℕ) → IsUnfinished room bytes → IsHopeless room bytes → ⊥
 unfinished_or_hopeless room bytes (none, (more, h, reads), short) n =
-    let joined : bytes ++ more ≡ n.front ++ (n.rest ++ more) = ap (λ (t : List ℕ). t ++ more) n.whole ∙ append_assoc n.front n.rest more in
+    let joined : bytes ++ more ≡ n.prefix ++ (n.rest ++ more) = ap (λ (t : List ℕ). t ++ more) n.whole ∙ append_assoc n.prefix n.rest more in
     n.never (n.rest ++ more) h [] (subst (λ (t : List ℕ). ReadsResponse t h []) joined reads)
 
 pub unfinished_or_lengthy : (room : Room) (bytes : List ℕ) → IsUnfinished room bytes → IsLengthy room bytes → ⊥
 unfinished_or_lengthy room bytes (none, may, short) l =
-    let sizes : length bytes ≡ length l.front + length l.rest = ap length l.whole ∙ length-append l.front l.rest in
+    let sizes : length bytes ≡ length l.prefix + length l.rest = ap length l.whole ∙ length-append l.prefix l.rest in
     let long = l.long in omega (arith, sizes, short, long)
 
 pub hopeless_or_lengthy : (room : Room) (bytes : List ℕ) → IsHopeless room bytes → IsLengthy room bytes → ⊥
@@ -121,8 +121,8 @@ hopeless_or_lengthy room bytes n l =
     let short = n.short in
     let long = l.long in
     let may = l.may in
-    let front : l.front ≡ n.front ++ drop (length n.front) l.front =
-    shorter n.front l.front n.rest l.rest (sym n.whole ∙ l.whole) (omega (arith, short, long)) in
-    let joined : l.front ++ may.0 ≡ n.front ++ (drop (length n.front) l.front ++ may.0) =
-    ap (λ (t : List ℕ). t ++ may.0) front ∙ append_assoc n.front (drop (length n.front) l.front) may.0 in
-    n.never (drop (length n.front) l.front ++ may.0) may.1 [] (subst (λ (t : List ℕ). ReadsResponse t may.1 []) joined may.2)
+    let prefix : l.prefix ≡ n.prefix ++ drop (length n.prefix) l.prefix =
+    shorter n.prefix l.prefix n.rest l.rest (sym n.whole ∙ l.whole) (omega (arith, short, long)) in
+    let joined : l.prefix ++ may.0 ≡ n.prefix ++ (drop (length n.prefix) l.prefix ++ may.0) =
+    ap (λ (t : List ℕ). t ++ may.0) prefix ∙ append_assoc n.prefix (drop (length n.prefix) l.prefix) may.0 in
+    n.never (drop (length n.prefix) l.prefix ++ may.0) may.1 [] (subst (λ (t : List ℕ). ReadsResponse t may.1 []) joined may.2)

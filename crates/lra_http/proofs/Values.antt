@@ -13,10 +13,10 @@ use Rattle.std.proofs.lemmas.Bool.Decides.{nat_tests}
 use Rattle.httparse.specs.Spans.{header_bytes, span_bytes}
 use Rattle.httparse.specs.declared.spans.HeaderSpan.{HeaderSpan}
 use Rattle.lra_http.specs.declared.fields.Found.{Found}
-use Rattle.lra_http.specs.Fields.{IsFound}
+use Rattle.lra_http.specs.HeadFields.{IsFound}
 use Rattle.std.proofs.Math.Seq.{drop-cons}
 use Rattle.lra_http.specs.declared.message.Field.{Field}
-use Rattle.lra_http.specs.Fields.{values, field_bytes, first_value, is_named, is_number}
+use Rattle.lra_http.specs.HeadFields.{values, field_bytes, first_value, is_named, is_number}
 
 -- one more field
 pub values_push : (name : List ℕ) (fields : List (List ℕ × List ℕ)) (field : List ℕ × List ℕ) (b : Bool) → is_named name field ≡ b

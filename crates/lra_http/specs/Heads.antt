@@ -1,4 +1,4 @@
--- Heads of messages of either kind, as texts at the front of some bytes.
+-- Heads of messages of either kind, as texts at the start of some bytes.
 use Rattle.std.specs.Prelude.{◌≡◌, ℕ, ◌+◌, ◌<◌, ◌≤◌, ◌⊎◌, ◌≢◌, IsTrue, Bool, true, false, List, ◌++◌, length, Option}
 use Rattle.std.specs.Io.KnownBytes.{Consumes}
 use Rattle.httparse.specs.Ascii.{line_feed}
@@ -77,30 +77,30 @@ MayLack spaced byte size most true = Unit {0}
 MayLack spaced byte size most false = (IsTrue spaced → byte ≢ line_feed) × (size ≤ most)
 
 -- the bytes that were taken are a head within the limits
-pub record IsHeadTaken (kind : Kind) (most room : ℕ) (bytes : List ℕ) : Type 0 where
+pub record IsHeadWithin (kind : Kind) (most room : ℕ) (bytes : List ℕ) : Type 0 where
   pub lines : ℕ
   pub head : IsHead kind bytes lines
   pub short : length bytes ≤ most
   pub few : lines ≤ room
 
 abbrev pub IsHeadRead : Kind → ℕ → ℕ → Option (List ℕ) → Option (List ℕ) → List ℕ → Type 0
-IsHeadRead kind most room old new bytes = Consumes old new bytes × IsHeadTaken kind most room bytes
+IsHeadRead kind most room old new bytes = Consumes old new bytes × IsHeadWithin kind most room bytes
 
 -- a prefix of the input, at most one byte longer than a head may be, that no bytes can make a head
 pub record IsNoHead (kind : Kind) (most : ℕ) (input : List ℕ) : Type 0 where
-  pub front : List ℕ
+  pub prefix : List ℕ
   pub rest : List ℕ
-  pub whole : input ≡ front ++ rest
-  pub short : length front ≤ most + 1
-  pub never : NeverHasHead kind front
+  pub whole : input ≡ prefix ++ rest
+  pub short : length prefix ≤ most + 1
+  pub never : NeverHasHead kind prefix
 
 -- the input goes on for one byte more than a head may have, and so far could be a head
 pub record IsLong (kind : Kind) (most : ℕ) (input : List ℕ) : Type 0 where
-  pub front : List ℕ
+  pub prefix : List ℕ
   pub rest : List ℕ
-  pub whole : input ≡ front ++ rest
-  pub long : length front ≡ most + 1
-  pub may : MayBecomeHead kind front
+  pub whole : input ≡ prefix ++ rest
+  pub long : length prefix ≡ most + 1
+  pub may : MayBecomeHead kind prefix
 
 -- no head within the limits, and more bytes or field lines than they allow
 abbrev pub IsHeadTooLong : Kind → ℕ → ℕ → List ℕ → Type 0

@@ -9,7 +9,7 @@ use Rattle.lra_http.specs.declared.fault.Fault.TheVariants.{Cut, ReadFault, Writ
 use Rattle.lra_http.specs.declared.head.Kind.TheVariants.{Request}
 use Rattle.lra_http.specs.declared.message.Request.{Request as Question}
 use Rattle.lra_http.specs.Heads.{RefusesHead, most_bytes, most_lines}
-use Rattle.lra_http.specs.Fields.{field_bytes, request_length}
+use Rattle.lra_http.specs.HeadFields.{field_bytes, request_length}
 
 -- what the fields of a head state
 abbrev pub stated : ℕ → RequestHead → Result ℕ Fault
@@ -52,10 +52,10 @@ Refuses limit input NoMemory = Unit {0}
 
 -- what came of a target so far can still be a text
 abbrev pub IsTextSoFar : List ℕ → Type 0
-IsTextSoFar input = (front rest : List ℕ) → input ≡ front ++ rest → EndsInTarget front → ¬ (NeverHasRequest front)
+IsTextSoFar input = (prefix rest : List ℕ) → input ≡ prefix ++ rest → EndsInTarget prefix → ¬ (NeverHasRequest prefix)
 
 -- the input began with this whole request, and the rest is left
-pub record IsTaken (limit : ℕ) (input : List ℕ) (left : Option (List ℕ)) (question : Question) : Type 0 where
+pub record IsRead (limit : ℕ) (input : List ℕ) (left : Option (List ℕ)) (question : Question) : Type 0 where
   pub head : RequestHead
   pub rest : List ℕ
   pub whole : IsRequest limit input head question.body rest

@@ -9,7 +9,7 @@ use Rattle.lra_http.specs.declared.fault.Fault.TheVariants.{Cut, ReadFault, Writ
 use Rattle.lra_http.specs.declared.head.Kind.TheVariants.{Response}
 use Rattle.lra_http.specs.declared.message.Response.{Response as Answer}
 use Rattle.lra_http.specs.Heads.{HasNoHead, IsNoHead, IsLong, Exceeds, most_bytes, most_lines}
-use Rattle.lra_http.specs.Fields.{field_bytes, response_length}
+use Rattle.lra_http.specs.HeadFields.{field_bytes, response_length}
 
 -- how many bytes and field lines heads may have
 pub record Room : Type 0 where
@@ -27,7 +27,7 @@ is_interim code = nat_le 100 code && nat_lt code 200
 abbrev pub is_switch : ℕ → Bool
 is_switch code = code == 101
 
--- these interim heads stand at the front, and rest follows
+-- these interim heads stand at the start, and rest follows
 abbrev pub Skips : List ResponseHead → List ℕ → List ℕ → Type 0
 Skips [] input rest = input ≡ rest
 Skips (h ∷ heads) input rest =
@@ -137,7 +137,7 @@ Refuses room limit input ReadFault = Unit {0}
 Refuses room limit input NoMemory = Unit {0}
 
 -- the input began with this whole response, and the rest is left
-pub record IsTaken (room : Room) (limit : ℕ) (input : List ℕ) (left : Option (List ℕ)) (answer : Answer) : Type 0 where
+pub record IsRead (room : Room) (limit : ℕ) (input : List ℕ) (left : Option (List ℕ)) (answer : Answer) : Type 0 where
   pub head : ResponseHead
   pub rest : List ℕ
   pub whole : IsResponse room limit input head answer.body rest

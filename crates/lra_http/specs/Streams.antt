@@ -24,9 +24,9 @@ most_interrupted = 1024
 abbrev pub HasCause : (failed_before failed_after interrupted : ℕ) → Type 0
 HasCause failed_before failed_after interrupted = (failed_before < failed_after) ⊎ (interrupted ≡ most_interrupted)
 
--- known bytes grow by a front of bs
+-- known bytes grow by a prefix of bs
 abbrev pub AppendsPart : Option (List ℕ) → Option (List ℕ) → List ℕ → Type 0
-AppendsPart old new bs = (front rest : List ℕ) × (bs ≡ front ++ rest) × Appends old new front
+AppendsPart old new bs = (prefix rest : List ℕ) × (bs ≡ prefix ++ rest) × Appends old new prefix
 
 -- a call failed, or the interrupted ones of the message are the most that there may be
 abbrev pub IsLost : (failed_before failed_after interrupted_before interrupted_after : ℕ) → Type 0

@@ -4,7 +4,7 @@ ghost use Rattle.std.specs.List.{list_all};
 ghost use Rattle.std.specs.Char.{is_ascii_digit};
 ghost use Rattle.std.specs.Str.Parse.{digits_value};
 ghost use Rattle.httparse.specs.Spans.{IsHeaderWithin, header_bytes};
-ghost use Rattle.lra_http.specs.Fields.{IsFound, first_value, length_in, values, is_number, field_bytes, response_length, request_length};
+ghost use Rattle.lra_http.specs.HeadFields.{IsFound, first_value, length_in, values, is_number, field_bytes, response_length, request_length};
 ghost use Rattle.lra_http.specs.declared.fault.Fault.TheVariants.{NoMemory};
 
 use crate::{Bytes, Fault, Field, Fields};

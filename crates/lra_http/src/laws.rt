@@ -3,12 +3,12 @@ ghost use Rattle.std.specs.Prelude.{◌≡◌, ◌++◌, ◌∷◌, ℕ, List, m
 ghost use Rattle.httparse.specs.Grammar.{RequestHead, ResponseHead, status_code};
 ghost use Rattle.httparse.specs.Spans.{name_and_value};
 ghost use Rattle.lra_http.specs.Faults.{IsOfBytes};
-ghost use Rattle.lra_http.specs.Fields.{field_bytes};
+ghost use Rattle.lra_http.specs.HeadFields.{field_bytes};
 ghost use Rattle.lra_http.specs.Heads.{Exceeds, most_lines};
 ghost use Rattle.lra_http.specs.Requests.{IsRequest, IsTextSoFar, Refuses as RefusesRequest};
 ghost use Rattle.lra_http.specs.Responses.{Behind, IsCrowded, IsResponse, Refuses as RefusesResponse, head_room};
-ghost use Rattle.lra_http.specs.Texts.{request_text, response_text};
-ghost use Rattle.lra_http.specs.Written.{IsSound, IsSoundCall, host_field};
+ghost use Rattle.lra_http.specs.MessageTexts.{request_text, response_text};
+ghost use Rattle.lra_http.specs.WholeMessages.{IsSound, IsSoundCall, host_field};
 ghost use Rattle.lra_http.specs.declared.fault.Fault.{Fault as TheFault};
 ghost use Rattle.lra_http.specs.declared.head.Kind.TheVariants.{Request as OfRequest};
 ghost use Rattle.lra_http.specs.declared.message.CallRequest.{CallRequest as TheCall};

@@ -78,7 +78,7 @@ pub trait Sink {
     /// How many of them were interrupted.
     ghost interrupted: { Self → ℕ };
 
-    /// Writes some bytes from the front of `bytes`, at least one if there is any, and says how many. A call that takes
+    /// Writes some bytes from the start of `bytes`, at least one if there is any, and says how many. A call that takes
     /// none of some bytes counts as failed. One that is interrupted or fails writes nothing.
     fn write_some(&mut self, bytes: &[u8]) -> Result<usize, CallError>
         ensures bound { IfOk result (λ n. n ≤ length bytes.now) }

@@ -3,9 +3,9 @@ ghost use Rattle.std.specs.Prelude.{◌≡◌, ◌⊎◌, ℕ, ◌+◌, ◌<◌,
 ghost use Rattle.std.specs.Io.KnownBytes.{IsAtEnd};
 ghost use Rattle.httparse.specs.Grammar.{IsToken, RequestHead};
 ghost use Rattle.lra_http.specs.Streams.{IsLost, most_interrupted};
-ghost use Rattle.lra_http.specs.Fields.{field_bytes, first_value};
+ghost use Rattle.lra_http.specs.HeadFields.{field_bytes, first_value};
 ghost use Rattle.lra_http.specs.Heads.{IsHead};
-ghost use Rattle.lra_http.specs.Requests.{IsRequest, IsTaken, Refuses, ArePartsOf};
+ghost use Rattle.lra_http.specs.Requests.{IsRequest, IsRead, Refuses, ArePartsOf};
 ghost use Rattle.lra_http.specs.declared.fault.Fault.TheVariants.{Cut, NoMemory, ReadFault};
 ghost use Rattle.lra_http.specs.declared.head.Kind.TheVariants.{Request as OfRequest};
 
@@ -75,7 +75,7 @@ pub fn read_request<S: Source>(
 ) -> Result<Request, Fault>
     requires limit { limit < 2 ^ 31 }
     // What is taken is one whole request, and no byte more.
-    ensures message { IfOk result (λ request. IfSome (S.left source.old) (λ input. IsTaken limit input (S.left source.new) request)) }
+    ensures message { IfOk result (λ request. IfSome (S.left source.old) (λ input. IsRead limit input (S.left source.new) request)) }
     // Where each fault comes.
     ensures fault { IfErr result (λ fault. IfSome (S.left source.old) (λ input. Refuses limit input fault)) }
     ensures ended { IfErr result (λ fault. fault ≡ Cut → IfSome (S.left source.old) (λ _. IsAtEnd (S.left source.new))) }

@@ -5,7 +5,7 @@ ghost use Rattle.http.specs.StatusCode.{IsStatusCode};
 ghost use Rattle.httparse.specs.Grammar.{ResponseHead};
 ghost use Rattle.lra_http.specs.Streams.{HasCause, IsLost, most_interrupted};
 ghost use Rattle.lra_http.specs.Heads.{IsHead};
-ghost use Rattle.lra_http.specs.Responses.{head_room, is_interim, IsResponse, IsTaken, Refuses, RefusesHeads, ArePartsOf, IsFinalRead};
+ghost use Rattle.lra_http.specs.Responses.{head_room, is_interim, IsResponse, IsRead, Refuses, RefusesHeads, ArePartsOf, IsFinalRead};
 ghost use Rattle.lra_http.specs.declared.fault.Fault.TheVariants.{Cut, NoMemory, ReadFault};
 ghost use Rattle.lra_http.specs.declared.head.Kind.TheVariants.{Response as OfResponse};
 
@@ -96,7 +96,7 @@ pub fn read_response<S: Source>(
 ) -> Result<Response, Fault>
     requires limit { limit < 2 ^ 31 }
     // What is taken is one whole response, and no byte more.
-    ensures message { IfOk result (λ response. IfSome (S.left source.old) (λ input. IsTaken head_room limit input (S.left source.new) response)) }
+    ensures message { IfOk result (λ response. IfSome (S.left source.old) (λ input. IsRead head_room limit input (S.left source.new) response)) }
     // Where each fault comes.
     ensures fault { IfErr result (λ fault. IfSome (S.left source.old) (λ input. Refuses head_room limit input fault)) }
     ensures ended { IfErr result (λ fault. fault ≡ Cut → IfSome (S.left source.old) (λ _. IsAtEnd (S.left source.new))) }

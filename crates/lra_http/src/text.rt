@@ -2,7 +2,7 @@
 ghost use Rattle.std.specs.Prelude.{◌≡◌, ◌⊎◌, ℕ, ◌+◌, ◌<◌, ◌++◌, List, [], IfOk, IfErr, OnOk, OnErr};
 ghost use Rattle.std.specs.Io.KnownBytes.{Appends, Keeps};
 ghost use Rattle.lra_http.specs.Streams.{AppendsPart, IsLost, most_interrupted};
-ghost use Rattle.lra_http.specs.Texts.{field_line, field_lines, host_line, phrase, request_head, request_line, request_text, response_head, response_text, status_line};
+ghost use Rattle.lra_http.specs.MessageTexts.{field_line, field_lines, host_line, phrase, request_head, request_line, request_text, response_head, response_text, status_line};
 ghost use Rattle.lra_http.specs.declared.fault.Fault.TheVariants.{NoMemory, WriteFault as OnWrite};
 
 use crate::{CallRequest, Fault, Field, Response, Sink, Text, WriteFault, write_all};
@@ -30,7 +30,7 @@ fn push_fields(text: &mut Vec<u8>, fields: &[Field]) -> Result<(), AllocError>
 }
 
 /// The phrase of a status, empty where it has none.
-#[tactic(auto, unfolding(crate::specs::Texts::phrase))]
+#[tactic(auto, unfolding(crate::specs::MessageTexts::phrase))]
 fn phrase_of(status: StatusCode) -> &'static str
     ensures { result.now ≡ phrase status }
 {
@@ -104,7 +104,7 @@ fn write_parts<W: Sink>(sink: &mut W, head: &[u8], body: &[u8]) -> Result<(), Wr
     write_all(sink, body, &mut interrupted)
 }
 
-/// Writes a response: its text, or a part from the front of it before a fault. The length of the body stands in the text
+/// Writes a response: its text, or a prefix of it before a fault. The length of the body stands in the text
 /// only if it is among the fields. Errors: `WriteFault`, and `NoMemory` before anything is written.
 pub fn write_response<W: Sink>(
     alloc: Global,
@@ -127,7 +127,7 @@ pub fn write_response<W: Sink>(
     Ok(())
 }
 
-/// Writes a request: its text, or a part from the front of it before a fault. The length of the body stands in the text
+/// Writes a request: its text, or a prefix of it before a fault. The length of the body stands in the text
 /// only if it is among the fields. Errors: `WriteFault`, and `NoMemory` before anything is written.
 pub fn write_request<W: Sink>(
     alloc: Global,

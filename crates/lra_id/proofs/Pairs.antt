@@ -3,7 +3,7 @@ use Rattle.std.proofs.Common.{◌≡◌, ◌<◌, ◌+◌, ◌-◌, ℕ, zero, s
 use Rattle.std.proofs.Math.Seq.{take-append_seam}
 use Rattle.std.proofs.lemmas.List.{length-take-le}
 use Rattle.lra_id.specs.declared.front.Front.TheInside.{Inside}
-use Rattle.lra_id.specs.FrontParts.{IsKept, counts_of}
+use Rattle.lra_id.specs.FrontParts.{IsPadded, counts_of}
 use Rattle.lra_id.specs.Fronts.{pairwise, join_fronts, meet_fronts, IsBelow}
 
 -- the first i nodes are paired
@@ -54,15 +54,15 @@ pub record AreAlike (a b : Inside) : Type 0 where
   pub nodes : b.nodes ≡ a.nodes
   pub fronts : length (take a.nodes a.counts) ≡ length (take a.nodes b.counts)
 
-pub alike : (a b : Inside) → IsKept a → IsKept b → length (counts_of a) ≡ length (counts_of b) → AreAlike a b
+pub alike : (a b : Inside) → IsPadded a → IsPadded b → length (counts_of a) ≡ length (counts_of b) → AreAlike a b
 alike a b ha hb e =
     let la : length (take a.nodes a.counts) ≡ a.nodes = length-take-le a.nodes a.counts (omega (arith, ha.few, ha.size)) in
     let lb : length (take b.nodes b.counts) ≡ b.nodes = length-take-le b.nodes b.counts (omega (arith, hb.few, hb.size)) in
     let nodes : b.nodes ≡ a.nodes = sym lb ∙ sym e ∙ la in
     record { sizes = ha.size ∙ sym hb.size; nodes = nodes; fronts = e ∙ ap (λ k. length (take k b.counts)) nodes }
 
-pub pairs_kept : (f : ℕ → ℕ → ℕ) → ((n : ℕ) → f n n ≡ n) → (a b : Inside) → IsKept a → IsKept b → length (counts_of a) ≡ length (counts_of b)
-    → IsKept (record { nodes = a.nodes; counts = pairwise f a.counts b.counts })
+pub pairs_kept : (f : ℕ → ℕ → ℕ) → ((n : ℕ) → f n n ≡ n) → (a b : Inside) → IsPadded a → IsPadded b → length (counts_of a) ≡ length (counts_of b)
+    → IsPadded (record { nodes = a.nodes; counts = pairwise f a.counts b.counts })
 pairs_kept f same a b ha hb e =
     let al = alike a b ha hb e in
     let zs : List ℕ = replicate (8 - a.nodes) 0 in
@@ -78,7 +78,7 @@ pairs_kept f same a b ha hb e =
           ∙ ap (λ r. r ++ zs) (sym (take_pairs f a.nodes a.counts b.counts al.sizes));
     }
 
-pub pairs_seen : (f : ℕ → ℕ → ℕ) (a b : Inside) → IsKept a → IsKept b → length (counts_of a) ≡ length (counts_of b)
+pub pairs_seen : (f : ℕ → ℕ → ℕ) (a b : Inside) → IsPadded a → IsPadded b → length (counts_of a) ≡ length (counts_of b)
     → take a.nodes (pairwise f a.counts b.counts) ≡ pairwise f (counts_of a) (counts_of b)
 pairs_seen f a b ha hb e =
     let al = alike a b ha hb e in
@@ -92,7 +92,7 @@ in_front [] (suc n) (suc k) = in_front [] n k
 in_front (x ∷ xs) n zero = refl
 in_front (x ∷ xs) n (suc k) = in_front xs n k
 
-pub kept_count : (a : Inside) → IsKept a → (k : ℕ) → get_or (counts_of a) k 0 ≡ get_or a.counts k 0
+pub kept_count : (a : Inside) → IsPadded a → (k : ℕ) → get_or (counts_of a) k 0 ≡ get_or a.counts k 0
 kept_count a h k = sym (ap (λ r. get_or r k 0) h.rest ∙ in_front (take a.nodes a.counts) (8 - a.nodes) k)
 
 -- the count of a pair
@@ -156,7 +156,7 @@ join_filled (a ∷ v) [] m (suc n) k e l =
     ∙ ap (λ r. a ∷ r) (join_filled v [] m n k (omega (arith, e)) (omega (arith, l)) ∙ ap (λ r. r ++ replicate k 0) (join_none v))
 join_filled (a ∷ v) (b ∷ w) m n k e l = ap (λ r. max a b ∷ r) (join_filled v w m n k (omega (arith, e)) (omega (arith, l)))
 
-pub joined_counts : (a b : Inside) → IsKept a → IsKept b → join_fronts a.counts b.counts ≡ join_fronts (counts_of a) (counts_of b) ++ replicate (8 - max a.nodes b.nodes) 0
+pub joined_counts : (a b : Inside) → IsPadded a → IsPadded b → join_fronts a.counts b.counts ≡ join_fronts (counts_of a) (counts_of b) ++ replicate (8 - max a.nodes b.nodes) 0
 joined_counts a b ha hb =
     let la : length (take a.nodes a.counts) ≡ a.nodes = length-take-le a.nodes a.counts (omega (arith, ha.few, ha.size)) in
     let lb : length (take b.nodes b.counts) ≡ b.nodes = length-take-le b.nodes b.counts (omega (arith, hb.few, hb.size)) in
@@ -164,7 +164,7 @@ joined_counts a b ha hb =
     ∙ join_filled (take a.nodes a.counts) (take b.nodes b.counts) (8 - a.nodes) (8 - b.nodes) (8 - max a.nodes b.nodes)
     (omega (arith, la, lb, ha.few, hb.few)) (omega (arith, la, lb, ha.few, hb.few))
 
-pub join_seen : (a b : Inside) → IsKept a → IsKept b → take (max a.nodes b.nodes) (join_fronts a.counts b.counts) ≡ join_fronts (counts_of a) (counts_of b)
+pub join_seen : (a b : Inside) → IsPadded a → IsPadded b → take (max a.nodes b.nodes) (join_fronts a.counts b.counts) ≡ join_fronts (counts_of a) (counts_of b)
 join_seen a b ha hb =
     let la : length (take a.nodes a.counts) ≡ a.nodes = length-take-le a.nodes a.counts (omega (arith, ha.few, ha.size)) in
     let lb : length (take b.nodes b.counts) ≡ b.nodes = length-take-le b.nodes b.counts (omega (arith, hb.few, hb.size)) in
@@ -173,7 +173,7 @@ join_seen a b ha hb =
     ∙ ap (λ k. take k (join_fronts (counts_of a) (counts_of b) ++ replicate (8 - max a.nodes b.nodes) 0)) same
     ∙ take-append_seam (join_fronts (counts_of a) (counts_of b)) (replicate (8 - max a.nodes b.nodes) 0)
 
-pub join_kept : (a b : Inside) → IsKept a → IsKept b → IsKept (record { nodes = max a.nodes b.nodes; counts = join_fronts a.counts b.counts })
+pub join_kept : (a b : Inside) → IsPadded a → IsPadded b → IsPadded (record { nodes = max a.nodes b.nodes; counts = join_fronts a.counts b.counts })
 join_kept a b ha hb = record {
   some = omega (arith, ha.some);
   few = omega (arith, ha.few, hb.few);

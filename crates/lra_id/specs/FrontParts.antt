@@ -5,7 +5,7 @@ use Rattle.std.proofs.lemmas.List.{length-take-le}
 use Rattle.lra_id.specs.declared.front.Front.TheInside.{Inside}
 
 -- the counts of the nodes that there are, and zeros
-pub record IsKept (f : Inside) : Type 0 where
+pub record IsPadded (f : Inside) : Type 0 where
   pub some : 1 ≤ f.nodes
   pub few : f.nodes ≤ 8
   pub size : length f.counts ≡ 8
@@ -14,12 +14,12 @@ pub record IsKept (f : Inside) : Type 0 where
 abbrev pub counts_of : Inside → List ℕ
 counts_of f = take f.nodes f.counts
 
-abbrev pub kept_as : List ℕ → Inside
-kept_as counts = record { nodes = length counts; counts = counts ++ replicate (8 - length counts) 0 }
+abbrev pub padded : List ℕ → Inside
+padded counts = record { nodes = length counts; counts = counts ++ replicate (8 - length counts) 0 }
 
-pub kept_back : (f : Inside) → IsKept f → kept_as (counts_of f) ≡ f
-kept_back f h =
+pub padded_back : (f : Inside) → IsPadded f → padded (counts_of f) ≡ f
+padded_back f h =
     let e : length (take f.nodes f.counts) ≡ f.nodes = length-take-le f.nodes f.counts (omega (arith, h.few, h.size)) in
-    let step : kept_as (counts_of f) ≡ record { nodes = f.nodes; counts = take f.nodes f.counts ++ replicate (8 - f.nodes) 0 } =
+    let step : padded (counts_of f) ≡ record { nodes = f.nodes; counts = take f.nodes f.counts ++ replicate (8 - f.nodes) 0 } =
     ap (λ (n : ℕ). record { nodes = n; counts = take f.nodes f.counts ++ replicate (8 - n) 0 }) e in
     step ∙ ap (λ (cs : List ℕ). record { nodes = f.nodes; counts = cs }) (sym h.rest)

@@ -4,7 +4,7 @@ use Rattle.std.specs.Prelude.{All}
 use Rattle.std.specs.Fmt.{decimal}
 use Rattle.std.proofs.lemmas.List.{length-take-le}
 use Rattle.lra_node.specs.Asks.{IsBaseOf, IsNumber}
-use Rattle.lra_node.proofs.Spelled.{head_same, tail_same}
+use Rattle.lra_node.proofs.OneAskALine.{head_same, tail_same}
 
 -- the first so many counts were read, and these words are left
 pub record IsCounting (words rest : List (List ℕ)) (counts : List ℕ) (place : ℕ) : Type 0 where

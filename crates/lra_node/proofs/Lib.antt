@@ -1,11 +1,11 @@
-pub mod Answering
-pub mod Bases
-pub mod Members
-pub mod Numbers
-pub mod Readings
-pub mod Runs
-pub mod Spelled
-pub mod Splits
-pub mod Steps
-pub mod TwoWords
-pub mod Texts
+mod Answering
+mod Bases
+mod DecimalNumbers
+mod LineReadings
+mod MemberWords
+mod OneAskALine
+mod OneTextAScript
+mod Runs
+mod Splits
+mod Steps
+mod TwoWords

@@ -5,7 +5,7 @@ use Rattle.std.specs.Io.KnownBytes.{Appends}
 use Rattle.lra_http.specs.Streams.{AppendsPart}
 use Rattle.lra_http.proofs.Known.{Appends-trans}
 use Rattle.lra_facts.specs.declared.refusal.Refusal.TheVariants.{NoMemory}
-use Rattle.lra_node.specs.Parts.{HasNone, lines_of}
+use Rattle.lra_node.specs.LineParts.{HasNone, lines_of}
 use Rattle.lra_world.specs.Machines.{IsWorldOf, Machine}
 use Rattle.lra_world.specs.Worlds.{State, nodes_of, start as beginning}
 use Rattle.lra_node.specs.Scripts.{refused, Answers, AnswersWhole, IsFewALine, Prints, ScriptText, WritesText, ReadsLine, ReadsPart}
@@ -39,7 +39,7 @@ pub Appends-none : (o : Option (List ℕ)) → Appends o o []
 Appends-none None = tt
 Appends-none (Some x) = sym (append-nil x)
 
--- these lines were taken off the front of an input, whole, and this is left
+-- these lines were taken off the start of an input, whole, and this is left
 pub record IsTaken (input taken left : List ℕ) (whole : List (List ℕ)) : Type 0 where
   pub split : input ≡ taken ++ left
   pub lines : (bs : List ℕ) → lines_of (taken ++ bs) ≡ whole ++ lines_of bs

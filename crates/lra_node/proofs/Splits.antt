@@ -1,7 +1,7 @@
 -- Where a text is parted.
 use Rattle.std.proofs.Common.{◌≡◌, ℕ, zero, suc, ◌<◌, ◌==◌, Bool, true, false, cond, List, [], ◌∷◌, ◌++◌, length, take, drop, get_or, refl, ap, ◌∙◌, arith}
 use Rattle.std.proofs.lemmas.Bool.Decides.{Decides-eqb}
-use Rattle.lra_node.specs.Parts.{HasNone, onto_first, parts}
+use Rattle.lra_node.specs.LineParts.{HasNone, onto_first, parts}
 
 pub HasNone-push : (at : ℕ) (bs : List ℕ) (b : ℕ) → HasNone at bs → (b == at) ≡ false → HasNone at (bs ++ b ∷ [])
 HasNone-push at [] b h e = (e, tt)

@@ -3,14 +3,14 @@ use Rattle.std.specs.Prelude.{◌≡◌, ◌≤◌, ◌<◌, ◌^◌, ℕ, List,
 use Rattle.std.specs.Fmt.{decimal}
 use Rattle.lra_id.specs.Ids.{Id, IsId, IsTextOf, id_text}
 use Rattle.lra_states.specs.Names.{verdict_name, act_name, outcome_name}
-use Rattle.lra_callback.specs.Names.{kind_name}
+use Rattle.lra_callback.specs.CallWords.{kind_name}
 use Rattle.lra_node.specs.declared.ask.Ask.{Ask}
 use Rattle.lra_node.specs.declared.ask.Ask.TheVariants.{Enter, Tick, Send, Deliver, Restart, Show, Member, Duties, Hear, Front, Same, Text, Read}
-use Rattle.lra_replica.specs.declared.command.Command.{Command}
-use Rattle.lra_replica.specs.declared.command.Command.TheVariants.{Begin, Join, Leave, Decide, Report, Forgot, Purge}
-use Rattle.lra_node.specs.Calls.{AnswerFits, GivesAnswer}
+use Rattle.lra_history.specs.declared.command.Command.{Command}
+use Rattle.lra_history.specs.declared.command.Command.TheVariants.{Begin, Join, Leave, Decide, Report, Forgot, Purge}
+use Rattle.lra_node.specs.Calls.{IsAnswerInRange, GivesAnswer}
 use Rattle.lra_node.specs.Joins.{GivesLinks}
-use Rattle.lra_node.specs.Parts.{words_of}
+use Rattle.lra_node.specs.LineParts.{words_of}
 
 -- one of so many nodes
 abbrev pub IsNodeOf : ℕ → ℕ → Type 0
@@ -28,30 +28,30 @@ IsNumber n = n < 2 ^ 64
 abbrev pub IsBaseOf : ℕ → List ℕ → Type 0
 IsBaseOf nodes base = (length base ≡ nodes) × All IsNumber base
 
-abbrev pub CommandFits : Command → Type 0
-CommandFits (Begin parent deadline) = IfSome parent IsId × (deadline < 2 ^ 64)
-CommandFits (Join id links) = IsId id
-CommandFits (Leave id member) = IsId id × IsMemberNumber member
-CommandFits (Decide id verdict) = IsId id
-CommandFits (Report id member act outcome) = IsId id × IsMemberNumber member
-CommandFits (Forgot id member) = IsId id × IsMemberNumber member
-CommandFits (Purge root) = IsId root
+abbrev pub IsCommandInRange : Command → Type 0
+IsCommandInRange (Begin parent deadline) = IfSome parent IsId × (deadline < 2 ^ 64)
+IsCommandInRange (Join id links) = IsId id
+IsCommandInRange (Leave id member) = IsId id × IsMemberNumber member
+IsCommandInRange (Decide id verdict) = IsId id
+IsCommandInRange (Report id member act outcome) = IsId id × IsMemberNumber member
+IsCommandInRange (Forgot id member) = IsId id × IsMemberNumber member
+IsCommandInRange (Purge root) = IsId root
 
 -- the values of what is asked are in their ranges
-abbrev pub Fits : ℕ → Ask → Type 0
-Fits nodes (Enter node command) = IsNodeOf nodes node × CommandFits command
-Fits nodes (Tick node now) = IsNodeOf nodes node × (now < 2 ^ 64)
-Fits nodes (Send node base) = IsNodeOf nodes node × IsBaseOf nodes base
-Fits nodes (Deliver frame node kept) = IsNumber frame × IsNodeOf nodes node × IfSome kept IsNumber
-Fits nodes (Restart node) = IsNodeOf nodes node
-Fits nodes (Show node id) = IsNodeOf nodes node × IsId id
-Fits nodes (Member node id member) = IsNodeOf nodes node × IsId id × IsMemberNumber member
-Fits nodes (Duties node) = IsNodeOf nodes node
-Fits nodes (Hear node id member kind answer) = IsNodeOf nodes node × IsId id × IsMemberNumber member × AnswerFits answer
-Fits nodes (Front node) = IsNodeOf nodes node
-Fits nodes (Same node other) = IsNodeOf nodes node × IsNodeOf nodes other
-Fits nodes (Text id) = IsId id
-Fits nodes (Read id) = IsId id
+abbrev pub IsInRange : ℕ → Ask → Type 0
+IsInRange nodes (Enter node command) = IsNodeOf nodes node × IsCommandInRange command
+IsInRange nodes (Tick node now) = IsNodeOf nodes node × (now < 2 ^ 64)
+IsInRange nodes (Send node base) = IsNodeOf nodes node × IsBaseOf nodes base
+IsInRange nodes (Deliver frame node kept) = IsNumber frame × IsNodeOf nodes node × IfSome kept IsNumber
+IsInRange nodes (Restart node) = IsNodeOf nodes node
+IsInRange nodes (Show node id) = IsNodeOf nodes node × IsId id
+IsInRange nodes (Member node id member) = IsNodeOf nodes node × IsId id × IsMemberNumber member
+IsInRange nodes (Duties node) = IsNodeOf nodes node
+IsInRange nodes (Hear node id member kind answer) = IsNodeOf nodes node × IsId id × IsMemberNumber member × IsAnswerInRange answer
+IsInRange nodes (Front node) = IsNodeOf nodes node
+IsInRange nodes (Same node other) = IsNodeOf nodes node × IsNodeOf nodes other
+IsInRange nodes (Text id) = IsId id
+IsInRange nodes (Read id) = IsId id
 
 -- the word that a line begins with
 abbrev pub verb_of : Ask → List ℕ
@@ -112,9 +112,9 @@ HasArguments words (Read id) = (text : List ℕ) × (words ≡ text ∷ []) × I
 
 -- a line spells what it asks
 abbrev pub Spells : ℕ → List ℕ → Ask → Type 0
-Spells nodes line ask = (words : List (List ℕ)) × (words_of line ≡ verb_of ask ∷ words) × HasArguments words ask × Fits nodes ask
+Spells nodes line ask = (words : List (List ℕ)) × (words_of line ≡ verb_of ask ∷ words) × HasArguments words ask × IsInRange nodes ask
 
 -- what words after a verb are read as: the one thing that they ask, or nothing where they ask nothing
 abbrev pub ReadsArguments : ℕ → List ℕ → List (List ℕ) → Option Ask → Type 0
-ReadsArguments nodes verb words None = (ask : Ask) → verb_of ask ≡ verb → HasArguments words ask → Fits nodes ask → ⊥
-ReadsArguments nodes verb words (Some ask) = (verb_of ask ≡ verb) × HasArguments words ask × Fits nodes ask
+ReadsArguments nodes verb words None = (ask : Ask) → verb_of ask ≡ verb → HasArguments words ask → IsInRange nodes ask → ⊥
+ReadsArguments nodes verb words (Some ask) = (verb_of ask ≡ verb) × HasArguments words ask × IsInRange nodes ask

@@ -10,9 +10,9 @@ use Rattle.lra_facts.specs.declared.fact.Fact.{Fact}
 use Rattle.lra_facts.specs.declared.refusal.Refusal.{Refusal}
 use Rattle.lra_facts.specs.declared.refusal.Refusal.TheVariants.{NotDue}
 use Rattle.lra_facts.specs.Sets.{want}
-use Rattle.lra_replica.specs.Prepared.{member_shown}
-use Rattle.lra_replica.specs.declared.command.Command.{Command}
-use Rattle.lra_replica.specs.declared.command.Command.TheVariants.{Report, Forgot}
+use Rattle.lra_history.specs.Replies.{member_shown}
+use Rattle.lra_history.specs.declared.command.Command.{Command}
+use Rattle.lra_history.specs.declared.command.Command.TheVariants.{Report, Forgot}
 use Rattle.lra_callback.specs.declared.answer.Answer.{Answer}
 use Rattle.lra_callback.specs.declared.answer.Answer.TheVariants.{Code, Broken}
 use Rattle.lra_callback.specs.declared.answer.Heard.{Heard}
@@ -20,9 +20,9 @@ use Rattle.lra_callback.specs.declared.answer.Heard.TheVariants.{Told, Forgotten
 use Rattle.lra_callback.specs.declared.answer.Kind.{Kind}
 use Rattle.lra_callback.specs.declared.answer.Kind.TheVariants.{Complete, Compensate, Status, Forget}
 use Rattle.lra_callback.specs.declared.duty.Duty.{Duty}
-use Rattle.lra_callback.specs.Duties.{act_wanted}
-use Rattle.lra_callback.specs.Names.{kind_name}
-use Rattle.lra_node.specs.Parts.{words_of}
+use Rattle.lra_callback.specs.CallDuties.{act_wanted}
+use Rattle.lra_callback.specs.CallWords.{kind_name}
+use Rattle.lra_node.specs.LineParts.{words_of}
 
 -- How a line spells an answer
 
@@ -36,9 +36,9 @@ GivesAnswer words (Code n body) = (rest : List (List ℕ)) × (words ≡ decimal
 GivesAnswer words Broken = (rest : List (List ℕ)) × (words ≡ codes "broken" ∷ rest)
 
 -- a code is at most 65,535
-abbrev pub AnswerFits : Answer → Type 0
-AnswerFits (Code n body) = n < 2 ^ 16
-AnswerFits Broken = Unit {0}
+abbrev pub IsAnswerInRange : Answer → Type 0
+IsAnswerInRange (Code n body) = n < 2 ^ 16
+IsAnswerInRange Broken = Unit {0}
 
 -- The act that an answer is heard for
 

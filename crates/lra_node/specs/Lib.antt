@@ -2,6 +2,6 @@ pub mod Arguments
 pub mod Asks
 pub mod Calls
 pub mod Joins
-pub mod Parts
+pub mod LineParts
+pub mod NodeHoldings
 pub mod Scripts
-pub mod Worlds

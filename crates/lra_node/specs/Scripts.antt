@@ -7,13 +7,13 @@ use Rattle.lra_states.specs.Names.{lra_name, member_name}
 use Rattle.lra_states.specs.declared.status.LraStatus.{LraStatus}
 use Rattle.lra_states.specs.declared.outcome.Act.{Act}
 use Rattle.lra_states.specs.declared.status.MemberStatus.{MemberStatus}
-use Rattle.lra_facts.specs.Texts.{refusal_text}
+use Rattle.lra_facts.specs.RefusalTexts.{refusal_text}
 use Rattle.lra_facts.specs.declared.refusal.Refusal.{Refusal}
 use Rattle.lra_facts.specs.declared.refusal.Refusal.TheVariants.{BadText, NoMemory}
 use Rattle.lra_forest.specs.Dues.{AreAll}
-use Rattle.lra_replica.specs.declared.command.Command.{Command}
-use Rattle.lra_replica.specs.declared.command.CommandReply.{CommandReply}
-use Rattle.lra_replica.specs.declared.command.CommandReply.TheVariants.{Began, Joined, Left, Decided, Reported, Known, Forgotten, Purged, Refused as NotEntered}
+use Rattle.lra_history.specs.declared.command.Command.{Command}
+use Rattle.lra_history.specs.declared.command.CommandReply.{CommandReply}
+use Rattle.lra_history.specs.declared.command.CommandReply.TheVariants.{Began, Joined, Left, Decided, Reported, Known, Forgotten, Purged, Refused as NotEntered}
 use Rattle.lra_world.specs.declared.event.Event.{Event}
 use Rattle.lra_world.specs.declared.event.Event.TheVariants.{Act as ActEvent, Deliver as DeliverEvent, Restart as RestartEvent, Send as SendEvent, Tick as TickEvent}
 use Rattle.lra_world.specs.declared.event.Reply.{Reply}
@@ -26,15 +26,15 @@ use Rattle.lra_callback.specs.declared.answer.Heard.{Heard}
 use Rattle.lra_callback.specs.declared.answer.Kind.{Kind}
 use Rattle.lra_callback.specs.declared.duty.Duty.{Duty}
 use Rattle.lra_callback.specs.Answers.{heard_of}
-use Rattle.lra_callback.specs.Duties.{IsDuty, comes_first}
-use Rattle.lra_callback.specs.Names.{heard_name}
+use Rattle.lra_callback.specs.CallDuties.{IsDuty, comes_first}
+use Rattle.lra_callback.specs.CallWords.{heard_name}
 use Rattle.lra_http.specs.Streams.{most_interrupted}
 use Rattle.lra_node.specs.declared.ask.Ask.{Ask}
 use Rattle.lra_node.specs.declared.ask.Ask.TheVariants.{Enter, Tick, Send, Deliver, Restart, Show, Member, Duties, Hear, Front, Same, Text, Read}
 use Rattle.lra_node.specs.Asks.{Spells}
 use Rattle.lra_node.specs.Calls.{act_asked, command_of, duties_text}
-use Rattle.lra_node.specs.Parts.{HasNone, lines_of}
-use Rattle.lra_node.specs.Worlds.{AreComing}
+use Rattle.lra_node.specs.LineParts.{HasNone, lines_of}
+use Rattle.lra_node.specs.NodeHoldings.{AreComing}
 
 -- a line of at most so many bytes is read
 abbrev pub most_in_line : ℕ
@@ -198,7 +198,7 @@ abbrev pub Prints : ℕ → State → List ℕ → Machine → (List ℕ → Typ
 Prints nodes s line world was_written = (out : List ℕ) × WasAnswered nodes s line out world × was_written out
 
 -- What a whole script has written, where the bytes of its input are known: the text of its lines from the start, or, after
--- a fault, a part of such a text from its front. `was_written` says which.
+-- a fault, a prefix of such a text. `was_written` says which.
 abbrev pub WritesText : ℕ → (List ℕ → Type 0) → Option (List ℕ) → Type 0
 WritesText nodes was_written None = Unit {0}
 WritesText nodes was_written (Some input) = (out : List ℕ) × ScriptText nodes (start nodes) (lines_of input) out × was_written out

@@ -4,9 +4,9 @@ ghost use Rattle.lra_facts.specs.declared.refusal.Refusal.TheVariants.{NoMemory}
 ghost use Rattle.lra_world.specs.Machines.{IsWorldOf};
 ghost use Rattle.lra_world.specs.Worlds.{State};
 ghost use Rattle.lra_node.specs.declared.ask.Ask.TheVariants.{Deliver};
-ghost use Rattle.lra_node.specs.Asks.{Fits};
+ghost use Rattle.lra_node.specs.Asks.{IsInRange};
 ghost use Rattle.lra_node.specs.Scripts.{HasHappened, WasAnswered, WasDone, refused};
-ghost use Rattle.lra_node.specs.Worlds.{AreComing};
+ghost use Rattle.lra_node.specs.NodeHoldings.{AreComing};
 
 use crate::ask::Ask;
 use crate::asking::ask_of;
@@ -17,7 +17,7 @@ use crate::showing::{held, id_line, show, show_front, show_member, show_same, te
 use crate::telling::{refusal_line, tell};
 use lra_facts::Refusal;
 use lra_id::NodeId;
-use lra_replica::CommandReply;
+use lra_history::CommandReply;
 use lra_world::{Event, World};
 use std::alloc::{AllocError, Global};
 
@@ -48,7 +48,7 @@ pub fn answer(
 
 /// What is printed for what a line asks, and what that does to the world.
 fn obey(alloc: Global, world: &mut World, ask: Ask) -> Result<String, AllocError>
-    requires { Fits (length world.old.replicas) ask }
+    requires { IsInRange (length world.old.replicas) ask }
     ensures ok { (s : State) → IsWorldOf s world.old → IfOk result (λ text. WasDone s ask (string_bytes text) world.new) }
     ensures err { (s : State) → IsWorldOf s world.old → OnErr result (IsWorldOf s world.new) }
 {

@@ -34,7 +34,7 @@ pub fn script<R: Source, W: Sink>(
     requires some { 1 ≤ nodes }
     requires few { nodes ≤ 8 }
 
-    // What is written is the text of what is read; after a fault it is a front of it. After a read fault every line that
+    // What is written is the text of what is read; after a fault it is a prefix of it. After a read fault every line that
     // was read whole is answered whole.
     ensures text { OnOk result (WritesText nodes (Appends (W.written writer.old) (W.written writer.new)) (R.left reader.old)) }
     ensures part { OnErr result (WritesText nodes (AppendsPart (W.written writer.old) (W.written writer.new)) (R.left reader.old)) }

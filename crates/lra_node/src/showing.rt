@@ -3,13 +3,13 @@ ghost use Rattle.std.specs.Prelude.{◌≡◌, ◌++◌, ℕ, List, length, code
 ghost use Rattle.lra_facts.specs.declared.fact.Fact.{Fact};
 ghost use Rattle.lra_id.specs.Fronts.{front_text};
 ghost use Rattle.lra_id.specs.Ids.{id_text, text_of};
-ghost use Rattle.lra_replica.specs.Prepared.{member_shown, shown_of};
+ghost use Rattle.lra_history.specs.Replies.{member_shown, shown_of};
 ghost use Rattle.lra_replica.specs.Replicas.{view_of};
 ghost use Rattle.lra_world.specs.Machines.{IsWorldOf};
 ghost use Rattle.lra_world.specs.Worlds.{State, front_of, set_of};
 ghost use Rattle.lra_node.specs.Asks.{IsNodeOf};
 ghost use Rattle.lra_node.specs.Scripts.{TellsSame, member_line, printed, status_line};
-ghost use Rattle.lra_node.specs.Worlds.{Holds};
+ghost use Rattle.lra_node.specs.NodeHoldings.{Holds};
 
 use crate::telling::refusal_line;
 use lra_id::{LraId, NodeId};

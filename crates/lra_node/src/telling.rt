@@ -7,7 +7,7 @@ ghost use Rattle.lra_node.specs.Scripts.{IsNothing, IsRefusal, began_text, event
 use crate::room::Room;
 use lra_facts::Refusal;
 use lra_id::LraId;
-use lra_replica::CommandReply;
+use lra_history::CommandReply;
 use lra_world::Reply;
 use std::alloc::{AllocError, Global};
 

@@ -1,7 +1,7 @@
 // The words of a line.
 ghost use Rattle.std.specs.Prelude.{◌≡◌, [], ◌∷◌, ◌↔◌, IsTrue, MatchOption};
 ghost use Rattle.lra_node.specs.Calls.{IsRestOf};
-ghost use Rattle.lra_node.specs.Parts.{words_of};
+ghost use Rattle.lra_node.specs.LineParts.{words_of};
 
 use std::marker::Model;
 
@@ -14,7 +14,7 @@ pub struct Words<'a> {
 impl<'a> Model for Words<'a> {
     ghost use Rattle.std.specs.Prelude.{List, ℕ, []};
     ghost use Rattle.std.specs.Option.{option_map_or};
-    ghost use Rattle.lra_node.specs.Parts.{words_of};
+    ghost use Rattle.lra_node.specs.LineParts.{words_of};
 
     ghost Value = { List (List ℕ) };
 

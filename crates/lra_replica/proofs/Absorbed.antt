@@ -1,7 +1,7 @@
 -- a patch that takes what another node tells, home by home
+use mathlib.Core.Bool.{not}
 use Rattle.std.proofs.Common.{◌≡◌, inl, inr, ◌≤◌, ◌<◌, ◌+◌, ◌-◌, ◌==◌, ◌||◌, ℕ, List, [], ◌∷◌, ◌++◌, refl, sym, ap, subst, ◌∙◌, append_assoc, Bool, true, false, cond, arith, Option, Some, None, length, get_or-set_other, get_or-set_same, slice_get, filter, find, nat_le}
 use Rattle.std.proofs.lemmas.List.{length-append, length-map, length-set, get_or_past}
-use mathlib.Core.Bool.{not}
 use Rattle.std.specs.List.{list_any, AllByRecursion}
 use Rattle.std.specs.Option.{option_map_or}
 use Rattle.lra_id.specs.Ids.{Id}
@@ -9,50 +9,26 @@ use Rattle.lra_id.specs.Fronts.{IsBelow, count, join_fronts}
 use Rattle.lra_forest.specs.declared.merging.Told.{Told}
 use Rattle.lra_forest.specs.declared.record.Record.{Record}
 use Rattle.lra_forest.specs.Forests.{AreOf, HomeRecords, is_of}
-use Rattle.lra_forest.specs.Merging.{changed_by, held_numbers, is_gone, put_all, taken, without}
+use Rattle.lra_forest.specs.RecordMerges.{changed_by, held_numbers, is_gone, put_all, absorbed, without}
 use Rattle.lra_forest.specs.OnlyChanges.{AreOnlyChanges}
 use Rattle.lra_forest.specs.Places.{put_record}
 use Rattle.lra_forest.specs.Shape.{AreInShape, found_at}
-use Rattle.lra_forest.proofs.Uniqueness.{same_records}
+use Rattle.lra_forest.proofs.OneListOfRecords.{same_records}
+use Rattle.lra_history.specs.Merging.{AreToldFrom, IsAbsorbed, IsTelling, Telling, told_held, told_records}
+use Rattle.lra_history.specs.Changes.{Change, HoldsOnlyChanges, ids_of, patched, put_at_home, put_each, records_of, remove_each, remove_at_home}
+use Rattle.lra_history.specs.ViewShape.{HasShape}
+use Rattle.lra_history.specs.Views.{View, records_at}
+use Rattle.lra_history.proofs.Basics.{at_most, equal_from, equal_itself}
+use Rattle.lra_history.proofs.ListsWithOneMore.{filter_all, filter_append}
+use Rattle.lra_history.proofs.JoinedFronts.{length_join}
+use Rattle.lra_history.proofs.ElementsByHome.{all_weaker, home_all, home_none, no_changes}
 use Rattle.lra_replica.specs.Absorbing.{AreTaken, AreTakenAt, IsChangeAt, IsGrown, IsTakenTo, after_at}
-use Rattle.lra_replica.specs.Merging.{AreToldFrom, IsAbsorbed, IsTelling, Telling, told_held, told_records}
-use Rattle.lra_replica.specs.Replicas.{Change, Fits, HoldsOnlyChanges, IsKept, Kept, count_of_home, ids_of, patched, put_at_home, put_each, records_of, spare_at, take_each, taken_out, view_of}
-use Rattle.lra_replica.specs.Shape.{HasShape}
-use Rattle.lra_replica.specs.Views.{View, records_at}
-use Rattle.lra_replica.proofs.Basics.{at_most, equal_from, equal_itself}
+use Rattle.lra_replica.specs.Replicas.{Fits, IsReplicaState, ReplicaState, count_of_home, spare_at, view_of}
 use Rattle.lra_replica.proofs.Homes.{home_records}
-use Rattle.lra_replica.proofs.More.{filter_all, filter_append}
-use Rattle.lra_replica.proofs.Unions.{length_join}
-
--- Elements of one home
-
--- with another test that the elements meet
-pub all_weaker : {X : Type 0} (P Q : X → Type 0) (xs : List X) → ((x : X) → P x → Q x) → AllByRecursion P xs → AllByRecursion Q xs
-all_weaker P Q [] h all = tt
-all_weaker P Q (x ∷ xs) h all = (h x all.0, all_weaker P Q xs h all.1)
 
 all_both : {X : Type 0} (P : X → Type 0) (xs ys : List X) → AllByRecursion P xs → AllByRecursion P ys → AllByRecursion P (xs ++ ys)
 all_both P [] ys a b = b
 all_both P (x ∷ xs) ys a b = (a.0, all_both P xs ys a.1 b)
-
-equal_not : (a b : ℕ) → (a ≡ b → ⊥) → (a == b) ≡ false
-equal_not a b n = by (a == b) refl
-  where
-    by : (c : Bool) → (a == b) ≡ c → c ≡ false
-    by true e = absurd (n (equal_from a b e))
-    by false e = refl
-
--- all are of this home
-pub home_all : {X : Type 0} (h : X → ℕ) (home : ℕ) (xs : List X) → AllByRecursion (λ x. h x ≡ home) xs → filter (λ x. h x == home) xs ≡ xs
-home_all h home [] all = refl
-home_all h home (x ∷ xs) all =
-    let here : (h x == home) ≡ true = ap (λ (n : ℕ). n == home) all.0 ∙ equal_itself home in
-    rw here (ap (λ zs. x ∷ zs) (home_all h home xs all.1))
-
--- none is of this home
-pub home_none : {X : Type 0} (h : X → ℕ) (home : ℕ) (xs : List X) → AllByRecursion (λ x. h x ≡ home → ⊥) xs → filter (λ x. h x == home) xs ≡ []
-home_none h home [] all = refl
-home_none h home (x ∷ xs) all = let here = equal_not (h x) home all.0 in rw here (home_none h home xs all.1)
 
 -- more that are of another home, or of this one of which there were none
 home_other : {X : Type 0} (h : X → ℕ) (home other : ℕ) (xs ys : List X) → (other ≡ home → ⊥) → AllByRecursion (λ x. h x ≡ other) ys → filter (λ x. h x == home) (xs ++ ys) ≡ filter (λ x. h x == home) xs
@@ -74,10 +50,10 @@ home_new h home xs ys before all =
 -- A home of the patched view
 
 taken_away : (l : Id) (homes : List (List Record)) (home : ℕ) → 1 ≤ l.home → l.home ≤ length homes → 1 ≤ home → (b : Bool) → (l.home == home) ≡ b
-    → records_at (taken_out l homes) home ≡ cond b (filter (λ r. not (is_of l r)) (records_at homes home)) (records_at homes home)
+    → records_at (remove_at_home l homes) home ≡ cond b (filter (λ r. not (is_of l r)) (records_at homes home)) (records_at homes home)
 taken_away l homes home some there low true e =
     let same : l.home ≡ home = equal_from l.home home e in
-    subst (λ (k : ℕ). records_at (taken_out l homes) k ≡ filter (λ r. not (is_of l r)) (records_at homes k)) same
+    subst (λ (k : ℕ). records_at (remove_at_home l homes) k ≡ filter (λ r. not (is_of l r)) (records_at homes k)) same
     (get_or-set_same {A = List Record} homes (l.home - 1) (filter (λ r. not (is_of l r)) (records_at homes l.home)) [] (omega (arith, some, there)))
 taken_away l homes home some there low false e =
     get_or-set_other {A = List Record} homes (l.home - 1) (home - 1) (filter (λ r. not (is_of l r)) (records_at homes l.home)) []
@@ -97,21 +73,21 @@ without_more l ids (r ∷ rs) = by (is_of l r) (list_any (λ x. is_of x r) ids) 
 without_none : (records : List Record) → without [] records ≡ records
 without_none records = filter_all (λ (r : Record). true) records (λ r m. refl)
 
-take_each_length : (ids : List Id) (homes : List (List Record)) → length (take_each ids homes) ≡ length homes
+take_each_length : (ids : List Id) (homes : List (List Record)) → length (remove_each ids homes) ≡ length homes
 take_each_length [] homes = refl
 take_each_length (l ∷ ids) homes =
-    take_each_length ids (taken_out l homes) ∙ length-set {A = List Record} homes (l.home - 1) (filter (λ r. not (is_of l r)) (records_at homes l.home))
+    take_each_length ids (remove_at_home l homes) ∙ length-set {A = List Record} homes (l.home - 1) (filter (λ r. not (is_of l r)) (records_at homes l.home))
 
 take_each_at : (ids : List Id) (homes : List (List Record)) (home : ℕ) → 1 ≤ home → AllByRecursion (λ l. (1 ≤ l.home) × (l.home ≤ length homes)) ids
-    → records_at (take_each ids homes) home ≡ without (ids_of home ids) (records_at homes home)
+    → records_at (remove_each ids homes) home ≡ without (ids_of home ids) (records_at homes home)
 take_each_at [] homes home low all = sym (without_none (records_at homes home))
 take_each_at (l ∷ ids) homes home low all =
-    let size : length (taken_out l homes) ≡ length homes = length-set {A = List Record} homes (l.home - 1) (filter (λ r. not (is_of l r)) (records_at homes l.home)) in
+    let size : length (remove_at_home l homes) ≡ length homes = length-set {A = List Record} homes (l.home - 1) (filter (λ r. not (is_of l r)) (records_at homes l.home)) in
     by (l.home == home) refl
-    (take_each_at ids (taken_out l homes) home low (all_weaker (λ x. (1 ≤ x.home) × (x.home ≤ length homes)) (λ x. (1 ≤ x.home) × (x.home ≤ length (taken_out l homes))) ids (λ x h. (h.0, omega (arith, h.1, size))) all.1))
+    (take_each_at ids (remove_at_home l homes) home low (all_weaker (λ x. (1 ≤ x.home) × (x.home ≤ length homes)) (λ x. (1 ≤ x.home) × (x.home ≤ length (remove_at_home l homes))) ids (λ x h. (h.0, omega (arith, h.1, size))) all.1))
   where
-    by : (b : Bool) → (l.home == home) ≡ b → records_at (take_each ids (taken_out l homes)) home ≡ without (ids_of home ids) (records_at (taken_out l homes) home)
-        → records_at (take_each ids (taken_out l homes)) home ≡ without (cond b (l ∷ ids_of home ids) (ids_of home ids)) (records_at homes home)
+    by : (b : Bool) → (l.home == home) ≡ b → records_at (remove_each ids (remove_at_home l homes)) home ≡ without (ids_of home ids) (records_at (remove_at_home l homes) home)
+        → records_at (remove_each ids (remove_at_home l homes)) home ≡ without (cond b (l ∷ ids_of home ids) (ids_of home ids)) (records_at homes home)
     by true e rest = rest ∙ ap (without (ids_of home ids)) (taken_away l homes home all.0.0 all.0.1 low true e) ∙ without_more l (ids_of home ids) (records_at homes home)
     by false e rest = rest ∙ ap (without (ids_of home ids)) (taken_away l homes home all.0.0 all.0.1 low false e)
 
@@ -148,21 +124,21 @@ pub patched_at : (change : Change) (a : View) (home : ℕ) → 1 ≤ home → Al
     → records_at (patched change a).records home ≡ after_at change a home
 patched_at change a home low ids records =
     let size = take_each_length change.removed a.records in
-    put_each_at change.records (take_each change.removed a.records) home low
-    (all_weaker (λ r. (1 ≤ r.home) × (r.home ≤ length a.records)) (λ r. (1 ≤ r.home) × (r.home ≤ length (take_each change.removed a.records))) change.records (λ r h. (h.0, omega (arith, h.1, size))) records)
+    put_each_at change.records (remove_each change.removed a.records) home low
+    (all_weaker (λ r. (1 ≤ r.home) × (r.home ≤ length a.records)) (λ r. (1 ≤ r.home) × (r.home ≤ length (remove_each change.removed a.records))) change.records (λ r h. (h.0, omega (arith, h.1, size))) records)
     ∙ ap (put_all (records_of home change.records)) (take_each_at change.removed a.records home low ids)
 
 pub patched_length : (change : Change) (a : View) → length (patched change a).records ≡ length a.records
-patched_length change a = put_each_length change.records (take_each change.removed a.records) ∙ take_each_length change.removed a.records
+patched_length change a = put_each_length change.records (remove_each change.removed a.records) ∙ take_each_length change.removed a.records
 
 -- One home
 
 -- where the records before are those of the view
-module _ (kept : Kept) (told : Told) (reach mine : ℕ) (front : List ℕ) (own : HomeRecords) (ids : List Id) (more : List Record)
+module _ (kept : ReplicaState) (told : Told) (reach mine : ℕ) (front : List ℕ) (own : HomeRecords) (ids : List Id) (more : List Record)
     (some : 1 ≤ told.records.home) (home : own.home ≡ told.records.home) (all : mine ≡ count kept.front told.records.home)
     (at : slice_get kept.homes (told.records.home - 1) ≡ Some own)
     (order : AreOf own.home (changed_by ids more own.records))
-    (found : (num : ℕ) → found_at own.home (changed_by ids more own.records) num ≡ taken (nat_le num mine) (is_gone reach (held_numbers told.held) num) (found_at own.home own.records num) (found_at own.home told.records.records num)) where
+    (found : (num : ℕ) → found_at own.home (changed_by ids more own.records) num ≡ absorbed (nat_le num mine) (is_gone reach (held_numbers told.held) num) (found_at own.home own.records num) (found_at own.home told.records.records num)) where
   own_records : own.records ≡ records_at (view_of kept).records told.records.home
   own_records = sym (home_records kept told.records.home own at)
 
@@ -196,19 +172,6 @@ module _ (kept : Kept) (told : Told) (reach mine : ℕ) (front : List ℕ) (own 
       subst (λ (n : ℕ). AreInShape front n (changed_by ids more own.records)) (sym home)
       (subst (λ (rs : List Record). AreInShape front told.records.home (changed_by ids more rs)) (sym own_records)
       (subst (λ (rs : List Record). AreInShape front told.records.home rs) one shape))
-
--- Home by home
-
--- no change holds only what changes
-pub no_changes : (home : ℕ) (own : List Record) → AreOnlyChanges home own [] []
-no_changes home own = record {
-  order = record { homes = tt; ascending = tt };
-  others = tt;
-  homes = tt;
-  rising = λ k within. absurd (omega (arith, within));
-  there = tt;
-  apart = tt;
-}
 
 -- nothing is taken yet
 pub taken_none : (a : View) (telling : Telling) (homes : List HomeRecords) (change : Change) → change.removed ≡ [] → change.records ≡ [] → IsTakenTo a telling homes change 0
@@ -350,7 +313,7 @@ module _ (a : View) (telling : Telling) (told : Told) (reach k : ℕ) (homes roo
 -- When all homes are taken
 
 no_records : (front : List ℕ) (home : ℕ) (rs : List Record) → rs ≡ [] → AreInShape front home rs
-no_records front home [] e = record { few = omega arith; fitted = λ num r at. absurd cc }
+no_records front home [] e = record { few = omega arith; in_place = λ num r at. absurd cc }
 no_records front home (r ∷ rs) e = absurd cc
 
 module _ (a : View) (telling : Telling) (homes : List HomeRecords) (change : Change) (so : IsTakenTo a telling homes change (length a.records))
@@ -384,7 +347,7 @@ module _ (a : View) (telling : Telling) (homes : List HomeRecords) (change : Cha
       }
 
 -- the patch fits, where the view is that of what is kept
-pub taken_fits : (kept : Kept) (telling : Telling) (change : Change) → IsTakenTo (view_of kept) telling kept.homes change (length kept.front) → length change.front ≡ length kept.front → length change.purges ≡ length kept.front → Fits change kept
+pub taken_fits : (kept : ReplicaState) (telling : Telling) (change : Change) → IsTakenTo (view_of kept) telling kept.homes change (length kept.front) → length change.front ≡ length kept.front → length change.purges ≡ length kept.front → Fits change kept
 taken_fits kept telling change so front purges =
     record {
       front = front;
@@ -405,15 +368,15 @@ absorbed_there a c telling told reach is low high at far =
       order = is.order home low (omega (arith, high, size));
       taken = λ num.
           is.records (record { home = home; num = num }) low (omega (arith, high, size))
-          ∙ ap (λ n. taken (nat_le num (count a.front home)) (is_gone n (told_held telling home) num) (found_at home (records_at a.records home) num) (found_at home (told_records telling home) num)) (sym far)
-          ∙ ap (λ h. taken (nat_le num (count a.front home)) (is_gone reach h num) (found_at home (records_at a.records home) num) (found_at home (told_records telling home) num)) held
-          ∙ ap (λ rs. taken (nat_le num (count a.front home)) (is_gone reach (held_numbers told.held) num) (found_at home (records_at a.records home) num) (found_at home rs num)) theirs;
+          ∙ ap (λ n. absorbed (nat_le num (count a.front home)) (is_gone n (told_held telling home) num) (found_at home (records_at a.records home) num) (found_at home (told_records telling home) num)) (sym far)
+          ∙ ap (λ h. absorbed (nat_le num (count a.front home)) (is_gone reach h num) (found_at home (records_at a.records home) num) (found_at home (told_records telling home) num)) held
+          ∙ ap (λ rs. absorbed (nat_le num (count a.front home)) (is_gone reach (held_numbers told.held) num) (found_at home (records_at a.records home) num) (found_at home rs num)) theirs;
     }
 
 -- What is left to take
 
 -- the homes before those that are left are taken
-pub record IsTakenSo (a : View) (telling : Telling) (kept : Kept) (patch old : Change) (rest : List Told) : Type 0 where
+pub record IsTakenSo (a : View) (telling : Telling) (kept : ReplicaState) (patch old : Change) (rest : List Told) : Type 0 where
   pub done : List Told
   pub all : telling.homes ≡ done ++ rest
   pub view : view_of kept ≡ a
@@ -429,7 +392,7 @@ told_place : (done rest : List Told) (told : Told) → slice_get (done ++ told �
 told_place [] rest told = refl
 told_place (x ∷ done) rest told = told_place done rest told
 
-module _ (a : View) (telling : Telling) (kept : Kept) (patch old : Change) (told : Told) (rest : List Told)
+module _ (a : View) (telling : Telling) (kept : ReplicaState) (patch old : Change) (told : Told) (rest : List Told)
     (is : IsTelling telling) (nodes : length a.front ≡ length telling.front) (so : IsTakenSo a telling kept patch old (told ∷ rest)) where
   numbered : told.records.home ≡ length so.done + 1
   numbered = omega (arith, told_number 1 so.done rest told (subst (AreToldFrom 1) so.all is.numbered))
@@ -447,7 +410,7 @@ module _ (a : View) (telling : Telling) (kept : Kept) (patch old : Change) (told
       ap (slice_get telling.homes) place ∙ ap (λ ts. slice_get ts (length so.done)) so.all ∙ told_place so.done rest told
 
   -- and is taken
-  pub next_taken : (after : Kept) (new : Change) (reach : ℕ) → reach ≡ count telling.front told.records.home → view_of after ≡ view_of kept → new.front ≡ patch.front → new.purges ≡ patch.purges
+  pub next_taken : (after : ReplicaState) (new : Change) (reach : ℕ) → reach ≡ count telling.front told.records.home → view_of after ≡ view_of kept → new.front ≡ patch.front → new.purges ≡ patch.purges
       → ((home : ℕ) → 1 ≤ home → spare_at kept.homes home ≤ spare_at after.homes home) → IsGrown (view_of kept) told reach after.homes patch new → IsTakenSo a telling after new old rest
   next_taken after new reach far view front purges room grown =
       let home : count telling.front told.records.home ≡ count telling.front (length so.done + 1) = ap (count telling.front) numbered in
@@ -475,7 +438,7 @@ module _ (a : View) (telling : Telling) (kept : Kept) (patch old : Change) (told
       (subst (λ (v : List ℕ). AreInShape v told.records.home (records_at c.records told.records.home)) (front ∙ sym so.front) (shape.homes told.records.home low))
 
 -- all homes are taken where none is left
-pub all_taken : (a : View) (telling : Telling) (kept : Kept) (patch old : Change) → IsTelling telling → length a.front ≡ length telling.front → IsTakenSo a telling kept patch old [] → IsTakenTo a telling kept.homes patch (length a.front)
+pub all_taken : (a : View) (telling : Telling) (kept : ReplicaState) (patch old : Change) → IsTelling telling → length a.front ≡ length telling.front → IsTakenSo a telling kept patch old [] → IsTakenTo a telling kept.homes patch (length a.front)
 all_taken a telling kept patch old is nodes so =
     let size : length telling.homes ≡ length so.done + length {A = Told} [] = ap (λ (ts : List Told). length ts) so.all ∙ length-append so.done [] in
     let n : length so.done ≡ length a.front = omega (arith, size, nodes, is.homes) in
@@ -483,7 +446,7 @@ all_taken a telling kept patch old is nodes so =
 
 -- The whole patch
 
-module _ (kept after : Kept) (telling : Telling) (change : Change) (is : IsKept kept) (told : IsTelling telling) (nodes : length kept.front ≡ length telling.front)
+module _ (kept after : ReplicaState) (telling : Telling) (change : Change) (is : IsReplicaState kept) (told : IsTelling telling) (nodes : length kept.front ≡ length telling.front)
     (view : view_of after ≡ view_of kept) (so : IsTakenTo (view_of kept) telling after.homes change (length kept.front))
     (front : change.front ≡ join_fronts kept.front telling.front) (purges : change.purges ≡ join_fronts kept.purges telling.purges) where
   size : length (view_of kept).records ≡ length kept.front

@@ -1,52 +1,10 @@
-pub mod Absorbed
-pub mod Adding
-pub mod Alike
-pub mod Answered
-pub mod Basics
-pub mod Begun
-pub mod Changed
-pub mod Climbing
-pub mod Counting
-pub mod Crowding
-pub mod Decided
-pub mod Empties
-pub mod Entries
-pub mod Examples
-pub mod Extending
-pub mod Firsts
-pub mod Fitting
-pub mod Hearing
-pub mod Histories
-pub mod Holding
-pub mod Homes
-pub mod Kept
-pub mod Lattice
-pub mod Lawfulness
-pub mod Members
-pub mod MergeExamples
-pub mod MergedMembers
-pub mod MergedRecords
-pub mod More
-pub mod Nesting
-pub mod OnlyChanges
-pub mod Paging
-pub mod Parted
-pub mod Placed
-pub mod Prefixes
-pub mod Proper
-pub mod Purged
-pub mod Ranked
-pub mod Readying
-pub mod Risen
+mod Absorbed
+mod EmptyHomes
+mod Homes
+mod KnownReports
+mod Nesting
+mod Paging
+mod PreparedReplies
 pub mod Rooms
-pub mod SameHomes
-pub mod Settling
-pub mod ShapeExamples
-pub mod Shaped
-pub mod Taking
-pub mod Tellings
-pub mod Together
-pub mod Told
-pub mod Unions
-pub mod Uniqueness
-pub mod Removing
+mod SameHomes
+mod Tellings

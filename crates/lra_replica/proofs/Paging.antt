@@ -12,16 +12,16 @@ use Rattle.lra_forest.proofs.Bools.{all_in, and_left, and_right}
 use Rattle.lra_forest.proofs.Gatherings.{find_in}
 use Rattle.lra_forest.proofs.Overdue.{at, found_in, number_passes}
 use Rattle.lra_forest.proofs.Removals.{filter_are_of}
+use Rattle.lra_history.specs.Growth.{IsSettled}
+use Rattle.lra_history.specs.Readings.{by_view}
+use Rattle.lra_history.specs.Replies.{Reading, by_facts}
+use Rattle.lra_history.specs.Views.{StandsFor, View, record_at}
+use Rattle.lra_history.proofs.SameReadings.{has_record, view_alike}
+use Rattle.lra_history.proofs.Basics.{at_most, false_from, less_by}
 use Rattle.lra_replica.specs.declared.page.Row.{Row}
-use Rattle.lra_replica.specs.Growth.{IsSettled}
 use Rattle.lra_replica.specs.Pages.{AreAscending, AreBefore, HasRow, IsBefore, IsBeyond, IsFirstBeyond, IsNext, IsNextAt, IsNextRow, IsPage, IsRow, PageRows, is_listed}
-use Rattle.lra_replica.specs.Readings.{by_view}
-use Rattle.lra_replica.specs.Replicas.{Kept, IsKept, view_of}
-use Rattle.lra_replica.specs.Replies.{Reading, by_facts}
-use Rattle.lra_replica.specs.Views.{StandsFor, View, record_at}
-use Rattle.lra_replica.proofs.Alike.{has_record, view_alike}
+use Rattle.lra_replica.specs.Replicas.{ReplicaState, IsReplicaState, view_of}
 use Rattle.lra_replica.proofs.Homes.{found_here, home_records, home_within, kept_in_order, lost_here}
-use Rattle.lra_replica.proofs.Basics.{at_most, false_from, less_by}
 
 fact_number : (n : ℕ) → is_fact_number n ≡ true → IsFactNumber n
 fact_number n e = (let t : 1 ≤ n = grind (arith, nat_tests, e) in t, let t : n < 281474976710656 = grind (arith, nat_tests, e) in t)
@@ -131,14 +131,14 @@ next_here t home num rs (q ∷ qs) o are e none some = subst (IsNextAt t home nu
 -- A replica
 
 -- what it tells of a home's LRAs
-pub told_here : (kept : Kept) (home : ℕ) (f : HomeRecords) → IsKept kept → 1 ≤ home → slice_get kept.homes (home - 1) ≡ Some f → AreTold (by_view (view_of kept)) home f.records
+pub told_here : (kept : ReplicaState) (home : ℕ) (f : HomeRecords) → IsReplicaState kept → 1 ≤ home → slice_get kept.homes (home - 1) ≡ Some f → AreTold (by_view (view_of kept)) home f.records
 told_here kept home f is some at = record {
   order = subst (AreOf home) (home_records kept home f at) (kept_in_order kept is home some (home_within kept home f is some at));
   told = λ l own. ap is_some (found_here kept l f (ap (λ (n : ℕ). slice_get kept.homes (n - 1)) own ∙ at));
 }
 
 -- where there is no such home, none is next
-pub next_nowhere : (kept : Kept) (home num : ℕ) → slice_get kept.homes (home - 1) ≡ None → IsNextAt (by_view (view_of kept)) home num None
+pub next_nowhere : (kept : ReplicaState) (home num : ℕ) → slice_get kept.homes (home - 1) ≡ None → IsNextAt (by_view (view_of kept)) home num None
 next_nowhere kept home num none l own more = false_from (is_listed (by_view (view_of kept)) l) (λ listed.
     let lost = ap is_some (lost_here kept l (ap (λ (n : ℕ). slice_get kept.homes (n - 1)) own ∙ none)) in
     let both : true ≡ false = sym (listed_held (by_view (view_of kept)) l listed) ∙ lost in
@@ -148,7 +148,7 @@ next_nowhere kept home num none l own more = false_from (is_listed (by_view (vie
 abbrev pub IsWithin : ℕ → Reading → Type 0
 IsWithin nodes t = (l : Id) → is_listed t l ≡ true → (1 ≤ l.home) × (l.home ≤ nodes)
 
-pub kept_within : (kept : Kept) → IsKept kept → IsWithin (length kept.front) (by_view (view_of kept))
+pub kept_within : (kept : ReplicaState) → IsReplicaState kept → IsWithin (length kept.front) (by_view (view_of kept))
 kept_within kept is l listed = by (slice_get kept.homes (l.home - 1)) refl
   where
     held : is_some (record_at (view_of kept) l) ≡ true

@@ -7,7 +7,8 @@ use Rattle.std.proofs.Math.Seq.{map-set_same}
 use Rattle.std.specs.List.{AllByRecursion}
 use Rattle.lra_forest.specs.declared.record.Record.{Record}
 use Rattle.lra_forest.specs.Forests.{AreOf, HomeRecords}
-use Rattle.lra_replica.specs.Replicas.{Change, Fits, Kept, IsKept, AreHomesFrom, count_of_home, spare_at}
+use Rattle.lra_history.specs.Changes.{Change}
+use Rattle.lra_replica.specs.Replicas.{Fits, ReplicaState, IsReplicaState, AreHomesFrom, count_of_home, spare_at}
 
 homes_with : (k : ℕ) (homes : List HomeRecords) (i : ℕ) (new d : HomeRecords) → i < length homes → new.home ≡ (get_or homes i d).home → AreHomesFrom k homes → AreHomesFrom k (set homes i new)
 homes_with k [] i new d e same are = tt
@@ -35,7 +36,7 @@ ordered_with (h ∷ homes) (suc i) new here each = (each.0, ordered_with homes i
 
 -- they are still one home for each node, with its records in order
 pub kept_with : (front purges : List ℕ) (homes : List HomeRecords) (i : ℕ) (new d : HomeRecords) → i < length homes → new.home ≡ (get_or homes i d).home → AreOf new.home new.records →
-    IsKept (record { front = front; purges = purges; homes = homes }) → IsKept (record { front = front; purges = purges; homes = set homes i new })
+    IsReplicaState (record { front = front; purges = purges; homes = homes }) → IsReplicaState (record { front = front; purges = purges; homes = set homes i new })
 kept_with front purges homes i new d e same order is =
     record {
       purges = is.purges;
@@ -117,7 +118,7 @@ home_count home r rs = by (r.home == home)
     by true = omega arith
     by false = omega arith
 
-at_home : (n : ℕ) (r : Record) (kept : Kept) (home : ℕ) → n ≤ spare_at kept.homes r.home → cond (r.home == home) n 0 ≤ spare_at kept.homes home
+at_home : (n : ℕ) (r : Record) (kept : ReplicaState) (home : ℕ) → n ≤ spare_at kept.homes r.home → cond (r.home == home) n 0 ≤ spare_at kept.homes home
 at_home n r kept home room = by (r.home == home) refl
   where
     by : (b : Bool) → (r.home == home) ≡ b → cond b n 0 ≤ spare_at kept.homes home
@@ -125,7 +126,7 @@ at_home n r kept home room = by (r.home == home) refl
     by false t = omega arith
 
 -- a patch of one record fits where there is room for one more at its home
-pub one_fits : (next : Record) (kept : Kept) (change : Change) → change.records ≡ next ∷ [] → length change.front ≡ length kept.front → length change.purges ≡ length kept.front → next.home ≤ length kept.front → 1 ≤ spare_at kept.homes next.home → Fits change kept
+pub one_fits : (next : Record) (kept : ReplicaState) (change : Change) → change.records ≡ next ∷ [] → length change.front ≡ length kept.front → length change.purges ≡ length kept.front → next.home ≤ length kept.front → 1 ≤ spare_at kept.homes next.home → Fits change kept
 one_fits next kept change e front purges there room =
     record {
       front = front;
@@ -135,7 +136,7 @@ one_fits next kept change e front purges there room =
     }
 
 -- and one of two records of a home where there is room for two
-pub two_fit : (first second : Record) (kept : Kept) (change : Change) → change.records ≡ first ∷ second ∷ [] → second.home ≡ first.home → length change.front ≡ length kept.front → length change.purges ≡ length kept.front → first.home ≤ length kept.front → 2 ≤ spare_at kept.homes first.home → Fits change kept
+pub two_fit : (first second : Record) (kept : ReplicaState) (change : Change) → change.records ≡ first ∷ second ∷ [] → second.home ≡ first.home → length change.front ≡ length kept.front → length change.purges ≡ length kept.front → first.home ≤ length kept.front → 2 ≤ spare_at kept.homes first.home → Fits change kept
 two_fit first second kept change e same front purges there room =
     record {
       front = front;

@@ -2,12 +2,13 @@
 use Rattle.std.proofs.Common.{◌≡◌, ◌≤◌, ◌<◌, ◌+◌, ◌∷◌, ℕ, Bool, true, List, [], map, take, length, get_or, refl, sym, ap, subst, ◌∙◌, arith}
 use Rattle.std.specs.List.{AllByRecursion, AllZip}
 use Rattle.std.proofs.lemmas.List.{length-map, take_all, take_more_same}
+
 use Rattle.lra_id.specs.contracts.front.FrontPartialEq.TheImpl as of_fronts
 use Rattle.lra_forest.specs.declared.record.Record.{Record}
 use Rattle.lra_forest.specs.Forests.{AreOf, HomeRecords}
-use Rattle.lra_forest.proofs.Alike.{front_same, front_own}
-use Rattle.lra_replica.specs.Replicas.{AreHomesFrom, IsKept, Kept, view_of}
-use Rattle.lra_replica.specs.Views.{View}
+use Rattle.lra_forest.proofs.EqualRecords.{front_same, front_own}
+use Rattle.lra_replica.specs.Replicas.{AreHomesFrom, IsReplicaState, ReplicaState, view_of}
+use Rattle.lra_history.specs.Views.{View}
 use Rattle.lra_replica.proofs.Rooms.{home_numbered, records_of}
 
 -- the records of each home
@@ -49,7 +50,7 @@ front_told v w front other told is was e = (
   λ same. e ∙ ap (λ (x : List ℕ). of_fronts.ghosts.eq v x) (was ∙ sym same ∙ sym is) ∙ front_own v,
 )
 
-pub same_view : (kept other : Kept) → kept.front ≡ other.front → kept.purges ≡ other.purges → (view_of kept).records ≡ (view_of other).records → view_of kept ≡ view_of other
+pub same_view : (kept other : ReplicaState) → kept.front ≡ other.front → kept.purges ≡ other.purges → (view_of kept).records ≡ (view_of other).records → view_of kept ≡ view_of other
 same_view kept other fronts purges records =
     let made : List ℕ → List ℕ → List (List Record) → View = λ f p r. record { front = f; purges = p; records = r } in
     ap (λ (f : List ℕ). made f kept.purges (view_of kept).records) fronts
@@ -90,7 +91,7 @@ copied_records (h ∷ hs) [] each = absurd each
 copied_records (h ∷ hs) (k ∷ ks) each = ap (λ (rs : List Record). rs ∷ records_in ks) each.0.1 ∙ ap (λ (rest : List (List Record)). h.records ∷ rest) (copied_records hs ks each.1)
 
 -- and are one for each node, in order
-pub copied_kept : (front purges : List ℕ) (homes copies : List HomeRecords) → AllZip IsCopy homes copies → IsKept (record { front = front; purges = purges; homes = homes }) → IsKept (record { front = front; purges = purges; homes = copies })
+pub copied_kept : (front purges : List ℕ) (homes copies : List HomeRecords) → AllZip IsCopy homes copies → IsReplicaState (record { front = front; purges = purges; homes = homes }) → IsReplicaState (record { front = front; purges = purges; homes = copies })
 copied_kept front purges homes copies each is = record {
   purges = is.purges;
   homes = copied_length homes copies each ∙ is.homes;

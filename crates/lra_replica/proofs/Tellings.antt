@@ -1,86 +1,18 @@
 -- What is told of a view, and what is taken of it.
-use Rattle.std.proofs.Common.{◌≡◌, ◌≤◌, ◌<◌, ◌+◌, ◌-◌, ◌==◌, ◌&&◌, ◌||◌, ℕ, zero, suc, List, [], ◌∷◌, ◌++◌, refl, sym, ap, subst, ◌∙◌, Bool, true, false, cond, not, arith, Option, Some, None, length, map, find, get_or, take, slice_get}
-use Rattle.std.proofs.lemmas.Bool.Decides.{nat_tests}
+use Rattle.std.proofs.Common.{◌≡◌, ◌≤◌, ◌<◌, ◌+◌, ◌-◌, ℕ, zero, suc, List, [], ◌∷◌, ◌++◌, refl, sym, ap, subst, ◌∙◌, arith, Option, Some, None, length, map, get_or, take, slice_get}
 use Rattle.std.proofs.lemmas.List.{take_all, take_more}
 use Rattle.std.proofs.lemmas.Option.{get_or_from_slice_get}
 use Rattle.std.proofs.lemmas.Slice.Zip.{AllZip-long, all_zipped_more}
-use Rattle.std.specs.List.{AllByRecursion, AllZip, list_any}
+use Rattle.std.specs.List.{AllZip}
 use Rattle.std.specs.Option.{option_map_or}
-use Rattle.lra_id.specs.Fronts.{count, is_covered, join_fronts}
-use Rattle.lra_id.specs.Ids.{Id, is_fact_number}
 use Rattle.lra_forest.specs.declared.merging.Told.{Told}
 use Rattle.lra_forest.specs.declared.record.Record.{Record}
-use Rattle.lra_forest.specs.Forests.{AreOf, HomeRecords, is_of}
-use Rattle.lra_forest.specs.Merging.{held_numbers, is_gone, taken}
-use Rattle.lra_replica.specs.Merging.{AreToldFrom, IsAbsorbed, IsMerged, IsTelling, TellsAll, Telling, absorbed_of, taken_of, told_held, told_records}
-use Rattle.lra_replica.specs.Replicas.{AreHomesFrom, IsKept, Kept, view_of}
-use Rattle.lra_replica.specs.Views.{View, record_at, records_at}
+use Rattle.lra_forest.specs.Forests.{AreOf, HomeRecords}
+use Rattle.lra_forest.specs.RecordMerges.{held_numbers, absorbed}
+use Rattle.lra_history.specs.Merging.{AreToldFrom, IsTelling, TellsAll}
+use Rattle.lra_replica.specs.Replicas.{AreHomesFrom, IsReplicaState, ReplicaState, view_of}
 use Rattle.lra_replica.proofs.Homes.{home_records}
 use Rattle.lra_replica.proofs.Rooms.{home_numbered}
-use Rattle.lra_replica.proofs.Unions.{length_join}
-
--- What is taken of an LRA
-
--- that the other purged it matters only where the other has none
-gone_same : (covered gone past : Bool) (o p : Option Record) → (p ≡ None → gone ≡ past) → taken covered gone o p ≡ taken covered past o p
-gone_same covered gone past None None same = refl
-gone_same covered gone past None (Some t) same = refl
-gone_same covered gone past (Some r) None same = ap (λ (g : Bool). cond g None (Some r)) (same refl)
-gone_same covered gone past (Some r) (Some t) same = refl
-
--- where no record of an LRA is found among those of its home, none has its number
-unlisted : (l : Id) (rs : List Record) → AllByRecursion (λ (r : Record). r.home ≡ l.home) rs → find (is_of l) rs ≡ None → list_any (λ n. n == l.num) (map (λ (r : Record). r.num) rs) ≡ false
-unlisted l [] own none = refl
-unlisted l (r ∷ rs) own none = by (unlisted l rs own.1) (r.home == l.home) (r.num == l.num) (grind (arith, nat_tests, own.0)) none
-  where
-    by : (find (is_of l) rs ≡ None → list_any (λ n. n == l.num) (map (λ (q : Record). q.num) rs) ≡ false) → (home num : Bool) → home ≡ true → cond (home && num) (Some r) (find (is_of l) rs) ≡ None → (num || list_any (λ n. n == l.num) (map (λ (q : Record). q.num) rs)) ≡ false
-    by rest true true e none = absurd cc
-    by rest true false e none = rest none
-    by rest false num e none = absurd cc
-
-not_listed : (b listed : Bool) → listed ≡ false → (b && not listed) ≡ b
-not_listed true listed e = ap not e
-not_listed false listed e = refl
-
--- of each LRA the same is taken as of the view that is told
-taken_told : (a b : View) (telling : Telling) (l : Id) → TellsAll telling b → 1 ≤ l.home → l.home ≤ length b.front → absorbed_of a telling l ≡ taken_of a b l
-taken_told a b telling l all low high =
-    let rs = records_at b.records l.home in
-    let nums = map (λ (r : Record). r.num) rs in
-    let covered = is_covered a.front l in
-    ap (λ (front : List ℕ). taken covered (is_gone (count front l.home) (told_held telling l.home) l.num) (record_at a l) (find (is_of l) (told_records telling l.home))) all.front
-    ∙ ap (λ (held : Option (List ℕ)). taken covered (is_gone (count b.front l.home) held l.num) (record_at a l) (find (is_of l) (told_records telling l.home))) (all.held l.home low high)
-    ∙ ap (λ (told : List Record). taken covered (is_gone (count b.front l.home) (Some nums) l.num) (record_at a l) (find (is_of l) told)) (all.records l.home low high)
-    ∙ gone_same covered (is_gone (count b.front l.home) (Some nums) l.num) (is_fact_number l.num && is_covered b.front l) (record_at a l) (record_at b l)
-    (λ none. not_listed (is_fact_number l.num && is_covered b.front l) (list_any (λ n. n == l.num) nums) (unlisted l rs (all.order l.home low high).homes none))
-
--- Taking all that a view has is merging with it
-
--- the front of what comes of it counts as many nodes
-same_nodes : (a b : View) (front : List ℕ) → length a.front ≡ length b.front → front ≡ join_fronts a.front b.front → length front ≡ length b.front
-same_nodes a b front nodes is = ap (λ (v : List ℕ). length v) is ∙ length_join a.front b.front nodes ∙ nodes
-
-pub merged_from : (a b c : View) (telling : Telling) → TellsAll telling b → IsAbsorbed a telling c → IsMerged a b c
-merged_from a b c telling all is =
-    let nodes : length a.front ≡ length b.front = is.nodes ∙ ap (λ (v : List ℕ). length v) all.front in
-    let front : c.front ≡ join_fronts a.front b.front = is.front ∙ ap (join_fronts a.front) all.front in record {
-      nodes = nodes;
-      front = front;
-      purges = is.purges ∙ ap (join_fronts a.purges) all.purges;
-      homes = is.homes;
-      order = is.order;
-      records = λ l low high. is.records l low high ∙ taken_told a b telling l all low (omega (arith, high, same_nodes a b c.front nodes front));
-    }
-
-pub absorbed_from : (a b c : View) (telling : Telling) → TellsAll telling b → IsMerged a b c → IsAbsorbed a telling c
-absorbed_from a b c telling all is = record {
-  nodes = is.nodes ∙ sym (ap (λ (v : List ℕ). length v) all.front);
-  front = is.front ∙ sym (ap (join_fronts a.front) all.front);
-  purges = is.purges ∙ sym (ap (join_fronts a.purges) all.purges);
-  homes = is.homes;
-  order = is.order;
-  records = λ l low high. is.records l low high ∙ sym (taken_told a b telling l all low (omega (arith, high, same_nodes a b c.front is.nodes is.front)));
-}
 
 -- The homes of a replica, told
 
@@ -92,8 +24,8 @@ IsToldOf home told =
 -- one home more
 pub one_more_told : (homes : List HomeRecords) (told more : List Told) (i : ℕ) (home : HomeRecords) (last : Told) → i < length homes → home ≡ get_or homes i home → more ≡ told ++ last ∷ [] → IsToldOf home last → AllZip IsToldOf (take i homes) told → AllZip IsToldOf (take (i + 1) homes) more
 one_more_told homes told more i home last within is items here so_far =
-    let taken : take (i + 1) homes ≡ take i homes ++ home ∷ [] = take_more homes i home within ∙ ap (λ (h : HomeRecords). take i homes ++ h ∷ []) (sym is) in
-    subst (λ (hs : List HomeRecords). AllZip IsToldOf hs more) (sym taken)
+    let absorbed : take (i + 1) homes ≡ take i homes ++ home ∷ [] = take_more homes i home within ∙ ap (λ (h : HomeRecords). take i homes ++ h ∷ []) (sym is) in
+    subst (λ (hs : List HomeRecords). AllZip IsToldOf hs more) (sym absorbed)
     (subst (λ (ts : List Told). AllZip IsToldOf (take i homes ++ home ∷ []) ts) (sym items) (all_zipped_more IsToldOf (take i homes) told home last so_far here))
 
 -- all homes
@@ -107,7 +39,7 @@ told_numbers k (h ∷ homes) [] each are = absurd each
 told_numbers k (h ∷ homes) (t ∷ told) each are = (each.0.0 ∙ are.0, told_numbers (k + 1) homes told each.1 are.1)
 
 -- what is told of all homes is of one for each node
-pub telling_kept : (kept : Kept) (told : List Told) → AllZip IsToldOf kept.homes told → IsKept kept → IsTelling (record { front = kept.front; purges = kept.purges; homes = told })
+pub telling_kept : (kept : ReplicaState) (told : List Told) → AllZip IsToldOf kept.homes told → IsReplicaState kept → IsTelling (record { front = kept.front; purges = kept.purges; homes = told })
 telling_kept kept told each is = record {
   purges = is.purges;
   homes = AllZip-long IsToldOf kept.homes told each ∙ is.homes;
@@ -130,7 +62,7 @@ told_at (h ∷ homes) (t ∷ told) (suc i) e each =
     let rest = told_at homes told i (omega (arith, e)) each.1 in record { home = rest.home; part = rest.part; at = rest.at; told_at = rest.told_at; is = rest.is }
 
 -- and it is all that the replica has
-pub tells_all : (kept : Kept) (told : List Told) → AllZip IsToldOf kept.homes told → IsKept kept → TellsAll (record { front = kept.front; purges = kept.purges; homes = told }) (view_of kept)
+pub tells_all : (kept : ReplicaState) (told : List Told) → AllZip IsToldOf kept.homes told → IsReplicaState kept → TellsAll (record { front = kept.front; purges = kept.purges; homes = told }) (view_of kept)
 tells_all kept told each is = record {
   front = refl;
   purges = refl;

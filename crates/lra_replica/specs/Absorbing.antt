@@ -6,18 +6,19 @@ use Rattle.lra_id.specs.Fronts.{count}
 use Rattle.lra_forest.specs.declared.merging.Told.{Told}
 use Rattle.lra_forest.specs.declared.record.Record.{Record}
 use Rattle.lra_forest.specs.Forests.{AreOf, HomeRecords}
-use Rattle.lra_forest.specs.Merging.{changed_by, held_numbers, is_gone, taken}
+use Rattle.lra_forest.specs.RecordMerges.{changed_by, held_numbers, is_gone, absorbed}
 use Rattle.lra_forest.specs.OnlyChanges.{AreOnlyChanges}
 use Rattle.lra_forest.specs.Shape.{AreInShape, found_at}
-use Rattle.lra_replica.specs.Merging.{Telling, told_held, told_records}
-use Rattle.lra_replica.specs.Replicas.{Change, HoldsOnlyChanges, count_of_home, ids_of, records_of, spare_at}
-use Rattle.lra_replica.specs.Views.{View, records_at}
+use Rattle.lra_history.specs.Merging.{Telling, told_held, told_records}
+use Rattle.lra_history.specs.Changes.{Change, HoldsOnlyChanges, ids_of, records_of}
+use Rattle.lra_history.specs.Views.{View, records_at}
+use Rattle.lra_replica.specs.Replicas.{count_of_home, spare_at}
 
 -- After are the records of a home, in order, when what another tells of it is taken: it has reach of the home's facts, tells
 -- these records, and that it holds these numbers. Own are the records before, of a node that has mine of the home's facts
 pub record AreTaken (home mine reach : ℕ) (held : Option (List ℕ)) (theirs own after : List Record) : Type 0 where
   pub order : AreOf home after
-  pub taken : (num : ℕ) → found_at home after num ≡ taken (nat_le num mine) (is_gone reach held num) (found_at home own num) (found_at home theirs num)
+  pub taken : (num : ℕ) → found_at home after num ≡ absorbed (nat_le num mine) (is_gone reach held num) (found_at home own num) (found_at home theirs num)
 
 -- what a view's records of a home become when what is told of the home is taken
 abbrev pub AreTakenAt : View → Told → (reach : ℕ) → List Record → Type 0

@@ -3,8 +3,8 @@ use Rattle.std.specs.Prelude.{◌&&◌, ◌≡◌, ◌≤◌, ◌<◌, ◌⊎◌
 use Rattle.std.specs.List.{AllByRecursion}
 use Rattle.lra_id.specs.Ids.{Id, is_fact_number}
 use Rattle.lra_facts.specs.Lists.{In}
+use Rattle.lra_history.specs.Replies.{Reading}
 use Rattle.lra_replica.specs.declared.page.Row.{Row}
-use Rattle.lra_replica.specs.Replies.{Reading}
 
 -- by home, and at one home by number
 abbrev pub IsBefore : Id → Id → Type 0

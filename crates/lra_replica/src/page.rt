@@ -5,12 +5,12 @@ ghost use Rattle.lra_facts.specs.declared.fact.Fact.{Fact};
 ghost use Rattle.lra_facts.specs.declared.refusal.Refusal.TheVariants.{NoMemory};
 ghost use Rattle.lra_forest.specs.declared.record.Record.{Record};
 ghost use Rattle.lra_forest.specs.Forests.{id_of};
-ghost use Rattle.lra_replica.specs.Growth.{IsSettled};
+ghost use Rattle.lra_history.specs.Growth.{IsSettled};
 ghost use Rattle.lra_replica.specs.Pages.{IsFirstBeyond, IsNext, IsNextAt, IsNextRow, IsPage};
-ghost use Rattle.lra_replica.specs.Readings.{by_view};
-ghost use Rattle.lra_replica.specs.Replicas.{IsKept, view_of};
-ghost use Rattle.lra_replica.specs.Replies.{by_facts};
-ghost use Rattle.lra_replica.specs.Views.{StandsFor};
+ghost use Rattle.lra_history.specs.Readings.{by_view};
+ghost use Rattle.lra_replica.specs.Replicas.{IsReplicaState, view_of};
+ghost use Rattle.lra_history.specs.Replies.{by_facts};
+ghost use Rattle.lra_history.specs.Views.{StandsFor};
 
 use crate::Replica;
 use lra_facts::Refusal;
@@ -87,7 +87,7 @@ impl Replica {
     fn nodes(&self) -> usize
         ensures count { result ≡ length self.now.front }
         ensures few { result ≤ 8 }
-        ensures kept { IsKept self.now }
+        ensures state { IsReplicaState self.now }
     {
         let _ = self.homes();
         self.front().nodes()
@@ -96,7 +96,7 @@ impl Replica {
     /// The first LRA that is held of the homes after this, where 0 comes before all.
     fn first_beyond(&self, home: usize) -> Option<LraId>
         ensures first { IsFirstBeyond (by_view (view_of self.now)) home result }
-        ensures kept { IsKept self.now }
+        ensures state { IsReplicaState self.now }
     {
         for place in home..self.nodes() {
             let Ok(node) = NodeId::new(place as u8 + 1) else {

@@ -1,7 +1,7 @@
 // What is to be changed in a replica.
 ghost use Rattle.std.specs.Prelude.{◌≡◌};
 
-use crate::CommandReply;
+use lra_history::CommandReply;
 use lra_forest::Record;
 use lra_id::{Front, LraId};
 use std::marker::Model;
@@ -17,7 +17,7 @@ pub struct Patch {
 }
 
 impl Model for Patch {
-    ghost use Rattle.lra_replica.specs.Replicas.{Change};
+    ghost use Rattle.lra_history.specs.Changes.{Change};
 
     ghost Value = { Change };
 

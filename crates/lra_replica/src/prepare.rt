@@ -1,13 +1,13 @@
 // Any command as a prepared patch.
 ghost use Rattle.std.specs.Prelude.{◌≡◌, ◌≤◌, List, length};
 ghost use Rattle.lra_facts.specs.declared.fact.Fact.{Fact};
-ghost use Rattle.lra_replica.specs.Growth.{IsSettled};
-ghost use Rattle.lra_replica.specs.Next.{IsNext};
-ghost use Rattle.lra_replica.specs.Prepared.{HasRoom, IsPrepared};
+ghost use Rattle.lra_history.specs.Growth.{IsSettled};
+ghost use Rattle.lra_replica.specs.Prepared.{IsNext, HasRoom, IsPrepared};
 ghost use Rattle.lra_replica.specs.Replicas.{KeepsRoom, view_of};
-ghost use Rattle.lra_replica.specs.Views.{StandsFor};
+ghost use Rattle.lra_history.specs.Views.{StandsFor};
 
-use crate::{Command, Prepared, Replica};
+use crate::{Prepared, Replica};
+use lra_history::Command;
 use lra_facts::Refusal;
 use lra_id::NodeId;
 use std::alloc::Global;

@@ -2,7 +2,8 @@
 use lra_callback::{Answer, Body, Heard, Kind, hear, pick, request_of, request_text};
 use lra_facts::Links;
 use lra_id::{LraId, NodeId};
-use lra_replica::{Command, Replica};
+use lra_history::Command;
+use lra_replica::Replica;
 use lra_states::{Act, Outcome, Verdict};
 use std::alloc::Global;
 use std::test::Fail;

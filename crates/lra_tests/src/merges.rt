@@ -3,7 +3,8 @@ use crate::commands::enter;
 use lra_facts::{Links, Refusal};
 use lra_forest::{Forest, Told};
 use lra_id::{Front, LraId, NodeId};
-use lra_replica::{Command, Replica, Row, Taken};
+use lra_history::Command;
+use lra_replica::{Replica, Row, Taken};
 use lra_states::{Act, LraStatus, Outcome, Verdict};
 use std::alloc::Global;
 use std::test::Fail;
@@ -196,7 +197,7 @@ fn what_is_told_is_taken_by_a_patch(rt: HostRuntime) -> Result<(), Fail> {
     let mut second = Replica::new(alloc, 2)?;
     begin(&mut second, alloc, 2, None)?;
     let both = with(&second, alloc, &first)?;
-    let taken = first.told(alloc)?;
+    let taken = first.tell_all(alloc)?;
     assert_eq!(rt; second.front().nodes(), first.front().nodes());
     let patch = second.absorb(alloc, taken)?;
     assert_eq!(rt; patch.records().len(), 1);

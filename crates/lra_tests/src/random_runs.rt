@@ -2,7 +2,7 @@
 use crate::commands::body;
 use lra_facts::{Body, Fact, Links, Refusal, plain};
 use lra_id::{Front, LraId, NodeId};
-use lra_replica::{Command, CommandReply};
+use lra_history::{Command, CommandReply};
 use lra_states::{Act, Outcome as Heard, Verdict};
 use lra_world::{Event, Reply, World};
 use std::alloc::{AllocError, Global};

@@ -3,14 +3,14 @@ use Rattle.std.proofs.Common.{◌≡◌, inl, inr, ℕ, List, Option, None, Some
 use Rattle.lra_facts.specs.declared.fact.Fact.{Fact}
 use Rattle.lra_facts.specs.declared.refusal.Refusal.{Refusal}
 use Rattle.lra_facts.specs.declared.refusal.Refusal.TheVariants.{NoMemory}
-use Rattle.lra_replica.specs.declared.command.Command.{Command}
-use Rattle.lra_replica.specs.declared.command.Command.TheVariants.{Begin, Join, Leave, Decide, Report, Forgot, Purge}
-use Rattle.lra_replica.specs.declared.command.CommandReply.TheVariants.{Refused}
+use Rattle.lra_history.specs.declared.command.Command.{Command}
+use Rattle.lra_history.specs.declared.command.Command.TheVariants.{Begin, Join, Leave, Decide, Report, Forgot, Purge}
+use Rattle.lra_history.specs.declared.command.CommandReply.TheVariants.{Refused}
 use Rattle.lra_replica.specs.declared.patch.Prepared.{Prepared}
-use Rattle.lra_replica.specs.Prepared.{AddsFact, IsPrepared}
-use Rattle.lra_replica.specs.Replicas.{Change}
-use Rattle.lra_replica.specs.Replies.{Judgement, Denied, Old, Taken, accepted, judge, reply_by, reply_of}
-use Rattle.lra_replica.specs.Views.{StandsFor, View}
+use Rattle.lra_history.specs.Changes.{AddsFact, Change}
+use Rattle.lra_replica.specs.Prepared.{IsPrepared}
+use Rattle.lra_history.specs.Replies.{Judgement, Denied, AlreadyKnown, Accepted, accepted, judge, reply_by, reply_of}
+use Rattle.lra_history.specs.Views.{StandsFor, View}
 use Rattle.lra_world.specs.Machines.{Becomes, IsActed, with_patch}
 
 -- with the patch, if there is one, the view becomes what the command asks
@@ -38,8 +38,8 @@ never_refused S v node (Purge root) r e = absurd cc
 
 unchanged : (j : Judgement) (S : List Fact) (old new : View) (me : ℕ) (c : Command) (r : Refusal) → reply_by j (accepted S old.front me c) ≡ Refused r → new ≡ old → Becomes j S old me c new
 unchanged (Denied q) S old new me c r e is = is
-unchanged Old S old new me c r e is = is
-unchanged Taken S old new me c r e is = absurd (never_refused S old.front me c r e)
+unchanged AlreadyKnown S old new me c r e is = is
+unchanged Accepted S old new me c r e is = absurd (never_refused S old.front me c r e)
 
 refused : (S : List Fact) (old new : View) (me : ℕ) (c : Command) (r : Refusal) → IsPrepared S old me c (Err r) → (r ≡ NoMemory → ⊥) → new ≡ old → (Refused r ≡ reply_of S old.front me c) × Becomes (judge S old.front me c) S old me c new
 refused S old new me c r (inl none) other is = absurd (other none.0)

@@ -6,9 +6,9 @@ use Rattle.std.proofs.lemmas.Bool.Decides.{nat_tests}
 use Rattle.lra_id.specs.Fronts.{IsBelow, join_fronts}
 use Rattle.lra_facts.specs.declared.refusal.Refusal.TheVariants.{Gap}
 use Rattle.lra_forest.proofs.Giving.{get_in}
-use Rattle.lra_replica.specs.Histories.{facts}
+use Rattle.lra_history.specs.Histories.{facts}
 use Rattle.lra_replica.specs.Replicas.{view_of}
-use Rattle.lra_replica.specs.Views.{View}
+use Rattle.lra_history.specs.Views.{View}
 use Rattle.lra_delta.specs.declared.input.Stop.{Stop}
 use Rattle.lra_delta.specs.declared.input.Stop.TheVariants.{Fault}
 use Rattle.lra_delta.specs.Frames.{Frame, frame_of}
@@ -24,9 +24,9 @@ use Rattle.lra_world.proofs.Belows.{below_or_not}
 use Rattle.lra_world.specs.Headline.{IsNode}
 use Rattle.lra_world.specs.Machines.{Happens, IsChanged, IsFrom, IsWorldOf, Machine, TakesBytes, TakesFrame}
 use Rattle.lra_world.specs.Worlds.{Comes, SentFrame, IfNode, IsSent, IsSpelled, IsViewOf, IsWorld, State, Steps, Takes, frame_at, front_of, is_node, nodes_of, with_front}
-use Rattle.lra_world.proofs.Changing.{TakesSo, get_some}
+use Rattle.lra_world.proofs.OneReplicaChanged.{TakesSo, get_some}
 use Rattle.lra_world.proofs.Moving.{kept_joined}
-use Rattle.lra_world.proofs.Standing.{changed_world, still_world, with_so}
+use Rattle.lra_world.proofs.WorldsStand.{changed_world, still_world, with_so}
 
 -- a frame of the state comes to a node of it
 record IsComing (s : State) (node : ℕ) (frame : SentFrame) (bytes : List ℕ) (a : View) : Type 0 where

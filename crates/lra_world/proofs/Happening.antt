@@ -8,16 +8,16 @@ use Rattle.std.proofs.lemmas.List.{length-append}
 use Rattle.lra_id.specs.Fronts.{IsBelow}
 use Rattle.lra_facts.specs.declared.refusal.Refusal.{Refusal}
 use Rattle.lra_facts.specs.declared.refusal.Refusal.TheVariants.{BadText, Gap}
-use Rattle.lra_replica.specs.declared.command.Command.{Command}
-use Rattle.lra_replica.specs.declared.command.Command.TheVariants.{Decide}
-use Rattle.lra_replica.specs.declared.command.CommandReply.{CommandReply}
+use Rattle.lra_history.specs.declared.command.Command.{Command}
+use Rattle.lra_history.specs.declared.command.Command.TheVariants.{Decide}
+use Rattle.lra_history.specs.declared.command.CommandReply.{CommandReply}
 use Rattle.lra_states.specs.declared.outcome.Verdict.TheVariants.{Cancel}
 use Rattle.lra_forest.specs.Overdue.{IsLeastOverdue}
-use Rattle.lra_replica.specs.Growth.{IsSettled}
-use Rattle.lra_replica.proofs.Histories.{closed_settled}
-use Rattle.lra_replica.specs.Histories.{History, IsClosed, IsLawful, facts}
-use Rattle.lra_replica.specs.Replicas.{Kept, view_of}
-use Rattle.lra_replica.specs.Views.{StandsFor}
+use Rattle.lra_history.specs.Growth.{IsSettled}
+use Rattle.lra_history.proofs.ClosedSets.{closed_settled}
+use Rattle.lra_history.specs.Histories.{History, IsClosed, IsLawful, facts}
+use Rattle.lra_replica.specs.Replicas.{ReplicaState, view_of}
+use Rattle.lra_history.specs.Views.{StandsFor}
 use Rattle.lra_world.specs.declared.event.Event.{Event}
 use Rattle.lra_world.specs.declared.event.Event.TheVariants.{Act, Deliver, Restart, Send, Tick}
 use Rattle.lra_world.specs.declared.event.Reply.{Reply}
@@ -29,8 +29,8 @@ use Rattle.lra_world.proofs.Delivering.{at_node}
 use Rattle.lra_world.proofs.Agreeing.{nodes_agree}
 use Rattle.lra_world.proofs.Moving.{kept_posted, run_keeps}
 use Rattle.lra_world.proofs.Parting.{no_split}
-use Rattle.lra_world.proofs.Rising.{statuses_rise}
-use Rattle.lra_world.proofs.Standing.{ActsSo, acted_world, still_world, with_so}
+use Rattle.lra_world.proofs.StatusesRise.{statuses_rise}
+use Rattle.lra_world.proofs.WorldsStand.{ActsSo, acted_world, still_world, with_so}
 
 -- there is such a node
 pub node_there : (s : State) (m : Machine) (node : ℕ) → IsWorldOf s m → 1 ≤ node → nat_le node (length m.replicas) ≡ true → IsNode s node
@@ -83,7 +83,7 @@ beyond_none s m number w beyond = by (number == 0)
     by false = slice_get_past s.sent (number - 1) (omega (arith, beyond, w.count))
 
 -- a node's set is settled, and its replica stands for it
-pub own_set : (s : State) (m : Machine) (node : ℕ) (kept : Kept) → IsWorldOf s m → IsNode s node → slice_get m.replicas (node - 1) ≡ Some kept → IsSettled (set_of s node) × StandsFor (set_of s node) (view_of kept)
+pub own_set : (s : State) (m : Machine) (node : ℕ) (kept : ReplicaState) → IsWorldOf s m → IsNode s node → slice_get m.replicas (node - 1) ≡ Some kept → IsSettled (set_of s node) × StandsFor (set_of s node) (view_of kept)
 own_set s m node kept w is at = (
   closed_settled s.history w.world.lawful (front_of s node) (w.world.current node is.some is.there).closed,
   (w.views node kept is.some at).stands,

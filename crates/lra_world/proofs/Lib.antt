@@ -1,15 +1,15 @@
-pub mod Acting
+mod Acting
 pub mod Agreeing
 mod Belows
-pub mod Changing
-pub mod Delivering
+mod Delivering
 pub mod Determined
-pub mod Growing
-pub mod Happening
+mod FramesNotTaken
+mod GrowingHistories
+mod Happening
 pub mod Moving
-pub mod Parting
-pub mod Restarting
-pub mod Rising
-pub mod Standing
-pub mod Starting
-mod Taking
+pub mod OneReplicaChanged
+mod Parting
+mod Restarting
+mod Starting
+mod StatusesRise
+mod WorldsStand

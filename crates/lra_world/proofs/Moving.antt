@@ -9,27 +9,27 @@ use Rattle.lra_facts.specs.Lists.{In}
 use Rattle.lra_facts.proofs.Membership.{in_append}
 use Rattle.lra_forest.proofs.Bools.{and_left, and_right}
 use Rattle.lra_forest.proofs.Giving.{get_in}
-use Rattle.lra_replica.specs.declared.command.Command.{Command}
-use Rattle.lra_replica.specs.declared.command.Command.TheVariants.{Decide}
-use Rattle.lra_replica.specs.Histories.{Entry, History, entries_of, facts, with_entry}
-use Rattle.lra_replica.specs.Laws.{IsCurrent, entry_for}
-use Rattle.lra_replica.specs.Replicas.{raised}
-use Rattle.lra_replica.specs.Replies.{Judgement, Denied, Old, Taken, judge}
-use Rattle.lra_replica.proofs.Basics.{same_or_not}
-use Rattle.lra_replica.proofs.Entries.{below_raised, closed_with, lawful_with, length_with, own_with, taken_lawful}
-use Rattle.lra_replica.proofs.Extending.{empty_view_in}
-use Rattle.lra_replica.proofs.Unions.{closed_join, count_join}
+use Rattle.lra_history.specs.declared.command.Command.{Command}
+use Rattle.lra_history.specs.declared.command.Command.TheVariants.{Decide}
+use Rattle.lra_history.specs.Histories.{Entry, History, entries_of, facts, with_entry}
+use Rattle.lra_history.specs.NodeViews.{IsCurrent, entry_for}
+use Rattle.lra_history.specs.Changes.{raised}
+use Rattle.lra_history.specs.Replies.{Judgement, Denied, AlreadyKnown, Accepted, judge}
+use Rattle.lra_history.proofs.Basics.{same_or_not}
+use Rattle.lra_history.proofs.OneMoreEntry.{below_raised, closed_with, lawful_with, length_with, own_with, taken_lawful}
+use Rattle.lra_history.proofs.PatchedHistories.{empty_view_in}
+use Rattle.lra_history.proofs.JoinedFronts.{closed_join, count_join}
 use Rattle.lra_world.specs.declared.event.Event.{Event}
 use Rattle.lra_world.specs.declared.event.Event.TheVariants.{Act, Deliver, Restart, Send, Tick}
 use Rattle.lra_world.specs.declared.event.Reply.{Reply}
 use Rattle.lra_world.specs.Headline.{IsNode}
 use Rattle.lra_world.specs.Worlds.{Acts, Comes, Expires, SentFrame, IfNode, IsSent, IsWorld, Runs, Sends, State, Steps, Takes, Ticks, after_command, frame_at, front_of, if_taken, is_node, nodes_of, set_of, start, with_command, with_front}
-use Rattle.lra_world.proofs.Growing.{IsGrown, grown_more, grown_none, grown_with, sent_still}
+use Rattle.lra_world.proofs.GrowingHistories.{IsGrown, grown_more, grown_none, grown_with, sent_still}
 
 -- nothing changes, a node enters a command that it takes, a node joins the front of a frame, or a node sends a frame
 pub data IsMove (s t : State) : Type 0 where
   Still : t ≡ s → IsMove s t
-  Entered : (node : ℕ) (c : Command) → IsNode s node → judge (set_of s node) (front_of s node) node c ≡ Taken → t ≡ with_command s node c → IsMove s t
+  Entered : (node : ℕ) (c : Command) → IsNode s node → judge (set_of s node) (front_of s node) node c ≡ Accepted → t ≡ with_command s node c → IsMove s t
   Joined : (node : ℕ) (frame : SentFrame) → IsNode s node → In frame s.sent → t ≡ with_front s node (join_fronts (front_of s node) frame.front) → IsMove s t
   Posted : (node : ℕ) (base : List ℕ) → IsNode s node → length base ≡ nodes_of s → IsBelow base (front_of s node)
       → t ≡ record s { sent = s.sent ++ record { base = base; front = front_of s node } ∷ [] } → IsMove s t
@@ -55,8 +55,8 @@ after_moves s t node c is e = by (judge (set_of s node) (front_of s node) node c
   where
     by : (j : Judgement) → judge (set_of s node) (front_of s node) node c ≡ j → t ≡ if_taken j s (with_command s node c) → IsMove s t
     by (Denied r) j k = Still k
-    by Old j k = Still k
-    by Taken j k = Entered node c is j k
+    by AlreadyKnown j k = Still k
+    by Accepted j k = Entered node c is j k
 
 sends_move : (s t : State) (node : ℕ) (base : List ℕ) (reply : Reply) → IsNode s node → Sends s node base reply t → IsMove s t
 sends_move s t node base reply is (inl h) = Still h.1.1
@@ -119,7 +119,7 @@ risen_at fronts place new at up other = elim (same_or_not other place) [
 ]
 
 -- a node that enters a command that it takes
-pub kept_entered : (s : State) (node : ℕ) (c : Command) → IsWorld s → IsNode s node → judge (set_of s node) (front_of s node) node c ≡ Taken → IsKeptBy s (with_command s node c)
+pub kept_entered : (s : State) (node : ℕ) (c : Command) → IsWorld s → IsNode s node → judge (set_of s node) (front_of s node) node c ≡ Accepted → IsKeptBy s (with_command s node c)
 kept_entered s node c w is taken =
     record {
       world = record {

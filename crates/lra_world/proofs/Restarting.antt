@@ -4,12 +4,11 @@ use Rattle.std.proofs.lemmas.List.{length-replicate}
 use Rattle.lra_id.specs.Fronts.{IsBelow, join_fronts}
 use Rattle.lra_facts.specs.declared.fact.Fact.{Fact}
 use Rattle.lra_facts.specs.Lists.{In}
-use Rattle.lra_replica.specs.Histories.{History, IsClosed, IsLawful, facts}
-use Rattle.lra_replica.specs.Replicas.{empty_view}
-use Rattle.lra_replica.specs.Views.{StandsFor, View}
-use Rattle.lra_replica.proofs.Counting.{empty_stands}
-use Rattle.lra_replica.proofs.Histories.{entry_of, made_from_at}
-use Rattle.lra_replica.proofs.Uniqueness.{one_view}
+use Rattle.lra_history.specs.Histories.{History, IsClosed, IsLawful, facts}
+use Rattle.lra_history.specs.Views.{empty_view, StandsFor, View}
+use Rattle.lra_history.proofs.CountedByFronts.{empty_stands}
+use Rattle.lra_history.proofs.ClosedSets.{entry_of, made_from_at}
+use Rattle.lra_history.proofs.OneViewOfASet.{one_view}
 use Rattle.lra_delta.specs.Frames.{frame_of}
 use Rattle.lra_delta.specs.Rules.{IsDelta}
 use Rattle.lra_delta.specs.Spelling.{spelling}

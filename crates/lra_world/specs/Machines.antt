@@ -5,13 +5,14 @@ use Rattle.lra_id.specs.Fronts.{IsBelow, join_fronts}
 use Rattle.lra_id.specs.Ids.{Id}
 use Rattle.lra_facts.specs.declared.fact.Fact.{Fact}
 use Rattle.lra_facts.specs.declared.refusal.Refusal.TheVariants.{BadFrame, BadText, Gap}
-use Rattle.lra_replica.specs.declared.command.Command.{Command}
-use Rattle.lra_replica.specs.declared.command.CommandReply.{CommandReply}
-use Rattle.lra_replica.specs.Growth.{IsMore}
-use Rattle.lra_replica.specs.Histories.{History, IsClosed, IsLawful, facts}
-use Rattle.lra_replica.specs.Replicas.{Change, Kept, empty_view, patched, raised, view_of}
-use Rattle.lra_replica.specs.Replies.{Judgement, Denied, Old, Taken, judge, next_fact, reply_of}
-use Rattle.lra_replica.specs.Views.{StandsFor, View}
+use Rattle.lra_history.specs.declared.command.Command.{Command}
+use Rattle.lra_history.specs.declared.command.CommandReply.{CommandReply}
+use Rattle.lra_history.specs.Growth.{IsMore}
+use Rattle.lra_history.specs.Histories.{History, IsClosed, IsLawful, facts}
+use Rattle.lra_history.specs.Changes.{Change, patched, raised}
+use Rattle.lra_replica.specs.Replicas.{ReplicaState, view_of}
+use Rattle.lra_history.specs.Views.{empty_view, StandsFor, View}
+use Rattle.lra_history.specs.Replies.{Judgement, Denied, AlreadyKnown, Accepted, judge, next_fact, reply_of}
 use Rattle.lra_delta.specs.declared.input.Stop.TheVariants.{Fault}
 use Rattle.lra_delta.specs.Frames.{Frame, IsFrame}
 use Rattle.lra_delta.specs.Reading.{frame_in}
@@ -25,27 +26,27 @@ use Rattle.lra_world.specs.Worlds.{SentFrame, IsSpelled, IsViewOf, IsWorld, Expi
 
 -- a replica for each node, and the bytes of each frame that was sent
 pub record Machine : Type 0 where
-  pub replicas : List Kept
+  pub replicas : List ReplicaState
   pub sent : List (List ℕ)
 
 -- each replica counts the facts of as many nodes as there are
 pub record IsMachine (m : Machine) : Type 0 where
-  pub fronts : (place : ℕ) (kept : Kept) → slice_get m.replicas place ≡ Some kept → length kept.front ≡ length m.replicas
+  pub fronts : (place : ℕ) (kept : ReplicaState) → slice_get m.replicas place ≡ Some kept → length kept.front ≡ length m.replicas
 
 -- It stands for the state: each node's replica is the view of what the node holds, and the bytes spell the frames
 pub record IsWorldOf (s : State) (m : Machine) : Type 0 where
   pub world : IsWorld s
   pub nodes : length m.replicas ≡ nodes_of s
-  pub views : (node : ℕ) (kept : Kept) → 1 ≤ node → slice_get m.replicas (node - 1) ≡ Some kept →
+  pub views : (node : ℕ) (kept : ReplicaState) → 1 ≤ node → slice_get m.replicas (node - 1) ≡ Some kept →
       IsViewOf s.history (front_of s node) (view_of kept)
   pub count : length m.sent ≡ length s.sent
   pub frames : (place : ℕ) (frame : SentFrame) (bytes : List ℕ) → slice_get s.sent place ≡ Some frame →
       slice_get m.sent place ≡ Some bytes → IsSpelled s.history frame bytes
 
 -- one replica is changed so, and nothing else
-pub record IsChanged (old new : Machine) (node : ℕ) (So : Kept → Kept → Type 0) : Type 0 where
-  pub was : Kept
-  pub now : Kept
+pub record IsChanged (old new : Machine) (node : ℕ) (So : ReplicaState → ReplicaState → Type 0) : Type 0 where
+  pub was : ReplicaState
+  pub now : ReplicaState
   pub at : slice_get old.replicas (node - 1) ≡ Some was
   pub replicas : new.replicas ≡ slice_set old.replicas (node - 1) now
   pub sent : new.sent ≡ old.sent
@@ -61,8 +62,8 @@ with_patch (Some change) view = patched change view
 -- only a command that is taken changes a view: then it stands for the set with the command's fact
 abbrev pub Becomes : Judgement → List Fact → View → ℕ → Command → View → Type 0
 Becomes (Denied r) S old me c new = new ≡ old
-Becomes Old S old me c new = new ≡ old
-Becomes Taken S old me c new =
+Becomes AlreadyKnown S old me c new = new ≡ old
+Becomes Accepted S old me c new =
     (new.front ≡ raised old.front me) × ((T : List Fact) → IsMore (next_fact S old.front me c) S T → StandsFor T new)
 
 -- what a node makes of a command, over a set that its view stands for
@@ -124,6 +125,6 @@ pub record StopsIn (s : State) (events : List Event) (m : Machine) : Type 0 wher
   pub leads : LeadsTo s (take done events) replies m
 
 -- so many replicas, which are views of no facts of these nodes
-pub record AreEmpty (nodes count : ℕ) (replicas : List Kept) : Type 0 where
+pub record AreEmpty (nodes count : ℕ) (replicas : List ReplicaState) : Type 0 where
   pub many : length replicas ≡ count
-  pub views : (place : ℕ) (kept : Kept) → slice_get replicas place ≡ Some kept → view_of kept ≡ empty_view nodes
+  pub views : (place : ℕ) (kept : ReplicaState) → slice_get replicas place ≡ Some kept → view_of kept ≡ empty_view nodes

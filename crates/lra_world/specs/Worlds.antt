@@ -8,15 +8,15 @@ use Rattle.lra_facts.specs.declared.fact.Fact.{Fact}
 use Rattle.lra_facts.specs.declared.refusal.Refusal.TheVariants.{BadFrame, BadText, Gap}
 use Rattle.lra_facts.specs.Lists.{In}
 use Rattle.lra_forest.specs.Overdue.{IsLeastOverdue}
-use Rattle.lra_replica.specs.declared.command.Command.{Command}
-use Rattle.lra_replica.specs.declared.command.Command.TheVariants.{Decide}
-use Rattle.lra_replica.specs.declared.command.CommandReply.{CommandReply}
-use Rattle.lra_replica.specs.declared.command.CommandReply.TheVariants.{Refused as NotEntered}
-use Rattle.lra_replica.specs.Histories.{History, IsClosed, IsLawful, facts, with_entry}
-use Rattle.lra_replica.specs.Laws.{IsCurrent, entry_for}
-use Rattle.lra_replica.specs.Replicas.{raised}
-use Rattle.lra_replica.specs.Replies.{Judgement, Denied, Old, Taken, judge, reply_of}
-use Rattle.lra_replica.specs.Views.{StandsFor, View}
+use Rattle.lra_history.specs.declared.command.Command.{Command}
+use Rattle.lra_history.specs.declared.command.Command.TheVariants.{Decide}
+use Rattle.lra_history.specs.declared.command.CommandReply.{CommandReply}
+use Rattle.lra_history.specs.declared.command.CommandReply.TheVariants.{Refused as NotEntered}
+use Rattle.lra_history.specs.Histories.{History, IsClosed, IsLawful, facts, with_entry}
+use Rattle.lra_history.specs.NodeViews.{IsCurrent, entry_for}
+use Rattle.lra_history.specs.Changes.{raised}
+use Rattle.lra_history.specs.Replies.{Judgement, Denied, AlreadyKnown, Accepted, judge, reply_of}
+use Rattle.lra_history.specs.Views.{StandsFor, View}
 use Rattle.lra_delta.specs.declared.input.Stop.TheVariants.{Fault}
 use Rattle.lra_delta.specs.Frames.{frame_of}
 use Rattle.lra_delta.specs.Reading.{frame_in}
@@ -111,8 +111,8 @@ with_command s node c =
 -- only a command that is taken enters something
 abbrev pub if_taken : Judgement → (before after : State) → State
 if_taken (Denied r) before after = before
-if_taken Old before after = before
-if_taken Taken before after = after
+if_taken AlreadyKnown before after = before
+if_taken Accepted before after = after
 
 -- What a node makes of a command
 abbrev pub reply_at : State → ℕ → Command → CommandReply

@@ -1,7 +1,7 @@
 // What may happen in a world, and what is replied to it.
 use lra_facts::Refusal;
 use lra_id::{Front, LraId, NodeId};
-use lra_replica::{Command, CommandReply};
+use lra_history::{Command, CommandReply};
 use std::alloc::AllocError;
 
 /// What may happen next.

@@ -1,10 +1,10 @@
 // What one node makes of an event.
 ghost use Rattle.std.specs.Prelude.{◌≡◌, ◌⊎◌, ◌≤◌, ℕ, List, Some, None, IfErr, IfOk, IfSome, OnErr, length};
 ghost use Rattle.lra_facts.specs.declared.fact.Fact.{Fact};
-ghost use Rattle.lra_replica.specs.Growth.{IsSettled};
-ghost use Rattle.lra_replica.specs.Histories.{History, IsClosed, IsLawful, facts};
+ghost use Rattle.lra_history.specs.Growth.{IsSettled};
+ghost use Rattle.lra_history.specs.Histories.{History, IsClosed, IsLawful, facts};
 ghost use Rattle.lra_replica.specs.Replicas.{Fits, view_of};
-ghost use Rattle.lra_replica.specs.Views.{StandsFor};
+ghost use Rattle.lra_history.specs.Views.{StandsFor};
 ghost use Rattle.lra_id.specs.Fronts.{IsBelow};
 ghost use Rattle.lra_facts.specs.declared.refusal.Refusal.TheVariants.{Gap, NoMemory};
 ghost use Rattle.lra_delta.specs.Frames.{frame_of};
@@ -18,7 +18,8 @@ use crate::Reply;
 use lra_delta::{Delta, encode, prepare};
 use lra_facts::Refusal;
 use lra_id::{Front, NodeId};
-use lra_replica::{Command, CommandReply, Prepared, Replica};
+use lra_history::{Command, CommandReply};
+use lra_replica::{Prepared, Replica};
 use std::alloc::{AllocError, Global};
 
 /// Makes the changes of what was prepared, and answers its reply.

@@ -9,13 +9,13 @@ use std::test::Fail;
 /// A front, so many of a piece, and an end.
 fn repeated(
     alloc: Global,
-    front: &str,
+    prefix: &str,
     piece: &str,
     count: usize,
     end: &str,
 ) -> Result<Vec<u8>, AllocError> {
     let mut text = Vec::new(alloc);
-    text.extend_from_slice(front.as_bytes())?;
+    text.extend_from_slice(prefix.as_bytes())?;
     for _ in 0..count {
         text.extend_from_slice(piece.as_bytes())?;
     }
@@ -81,9 +81,9 @@ fn a_request_is_bounded(rt: HostRuntime) -> Result<(), Fail> {
             Some(Fault::BodyTooLong),
         ),
     ];
-    for (front, piece, count, end, want) in cases {
-        let text = repeated(alloc, front, piece, count, end)?;
-        assert_eq!(rt; request_fault(alloc, &text), want, "{front} {count}");
+    for (prefix, piece, count, end, want) in cases {
+        let text = repeated(alloc, prefix, piece, count, end)?;
+        assert_eq!(rt; request_fault(alloc, &text), want, "{prefix} {count}");
     }
     Ok(())
 }
@@ -125,9 +125,9 @@ fn heads_of_a_response_are_bounded_together(rt: HostRuntime) -> Result<(), Fail>
             Some(Fault::Cut),
         ),
     ];
-    for (front, piece, count, end, want) in cases {
-        let text = repeated(alloc, front, piece, count, end)?;
-        assert_eq!(rt; response_fault(alloc, &text), want, "{front} {count}");
+    for (prefix, piece, count, end, want) in cases {
+        let text = repeated(alloc, prefix, piece, count, end)?;
+        assert_eq!(rt; response_fault(alloc, &text), want, "{prefix} {count}");
     }
     Ok(())
 }

@@ -4,9 +4,9 @@ ghost use Rattle.std.specs.Fmt.{decimal};
 ghost use Rattle.lra_id.specs.Ids.{Id, IsId, id_text};
 ghost use Rattle.lra_callback.specs.declared.answer.Answer.{Answer};
 ghost use Rattle.lra_callback.specs.declared.answer.Kind.{Kind};
-ghost use Rattle.lra_callback.specs.Names.{kind_name};
+ghost use Rattle.lra_callback.specs.CallWords.{kind_name};
 ghost use Rattle.lra_node.specs.Asks.{IsMemberNumber, IsNodeOf, ReadsArguments};
-ghost use Rattle.lra_node.specs.Calls.{AnswerFits, GivesAnswer};
+ghost use Rattle.lra_node.specs.Calls.{IsAnswerInRange, GivesAnswer};
 
 use super::members::next_participant;
 use crate::ask::Ask;
@@ -66,7 +66,7 @@ fn kind_of(word: &[u8]) -> Option<Kind>
 
 /// The answer that the last words of a line give: `broken`, or a code, and the rest of the line as the body.
 fn answer_of(alloc: Global, mut words: Words<'_>) -> Result<Option<Answer>, AllocError>
-    ensures { IfOk result (λ found. MatchOption found ((answer : Answer) → AnswerFits answer → GivesAnswer words.entry answer → ⊥) (λ answer. AnswerFits answer × GivesAnswer words.entry answer)) }
+    ensures { IfOk result (λ found. MatchOption found ((answer : Answer) → IsAnswerInRange answer → GivesAnswer words.entry answer → ⊥) (λ answer. IsAnswerInRange answer × GivesAnswer words.entry answer)) }
 {
     let Some(word) = words.next() else {
         return Ok(None);

@@ -11,7 +11,7 @@ use super::lras::next_node_and_id;
 use crate::ask::Ask;
 use crate::words::Words;
 use lra_facts::{Links, Refusal};
-use lra_replica::Command;
+use lra_history::Command;
 use std::alloc::{AllocError, Global};
 use std::str;
 

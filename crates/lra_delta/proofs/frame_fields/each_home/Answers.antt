@@ -1,6 +1,6 @@
 use Rattle.std.proofs.Common.{◌∷◌, [], ℕ, Vec, Global, arith, subst}
 use Rattle.lra_forest.specs.declared.merging.Told.{Told}
-use Rattle.lra_forest.specs.Merging.{held_numbers}
+use Rattle.lra_forest.specs.RecordMerges.{held_numbers}
 use Rattle.std.proofs.lemmas.Result.{err_from_is_err_and}
 use Rattle.std.proofs.lemmas.List.{length-append}
 use Rattle.lra_delta.specs.Order.{AreEmpty, lists, live_of_place, next_place}

@@ -1,6 +1,6 @@
 use Rattle.std.proofs.Common.{ℕ, Vec, Global}
 use Rattle.std.specs.Int.{w64}
-use Rattle.lra_delta.specs.Fields.{Rest, Read, number_at}
+use Rattle.lra_delta.specs.FrameFields.{Rest, Read, number_at}
 use Rattle.lra_delta.specs.Rules.{is_live_number}
 use Rattle.std.proofs.lemmas.Result.{err_from_is_err_and}
 use Rattle.lra_delta.proofs.Loop.{goes_on, ends, is_done}

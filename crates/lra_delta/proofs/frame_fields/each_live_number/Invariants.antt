@@ -1,6 +1,6 @@
 use Rattle.std.proofs.Common.{◌-◌, ℕ}
 use Rattle.std.specs.Int.{w64}
-use Rattle.lra_delta.specs.Fields.{number_at}
+use Rattle.lra_delta.specs.FrameFields.{number_at}
 use Rattle.lra_delta.specs.Rules.{is_live_number}
 use Rattle.lra_delta.proofs.Loop.{SoFar}
 use Rattle.lra_delta.proofs.frame_fields.each_live_number.Given as goal

@@ -1,4 +1,4 @@
-use Rattle.lra_delta.proofs.Spelled.{is_delta}
+use Rattle.lra_delta.proofs.HaveSpellings.{is_delta}
 use Rattle.lra_delta.proofs.frame_spelling.encode.Goals as goal
 
 pub returns-clause-frame : goal.returns-clause-frame

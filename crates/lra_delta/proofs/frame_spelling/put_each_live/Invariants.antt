@@ -1,7 +1,7 @@
 use Rattle.std.proofs.Common.{◌≡◌, ◌++◌, take}
 use Rattle.std.specs.List.{flat_map}
 use Rattle.lra_forest.specs.declared.merging.Told.{Told}
-use Rattle.lra_forest.specs.Merging.{held_numbers}
+use Rattle.lra_forest.specs.RecordMerges.{held_numbers}
 use Rattle.lra_delta.specs.Spelling.{live}
 use Rattle.lra_delta.proofs.frame_spelling.put_each_live.Given as goal
 

@@ -2,7 +2,7 @@ use Rattle.std.proofs.Common.{◌∙◌, ◌≡◌, ◌<◌, ◌+◌, ◌-◌, �
 use Rattle.std.specs.Int.{w64}
 use Rattle.std.proofs.lemmas.List.{length-set, take_more_set}
 use Rattle.std.proofs.lemmas.Result.{err_from_is_err_and}
-use Rattle.lra_delta.specs.Fields.{whole_at}
+use Rattle.lra_delta.specs.FrameFields.{whole_at}
 use Rattle.lra_delta.specs.Seen.{Seen}
 use Rattle.lra_delta.proofs.Loop.{SoFar, goes_on, ends, is_done}
 use Rattle.lra_delta.proofs.record_fields.each_number.Goals as goal

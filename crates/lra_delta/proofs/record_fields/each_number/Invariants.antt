@@ -1,6 +1,6 @@
 use Rattle.std.proofs.Common.{◌-◌, ◌≡◌, ◌+◌, ◌*◌, length, take, ℕ}
 use Rattle.std.specs.Int.{w64}
-use Rattle.lra_delta.specs.Fields.{whole_at}
+use Rattle.lra_delta.specs.FrameFields.{whole_at}
 use Rattle.lra_delta.proofs.Loop.{SoFar}
 use Rattle.lra_delta.proofs.record_fields.each_number.Given as goal
 

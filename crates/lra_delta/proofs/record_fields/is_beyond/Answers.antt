@@ -1,4 +1,4 @@
-use Rattle.lra_delta.proofs.Parts.{beyond_is}
+use Rattle.lra_delta.proofs.HomeParts.{beyond_is}
 use Rattle.lra_delta.proofs.record_fields.is_beyond.Goals as goal
 
 pub returns : goal.returns

@@ -1,6 +1,6 @@
 use Rattle.std.proofs.Common.{ℕ, List}
 use Rattle.std.specs.Int.{w64}
-use Rattle.lra_delta.specs.Fields.{whole_at}
+use Rattle.lra_delta.specs.FrameFields.{whole_at}
 use Rattle.lra_delta.proofs.Loop.{reads_length}
 use Rattle.lra_delta.proofs.record_fields.many_of.Goals as goal
 

@@ -1,6 +1,6 @@
 use Rattle.std.proofs.Common.{◌∙◌, Bool, ap}
 use Rattle.lra_forest.specs.declared.record.Record.{Record}
-use Rattle.lra_forest.specs.Merging.{held_numbers}
+use Rattle.lra_forest.specs.RecordMerges.{held_numbers}
 use Rattle.lra_forest.specs.OnlyChanges.{is_lost}
 use Rattle.lra_forest.proofs.Takes.{no_id, one_id}
 use Rattle.lra_forest.proofs.merging.all_gone.Goals as goal

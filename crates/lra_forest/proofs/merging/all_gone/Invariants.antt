@@ -1,5 +1,5 @@
 use Rattle.std.proofs.Common.{◌≡◌, ◌++◌, drop}
-use Rattle.lra_forest.specs.Merging.{held_numbers}
+use Rattle.lra_forest.specs.RecordMerges.{held_numbers}
 use Rattle.lra_forest.specs.OnlyChanges.{ids_lost}
 use Rattle.lra_forest.proofs.merging.all_gone.Given as goal
 

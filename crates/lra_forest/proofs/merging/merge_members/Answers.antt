@@ -1,6 +1,6 @@
 use Rattle.std.proofs.Common.{◌≡◌, ◌+◌, ◌-◌, suc, sym, ap, ◌∙◌, arith, Some, length, set, slice_get}
 use Rattle.lra_forest.specs.declared.record.Member.TheVariants.{Left}
-use Rattle.lra_forest.specs.Merging.{merged_member}
+use Rattle.lra_forest.specs.RecordMerges.{merged_member}
 use Rattle.lra_forest.proofs.MemberMerges.{length_merged, merged_all, merged_more, merged_to, numbered_next}
 use Rattle.lra_forest.proofs.merging.merge_members.Goals as goal
 

@@ -1,6 +1,6 @@
 use Rattle.std.proofs.Common.{◌≡◌, ◌∙◌, Some, inr, refl, sym, ap, false, true}
 use Rattle.lra_forest.specs.declared.record.Record.{Record}
-use Rattle.lra_forest.proofs.Alike.{record_decides}
+use Rattle.lra_forest.proofs.EqualRecords.{record_decides}
 use Rattle.lra_forest.proofs.OnlyChanges.{some_same}
 use Rattle.lra_forest.proofs.merging.unless_there.Goals as goal
 

@@ -1,6 +1,6 @@
 use Rattle.std.proofs.Common.{◌≡◌, take, map}
 use Rattle.httparse.specs.Spans.{header_bytes}
-use Rattle.lra_http.specs.Fields.{field_bytes}
+use Rattle.lra_http.specs.HeadFields.{field_bytes}
 use Rattle.lra_http.proofs.fields.fields_of.Given as goal
 
 abbrev pub invariant-loop-header : goal.invariant-loop-header

@@ -1,7 +1,7 @@
 use Rattle.std.proofs.Common.{take, map}
 use Rattle.httparse.specs.Spans.{header_bytes}
-use Rattle.lra_http.specs.Fields.{IsFound}
-use Rattle.lra_http.specs.Fields.{values}
+use Rattle.lra_http.specs.HeadFields.{IsFound}
+use Rattle.lra_http.specs.HeadFields.{values}
 use Rattle.lra_http.proofs.fields.sole.Given as goal
 
 abbrev pub invariant-loop-header : goal.invariant-loop-header

@@ -1,4 +1,4 @@
-use Rattle.lra_http.proofs.Written.{whole_response}
+use Rattle.lra_http.proofs.WholeMessages.{whole_response}
 use Rattle.lra_http.proofs.laws.a_written_response_is_whole.Goals as goal
 
 pub returns : goal.returns

@@ -1,5 +1,5 @@
 use Rattle.std.proofs.Common.{◌≡◌, ◌++◌, drop}
-use Rattle.lra_http.specs.Texts.{field_lines}
+use Rattle.lra_http.specs.MessageTexts.{field_lines}
 use Rattle.lra_http.proofs.text.push_fields.Given as goal
 
 abbrev pub invariant-loop-field : goal.invariant-loop-field

@@ -1,4 +1,4 @@
-use Rattle.lra_node.proofs.Spelled.{one_ask}
+use Rattle.lra_node.proofs.OneAskALine.{one_ask}
 use Rattle.lra_node.proofs.laws.a_line_spells_one_ask.Goals as goal
 
 pub returns : goal.returns

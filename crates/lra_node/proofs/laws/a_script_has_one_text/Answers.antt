@@ -1,4 +1,4 @@
-use Rattle.lra_node.proofs.Texts.{text_once, text_is_one}
+use Rattle.lra_node.proofs.OneTextAScript.{text_once, text_is_one}
 use Rattle.lra_node.proofs.laws.a_script_has_one_text.Goals as goal
 
 pub returns-clause-one : goal.returns-clause-one

@@ -1,5 +1,5 @@
 use Rattle.std.proofs.Common.{[], ◌∷◌, ◌++◌, Bool, cond, ap, ◌∙◌, arith}
-use Rattle.lra_node.proofs.Readings.{keep_more, keep_same}
+use Rattle.lra_node.proofs.LineReadings.{keep_more, keep_same}
 use Rattle.lra_node.proofs.line.keep.Goals as goal
 
 pub returns-then-len-lt-KEPT_OF_LINE-clause-kept : goal.returns-then-len-lt-KEPT_OF_LINE-clause-kept

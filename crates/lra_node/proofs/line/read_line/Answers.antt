@@ -1,6 +1,6 @@
 use Rattle.std.proofs.Common.{ℕ, [], ◌∷◌, ◌∙◌, sym, subst, arith}
 use Rattle.std.specs.Io.KnownBytes.{Consumes}
-use Rattle.lra_node.proofs.Readings.{reading_byte, reading_line, reading_end}
+use Rattle.lra_node.proofs.LineReadings.{reading_byte, reading_line, reading_end}
 use Rattle.lra_node.proofs.Splits.{differs}
 use Rattle.lra_node.proofs.line.read_line.Goals as goal
 

@@ -1,5 +1,5 @@
 use Rattle.std.proofs.Common.{◌≡◌, ◌+◌, ◌<◌, ◌≤◌, vec_capacity}
-use Rattle.lra_node.proofs.Readings.{IsReading}
+use Rattle.lra_node.proofs.LineReadings.{IsReading}
 use Rattle.lra_node.proofs.line.read_line.Given as goal
 
 abbrev pub invariant-bytes : goal.invariant-bytes

@@ -1,5 +1,5 @@
 use Rattle.std.proofs.Common.{arith, ◌<◌, ◌^◌}
-use Rattle.lra_node.proofs.Numbers.{one_number}
+use Rattle.lra_node.proofs.DecimalNumbers.{one_number}
 use Rattle.lra_node.proofs.number.code_of.Goals as goal
 
 pub returns-then-number-from : goal.returns-then-number-from

@@ -1,6 +1,6 @@
 use Rattle.std.proofs.Common.{◌≡◌, ℕ, ◌-◌, ◌<◌, ◌^◌, List, take, drop, length, arith, ◌∙◌, length-drop}
 use Rattle.std.proofs.lemmas.List.{take_all}
-use Rattle.lra_node.proofs.Numbers.{id_parted, one_number}
+use Rattle.lra_node.proofs.DecimalNumbers.{id_parted, one_number}
 use Rattle.lra_node.proofs.number.id_of.Goals as goal
 use Rattle.lra_node.proofs.number.id_of.Goals.{then-word-lt2-via-then-word-lt2, then-word-lt2-via-else-word-lt2+then-word-ne46, in_default-via-in-Some+in_default, in_default-via-in_default}
 

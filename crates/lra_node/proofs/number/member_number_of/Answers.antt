@@ -1,5 +1,5 @@
 use Rattle.std.proofs.Common.{◌<◌, ◌^◌, arith}
-use Rattle.lra_node.proofs.Numbers.{one_number}
+use Rattle.lra_node.proofs.DecimalNumbers.{one_number}
 use Rattle.lra_node.proofs.number.member_number_of.Goals as goal
 use Rattle.lra_node.proofs.number.member_number_of.Goals.{then-number-eq0-via-then-number-eq0, then-number-eq0-via-else-number-eq0+then-number-gt-MOST_MEMBERS}
 

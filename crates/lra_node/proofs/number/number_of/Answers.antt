@@ -2,7 +2,7 @@ use Rattle.std.proofs.Common.{ℕ, ap, sym, ◌∙◌, true≢false, refl, Ok}
 use Rattle.std.specs.Fmt.{decimal}
 use Rattle.std.proofs.lemmas.Fmt.{parse-decimal, decimal-digits_value}
 use Rattle.std.proofs.lemmas.Str.Parse.{parse_plain}
-use Rattle.lra_node.proofs.Numbers.{own, odd_is_none, decimal_is_text}
+use Rattle.lra_node.proofs.DecimalNumbers.{own, odd_is_none, decimal_is_text}
 use Rattle.lra_node.proofs.number.number_of.Goals as goal
 
 pub returns-then-not-is_canonical : goal.returns-then-not-is_canonical

@@ -1,6 +1,6 @@
 use Rattle.std.proofs.Common.{◌≡◌, ◌+◌, ◌-◌, ◌∷◌, List, ℕ, suc, length, take, drop, ap, ◌∙◌, sym, arith, length-drop, add-one}
 use Rattle.std.proofs.lemmas.List.{take_all}
-use Rattle.lra_node.specs.Parts.{words_of}
+use Rattle.lra_node.specs.LineParts.{words_of}
 use Rattle.lra_node.proofs.Splits.{parts_at, parts_none}
 use Rattle.lra_node.proofs.words.first_word.Goals as goal
 

@@ -1,7 +1,7 @@
 use Rattle.std.proofs.Common.{refl, ◌≡◌, ◌++◌, ◌∷◌, [], arith, subst, List, ◌∙◌, sym, rules, ◌+◌, ℕ}
 use Rattle.lra_forest.specs.Forests.{HomeRecords}
 use Rattle.lra_replica.specs.Replicas.{AreEmptyHomes}
-use Rattle.lra_replica.proofs.Empties.{one_more_home}
+use Rattle.lra_replica.proofs.EmptyHomes.{one_more_home}
 use Rattle.lra_replica.proofs.replica.empty_homes.Goals as goal
 
 pub loop-place-init : goal.loop-place-init

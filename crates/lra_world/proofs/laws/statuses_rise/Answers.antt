@@ -1,5 +1,5 @@
 use Rattle.lra_world.proofs.Moving.{run_keeps}
-use Rattle.lra_world.proofs.Rising.{statuses_rise}
+use Rattle.lra_world.proofs.StatusesRise.{statuses_rise}
 use Rattle.lra_world.proofs.laws.statuses_rise.Goals as goal
 
 pub returns : goal.returns

@@ -1,7 +1,7 @@
 use Rattle.std.proofs.Common.{◌≡◌, rules}
 use Rattle.lra_facts.specs.declared.refusal.Refusal.TheVariants.{NoMemory}
 use Rattle.lra_replica.specs.Replicas.{view_of}
-use Rattle.lra_world.proofs.Taking.{refused_frame}
+use Rattle.lra_world.proofs.FramesNotTaken.{refused_frame}
 use Rattle.lra_world.proofs.node.take_frame.Goals as goal
 
 pub returns-else-eq-clause-taken : goal.returns-else-eq-clause-taken

@@ -1,5 +1,5 @@
 use Rattle.std.proofs.Common.{◌≡◌, ◌+◌, ◌++◌, ◌≤◌, ℕ, List, length, take, drop, Ok, refl, arith, length-take, length-drop, take-add}
-use Rattle.lra_delta.specs.Fields.{cells_at}
+use Rattle.lra_delta.specs.FrameFields.{cells_at}
 use Rattle.lra_delta.specs.Seen.{Begins, rest_in, of_slice}
 use Rattle.lra_delta.proofs.Grown.{begins_before, taking}
 use Rattle.lra_delta.proofs.bytes.BytesInput.fill.Goals as goal

@@ -2,7 +2,7 @@ use Rattle.std.proofs.Common.{◌≡◌, ◌∙◌, ◌==◌, sym, ap, subst, na
 use Rattle.std.proofs.lemmas.Bool.Decides.{nat_tests}
 use Rattle.lra_forest.specs.declared.record.Record.{Record}
 use Rattle.lra_forest.specs.Forests.{AreOf}
-use Rattle.lra_forest.specs.Merging.{brought}
+use Rattle.lra_forest.specs.RecordMerges.{brought}
 use Rattle.lra_forest.specs.OnlyChanges.{IsPut}
 use Rattle.lra_forest.specs.Places.{put_record}
 use Rattle.lra_forest.specs.Shape.{found_at}

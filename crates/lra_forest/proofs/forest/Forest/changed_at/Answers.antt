@@ -1,9 +1,9 @@
 use Rattle.std.proofs.Common.{◌∙◌, ap, List}
 use Rattle.std.specs.Option.{option_or}
 use Rattle.lra_id.specs.Ids.{Id}
-use Rattle.lra_forest.specs.Merging.{without}
+use Rattle.lra_forest.specs.RecordMerges.{without}
 use Rattle.lra_forest.specs.Shape.{found_at}
-use Rattle.lra_forest.proofs.Changing.{found_after}
+use Rattle.lra_forest.proofs.ChangedRecords.{found_after}
 use Rattle.lra_forest.proofs.forest.Forest.changed_at.Goals as goal
 
 pub returns-in-Some : goal.returns-in-Some

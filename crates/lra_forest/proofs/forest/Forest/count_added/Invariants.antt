@@ -1,6 +1,6 @@
 use Rattle.std.proofs.Common.{◌≡◌, ◌≤◌, filter, length, take}
-use Rattle.lra_forest.specs.Merging.{without}
-use Rattle.lra_forest.proofs.Sizes.{is_added}
+use Rattle.lra_forest.specs.RecordMerges.{without}
+use Rattle.lra_forest.proofs.ChangedCounts.{is_added}
 use Rattle.lra_forest.proofs.forest.Forest.count_added.Given as goal
 
 -- those so far that are added

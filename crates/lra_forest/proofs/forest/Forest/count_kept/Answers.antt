@@ -1,7 +1,7 @@
 use Rattle.std.proofs.Common.{ℕ, ◌∙◌, ◌+◌, sym, ap, arith, cond, filter, length, take}
 use mathlib.Core.Bool.{not}
 use Rattle.std.proofs.lemmas.List.Filters.{length-filter_more}
-use Rattle.lra_forest.proofs.Changing.{stays}
+use Rattle.lra_forest.proofs.ChangedRecords.{stays}
 use Rattle.lra_forest.proofs.forest.Forest.count_kept.Goals as goal
 use Rattle.lra_forest.proofs.forest.Forest.count_kept.Goals.{then-not-is_among, else-not-is_among}
 

@@ -1,5 +1,5 @@
 use Rattle.std.proofs.Common.{◌≡◌, ◌≤◌, length, take}
-use Rattle.lra_forest.specs.Merging.{without}
+use Rattle.lra_forest.specs.RecordMerges.{without}
 use Rattle.lra_forest.proofs.forest.Forest.count_kept.Given as goal
 
 -- those so far that stay

@@ -4,7 +4,7 @@ use Rattle.lra_id.specs.Ids.{Id}
 use Rattle.lra_forest.specs.declared.record.Record.{Record}
 use Rattle.lra_forest.specs.Owings.{owed_by, owing_of}
 use Rattle.lra_forest.proofs.Climbs.{owing_said}
-use Rattle.lra_forest.proofs.Errands.{AreDoneSoFar, errand_more, errand_whole, record_number}
+use Rattle.lra_forest.proofs.DueByRecord.{AreDoneSoFar, errand_more, errand_whole, record_number}
 use Rattle.lra_forest.proofs.Overdue.{at, find_at}
 use Rattle.lra_forest.proofs.Shares.{id_there}
 use Rattle.lra_forest.proofs.forest.Forest.duties.Goals as goal

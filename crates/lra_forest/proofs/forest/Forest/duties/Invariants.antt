@@ -5,7 +5,7 @@ use Rattle.lra_facts.specs.Sets.{IsNumbered}
 use Rattle.lra_forest.specs.Owings.{IsLastRoot}
 use Rattle.lra_forest.specs.Shape.{found_at}
 use Rattle.lra_forest.specs.Standing.{IsNested, IsSeated, IsWhole, Stands}
-use Rattle.lra_forest.proofs.Errands.{AreDoneSoFar}
+use Rattle.lra_forest.proofs.DueByRecord.{AreDoneSoFar}
 use Rattle.lra_forest.proofs.forest.Forest.duties.Given as goal
 
 -- those of the LRAs of the records so far, for each set that the records stand for

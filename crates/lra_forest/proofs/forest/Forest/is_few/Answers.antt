@@ -1,9 +1,9 @@
 use Rattle.std.proofs.Common.{◌∙◌, List, ap, arith, length, filter}
 use Rattle.lra_id.specs.Ids.{Id}
 use Rattle.lra_forest.specs.declared.record.Record.{Record}
-use Rattle.lra_forest.specs.Merging.{without}
+use Rattle.lra_forest.specs.RecordMerges.{without}
 use Rattle.std.proofs.lemmas.Bool.Decides.{nat_tests}
-use Rattle.lra_forest.proofs.Sizes.{is_added, length_after}
+use Rattle.lra_forest.proofs.ChangedCounts.{is_added, length_after}
 use Rattle.lra_forest.proofs.forest.Forest.is_few.Goals as goal
 
 pub returns-then-kept-gt-MOST_HELD : goal.returns-then-kept-gt-MOST_HELD

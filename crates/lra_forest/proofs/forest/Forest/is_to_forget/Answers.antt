@@ -2,7 +2,7 @@ use Rattle.std.proofs.Common.{◌≡◌, ◌&&◌, ◌∙◌, [], ℕ, List, rul
 use Rattle.std.specs.Option.{option_map_or}
 use Rattle.lra_forest.specs.declared.record.Participant.{Participant as ParticipantRecord}
 use Rattle.lra_forest.specs.declared.record.Record.{Record}
-use Rattle.lra_forest.specs.Numbers.{numbered}
+use Rattle.lra_forest.specs.MembersByNumber.{numbered}
 use Rattle.lra_forest.specs.Owings.{forgetting_at, owes}
 use Rattle.lra_forest.specs.Participants.{answered_of, participant_at}
 use Rattle.lra_forest.specs.Said.{is_over_at, is_owed_at, participant_of}

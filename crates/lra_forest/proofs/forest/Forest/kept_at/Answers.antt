@@ -1,5 +1,5 @@
 use Rattle.std.proofs.Common.{◌∙◌, ap, sym, Some, None, cond}
-use Rattle.lra_forest.proofs.Changing.{kept_none, kept_some}
+use Rattle.lra_forest.proofs.ChangedRecords.{kept_none, kept_some}
 use Rattle.lra_forest.proofs.forest.Forest.kept_at.Goals as goal
 
 pub returns-in_default : goal.returns-in_default

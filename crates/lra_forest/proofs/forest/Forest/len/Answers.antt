@@ -1,6 +1,6 @@
 use Rattle.std.proofs.Common.{◌≡◌, ◌∙◌, length, rules, subst}
 use Rattle.lra_forest.specs.Forests.{AreOf, HomeRecords}
-use Rattle.lra_forest.proofs.Counting.{held_count}
+use Rattle.lra_forest.proofs.RecordCounts.{held_count}
 use Rattle.lra_forest.proofs.forest.Forest.len.Goals as goal
 
 pub returns-clause-held : goal.returns-clause-held

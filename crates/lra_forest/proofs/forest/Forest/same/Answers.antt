@@ -1,6 +1,6 @@
 use Rattle.std.proofs.Common.{◌≡◌, arith}
 use Rattle.std.proofs.lemmas.Bool.Decides.{nat_tests}
-use Rattle.lra_forest.proofs.Alike.{same_answer}
+use Rattle.lra_forest.proofs.EqualRecords.{same_answer}
 use Rattle.lra_forest.proofs.forest.Forest.same.Goals as goal
 
 pub returns-then-eq : goal.returns-then-eq

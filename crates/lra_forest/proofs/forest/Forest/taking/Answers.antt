@@ -1,10 +1,10 @@
 use Rattle.std.proofs.Common.{◌≡◌, ◌∙◌, ◌&&◌, ℕ, ap, sym, List, Bool, is_none, nat_le, subst}
 use Rattle.lra_id.specs.Ids.{Id}
 use Rattle.lra_forest.specs.declared.record.Record.{Record}
-use Rattle.lra_forest.specs.Merging.{held_numbers, is_gone}
+use Rattle.lra_forest.specs.RecordMerges.{held_numbers, is_gone}
 use Rattle.lra_forest.specs.OnlyChanges.{AreOnlyChanges, ids_lost}
 use Rattle.lra_forest.specs.Shape.{found_at}
-use Rattle.lra_forest.proofs.Changing.{changes_are_of}
+use Rattle.lra_forest.proofs.ChangedRecords.{changes_are_of}
 use Rattle.lra_forest.proofs.OnlyChanges.{only_changes}
 use Rattle.lra_forest.proofs.Takes.{AreGone, ids_are_gone, takes}
 use Rattle.lra_forest.proofs.forest.Forest.taking.Goals as goal

@@ -1,5 +1,5 @@
 use Rattle.std.proofs.Common.{◌≡◌, drop, map}
-use Rattle.lra_http.specs.Fields.{field_bytes, first_value}
+use Rattle.lra_http.specs.HeadFields.{field_bytes, first_value}
 use Rattle.lra_http.proofs.message.Fields.value.Given as goal
 
 abbrev pub invariant-loop-field : goal.invariant-loop-field

@@ -1,4 +1,4 @@
-use Rattle.lra_node.proofs.Members.{none_joined}
+use Rattle.lra_node.proofs.MemberWords.{none_joined}
 use Rattle.lra_node.proofs.asking.joins.join_of.Goals as goal
 
 pub returns-in_default-2 : goal.returns-in_default-2

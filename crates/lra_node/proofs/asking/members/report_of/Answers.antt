@@ -1,4 +1,4 @@
-use Rattle.lra_node.proofs.Members.{none_reported}
+use Rattle.lra_node.proofs.MemberWords.{none_reported}
 use Rattle.lra_node.proofs.asking.members.report_of.Goals as goal
 
 pub returns-in_err-node : goal.returns-in_err-node

@@ -1,6 +1,6 @@
 use Rattle.std.proofs.Common.{◌≡◌, ℕ, List, [], Bool, true, false, not, Option, None, Some, is_some, IsTrue, Bor, refl, rules}
 use Rattle.std.specs.Option.{option_map_or}
-use Rattle.lra_node.specs.Parts.{words_of}
+use Rattle.lra_node.specs.LineParts.{words_of}
 use Rattle.lra_node.proofs.Splits.{parts_some}
 use Rattle.lra_node.proofs.words.Words.is_done.Goals as goal
 

@@ -1,13 +1,13 @@
 use Rattle.std.proofs.Common.{◌≡◌, ◌∙◌, ℕ, List, sym, ap, subst}
 use Rattle.lra_id.specs.Fronts.{IsBelow, join_fronts}
-use Rattle.lra_replica.specs.Merging.{IsTelling, Telling}
-use Rattle.lra_replica.specs.Replicas.{IsKept, Kept}
+use Rattle.lra_history.specs.Merging.{IsTelling, Telling}
+use Rattle.lra_replica.specs.Replicas.{IsReplicaState, ReplicaState}
 use Rattle.lra_replica.proofs.Absorbed.{patch_absorbs, patch_fits, patch_shapes}
 use Rattle.lra_replica.proofs.Homes.{opened_in_order}
 use Rattle.lra_replica.proofs.replica.Replica.absorb.Goals as goal
 
-kept_is : (c : goal.In_ok-absorb_homes) → IsKept c.args.self.now
-kept_is c = subst (λ (k : Kept). IsKept k) c.self.view_is c.self.invariant
+kept_is : (c : goal.In_ok-absorb_homes) → IsReplicaState c.args.self.now
+kept_is c = subst (λ (k : ReplicaState). IsReplicaState k) c.self.view_is c.self.invariant
 
 telling_is : (c : goal.In_ok-absorb_homes) → IsTelling c.args.taken
 telling_is c = subst (λ (t : Telling). IsTelling t) c.taken.view_is c.taken.invariant
@@ -15,12 +15,12 @@ telling_is c = subst (λ (t : Telling). IsTelling t) c.taken.view_is c.taken.inv
 front_is : (c : goal.In_ok-absorb_homes) → c.absorb_homes.new.patch.front ≡ join_fronts c.args.self.now.front c.args.taken.front
 front_is c =
     c.in_ok-absorb_homes.ensures.front ∙ c.join.ensures.value
-    ∙ ap (λ (k : Kept). join_fronts k.front c.taken.inside.front) c.self.view_is ∙ ap (λ (t : Telling). join_fronts c.args.self.now.front t.front) c.taken.view_is
+    ∙ ap (λ (k : ReplicaState). join_fronts k.front c.taken.inside.front) c.self.view_is ∙ ap (λ (t : Telling). join_fronts c.args.self.now.front t.front) c.taken.view_is
 
 purges_are : (c : goal.In_ok-absorb_homes) → c.absorb_homes.new.patch.purges ≡ join_fronts c.args.self.now.purges c.args.taken.purges
 purges_are c =
     c.in_ok-absorb_homes.ensures.purges ∙ c.join-2.ensures.value
-    ∙ ap (λ (k : Kept). join_fronts k.purges c.taken.inside.purges) c.self.view_is ∙ ap (λ (t : Telling). join_fronts c.args.self.now.purges t.purges) c.taken.view_is
+    ∙ ap (λ (k : ReplicaState). join_fronts k.purges c.taken.inside.purges) c.self.view_is ∙ ap (λ (t : Telling). join_fronts c.args.self.now.purges t.purges) c.taken.view_is
 
 pub returns-clause-room : goal.returns-clause-room
 returns-clause-room c =

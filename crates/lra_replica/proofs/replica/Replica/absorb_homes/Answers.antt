@@ -1,7 +1,7 @@
 use Rattle.std.proofs.Common.{◌∙◌, List, [], inl, inr, refl, sym, ap, subst, arith}
 use Rattle.lra_id.specs.Fronts.{count}
 use Rattle.lra_forest.specs.declared.merging.Told.{Told}
-use Rattle.lra_replica.specs.Merging.{IsTelling, Telling}
+use Rattle.lra_history.specs.Merging.{IsTelling, Telling}
 use Rattle.lra_replica.specs.Replicas.{view_of}
 use Rattle.lra_replica.proofs.Absorbed.{IsTakenSo, next_broken, next_taken, next_within, taken_none}
 use Rattle.lra_replica.proofs.replica.Replica.absorb_homes.Goals as goal

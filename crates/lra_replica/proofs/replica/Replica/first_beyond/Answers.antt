@@ -1,5 +1,5 @@
 use Rattle.std.proofs.Common.{length, arith}
-use Rattle.lra_replica.specs.Readings.{by_view}
+use Rattle.lra_history.specs.Readings.{by_view}
 use Rattle.lra_replica.specs.Replicas.{view_of}
 use Rattle.lra_replica.proofs.Paging.{bare_more, first_found, first_none, kept_within}
 use Rattle.lra_replica.proofs.replica.Replica.first_beyond.Goals as goal
@@ -15,5 +15,5 @@ loop-place-preserved c =
 
 pub returns-clause-first : goal.returns-clause-first
 returns-clause-first c =
-    first_none (by_view (view_of c.args.self.now)) (length c.args.self.now.front) c.args.home c.loop-place.place (kept_within c.args.self.now c.nodes-place-end.ensures.kept)
+    first_none (by_view (view_of c.args.self.now)) (length c.args.self.now.front) c.args.home c.loop-place.place (kept_within c.args.self.now c.nodes-place-end.ensures.state)
     (omega (arith, c.nodes-place-end.ensures.count, c.loop-place-test.false)) c.loop-place.invariant

@@ -1,4 +1,4 @@
-use Rattle.lra_replica.specs.Readings.{by_view}
+use Rattle.lra_history.specs.Readings.{by_view}
 use Rattle.lra_replica.specs.Replicas.{view_of}
 use Rattle.lra_replica.proofs.Paging.{AreBare}
 use Rattle.lra_replica.proofs.replica.Replica.first_beyond.Given as goal

@@ -1,14 +1,13 @@
 use Rattle.std.proofs.Common.{◌≡◌, ◌∙◌, None, ap, sym, subst, rules, Result, Ok, Err}
 use Rattle.lra_facts.specs.declared.refusal.Refusal.{Refusal}
 use Rattle.lra_facts.specs.declared.refusal.Refusal.TheVariants.{NoMemory}
-use Rattle.lra_replica.specs.declared.command.Command.TheVariants.{Forgot}
-use Rattle.lra_replica.specs.declared.command.CommandReply.TheVariants.{Known}
+use Rattle.lra_history.specs.declared.command.Command.TheVariants.{Forgot}
+use Rattle.lra_history.specs.declared.command.CommandReply.TheVariants.{Known}
 use Rattle.lra_replica.specs.declared.patch.Prepared.{Prepared}
-use Rattle.lra_replica.specs.Next.{IsNext}
-use Rattle.lra_replica.specs.Prepared.{IsPrepared, judged_as}
+use Rattle.lra_replica.specs.Prepared.{IsNext, IsPrepared, judged_as}
 use Rattle.lra_replica.specs.Replicas.{view_of}
-use Rattle.lra_replica.proofs.Answered.{answer_denied, memory_prepared, prepared_settled, forgot_next, forgot_unready}
-use Rattle.lra_replica.proofs.Hearing.{newly_taken}
+use Rattle.lra_replica.proofs.PreparedReplies.{answer_denied, memory_prepared, prepared_settled, forgot_next, forgot_unready}
+use Rattle.lra_replica.proofs.KnownReports.{newly_taken}
 use Rattle.lra_replica.proofs.replica.Replica.forgot.Goals as goal
 
 pub returns-in_err-known-clause-prepared : goal.returns-in_err-known-clause-prepared

@@ -3,7 +3,7 @@ use Rattle.lra_forest.specs.declared.record.Record.{Record}
 use Rattle.lra_forest.specs.Standing.{answered}
 use Rattle.lra_forest.specs.Said.{is_root_at}
 use Rattle.lra_forest.specs.Shape.{found_at}
-use Rattle.lra_replica.specs.Readings.{by_view}
+use Rattle.lra_history.specs.Readings.{by_view}
 use Rattle.lra_replica.specs.Replicas.{view_of}
 use Rattle.lra_replica.proofs.replica.Replica.is_root.Goals as goal
 

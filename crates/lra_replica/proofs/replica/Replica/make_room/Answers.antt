@@ -1,8 +1,8 @@
 use Rattle.std.proofs.Common.{◌≡◌, ◌≤◌, ◌<◌, ◌+◌, ◌-◌, ◌==◌, ◌∙◌, ℕ, Bool, true, false, List, cond, refl, length, sym, ap, subst, arith, get_or, map, set}
 use Rattle.lra_forest.specs.declared.record.Record.{Record}
 use Rattle.lra_forest.specs.Forests.{AreOf, HomeRecords}
-use Rattle.lra_replica.specs.Replicas.{Kept, spare_at, view_of}
-use Rattle.lra_replica.specs.Views.{View}
+use Rattle.lra_replica.specs.Replicas.{ReplicaState, spare_at, view_of}
+use Rattle.lra_history.specs.Views.{View}
 use Rattle.lra_replica.proofs.Rooms.{kept_with, ordered_here, same_records, spare_new, spare_with}
 use Rattle.lra_replica.proofs.replica.Replica.make_room.Goals as goal
 
@@ -11,7 +11,7 @@ place_is c = ap (λ (n : ℕ). n - 1) (c.from-place.ensures ∙ c.number.ensures
 
 within : (c : goal.After-self-1) → c.args.home - 1 < length c.self.inside.homes.items
 within c =
-    let fronts : length c.self.inside.front ≡ length c.args.self.now.front = ap (λ (k : Kept). length k.front) c.self.view_is in
+    let fronts : length c.self.inside.front ≡ length c.args.self.now.front = ap (λ (k : ReplicaState). length k.front) c.self.view_is in
     let some : 1 ≤ c.args.home = omega (arith, c.number.ensures.range, c.number.ensures.value) in
     omega (arith, c.requires, fronts, some, c.self.invariant.homes)
 
@@ -46,7 +46,7 @@ returns-clause-ok c =
 
 pub returns-clause-stays : goal.returns-clause-stays
 returns-clause-stays c home some =
-    let homes : spare_at c.self.inside.homes.items home ≡ spare_at c.args.self.now.homes home = ap (λ (k : Kept). spare_at k.homes home) c.self.view_is in
+    let homes : spare_at c.self.inside.homes.items home ≡ spare_at c.args.self.now.homes home = ap (λ (k : ReplicaState). spare_at k.homes home) c.self.view_is in
     let room = spare_with c.self.inside.homes.items (c.args.home - 1) c.reserve.new.self c.index_mut.result.now 0 (within c)
     (omega (arith, c.reserve.ensures.kept, ap (λ (h : HomeRecords). h.spare) (is_home c))) home some in
     rw (place_is c) (omega (arith, homes, room, none ((c.args.home - 1 + 1) == home)))

@@ -1,11 +1,12 @@
 use Rattle.std.proofs.Common.{◌≡◌, ◌∙◌, inl, inr, ap, sym, subst}
-use Rattle.lra_replica.specs.Merging.{IsAbsorbed, IsMerged, merged}
-use Rattle.lra_replica.specs.Replicas.{patched, view_of}
-use Rattle.lra_replica.specs.Views.{View}
-use Rattle.lra_replica.proofs.Lattice.{merge_law}
-use Rattle.lra_replica.proofs.Shaped.{merged_shape}
-use Rattle.lra_replica.proofs.Taking.{merge_is, merge_only}
-use Rattle.lra_replica.proofs.Tellings.{absorbed_from, merged_from}
+use Rattle.lra_history.specs.Merging.{IsAbsorbed, IsMerged, merged}
+use Rattle.lra_history.specs.Changes.{patched}
+use Rattle.lra_replica.specs.Replicas.{view_of}
+use Rattle.lra_history.specs.Views.{View}
+use Rattle.lra_history.proofs.MergeIsAJoin.{merge_law}
+use Rattle.lra_history.proofs.ViewsHaveShape.{merged_shape}
+use Rattle.lra_history.proofs.OneMerge.{merge_is, merge_only}
+use Rattle.lra_history.proofs.TellingAll.{absorbed_from, merged_from}
 use Rattle.lra_replica.proofs.replica.Replica.merge.Goals as goal
 
 new_view : (c : goal.After-apply) → patched c.in-Ok.patch (view_of c.args.self.now) ≡ view_of c.apply.new.self

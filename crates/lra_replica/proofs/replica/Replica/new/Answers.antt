@@ -1,7 +1,7 @@
 use Rattle.std.proofs.Common.{◌≡◌, ◌∙◌, ℕ, List, length, sym, ap}
 use Rattle.std.proofs.lemmas.List.{length-replicate}
 use Rattle.lra_replica.specs.Replicas.{AreEmptyHomes}
-use Rattle.lra_replica.proofs.Empties.{empty_ordered}
+use Rattle.lra_replica.proofs.EmptyHomes.{empty_ordered}
 use Rattle.lra_replica.proofs.replica.Replica.new.Goals as goal
 
 pub invariant_of-result : goal.invariant_of-result

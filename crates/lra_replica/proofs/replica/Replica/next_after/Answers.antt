@@ -1,8 +1,8 @@
 use Rattle.std.proofs.Common.{◌≡◌, sym, subst, ◌∙◌, ℕ, Option, Some, None, length}
 use Rattle.lra_id.specs.Ids.{Id}
-use Rattle.lra_replica.specs.Readings.{by_view}
+use Rattle.lra_history.specs.Readings.{by_view}
 use Rattle.lra_replica.specs.Replicas.{view_of}
-use Rattle.lra_replica.specs.Replies.{Reading}
+use Rattle.lra_history.specs.Replies.{Reading}
 use Rattle.lra_replica.specs.Pages.{IsFirstBeyond, IsNext, IsNextAt}
 use Rattle.lra_replica.proofs.Paging.{first_of_all, kept_within, next_same, next_other}
 use Rattle.lra_replica.proofs.replica.Replica.next_after.Goals as goal
@@ -14,7 +14,7 @@ next_of t id home num o homes nums next = subst (λ (h : ℕ). IsNextAt t h id.n
 pub returns-in_default : goal.returns-in_default
 returns-in_default c =
     subst (λ (after : Option Id). IsNext (by_view (view_of c.args.self.now)) after c.first_beyond.result) (sym c.in_default.is)
-    (first_of_all (by_view (view_of c.args.self.now)) (length c.args.self.now.front) c.first_beyond.result (kept_within c.args.self.now c.first_beyond.ensures.kept) c.first_beyond.ensures.first)
+    (first_of_all (by_view (view_of c.args.self.now)) (length c.args.self.now.front) c.first_beyond.result (kept_within c.args.self.now c.first_beyond.ensures.state) c.first_beyond.ensures.first)
 
 pub returns-in-None : goal.returns-in-None
 returns-in-None c =

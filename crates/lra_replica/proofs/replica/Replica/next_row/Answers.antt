@@ -4,7 +4,7 @@ use Rattle.lra_states.specs.declared.status.LraStatus.{LraStatus}
 use Rattle.lra_facts.specs.declared.refusal.Refusal.{Refusal}
 use Rattle.lra_forest.specs.Standing.{answered}
 use Rattle.lra_forest.proofs.Bools.{and_right}
-use Rattle.lra_replica.specs.Readings.{by_view}
+use Rattle.lra_history.specs.Readings.{by_view}
 use Rattle.lra_replica.specs.Replicas.{view_of}
 use Rattle.lra_replica.proofs.replica.Replica.next_row.Goals as goal
 

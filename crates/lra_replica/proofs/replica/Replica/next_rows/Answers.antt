@@ -1,7 +1,7 @@
 use Rattle.std.proofs.Common.{◌≡◌, ◌+◌, ◌++◌, ◌∷◌, [], sym, ap, subst, ◌∙◌, length, arith, List, Some, length-append, Bool}
 use Rattle.lra_replica.specs.declared.page.Row.{Row}
 use Rattle.lra_replica.specs.Pages.{IsPage, PageRows}
-use Rattle.lra_replica.specs.Readings.{by_view}
+use Rattle.lra_history.specs.Readings.{by_view}
 use Rattle.lra_replica.specs.Replicas.{view_of}
 use Rattle.lra_replica.proofs.Paging.{AreRows, no_rows, row_more, page_last, page_full}
 use Rattle.lra_replica.proofs.replica.Replica.next_rows.Goals as goal

@@ -1,5 +1,5 @@
 use Rattle.std.proofs.Common.{◌≡◌, length}
-use Rattle.lra_replica.specs.Readings.{by_view}
+use Rattle.lra_history.specs.Readings.{by_view}
 use Rattle.lra_replica.specs.Replicas.{view_of}
 use Rattle.lra_replica.proofs.Paging.{AreRows}
 use Rattle.lra_replica.proofs.replica.Replica.next_rows.Given as goal

@@ -1,10 +1,11 @@
 use Rattle.std.proofs.Common.{◌≡◌, ◌∙◌, ap, refl, rules, Err}
 use Rattle.lra_facts.specs.declared.refusal.Refusal.TheVariants.{NoMemory}
-use Rattle.lra_replica.specs.declared.command.Command.TheVariants.{Purge}
-use Rattle.lra_replica.specs.declared.command.CommandReply.TheVariants.{Purged}
-use Rattle.lra_replica.specs.Next.{accepted_on, change_on, judge_on}
-use Rattle.lra_replica.specs.Replicas.{purge_change, view_of}
-use Rattle.lra_replica.proofs.Answered.{answer_denied, answer_taken, memory_prepared, prepared_settled}
+use Rattle.lra_history.specs.declared.command.Command.TheVariants.{Purge}
+use Rattle.lra_history.specs.declared.command.CommandReply.TheVariants.{Purged}
+use Rattle.lra_history.specs.Next.{accepted_on, change_on, judge_on}
+use Rattle.lra_history.specs.Changes.{purge_change}
+use Rattle.lra_replica.specs.Replicas.{view_of}
+use Rattle.lra_replica.proofs.PreparedReplies.{answer_denied, answer_taken, memory_prepared, prepared_settled}
 use Rattle.lra_replica.proofs.replica.Replica.purge.Goals as goal
 
 pub returns-clause-next : goal.returns-clause-next

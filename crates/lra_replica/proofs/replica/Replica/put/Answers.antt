@@ -3,8 +3,9 @@ use Rattle.lra_forest.specs.declared.record.Record.{Record}
 use Rattle.lra_forest.specs.Forests.{AreOf, HomeRecords}
 use Rattle.lra_forest.specs.Places.{put_record}
 use Rattle.lra_forest.proofs.Puts.{put_are_of}
-use Rattle.lra_replica.specs.Replicas.{Kept, spare_at, put_at_home}
-use Rattle.lra_replica.specs.Views.{records_at}
+use Rattle.lra_replica.specs.Replicas.{ReplicaState, spare_at}
+use Rattle.lra_history.specs.Changes.{put_at_home}
+use Rattle.lra_history.specs.Views.{records_at}
 use Rattle.lra_replica.proofs.Rooms.{kept_with, home_numbered, ordered_here, records_with, records_of, spare_is, spare_with}
 use Rattle.lra_replica.proofs.replica.Replica.put.Goals as goal
 
@@ -13,7 +14,7 @@ place_is c = ap (λ (n : ℕ). n - 1) (c.from-place.ensures ∙ c.number.ensures
 
 within : (c : goal.After-index_mut) → c.args.added.home - 1 < length c.self.inside.homes.items
 within c =
-    let fronts : length c.self.inside.front ≡ length c.args.self.now.front = ap (λ (k : Kept). length k.front) c.self.view_is in
+    let fronts : length c.self.inside.front ≡ length c.args.self.now.front = ap (λ (k : ReplicaState). length k.front) c.self.view_is in
     let some : 1 ≤ c.args.added.home = omega (arith, c.number.ensures.range, c.number.ensures.value) in
     omega (arith, c.requires.home, fronts, some, c.self.invariant.homes)
 
@@ -27,7 +28,7 @@ put-requires-clause-home c =
 
 pub put-requires-clause-room : goal.put-requires-clause-room
 put-requires-clause-room c none =
-    let homes : spare_at c.self.inside.homes.items c.args.added.home ≡ spare_at c.args.self.now.homes c.args.added.home = ap (λ (k : Kept). spare_at k.homes c.args.added.home) c.self.view_is in
+    let homes : spare_at c.self.inside.homes.items c.args.added.home ≡ spare_at c.args.self.now.homes c.args.added.home = ap (λ (k : ReplicaState). spare_at k.homes c.args.added.home) c.self.view_is in
     let some : 1 ≤ c.args.added.home = omega (arith, c.number.ensures.range, c.number.ensures.value) in
     omega (arith, c.requires.room some, homes, spare_is c.self.inside.homes.items c.args.added.home c.index_mut.result.now (within c), ap (λ (h : HomeRecords). h.spare) (is_home c))
 
@@ -47,7 +48,7 @@ invariant_of-self c =
 pub returns-clause-records : goal.returns-clause-records
 returns-clause-records c =
     let at = c.before.before in
-    let homes : c.self.inside.homes.items ≡ c.args.self.now.homes = ap (λ (k : Kept). k.homes) c.self.view_is in
+    let homes : c.self.inside.homes.items ≡ c.args.self.now.homes = ap (λ (k : ReplicaState). k.homes) c.self.view_is in
     let before : c.index_mut.result.now.records ≡ records_at (map (λ (h : HomeRecords). h.records) c.self.inside.homes.items) c.args.added.home =
     ap (λ (h : HomeRecords). h.records) (is_home at) ∙ sym (records_of c.self.inside.homes.items (c.args.added.home - 1) c.index_mut.result.now (within at)) in
     rw (place_is at)
@@ -58,7 +59,7 @@ returns-clause-records c =
 pub returns-clause-room : goal.returns-clause-room
 returns-clause-room c home some =
     let at = c.before.before in
-    let homes : spare_at c.self.inside.homes.items home ≡ spare_at c.args.self.now.homes home = ap (λ (k : Kept). spare_at k.homes home) c.self.view_is in
+    let homes : spare_at c.self.inside.homes.items home ≡ spare_at c.args.self.now.homes home = ap (λ (k : ReplicaState). spare_at k.homes home) c.self.view_is in
     let one : 1 ≤ c.args.added.home = omega (arith, c.number.ensures.range, c.number.ensures.value) in
     let number : c.args.added.home - 1 + 1 ≡ c.args.added.home = omega (arith, one) in
     let room = spare_with c.self.inside.homes.items (c.args.added.home - 1) c.put.new.self c.index_mut.result.now 1 (within at)

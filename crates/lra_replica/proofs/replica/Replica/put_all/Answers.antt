@@ -1,7 +1,8 @@
 use Rattle.std.proofs.Common.{◌≤◌, ◌∙◌, ℕ, List, length, sym, ap, refl, arith, subst}
 use Rattle.std.specs.List.{AllByRecursion}
 use Rattle.lra_forest.specs.declared.record.Record.{Record}
-use Rattle.lra_replica.specs.Replicas.{count_of_home, put_each, spare_at, view_of}
+use Rattle.lra_replica.specs.Replicas.{count_of_home, spare_at, view_of}
+use Rattle.lra_history.specs.Changes.{put_each}
 use Rattle.lra_replica.proofs.Rooms.{count_here, count_first, none_left}
 use Rattle.lra_replica.proofs.replica.Replica.put_all.Goals as goal
 

@@ -1,7 +1,8 @@
 use Rattle.std.proofs.Common.{◌≡◌, ◌≤◌, ℕ, length}
 use Rattle.std.specs.List.{AllByRecursion}
 use Rattle.lra_forest.specs.declared.record.Record.{Record}
-use Rattle.lra_replica.specs.Replicas.{count_of_home, put_each, spare_at, view_of}
+use Rattle.lra_replica.specs.Replicas.{count_of_home, spare_at, view_of}
+use Rattle.lra_history.specs.Changes.{put_each}
 use Rattle.lra_replica.proofs.replica.Replica.put_all.Given as goal
 
 -- what is left is put onto what was put

@@ -16,4 +16,4 @@ pub returns-in-Some-clause-home : goal.returns-in-Some-clause-home
 returns-in-Some-clause-home c =
     let here = ap (λ (home : ℕ). slice_get c.args.self.now.homes (home - 1)) (sym c.home.ensures.value) in
     record_of_home c.args.id c.in-Some.home.now.records (length c.args.self.now.front) c.get.result
-    (home_within c.args.self.now c.args.id.home c.in-Some.home.now c.in-Some.ensures.kept c.home.ensures.range.home.0 (here ∙ sym c.in-Some.ensures.place)) c.get.ensures.found
+    (home_within c.args.self.now c.args.id.home c.in-Some.home.now c.in-Some.ensures.state c.home.ensures.range.home.0 (here ∙ sym c.in-Some.ensures.place)) c.get.ensures.found

@@ -4,8 +4,9 @@ use Rattle.std.specs.List.{filter}
 use Rattle.lra_forest.specs.declared.record.Record.{Record}
 use Rattle.lra_forest.specs.Forests.{AreOf, HomeRecords, is_of}
 use Rattle.lra_forest.proofs.Removals.{filter_are_of}
-use Rattle.lra_replica.specs.Replicas.{Kept, spare_at, taken_out}
-use Rattle.lra_replica.specs.Views.{records_at}
+use Rattle.lra_replica.specs.Replicas.{ReplicaState, spare_at}
+use Rattle.lra_history.specs.Changes.{remove_at_home}
+use Rattle.lra_history.specs.Views.{records_at}
 use Rattle.lra_replica.proofs.Rooms.{kept_with, ordered_here, records_with, records_of, spare_with}
 use Rattle.lra_replica.proofs.replica.Replica.remove.Goals as goal
 
@@ -34,17 +35,17 @@ invariant_of-self c =
 
 pub returns-then-place-len-clause-records : goal.returns-then-place-len-clause-records
 returns-then-place-len-clause-records c =
-    let homes : c.self.inside.homes.items ≡ c.args.self.now.homes = ap (λ (k : Kept). k.homes) c.self.view_is in
+    let homes : c.self.inside.homes.items ≡ c.args.self.now.homes = ap (λ (k : ReplicaState). k.homes) c.self.view_is in
     let before : c.index_mut.result.now.records ≡ records_at (map (λ (h : HomeRecords). h.records) c.self.inside.homes.items) c.args.id.home =
     ap (λ (h : HomeRecords). h.records) (is_home c) ∙ sym (records_of c.self.inside.homes.items (c.args.id.home - 1) c.index_mut.result.now (within c)) in
     rw (place_is c)
     (records_with c.self.inside.homes.items (c.args.id.home - 1) c.remove.new.self
     ∙ ap (λ (rs : List Record). set (map (λ (h : HomeRecords). h.records) c.self.inside.homes.items) (c.args.id.home - 1) rs) (c.remove.ensures.records ∙ ap (filter (λ (r : Record). not (is_of c.args.id r))) before)
-    ∙ ap (λ (hs : List HomeRecords). taken_out c.args.id (map (λ (h : HomeRecords). h.records) hs)) homes)
+    ∙ ap (λ (hs : List HomeRecords). remove_at_home c.args.id (map (λ (h : HomeRecords). h.records) hs)) homes)
 
 pub returns-then-place-len-clause-room : goal.returns-then-place-len-clause-room
 returns-then-place-len-clause-room c home some =
-    let homes : spare_at c.self.inside.homes.items home ≡ spare_at c.args.self.now.homes home = ap (λ (k : Kept). spare_at k.homes home) c.self.view_is in
+    let homes : spare_at c.self.inside.homes.items home ≡ spare_at c.args.self.now.homes home = ap (λ (k : ReplicaState). spare_at k.homes home) c.self.view_is in
     let room = spare_with c.self.inside.homes.items (c.args.id.home - 1) c.remove.new.self c.index_mut.result.now 0 (within c)
     (omega (arith, c.remove.ensures.room, ap (λ (h : HomeRecords). h.spare) (is_home c))) home some in
     rw (place_is c, sym homes) (by (c.args.id.home - 1 + 1 == home) room)

@@ -1,5 +1,6 @@
 use Rattle.std.proofs.Common.{◌≡◌, ◌≤◌, ℕ, drop}
-use Rattle.lra_replica.specs.Replicas.{spare_at, take_each, view_of}
+use Rattle.lra_replica.specs.Replicas.{spare_at, view_of}
+use Rattle.lra_history.specs.Changes.{remove_each}
 use Rattle.lra_replica.proofs.replica.Replica.remove_all.Given as goal
 
 -- what is left is taken out of what is left after the others
@@ -7,5 +8,5 @@ abbrev pub invariant-loop-id : goal.invariant-loop-id
 invariant-loop-id l =
     (l.self.front ≡ l.fn.self.front)
     × (l.self.purges ≡ l.fn.self.purges)
-    × (take_each (drop l.id-index l.removed) (view_of l.self).records ≡ take_each l.removed (view_of l.fn.self).records)
+    × (remove_each (drop l.id-index l.removed) (view_of l.self).records ≡ remove_each l.removed (view_of l.fn.self).records)
     × ((home : ℕ) → 1 ≤ home → spare_at l.fn.self.homes home ≤ spare_at l.self.homes home)

@@ -1,6 +1,6 @@
 use Rattle.std.proofs.Common.{◌≡◌, ◌∙◌, sym, ap, true}
-use Rattle.lra_replica.specs.Replicas.{Kept}
-use Rattle.lra_replica.specs.Views.{View}
+use Rattle.lra_replica.specs.Replicas.{ReplicaState}
+use Rattle.lra_history.specs.Views.{View}
 use Rattle.lra_replica.proofs.SameHomes.{front_told, same_view}
 use Rattle.lra_replica.proofs.replica.Replica.same.Goals as goal
 use Rattle.lra_replica.proofs.replica.Replica.same.Goals.{Joined-eq, then-eq, else-eq}
@@ -9,11 +9,11 @@ use Rattle.lra_replica.proofs.replica.Replica.same.Goals.{Joined-eq, then-eq, el
 fronts : (c : Joined-eq) → (c.if-eq.value ≡ true → (c.args.self.now.front ≡ c.args.other.now.front) × (c.args.self.now.purges ≡ c.args.other.now.purges)) × ((c.args.self.now.front ≡ c.args.other.now.front) × (c.args.self.now.purges ≡ c.args.other.now.purges) → c.if-eq.value ≡ true)
 fronts c =
     let front = front_told c.self.inside.front c.other.inside.front c.args.self.now.front c.args.other.now.front c.eq.result
-    (ap (λ (k : Kept). k.front) c.self.view_is) (ap (λ (k : Kept). k.front) c.other.view_is) c.eq.ensures in
+    (ap (λ (k : ReplicaState). k.front) c.self.view_is) (ap (λ (k : ReplicaState). k.front) c.other.view_is) c.eq.ensures in
     elim c.if-eq.branch [
       | then-eq w ↦
           let purges = front_told c.self.inside.purges c.other.inside.purges c.args.self.now.purges c.args.other.now.purges w.eq-then-eq.result
-          (ap (λ (k : Kept). k.purges) c.self.view_is) (ap (λ (k : Kept). k.purges) c.other.view_is) w.eq-then-eq.ensures in
+          (ap (λ (k : ReplicaState). k.purges) c.self.view_is) (ap (λ (k : ReplicaState). k.purges) c.other.view_is) w.eq-then-eq.ensures in
           (λ told. (front.0 w.if-eq.true, purges.0 (sym w.value-is ∙ told)), λ same. w.value-is ∙ purges.1 same.1)
       | else-eq w ↦ (λ told. let no_ = w.value-is in let other_ = w.if-eq.false in absurd cc, λ same. let front_ = front.1 same.0 in let no_ = w.if-eq.false in absurd cc)
     ]

@@ -1,15 +1,15 @@
 use Rattle.std.proofs.Common.{◌≡◌, ◌<◌, ◌+◌, ◌∙◌, List, length, sym, ap, subst, arith, refl}
 use Rattle.lra_forest.specs.Forests.{HomeRecords}
-use Rattle.lra_replica.specs.Replicas.{Kept}
+use Rattle.lra_replica.specs.Replicas.{ReplicaState}
 use Rattle.lra_replica.proofs.SameHomes.{AreSameTo, records_in, same_more, same_all, same_here}
 use Rattle.lra_replica.proofs.replica.Replica.same_records.Goals as goal
 
 pub loop-place-preserved : goal.loop-place-preserved
 loop-place-preserved c =
-    let homes : c.self.inside.homes.items ≡ c.args.self.now.homes = ap (λ (k : Kept). k.homes) c.self.view_is in
-    let others : c.other.inside.homes.items ≡ c.args.other.now.homes = ap (λ (k : Kept). k.homes) c.other.view_is in
-    let front : length c.self.inside.front ≡ length c.args.self.now.front = ap (λ (k : Kept). length k.front) c.self.view_is in
-    let fronts : length c.other.inside.front ≡ length c.args.other.now.front = ap (λ (k : Kept). length k.front) c.other.view_is in
+    let homes : c.self.inside.homes.items ≡ c.args.self.now.homes = ap (λ (k : ReplicaState). k.homes) c.self.view_is in
+    let others : c.other.inside.homes.items ≡ c.args.other.now.homes = ap (λ (k : ReplicaState). k.homes) c.other.view_is in
+    let front : length c.self.inside.front ≡ length c.args.self.now.front = ap (λ (k : ReplicaState). length k.front) c.self.view_is in
+    let fronts : length c.other.inside.front ≡ length c.args.other.now.front = ap (λ (k : ReplicaState). length k.front) c.other.view_is in
     let within : c.loop-place.place < length c.self.inside.homes.items = omega (arith, c.loop-place-test.true, c.len-place-end.ensures, c.self.inside.homes.ok) in
     let inside : c.loop-place.place < length c.other.inside.homes.items = omega (arith, within, c.requires, front, fronts, c.self.invariant.homes, c.other.invariant.homes) in
     subst (λ (hs : List HomeRecords). AreSameTo (c.loop-place.place + 1) hs c.args.other.now.homes) homes
@@ -21,10 +21,10 @@ loop-place-preserved c =
 
 pub returns-then-not-same : goal.returns-then-not-same
 returns-then-not-same c =
-    let homes : c.self.inside.homes.items ≡ c.args.self.now.homes = ap (λ (k : Kept). k.homes) c.self.view_is in
-    let others : c.other.inside.homes.items ≡ c.args.other.now.homes = ap (λ (k : Kept). k.homes) c.other.view_is in
-    let front : length c.self.inside.front ≡ length c.args.self.now.front = ap (λ (k : Kept). length k.front) c.self.view_is in
-    let fronts : length c.other.inside.front ≡ length c.args.other.now.front = ap (λ (k : Kept). length k.front) c.other.view_is in
+    let homes : c.self.inside.homes.items ≡ c.args.self.now.homes = ap (λ (k : ReplicaState). k.homes) c.self.view_is in
+    let others : c.other.inside.homes.items ≡ c.args.other.now.homes = ap (λ (k : ReplicaState). k.homes) c.other.view_is in
+    let front : length c.self.inside.front ≡ length c.args.self.now.front = ap (λ (k : ReplicaState). length k.front) c.self.view_is in
+    let fronts : length c.other.inside.front ≡ length c.args.other.now.front = ap (λ (k : ReplicaState). length k.front) c.other.view_is in
     let within : c.loop-place.place < length c.self.inside.homes.items = omega (arith, c.loop-place-test.true, c.len-place-end.ensures, c.self.inside.homes.ok) in
     let inside : c.loop-place.place < length c.other.inside.homes.items = omega (arith, within, c.requires, front, fronts, c.self.invariant.homes, c.other.invariant.homes) in (
       λ told. absurd cc,
@@ -34,10 +34,10 @@ returns-then-not-same c =
 
 pub returns : goal.returns
 returns c =
-    let homes : c.self.inside.homes.items ≡ c.args.self.now.homes = ap (λ (k : Kept). k.homes) c.self.view_is in
-    let others : c.other.inside.homes.items ≡ c.args.other.now.homes = ap (λ (k : Kept). k.homes) c.other.view_is in
-    let front : length c.self.inside.front ≡ length c.args.self.now.front = ap (λ (k : Kept). length k.front) c.self.view_is in
-    let fronts : length c.other.inside.front ≡ length c.args.other.now.front = ap (λ (k : Kept). length k.front) c.other.view_is in
+    let homes : c.self.inside.homes.items ≡ c.args.self.now.homes = ap (λ (k : ReplicaState). k.homes) c.self.view_is in
+    let others : c.other.inside.homes.items ≡ c.args.other.now.homes = ap (λ (k : ReplicaState). k.homes) c.other.view_is in
+    let front : length c.self.inside.front ≡ length c.args.self.now.front = ap (λ (k : ReplicaState). length k.front) c.self.view_is in
+    let fronts : length c.other.inside.front ≡ length c.args.other.now.front = ap (λ (k : ReplicaState). length k.front) c.other.view_is in
     let own = ap (λ (hs : List HomeRecords). length hs) homes in
     let of_other = ap (λ (hs : List HomeRecords). length hs) others in (
       λ told. same_all c.args.self.now.homes c.args.other.now.homes c.loop-place.place

@@ -1,7 +1,7 @@
 use Rattle.std.proofs.Common.{◌∙◌, ap, List}
 use Rattle.lra_forest.specs.declared.record.Record.{Record}
 use Rattle.lra_replica.specs.Replicas.{view_of}
-use Rattle.lra_replica.specs.Views.{View}
+use Rattle.lra_history.specs.Views.{View}
 use Rattle.lra_replica.proofs.SameHomes.{copied_kept, copied_records}
 use Rattle.lra_replica.proofs.replica.Replica.try_clone.Goals as goal
 

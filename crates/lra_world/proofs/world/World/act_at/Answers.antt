@@ -3,17 +3,17 @@ use Rattle.std.proofs.lemmas.Result.{IfOk-weaker, on_err_weaker}
 use Rattle.std.specs.Prelude.{IfOk}
 use Rattle.std.specs.declared.alloc.AllocError.{AllocError}
 use Rattle.lra_facts.specs.declared.fact.Fact.{Fact}
-use Rattle.lra_replica.specs.declared.command.CommandReply.{CommandReply}
-use Rattle.lra_replica.specs.Growth.{IsSettled}
-use Rattle.lra_replica.specs.Views.{StandsFor}
-use Rattle.lra_replica.specs.Replicas.{Kept, view_of}
+use Rattle.lra_history.specs.declared.command.CommandReply.{CommandReply}
+use Rattle.lra_history.specs.Growth.{IsSettled}
+use Rattle.lra_history.specs.Views.{StandsFor}
+use Rattle.lra_replica.specs.Replicas.{ReplicaState, view_of}
 use Rattle.lra_world.specs.Machines.{IsActed, IsChanged, Machine, bytes_of}
-use Rattle.lra_world.proofs.Changing.{changed_at}
-use Rattle.lra_world.proofs.Standing.{ActsSo}
+use Rattle.lra_world.proofs.OneReplicaChanged.{changed_at}
+use Rattle.lra_world.proofs.WorldsStand.{ActsSo}
 use Rattle.lra_world.proofs.world.World.act_at.Goals as goal
 
 -- the replica at the node's place is changed so
-changed : (c : goal.After-self-1) (So : Kept → Kept → Type 0) → So c.index_mut.result.now c.act.new.replica
+changed : (c : goal.After-self-1) (So : ReplicaState → ReplicaState → Type 0) → So c.index_mut.result.now c.act.new.replica
     → IsChanged c.args.self.now (record { replicas = slice_set c.self.inside.replicas.items (c.from-place.result - 1) c.act.new.replica; sent = bytes_of c.self.inside.frames.items }) c.args.node So
 changed c So so =
     let place : c.from-place.result - 1 ≡ c.args.node - 1 = ap (λ (n : ℕ). n - 1) (c.from-place.ensures ∙ c.number.ensures.value) in

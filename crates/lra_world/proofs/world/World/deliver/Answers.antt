@@ -1,7 +1,7 @@
 use Rattle.std.proofs.Common.{◌≤◌, sym, arith, length, rules}
 use Rattle.lra_world.proofs.Delivering.{delivered_world}
 use Rattle.lra_world.proofs.Happening.{node_there}
-use Rattle.lra_world.proofs.Standing.{still_world}
+use Rattle.lra_world.proofs.WorldsStand.{still_world}
 use Rattle.lra_world.proofs.world.World.deliver.Goals as goal
 
 pub returns-in-Ok-clause-step : goal.returns-in-Ok-clause-step

@@ -5,7 +5,7 @@ use Rattle.lra_facts.specs.declared.refusal.Refusal.TheVariants.{Gap}
 use Rattle.lra_replica.specs.Replicas.{view_of}
 use Rattle.lra_world.specs.Machines.{IsWorldOf, Machine}
 use Rattle.lra_world.specs.Worlds.{IsViewOf, State, front_of}
-use Rattle.lra_world.proofs.Changing.{get_at}
+use Rattle.lra_world.proofs.OneReplicaChanged.{get_at}
 use Rattle.lra_world.proofs.world.World.frame_since.Goals.{After-bytes_since}
 use Rattle.lra_world.proofs.world.World.frame_since.Goals as goal
 

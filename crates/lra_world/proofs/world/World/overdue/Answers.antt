@@ -2,7 +2,7 @@ use Rattle.std.proofs.Common.{◌≡◌, ◌∙◌, ◌-◌, ◌≤◌, ◌<◌,
 use Rattle.lra_world.specs.Headline.{IsNode}
 use Rattle.lra_world.specs.Machines.{Machine}
 use Rattle.lra_world.specs.Worlds.{set_of}
-use Rattle.lra_world.proofs.Changing.{get_at}
+use Rattle.lra_world.proofs.OneReplicaChanged.{get_at}
 use Rattle.lra_world.proofs.Happening.{own_set}
 use Rattle.lra_world.proofs.world.World.overdue.Goals as goal
 

@@ -1,0 +1,138 @@
+-- what is told of each home since a base
+use Rattle.std.proofs.Common.{◌≡◌, ◌≤◌, ◌<◌, ◌+◌, ◌-◌, ℕ, zero, suc, List, [], ◌∷◌, ◌++◌, refl, sym, ap, subst, ◌∙◌, Bool, true, false, cond, not, arith, Some, None, filter, get_or, length, map, take, nat_lt}
+use Rattle.std.proofs.lemmas.List.{length-map, same_lists, take_all, take_more}
+use Rattle.std.specs.Prelude.{◌↔◌, IsTrue}
+use Rattle.lra_id.specs.Fronts.{IsBelow, count}
+use Rattle.lra_forest.specs.declared.merging.Told.{Told}
+use Rattle.lra_forest.specs.declared.record.Record.{Record}
+use Rattle.lra_forest.specs.Forests.{AreOf, HomeRecords}
+use Rattle.lra_forest.specs.Records.{nodes_to}
+use Rattle.lra_forest.proofs.Removals.{filter_are_of}
+use Rattle.lra_history.specs.Merging.{AreToldFrom, IsTelling}
+use Rattle.lra_replica.specs.Replicas.{AreHomesFrom, IsReplicaState, ReplicaState, view_of}
+use Rattle.lra_history.specs.Views.{records_at}
+use Rattle.lra_history.proofs.Basics.{length_nodes}
+use Rattle.lra_history.proofs.MergedRecords.{nth_of}
+use Rattle.lra_history.proofs.ListsWithOneMore.{filter_append}
+use Rattle.lra_replica.proofs.Rooms.{home_numbered}
+use Rattle.lra_delta.specs.Frames.{frame_of, is_beyond}
+use Rattle.lra_delta.specs.Sending.{HomePart, frame_told, part_of, part_since}
+use Rattle.lra_delta.proofs.Beyond.{below_from, beyond_from}
+
+-- Records
+
+pub beyond_is : (base v : List ℕ) (b : Bool) → (IsTrue b ↔ IsBelow v base) → not b ≡ is_beyond base v
+beyond_is base v true is = sym (beyond_from base v (is.0 refl))
+beyond_is base v false is = by (is_beyond base v) refl
+  where
+    by : (c : Bool) → is_beyond base v ≡ c → true ≡ c
+    by true e = refl
+    by false e = absurd (let clash = is.1 (below_from base v e) in cc)
+
+no_more : (xs : List Record) → xs ++ [] ≡ xs
+no_more [] = refl
+no_more (x ∷ xs) = ap (λ zs. x ∷ zs) (no_more xs)
+
+-- the record at the next place is added if it passes
+pub next_passing : (p : Record → Bool) (rs since new : List Record) (i : ℕ) (r : Record) → i < length rs → r ≡ get_or rs i r
+    → since ≡ filter p (take i rs) → new ≡ cond (p r) (since ++ r ∷ []) since → new ≡ filter p (take (i + 1) rs)
+next_passing p rs since new i r within at so_far added =
+    added
+    ∙ ap (λ (qs : List Record). cond (p r) (qs ++ r ∷ []) qs) so_far
+    ∙ by (p r) refl
+    ∙ ap (λ (q : Record). filter p (take i rs ++ q ∷ [])) at
+    ∙ sym (ap (filter p) (take_more rs i r within))
+  where
+    by : (b : Bool) → p r ≡ b → cond b (filter p (take i rs) ++ r ∷ []) (filter p (take i rs)) ≡ filter p (take i rs ++ r ∷ [])
+    by true pass = sym (filter_append p (take i rs) (r ∷ []) ∙ rw pass refl)
+    by false fail = sym (filter_append p (take i rs) (r ∷ []) ∙ rw fail (no_more (filter p (take i rs))))
+
+-- all that pass are of the home, in order
+pub all_passing_are_of : (p : Record → Bool) (home : ℕ) (items rs since : List Record) (i : ℕ) → items ≡ rs → AreOf home rs → length items ≤ i → since ≡ filter p (take i items) → AreOf home since
+all_passing_are_of p home items rs since i is are all so_far =
+    subst (AreOf home) (sym (so_far ∙ ap (filter p) (take_all i items all ∙ is))) (filter_are_of p home rs are)
+
+-- Lists
+
+map_map : {X Y Z : Type 0} (f : Y → Z) (g : X → Y) (xs : List X) → map f (map g xs) ≡ map (λ x. f (g x)) xs
+map_map f g [] = refl
+map_map f g (x ∷ xs) = ap (λ zs. f (g x) ∷ zs) (map_map f g xs)
+
+get_map : {X Y : Type 0} (f : X → Y) (xs : List X) (i : ℕ) (d : Y) (e : X) → i < length xs → get_or (map f xs) i d ≡ f (get_or xs i e)
+get_map f [] i d e within = absurd (omega (arith, within))
+get_map f (x ∷ xs) zero d e within = refl
+get_map f (x ∷ xs) (suc i) d e within = get_map f xs i d e (omega (arith, within))
+
+map_last : {X Y : Type 0} (f : X → Y) (xs : List X) (x : X) → map f (xs ++ x ∷ []) ≡ map f xs ++ f x ∷ []
+map_last f [] x = refl
+map_last f (y ∷ xs) x = ap (λ zs. f y ∷ zs) (map_last f xs x)
+
+-- one home more is told
+pub one_more_part : (base purges : List ℕ) (homes : List HomeRecords) (told more : List Told) (i : ℕ) (home : HomeRecords) (last : Told) → i < length homes → home ≡ get_or homes i home → more ≡ told ++ last ∷ []
+    → part_of last ≡ part_since base purges home → map part_of told ≡ map (part_since base purges) (take i homes) → map part_of more ≡ map (part_since base purges) (take (i + 1) homes)
+one_more_part base purges homes told more i home last within at items is so_far =
+    ap (map part_of) items
+    ∙ map_last part_of told last
+    ∙ ap (λ ps. ps ++ part_of last ∷ []) so_far
+    ∙ ap (λ p. map (part_since base purges) (take i homes) ++ p ∷ []) (is ∙ ap (part_since base purges) at)
+    ∙ sym (ap (map (part_since base purges)) (take_more homes i home within) ∙ map_last (part_since base purges) (take i homes) (get_or homes i home))
+
+-- The frame
+
+-- of each home of a replica what is made of it, in order
+homes_of : {X : Type 0} (g : ℕ → List Record → X) (kept : ReplicaState) → IsReplicaState kept → map (λ (h : HomeRecords). g h.home h.records) kept.homes ≡ map (λ home. g home (records_at (view_of kept).records home)) (nodes_to (length kept.front))
+homes_of {X} g kept is =
+    same_lists (map of_home kept.homes) (map at_home (nodes_to (length kept.front)))
+    (length-map kept.homes of_home ∙ is.homes ∙ sym (length-map (nodes_to (length kept.front)) at_home ∙ length_nodes (length kept.front)))
+    (λ i d there. one i d (omega (arith, there, length-map kept.homes of_home)))
+  where
+    of_home : HomeRecords → X
+    of_home h = g h.home h.records
+
+    at_home : ℕ → X
+    at_home home = g home (records_at (view_of kept).records home)
+
+    one : (i : ℕ) (d : X) → i < length kept.homes → get_or (map of_home kept.homes) i d ≡ get_or (map at_home (nodes_to (length kept.front))) i d
+    one i d within =
+        let none : HomeRecords = record { home = 0; records = []; spare = 0 } in
+        let h = get_or kept.homes i none in
+        let number : h.home ≡ suc i = omega (arith, home_numbered 1 kept.homes i none within is.numbered) in
+        let place : suc i - 1 ≡ i = omega arith in
+        let mine : records_at (view_of kept).records (suc i) ≡ h.records = ap (λ (k : ℕ). get_or (view_of kept).records k []) place ∙ get_map (λ (r : HomeRecords). r.records) kept.homes i [] none within in
+        get_map of_home kept.homes i d none within
+        ∙ ap (λ (k : ℕ). g k h.records) number
+        ∙ ap (g (suc i)) (sym mine)
+        ∙ sym (nth_of at_home d (length kept.front) i (omega (arith, within, is.homes)))
+
+-- what is told of each home is what the frame has
+pub frame_parts : (kept : ReplicaState) (base : List ℕ) (told : List Told) → IsReplicaState kept → map part_of told ≡ map (part_since base kept.purges) kept.homes
+    → frame_told base (record { front = kept.front; purges = kept.purges; homes = told }) ≡ frame_of (view_of kept) base
+frame_parts kept base told is parts =
+    ap (λ live. record { base = base; front = kept.front; purges = kept.purges; live = live; records = map (λ (t : Told). t.records.records) told })
+    (of_parts (λ (p : HomePart). p.live) ∙ homes_of (λ home rs. cond (nat_lt (count base home) (count kept.purges home)) (Some (map (λ (r : Record). r.num) rs)) None) kept is)
+    ∙ ap (λ records. record { base = base; front = kept.front; purges = kept.purges; live = (frame_of (view_of kept) base).live; records = records })
+    (of_parts (λ (p : HomePart). p.records) ∙ homes_of (λ home rs. filter (λ r. is_beyond base r.stamps) rs) kept is)
+  where
+    of_parts : {X : Type 0} (f : HomePart → X) → map (λ t. f (part_of t)) told ≡ map (λ h. f (part_since base kept.purges h)) kept.homes
+    of_parts f = sym (map_map f part_of told) ∙ ap (map f) parts ∙ map_map f (part_since base kept.purges) kept.homes
+
+told_from : (base purges : List ℕ) (k : ℕ) (told : List Told) (homes : List HomeRecords) → map part_of told ≡ map (part_since base purges) homes → AreHomesFrom k homes → AreToldFrom k told
+told_from base purges k [] homes e are = tt
+told_from base purges k (t ∷ told) [] e are = absurd cc
+told_from base purges k (t ∷ told) (h ∷ homes) e are =
+    let first : part_of t ≡ part_since base purges h = cc in
+    let rest : map part_of told ≡ map (part_since base purges) homes = cc in
+    (ap (λ (p : HomePart). p.home) first ∙ are.0, told_from base purges (k + 1) told homes rest are.1)
+
+-- and it is told of one home for each node
+pub parts_telling : (kept : ReplicaState) (base : List ℕ) (told : List Told) → IsReplicaState kept → map part_of told ≡ map (part_since base kept.purges) kept.homes
+    → IsTelling (record { front = kept.front; purges = kept.purges; homes = told })
+parts_telling kept base told is parts = record {
+  purges = is.purges;
+  homes = sym (length-map told part_of) ∙ ap (λ (ps : List HomePart). length ps) parts ∙ length-map kept.homes (part_since base kept.purges) ∙ is.homes;
+  numbered = told_from base kept.purges 1 told kept.homes parts is.numbered;
+}
+
+-- with the homes and purges of a replica
+pub parts_of : (base own purges : List ℕ) (told : List Told) (homes mine : List HomeRecords) → map part_of told ≡ map (part_since base own) homes → own ≡ purges → homes ≡ mine → map part_of told ≡ map (part_since base purges) mine
+parts_of base own purges told homes mine parts same here = parts ∙ ap (λ (v : List ℕ). map (part_since base v) homes) same ∙ ap (map (part_since base purges)) here

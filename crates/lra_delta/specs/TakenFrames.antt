@@ -1,0 +1,37 @@
+-- What a view becomes when a frame is taken.
+use Rattle.std.specs.Prelude.{◌≡◌, ◌≤◌, ◌⊎◌, ℕ, Option, find, length}
+use Rattle.lra_id.specs.Ids.{Id}
+use Rattle.lra_id.specs.Fronts.{IsBelow, count, is_covered, join_fronts}
+use Rattle.lra_facts.specs.declared.refusal.Refusal.{Refusal}
+use Rattle.lra_facts.specs.declared.refusal.Refusal.TheVariants.{BadFrame, Gap, NoMemory}
+use Rattle.lra_forest.specs.declared.record.Record.{Record}
+use Rattle.lra_forest.specs.Forests.{AreOf, is_of}
+use Rattle.lra_forest.specs.RecordMerges.{is_gone, absorbed}
+use Rattle.lra_history.specs.ViewShape.{HasShape}
+use Rattle.lra_history.specs.Views.{View, record_at, records_at}
+use Rattle.lra_delta.specs.Frames.{Frame, live_at}
+
+-- what a view has of an LRA once the frame is taken
+abbrev pub taken_from : View → Frame → Id → Option Record
+taken_from a frame l =
+    absorbed (is_covered a.front l) (is_gone (count frame.front l.home) (live_at frame.live l.home) l.num)
+    (record_at a l) (find (is_of l) (records_at frame.records l.home))
+
+-- c is a once the frame is taken, of a node that counts the same nodes: the greater counts and purges, and of each LRA what is
+-- taken
+pub record IsTaken (a : View) (frame : Frame) (c : View) : Type 0 where
+  pub nodes : length a.front ≡ length frame.front
+  pub front : c.front ≡ join_fronts a.front frame.front
+  pub purges : c.purges ≡ join_fronts a.purges frame.purges
+  pub homes : length c.records ≡ length c.front
+  pub order : (home : ℕ) → 1 ≤ home → home ≤ length c.front → AreOf home (records_at c.records home)
+  pub records : (l : Id) → 1 ≤ l.home → l.home ≤ length c.front → record_at c l ≡ taken_from a frame l
+
+-- Why the frame is not taken: memory is wanting; it counts other nodes; the view's front does not count all that the base
+-- counts; or no view that takes the frame has the shape
+abbrev pub RefusesTaking : View → Frame → Refusal → Type 0
+RefusesTaking a frame refusal =
+    (refusal ≡ NoMemory)
+    ⊎ (((refusal ≡ BadFrame 9) × (length frame.front ≡ length a.front → ⊥))
+    ⊎ (((refusal ≡ Gap a.front) × (length frame.front ≡ length a.front) × (IsBelow frame.base a.front → ⊥))
+    ⊎ ((refusal ≡ BadFrame 0) × ((c : View) → IsTaken a frame c → HasShape c → ⊥))))

@@ -1,8 +1,0 @@
-use Rattle.std.proofs.Common.{take}
-use Rattle.std.specs.List.{AllByRecursion}
-use Rattle.lra_forest.specs.Shape.{FitsAt, records_after}
-use Rattle.lra_forest.proofs.forest.Forest.fit.Given as goal
-
--- those so far have their place
-abbrev pub invariant-loop-record : goal.invariant-loop-record
-invariant-loop-record l = AllByRecursion (λ r. FitsAt l.front l.self.home (records_after l.changes l.self) r.num) (take l.record-index l.records)

@@ -1,0 +1,124 @@
+-- The merge of two records of one LRA, and what a home's records become when another node's are taken.
+use Rattle.std.specs.Prelude.{◌&&◌, ◌||◌, ◌==◌, ℕ, Bool, false, Option, Some, None, List, [], ◌∷◌, filter, if◌then◌else◌, is_some, nat_le, option_map, Vec}
+use Rattle.std.specs.declared.alloc.Global.{Global}
+use mathlib.Core.Bool.{not}
+use Rattle.std.specs.List.{list_any}
+use Rattle.lra_id.specs.Ids.{Id, is_fact_number}
+use Rattle.lra_id.specs.Fronts.{count, join_fronts}
+use Rattle.lra_states.specs.States.{greater}
+use Rattle.std.specs.Option.{option_map}
+use Rattle.lra_forest.specs.declared.record.Participant.{Participant as ParticipantRecord}
+use Rattle.lra_forest.specs.declared.record.Member.{Member}
+use Rattle.lra_forest.specs.declared.record.Member.TheVariants.{Nested, Participant, Left}
+use Rattle.lra_forest.specs.declared.record.Record.{Record}
+use Rattle.lra_forest.specs.Forests.{is_of}
+use Rattle.lra_forest.specs.Places.{put_record}
+
+-- Two records of one LRA
+
+-- A participant without what it has no link for: what was heard of its completing, and the mark that it was told to forget
+abbrev pub linked : ParticipantRecord → ParticipantRecord
+linked p =
+    record {
+      links = p.links;
+      completed = if is_some p.links.complete then p.completed else None;
+      compensated = p.compensated;
+      forgotten = is_some p.links.forget && p.forgotten;
+    }
+
+-- Of a participant the greater outcomes are kept, and that it was told to forget if either has it. What the kept one has no
+-- link for is dropped
+abbrev pub merged_participant : (kept other : ParticipantRecord) → ParticipantRecord
+merged_participant p q =
+    linked (record {
+      links = p.links;
+      completed = greater p.completed q.completed;
+      compensated = greater p.compensated q.compensated;
+      forgotten = p.forgotten || q.forgotten;
+    })
+
+-- A member is what the kept one says. Of a participant the other counts where it has a participant at the place too
+abbrev pub merged_member : (kept : Member) (other : Option Member) → Member
+merged_member (Participant p) (Some (Participant q)) = Participant (merged_participant p q)
+merged_member (Participant p) _ = Participant (linked p)
+merged_member (Nested num) _ = Nested num
+merged_member Left _ = Left
+
+-- the members that are kept, each with what the other list has at its place, if anything
+abbrev pub merged_members : (kept other : List Member) → List Member
+merged_members [] others = []
+merged_members (m ∷ kept) [] = merged_member m None ∷ merged_members kept []
+merged_members (m ∷ kept) (n ∷ others) = merged_member m (Some n) ∷ merged_members kept others
+
+-- the greatest number of the home's own facts about the LRA
+abbrev pub home_stamp : Record → ℕ
+home_stamp r = count r.stamps r.home
+
+-- Only the home decides and numbers members, so that part is kept whole from the one with the greater home stamp, the first
+-- where they are equal. Of each node the greater stamp is kept. What the begin says is the same in both
+abbrev pub merged_record : Record → Record → Record
+merged_record r t =
+    if nat_le (home_stamp t) (home_stamp r)
+    then record {
+      home = r.home;
+      num = r.num;
+      parent = r.parent;
+      deadline = r.deadline;
+      decision = r.decision;
+      stamps = join_fronts r.stamps t.stamps;
+      members = merged_members r.members t.members;
+    }
+    else record {
+      home = r.home;
+      num = r.num;
+      parent = r.parent;
+      deadline = r.deadline;
+      decision = t.decision;
+      stamps = join_fronts r.stamps t.stamps;
+      members = merged_members t.members r.members;
+    }
+
+-- What is had of one LRA
+
+-- What a receiver keeps of an LRA, by what it has of it and what the other has. Covered: the receiver's front counts the
+-- LRA's begin, so that it purged one that it lacks. Gone: the other had the LRA, and is known to hold it no more
+abbrev pub absorbed : (covered gone : Bool) → Option Record → Option Record → Option Record
+absorbed covered gone None None = None
+absorbed covered gone None (Some t) = if covered then None else Some t
+absorbed covered gone (Some r) None = if gone then None else Some r
+absorbed covered gone (Some r) (Some t) = Some (merged_record r t)
+
+-- what comes of an LRA of which the other has a record
+abbrev pub brought : (covered : Bool) → Option Record → Option Record → Option Record
+brought covered own None = None
+brought covered own (Some t) = absorbed covered false own (Some t)
+
+-- What another node tells of a home
+
+-- the numbers that are told, where they are
+abbrev pub held_numbers : Option (Vec ℕ Global) → Option (List ℕ)
+held_numbers = option_map (λ nums. nums.items)
+
+-- it tells of all LRAs of the home that it holds, and this number is none of theirs
+abbrev pub is_unlisted : Option (List ℕ) → ℕ → Bool
+is_unlisted None num = false
+is_unlisted (Some nums) num = not (list_any (λ n. n == num) nums)
+
+-- The other has the begin of the LRA with this number, and doesn't hold it any more. It has this many of the home's facts
+abbrev pub is_gone : (told : ℕ) → Option (List ℕ) → ℕ → Bool
+is_gone told held num = (is_fact_number num && nat_le num told) && is_unlisted held num
+
+-- Changes of a home's records
+
+-- without the records of these LRAs
+abbrev pub without : List Id → List Record → List Record
+without removed records = filter (λ r. not (list_any (λ l. is_of l r) removed)) records
+
+-- with each of these records in its place
+abbrev pub put_all : List Record → List Record → List Record
+put_all [] records = records
+put_all (r ∷ changed) records = put_all changed (put_record r records)
+
+-- some are taken out, and then these are put in their places
+abbrev pub changed_by : (removed : List Id) (changed records : List Record) → List Record
+changed_by removed changed records = put_all changed (without removed records)

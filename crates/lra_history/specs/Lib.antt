@@ -1,0 +1,11 @@
+pub mod Changes
+pub mod Growth
+pub mod Histories
+pub mod Merging
+pub mod Next
+pub mod NodeViews
+pub mod Readings
+pub mod Replies
+pub mod Rising
+pub mod ViewShape
+pub mod Views

@@ -1,0 +1,113 @@
+-- The merge of two views, and what a view becomes when what another node tells is taken.
+use Rattle.std.specs.Prelude.{◌≡◌, ◌≤◌, ◌+◌, ◌-◌, ◌&&◌, ℕ, Option, Some, None, List, [], ◌∷◌, ◌++◌, find, length, map, slice_get}
+use Rattle.std.specs.Option.{option_map_or}
+use Rattle.lra_id.specs.Ids.{Id, is_fact_number}
+use Rattle.lra_id.specs.Fronts.{IsBelow, count, is_covered, join_fronts}
+use Rattle.lra_forest.specs.declared.merging.Told.{Told}
+use Rattle.lra_forest.specs.declared.record.Record.{Record}
+use Rattle.lra_forest.specs.Forests.{AreOf, id_of, is_of}
+use Rattle.lra_forest.specs.RecordMerges.{held_numbers, is_gone, absorbed}
+use Rattle.lra_forest.specs.Places.{put_record}
+use Rattle.lra_forest.specs.Records.{nodes_to}
+use Rattle.lra_history.specs.Histories.{History, IsClosed, facts}
+use Rattle.lra_history.specs.Views.{StandsFor, View, record_at, records_at}
+
+-- Two views
+
+-- what the receiver keeps of an LRA when it merges the other view
+abbrev pub merged_of : View → View → Id → Option Record
+merged_of a b l = absorbed (is_covered a.front l) (is_fact_number l.num && is_covered b.front l) (record_at a l) (record_at b l)
+
+-- c is made of a and b, which count the same nodes: the greater counts and purges, and of each LRA what is taken
+pub record IsMerged (a b c : View) : Type 0 where
+  pub nodes : length a.front ≡ length b.front
+  pub front : c.front ≡ join_fronts a.front b.front
+  pub purges : c.purges ≡ join_fronts a.purges b.purges
+  pub homes : length c.records ≡ length c.front
+  pub order : (home : ℕ) → 1 ≤ home → home ≤ length c.front → AreOf home (records_at c.records home)
+  pub records : (l : Id) → 1 ≤ l.home → l.home ≤ length c.front → record_at c l ≡ merged_of a b l
+
+-- with the record, if there is one, in its place
+abbrev pub put_some : Option Record → List Record → List Record
+put_some None rs = rs
+put_some (Some r) rs = put_record r rs
+
+-- what is taken of the LRAs of a list of records, in order
+abbrev pub all_merged : View → View → List Record → List Record
+all_merged a b [] = []
+all_merged a b (r ∷ rs) = put_some (merged_of a b (id_of r)) (all_merged a b rs)
+
+-- the merge of two views that count the same nodes
+abbrev pub merged : View → View → View
+merged a b =
+    record {
+      front = join_fronts a.front b.front;
+      purges = join_fronts a.purges b.purges;
+      records = map (λ home. all_merged a b (records_at a.records home ++ records_at b.records home)) (nodes_to (length a.front));
+    }
+
+-- What another node tells
+
+-- the homes are numbered from k
+abbrev pub AreToldFrom : ℕ → List Told → Type 0
+AreToldFrom k [] = Unit {0}
+AreToldFrom k (told ∷ homes) = (told.records.home ≡ k) × AreToldFrom (k + 1) homes
+
+-- its front, its last purges, and what it tells of each home
+pub record Telling : Type 0 where
+  pub front : List ℕ
+  pub purges : List ℕ
+  pub homes : List Told
+
+-- it tells of one home for each node that its front counts
+pub record IsTelling (telling : Telling) : Type 0 where
+  pub purges : length telling.purges ≡ length telling.front
+  pub homes : length telling.homes ≡ length telling.front
+  pub numbered : AreToldFrom 1 telling.homes
+
+-- the records that it tells of a home
+abbrev pub told_records : Telling → ℕ → List Record
+told_records telling home = option_map_or (λ (told : Told). told.records.records) (slice_get telling.homes (home - 1)) []
+
+-- the numbers of all LRAs of a home that the other holds, where it tells them
+abbrev pub told_held : Telling → ℕ → Option (List ℕ)
+told_held telling home = option_map_or (λ (told : Told). held_numbers told.held) (slice_get telling.homes (home - 1)) None
+
+-- what is taken of an LRA, of a view and what another node tells
+abbrev pub absorbed_of : View → Telling → Id → Option Record
+absorbed_of a telling l =
+    absorbed (is_covered a.front l) (is_gone (count telling.front l.home) (told_held telling l.home) l.num)
+    (record_at a l) (find (is_of l) (told_records telling l.home))
+
+-- c is a with what is told, by a node that counts the same nodes: the greater counts and purges, and of each LRA what is taken
+pub record IsAbsorbed (a : View) (telling : Telling) (c : View) : Type 0 where
+  pub nodes : length a.front ≡ length telling.front
+  pub front : c.front ≡ join_fronts a.front telling.front
+  pub purges : c.purges ≡ join_fronts a.purges telling.purges
+  pub homes : length c.records ≡ length c.front
+  pub order : (home : ℕ) → 1 ≤ home → home ≤ length c.front → AreOf home (records_at c.records home)
+  pub records : (l : Id) → 1 ≤ l.home → l.home ≤ length c.front → record_at c l ≡ absorbed_of a telling l
+
+-- All that a view has is told: its front and purges, each home's records, which are in order, and which LRAs it holds
+pub record TellsAll (telling : Telling) (b : View) : Type 0 where
+  pub front : telling.front ≡ b.front
+  pub purges : telling.purges ≡ b.purges
+  pub records : (home : ℕ) → 1 ≤ home → home ≤ length b.front → told_records telling home ≡ records_at b.records home
+  pub order : (home : ℕ) → 1 ≤ home → home ≤ length b.front → AreOf home (records_at b.records home)
+  pub held : (home : ℕ) → 1 ≤ home → home ≤ length b.front → told_held telling home ≡ Some (map (λ (r : Record). r.num) (records_at b.records home))
+
+-- Views in a history
+
+-- the view stands for what a closed front counts, and has a count for each node
+pub record IsClosedView (h : History) (v : List ℕ) (a : View) : Type 0 where
+  pub closed : IsClosed h v
+  pub nodes : length a.front ≡ length h
+  pub stands : StandsFor (facts h v) a
+
+-- the views stand for two closed sets of the history, the first inside the second
+pub record IsPartOf (h : History) (a b : View) : Type 0 where
+  pub lesser : List ℕ
+  pub greater : List ℕ
+  pub first : IsClosedView h lesser a
+  pub second : IsClosedView h greater b
+  pub below : IsBelow lesser greater

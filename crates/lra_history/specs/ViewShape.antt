@@ -1,0 +1,10 @@
+-- The shape of a view: what the records of a lawful history keep, whatever they say.
+use Rattle.std.specs.Prelude.{◌≤◌, ℕ}
+use Rattle.lra_id.specs.Fronts.{IsBelow}
+use Rattle.lra_forest.specs.Shape.{AreInShape}
+use Rattle.lra_history.specs.Views.{View, records_at}
+
+-- the records of each home have their shape, and no purge is beyond the front
+pub record HasShape (view : View) : Type 0 where
+  pub homes : (home : ℕ) → 1 ≤ home → AreInShape view.front home (records_at view.records home)
+  pub purges : IsBelow view.purges view.front

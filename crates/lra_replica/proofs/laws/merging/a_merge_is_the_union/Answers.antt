@@ -1,6 +1,0 @@
-use Rattle.lra_replica.proofs.Lattice.{merge_law}
-use Rattle.lra_replica.proofs.Unions.{closed_join, current_join}
-use Rattle.lra_replica.proofs.laws.merging.a_merge_is_the_union.Goals as goal
-
-pub returns : goal.returns
-returns c = record { view = merge_law; closed = closed_join; current = current_join }

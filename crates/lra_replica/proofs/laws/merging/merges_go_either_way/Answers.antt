@@ -1,5 +1,0 @@
-use Rattle.lra_replica.proofs.Lattice.{merge_swap}
-use Rattle.lra_replica.proofs.laws.merging.merges_go_either_way.Goals as goal
-
-pub returns : goal.returns
-returns c = merge_swap

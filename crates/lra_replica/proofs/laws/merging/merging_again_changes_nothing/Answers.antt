@@ -1,5 +1,0 @@
-use Rattle.lra_replica.proofs.Lattice.{merge_same}
-use Rattle.lra_replica.proofs.laws.merging.merging_again_changes_nothing.Goals as goal
-
-pub returns : goal.returns
-returns c = merge_same

@@ -1,0 +1,10 @@
+// The seven commands, one file each with its refusals: each is prepared as a patch that adds its fact.
+mod begin;
+mod decide;
+mod fact;
+mod forgot;
+mod join;
+mod leave;
+mod purge;
+mod refusals;
+mod report;

@@ -1,0 +1,92 @@
+// An LRA is closed or cancelled.
+ghost use Rattle.std.specs.Prelude.{◌≡◌, ◌≤◌, ◌<◌, List, None, length, true, Ok, IfOk, is_some};
+ghost use Rattle.lra_id.specs.Fronts.{count};
+ghost use Rattle.lra_states.specs.declared.outcome.Verdict.{Verdict};
+ghost use Rattle.lra_history.specs.declared.command.Command.TheVariants.{Decide};
+ghost use Rattle.lra_history.specs.Next.{judge_on};
+ghost use Rattle.lra_replica.specs.Prepared.{judged_by, IsNext, IsReadyNext, HasRoom, IsPrepared};
+ghost use Rattle.lra_replica.specs.Replicas.{view_of, KeepsRoom};
+ghost use Rattle.lra_facts.specs.declared.fact.Fact.{Fact};
+ghost use Rattle.lra_forest.specs.Forests.{id_of};
+ghost use Rattle.lra_forest.specs.Places.{put_record};
+ghost use Rattle.lra_forest.specs.Said.{shown_at};
+ghost use Rattle.lra_forest.specs.Shape.{found_at};
+ghost use Rattle.lra_history.specs.Growth.{IsSettled};
+ghost use Rattle.lra_history.specs.Views.{StandsFor, record_at, records_at};
+
+use crate::{Replica, Prepared};
+use lra_facts::Refusal;
+use lra_forest::Record;
+use lra_history::CommandReply;
+use lra_id::{LraId, NodeId};
+use lra_states::{LraStatus, Verdict};
+use std::alloc::Global;
+
+impl Replica {
+    /// The refusal of a decision, if it is refused.
+    fn refusal_of_decide(&self, me: NodeId, id: LraId) -> Option<Refusal>
+        ensures judged { (verdict : Verdict) → judge_on (view_of self.now) me (Decide id verdict) ≡ judged_by result }
+        ensures left { result ≡ None → count self.now.front me < 281474976710655 }
+    {
+        if let Some(denied) = self.refusal_unless_active(me, id) {
+            return Some(denied);
+        }
+        self.refusal_to_number(me)
+    }
+
+    /// The record of an LRA that may be decided.
+    fn ready_to_decide(&self, me: NodeId, id: LraId) -> Result<Record, Refusal>
+        ensures ready { (verdict : Verdict) → IsReadyNext (view_of self.now) me (Decide id verdict) id result }
+        ensures some { IfOk result (λ _. 1 ≤ me) }
+        ensures left { IfOk result (λ _. count self.now.front me < 281474976710655) }
+        ensures home { IfOk result (λ copy. copy.home ≤ length self.now.front) }
+    {
+        if let Some(refusal) = self.refusal_of_decide(me, id) {
+            return Err(refusal);
+        }
+        self.stamped(id, me)
+    }
+
+    /// What an LRA would show with this record, which is handed back.
+    fn shown_with(&mut self, next: Record) -> (Result<LraStatus, Refusal>, Record)
+        requires { next.home ≤ length self.old.front }
+        ensures same { view_of self.new ≡ view_of self.old }
+        ensures stays { KeepsRoom self.old self.new }
+        ensures back { result.1 ≡ next }
+        ensures says { is_some (record_at (view_of self.old) (id_of next)) ≡ true →
+            result.0 ≡ Ok (shown_at (found_at next.home (put_record next (records_at (view_of self.old).records next.home))) next.num) }
+    {
+        let place = usize::from(next.home.number()) - 1;
+        self.homes[place].status_with(next)
+    }
+
+    /// Prepares a decision: an LRA is closed or cancelled. It costs a copy of the LRA's record, and a look at those that it
+    /// is nested in and at those that are nested in it.
+    pub fn decide(
+        &mut self,
+        alloc: Global,
+        me: NodeId,
+        id: LraId,
+        verdict: Verdict,
+    ) -> Result<Prepared, Refusal>
+        requires { me ≤ length self.old.front }
+        ensures view { view_of self.new ≡ view_of self.old }
+        ensures room { HasRoom result self.new }
+        ensures stays { KeepsRoom self.old self.new }
+        ensures next { IsNext (view_of self.old) me (Decide id verdict) result }
+        ensures prepared { (S : List Fact) → IsSettled S → StandsFor S (view_of self.old) → IsPrepared S (view_of self.old) me (Decide id verdict) result }
+    {
+        let mut next = self.ready_to_decide(me, id)?;
+        next.decision = Some(verdict);
+        let (shown, next) = self.shown_with(next);
+        let status = match shown {
+            Ok(status) => status,
+            Err(refusal) => return Err(refusal),
+        };
+        let patch = self.patch_of_one(alloc, me, next)?;
+        Ok(Prepared {
+            reply: CommandReply::Decided(id, status),
+            patch: Some(patch),
+        })
+    }
+}

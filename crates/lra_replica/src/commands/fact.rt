@@ -1,0 +1,128 @@
+// What the fact of a command changes: the front, and one record or two.
+ghost use Rattle.std.specs.Prelude.{◌≡◌, ◌≤◌, ◌<◌, ◌+◌, ◌⊎◌, Some, None, IfOk, IfErr, OnOk, length};
+ghost use Rattle.lra_id.specs.Fronts.{count};
+ghost use Rattle.lra_facts.specs.declared.refusal.Refusal.TheVariants.{NoMemory};
+ghost use Rattle.lra_forest.specs.declared.record.Record.{Record};
+ghost use Rattle.lra_history.specs.Growth.{stamped};
+ghost use Rattle.lra_history.specs.Changes.{with_stamp, one_change, raised, two_changes};
+ghost use Rattle.lra_replica.specs.Replicas.{view_of, Fits, KeepsRoom, spare_at};
+ghost use Rattle.lra_history.specs.Views.{record_at};
+
+use crate::{Replica, Patch};
+use lra_facts::Refusal;
+use lra_forest::Record;
+use lra_id::{Front, LraId, NodeId};
+use std::alloc::{AllocError, Global};
+
+/// Marks the number of a node's newest fact.
+pub fn stamp(stamps: &mut Front, node: NodeId, num: u64)
+    ensures stamps { stamps.new ≡ stamped node num stamps.old }
+    ensures some { 1 ≤ node }
+{
+    if usize::from(node.number()) <= stamps.nodes() {
+        stamps.set(node, num);
+    }
+}
+
+impl Replica {
+    /// A copy of an LRA's record with the number of a node's next fact.
+    pub(crate) fn stamped(&self, id: LraId, node: NodeId) -> Result<Record, Refusal>
+        requires { count self.now.front node < 281474976710655 }
+        ensures some { IfOk result (λ _. 1 ≤ node) }
+        ensures home { IfOk result (λ copy. copy.home ≤ length self.now.front) }
+        ensures found { IfOk result (λ copy. (old : Record) × (record_at (view_of self.now) id ≡ Some old) × (copy ≡ with_stamp node (count self.now.front node + 1) old)) }
+        ensures lost { IfErr result (λ refusal. (refusal ≡ NoMemory) ⊎ (record_at (view_of self.now) id ≡ None)) }
+    {
+        let Some(record) = self.record(id) else {
+            return Err(Refusal::NotHeld);
+        };
+        let mut copy = record.clone()?;
+        stamp(&mut copy.stamps, node, self.front().count(node) + 1);
+        Ok(copy)
+    }
+
+    /// The front with one more of a node that has a number left.
+    pub(crate) fn raised(&self, me: NodeId) -> Front
+        requires node { me ≤ length self.now.front }
+        requires left { count self.now.front me < 281474976710655 }
+        ensures value { result ≡ raised self.now.front me }
+        ensures some { 1 ≤ me }
+    {
+        let _ = me.number();
+        let mut front = self.front();
+        front.set(me, front.count(me) + 1);
+        front
+    }
+
+    /// Takes the memory that so many more records of a home need.
+    pub(crate) fn make_room(&mut self, home: NodeId, more: usize) -> Result<(), AllocError>
+        requires { home ≤ length self.old.front }
+        ensures view { view_of self.new ≡ view_of self.old }
+        ensures stays { KeepsRoom self.old self.new }
+        ensures ok { OnOk result (more ≤ spare_at self.new.homes home) }
+    {
+        let place = usize::from(home.number()) - 1;
+        self.homes[place].reserve(more)
+    }
+
+    /// The patch of a fact that changes one record, and the room that it needs.
+    pub(crate) fn patch_of_one(
+        &mut self,
+        alloc: Global,
+        me: NodeId,
+        next: Record,
+    ) -> Result<Patch, AllocError>
+        requires node { me ≤ length self.old.front }
+        requires left { count self.old.front me < 281474976710655 }
+        requires home { next.home ≤ length self.old.front }
+        ensures view { view_of self.new ≡ view_of self.old }
+        ensures patch { IfOk result (λ patch. patch ≡ one_change (view_of self.old) me next) }
+        ensures room { IfOk result (λ patch. Fits patch self.new) }
+        ensures stays { KeepsRoom self.old self.new }
+        ensures some { IfOk result (λ _. 1 ≤ me) }
+    {
+        self.make_room(next.home, 1)?;
+        let front = self.raised(me);
+        let purges = self.purges();
+        let mut records = Vec::new(alloc);
+        records.push(next)?;
+        Ok(Patch {
+            records,
+            removed: Vec::new(alloc),
+            front,
+            purges,
+        })
+    }
+
+    /// The patch of a fact that changes two records of one home, and the room that it needs.
+    pub(crate) fn patch_of_two(
+        &mut self,
+        alloc: Global,
+        me: NodeId,
+        first: Record,
+        second: Record,
+    ) -> Result<Patch, AllocError>
+        requires node { me ≤ length self.old.front }
+        requires left { count self.old.front me < 281474976710655 }
+        requires home { first.home ≤ length self.old.front }
+        requires same { second.home ≡ first.home }
+        ensures view { view_of self.new ≡ view_of self.old }
+        ensures patch { IfOk result (λ patch. patch ≡ two_changes (view_of self.old) me first second) }
+        ensures room { IfOk result (λ patch. Fits patch self.new) }
+        ensures stays { KeepsRoom self.old self.new }
+        ensures some { IfOk result (λ _. 1 ≤ me) }
+    {
+        self.make_room(first.home, 2)?;
+        let front = self.raised(me);
+        let purges = self.purges();
+        let mut records = Vec::new(alloc);
+        records.push(first)?;
+        records.push(second)?;
+        Ok(Patch {
+            records,
+            removed: Vec::new(alloc),
+            front,
+            purges,
+        })
+    }
+}

@@ -1,0 +1,156 @@
+// That a participant was told to forget.
+ghost use Rattle.std.specs.Prelude.{◌≡◌, ◌≤◌, ◌<◌, ◌-◌, OnOk, length, ◌||◌, [], ◌∷◌, List, Ok, false, true};
+ghost use Rattle.lra_id.specs.Fronts.{count};
+ghost use Rattle.lra_history.specs.Growth.{member_changed, forgetting, IsSettled};
+ghost use Rattle.lra_replica.specs.Replicas.{view_of, KeepsRoom};
+ghost use Rattle.lra_facts.specs.declared.fact.Fact.{Fact};
+ghost use Rattle.lra_facts.specs.Refusals.{first, unknown};
+ghost use Rattle.lra_forest.specs.Participants.{answered_of};
+ghost use Rattle.lra_history.specs.declared.command.Command.TheVariants.{Forgot};
+ghost use Rattle.lra_replica.specs.Prepared.{IsNext, HasRoom, IsPrepared, judged_as};
+ghost use Rattle.lra_history.specs.Next.{judge_on};
+ghost use Rattle.lra_history.specs.Readings.{by_view};
+ghost use Rattle.lra_history.specs.Replies.{gone_by, stranger_by, unowed_by};
+ghost use Rattle.lra_history.specs.Views.{StandsFor};
+
+use crate::{Replica, Prepared};
+use lra_facts::Refusal;
+use lra_forest::{Member, Members, Participant};
+use lra_history::CommandReply;
+use lra_id::{LraId, NodeId};
+use std::alloc::{AllocError, Global};
+
+/// A participant, after it was told to forget.
+fn forgotten(participant: Participant) -> Participant
+    ensures { Member.Participant result ≡ forgetting (Member.Participant participant) }
+{
+    let mut next = participant;
+    next.forgotten = true;
+    next
+}
+
+/// A member, after it was told to forget.
+fn forgetting(member: Member) -> Member
+    ensures { result ≡ forgetting member }
+{
+    match member {
+        Member::Participant(participant) => Member::Participant(forgotten(participant)),
+        other => other,
+    }
+}
+
+/// Notes that the participant with this number was told to forget.
+fn forget_at(members: &mut Members, number: u8) -> Result<(), AllocError>
+    ensures { 1 ≤ number → OnOk result (members.new ≡ member_changed forgetting (number - 1) members.old) }
+{
+    if let Some(member) = members.get(number) {
+        let next = forgetting(member.clone()?);
+        members.set(number, next);
+    }
+    Ok(())
+}
+
+impl Replica {
+    /// Whether a participant is to be told to forget, where there is such a one.
+    fn is_to_forget(&self, id: LraId, member: u8) -> Result<bool, Refusal>
+        ensures { let t = by_view (view_of self.now) in result ≡ answered_of (t.held id) (t.participant id member) (t.owed id member) }
+    {
+        match self.home_of(id) {
+            Ok(home) => home.is_to_forget(id, member),
+            Err(refusal) => Err(refusal),
+        }
+    }
+
+    /// Whether a participant was told to forget, where there is such a one.
+    fn has_forgotten(&self, id: LraId, member: u8) -> Result<bool, Refusal>
+        ensures { let t = by_view (view_of self.now) in result ≡ answered_of (t.held id) (t.participant id member) (t.forgot id member) }
+    {
+        match self.home_of(id) {
+            Ok(home) => home.has_forgotten(id, member),
+            Err(refusal) => Err(refusal),
+        }
+    }
+
+    /// Whether a participant is to be told to forget, or was, where there is such a one.
+    fn has_to_know(&self, id: LraId, member: u8) -> Result<bool, Refusal>
+        ensures { let t = by_view (view_of self.now) in result ≡ answered_of (t.held id) (t.participant id member) (t.owed id member || t.forgot id member) }
+    {
+        match self.is_to_forget(id, member) {
+            Ok(false) => self.has_forgotten(id, member),
+            answer => answer,
+        }
+    }
+
+    /// The refusal of one that has nothing to forget, and was not told to.
+    fn refusal_of_unowed(&self, id: LraId, member: u8) -> Option<Refusal>
+        ensures { let t = by_view (view_of self.now) in t.held id ≡ true → t.participant id member ≡ true → result ≡ unowed_by t id member }
+    {
+        match self.has_to_know(id, member) {
+            Ok(true) => None,
+            _ => self.not_due(id),
+        }
+    }
+
+    /// The refusal to take that a participant was told to forget.
+    fn refusal_to_forget(&self, id: LraId, member: u8) -> Option<Refusal>
+        ensures { let t = by_view (view_of self.now) in result ≡ first (unknown self.now.front id ∷ gone_by t id ∷ stranger_by t id member ∷ unowed_by t id member ∷ []) }
+    {
+        if let Some(refusal) = self.refusal_to_show(id) {
+            return Some(refusal);
+        }
+        if let Some(refusal) = self.refusal_of_stranger(id, member) {
+            return Some(refusal);
+        }
+        self.refusal_of_unowed(id, member)
+    }
+
+    /// Whether it is known already that a participant was told to forget, or the refusal of it.
+    fn knows_forgot(&self, me: NodeId, id: LraId, member: u8) -> Result<bool, Refusal>
+        ensures judged { judge_on (view_of self.now) me (Forgot id member) ≡ judged_as result }
+        ensures left { result ≡ Ok false → count self.now.front me < 281474976710655 }
+    {
+        if let Some(refusal) = self.refusal_to_forget(id, member) {
+            return Err(refusal);
+        }
+        let known = self.has_forgotten(id, member)?;
+        if known {
+            return Ok(true);
+        }
+        match self.refusal_to_number(me) {
+            Some(refusal) => Err(refusal),
+            None => Ok(false),
+        }
+    }
+
+    /// Prepares that a participant was told to forget, which any node may enter. Where it was told already, it is known, and
+    /// there is no patch. It costs a copy of the LRA's record and a look at those of its root's tree.
+    pub fn forgot(
+        &mut self,
+        alloc: Global,
+        me: NodeId,
+        id: LraId,
+        member: u8,
+    ) -> Result<Prepared, Refusal>
+        requires { me ≤ length self.old.front }
+        ensures view { view_of self.new ≡ view_of self.old }
+        ensures room { HasRoom result self.new }
+        ensures stays { KeepsRoom self.old self.new }
+        ensures next { IsNext (view_of self.old) me (Forgot id member) result }
+        ensures prepared { (S : List Fact) → IsSettled S → StandsFor S (view_of self.old) → IsPrepared S (view_of self.old) me (Forgot id member) result }
+    {
+        let known = self.knows_forgot(me, id, member)?;
+        if known {
+            return Ok(Prepared {
+                reply: CommandReply::Known,
+                patch: None,
+            });
+        }
+        let mut next = self.stamped(id, me)?;
+        forget_at(&mut next.members, member)?;
+        let patch = self.patch_of_one(alloc, me, next)?;
+        Ok(Prepared {
+            reply: CommandReply::Forgotten,
+            patch: Some(patch),
+        })
+    }
+}

@@ -1,0 +1,147 @@
+// What was heard of an act of a participant.
+ghost use Rattle.std.specs.Prelude.{◌≡◌, ◌≤◌, ◌<◌, ◌-◌, OnOk, length, [], ◌∷◌, List, true, Ok, false};
+ghost use Rattle.lra_id.specs.Fronts.{count};
+ghost use Rattle.lra_history.specs.Growth.{member_changed, reporting, IsSettled};
+ghost use Rattle.lra_replica.specs.Replicas.{view_of, KeepsRoom};
+ghost use Rattle.lra_facts.specs.Refusals.{first, unknown};
+ghost use Rattle.lra_history.specs.Next.{judge_on};
+ghost use Rattle.lra_history.specs.Readings.{by_view};
+ghost use Rattle.lra_history.specs.Replies.{gone_by, stranger_by, unasked_by};
+ghost use Rattle.lra_facts.specs.declared.fact.Fact.{Fact};
+ghost use Rattle.lra_history.specs.declared.command.Command.TheVariants.{Report};
+ghost use Rattle.lra_replica.specs.Prepared.{IsNext, HasRoom, IsPrepared, judged_as};
+ghost use Rattle.lra_history.specs.Views.{StandsFor};
+
+use crate::{Replica, Prepared};
+use lra_facts::Refusal;
+use lra_forest::{Member, Members, Participant};
+use lra_history::CommandReply;
+use lra_id::{LraId, NodeId};
+use lra_states::{Act, Outcome};
+use std::alloc::{AllocError, Global};
+
+/// A participant, after an outcome of an act was heard of it.
+fn reported(participant: Participant, act: Act, outcome: Outcome) -> Participant
+    ensures { Member.Participant result ≡ reporting act outcome (Member.Participant participant) }
+{
+    let mut next = participant;
+    match act {
+        Act::Complete => next.completed = Outcome::or_greater(next.completed, Some(outcome)),
+        Act::Compensate => next.compensated = Outcome::or_greater(next.compensated, Some(outcome)),
+    }
+    next
+}
+
+/// A member, after an outcome of an act was heard of it.
+fn reporting(member: Member, act: Act, outcome: Outcome) -> Member
+    ensures { result ≡ reporting act outcome member }
+{
+    match member {
+        Member::Participant(participant) => {
+            Member::Participant(reported(participant, act, outcome))
+        }
+        other => other,
+    }
+}
+
+/// Notes an outcome of an act of the participant with this number.
+fn report_to(
+    members: &mut Members,
+    number: u8,
+    act: Act,
+    outcome: Outcome,
+) -> Result<(), AllocError>
+    ensures { 1 ≤ number → OnOk result (members.new ≡ member_changed (reporting act outcome) (number - 1) members.old) }
+{
+    if let Some(member) = members.get(number) {
+        let next = reporting(member.clone()?, act, outcome);
+        members.set(number, next);
+    }
+    Ok(())
+}
+
+impl Replica {
+    /// The refusal of a report of an act that nothing demands.
+    fn refusal_of_unasked(&self, id: LraId, member: u8, act: Act) -> Option<Refusal>
+        ensures { let t = by_view (view_of self.now) in t.held id ≡ true → t.participant id member ≡ true → result ≡ unasked_by t id member act }
+    {
+        match self.demands(id, member, act) {
+            Ok(true) => None,
+            _ => self.not_due(id),
+        }
+    }
+
+    /// The refusal to take what was heard of a participant.
+    fn refusal_to_report(&self, id: LraId, member: u8, act: Act) -> Option<Refusal>
+        ensures { let t = by_view (view_of self.now) in result ≡ first (unknown self.now.front id ∷ gone_by t id ∷ stranger_by t id member ∷ unasked_by t id member act ∷ []) }
+    {
+        if let Some(refusal) = self.refusal_to_show(id) {
+            return Some(refusal);
+        }
+        if let Some(refusal) = self.refusal_of_stranger(id, member) {
+            return Some(refusal);
+        }
+        self.refusal_of_unasked(id, member, act)
+    }
+
+    /// Whether a report is known already, or the refusal of it.
+    fn knows_report(
+        &self,
+        me: NodeId,
+        id: LraId,
+        member: u8,
+        act: Act,
+        outcome: Outcome,
+    ) -> Result<bool, Refusal>
+        ensures judged { judge_on (view_of self.now) me (Report id member act outcome) ≡ judged_as result }
+        ensures left { result ≡ Ok false → count self.now.front me < 281474976710655 }
+    {
+        if let Some(refusal) = self.refusal_to_report(id, member, act) {
+            return Err(refusal);
+        }
+        let known = self.has_heard(id, member, act, outcome)?;
+        if known {
+            return Ok(true);
+        }
+        match self.refusal_to_number(me) {
+            Some(refusal) => Err(refusal),
+            None => Ok(false),
+        }
+    }
+
+    /// Prepares a report of an outcome of an act of a participant, which any node may enter. Where this outcome or a greater
+    /// one was heard, it is known, and there is no patch. It costs a copy of the LRA's record and a look at those that it is
+    /// nested in.
+    pub fn report(
+        &mut self,
+        alloc: Global,
+        me: NodeId,
+        id: LraId,
+        member: u8,
+        act: Act,
+        outcome: Outcome,
+    ) -> Result<Prepared, Refusal>
+        requires { me ≤ length self.old.front }
+        ensures view { view_of self.new ≡ view_of self.old }
+        ensures room { HasRoom result self.new }
+        ensures stays { KeepsRoom self.old self.new }
+        ensures next { IsNext (view_of self.old) me (Report id member act outcome) result }
+        ensures prepared { (S : List Fact) → IsSettled S → StandsFor S (view_of self.old) →
+            IsPrepared S (view_of self.old) me (Report id member act outcome) result }
+    {
+        let known = self.knows_report(me, id, member, act, outcome)?;
+        if known {
+            return Ok(Prepared {
+                reply: CommandReply::Known,
+                patch: None,
+            });
+        }
+        let mut next = self.stamped(id, me)?;
+        report_to(&mut next.members, member, act, outcome)?;
+        let patch = self.patch_of_one(alloc, me, next)?;
+        Ok(Prepared {
+            reply: CommandReply::Reported,
+            patch: Some(patch),
+        })
+    }
+}

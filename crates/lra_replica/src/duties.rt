@@ -1,0 +1,85 @@
+// What is due of the participants of the LRAs of a home.
+ghost use Rattle.std.specs.Prelude.{◌≡◌, ◌≤◌, List, IfOk, length};
+ghost use Rattle.std.specs.Option.{option_copied};
+ghost use Rattle.lra_facts.specs.declared.fact.Fact.{Fact};
+ghost use Rattle.lra_facts.specs.Duties.{is_compensation_due, is_forget_duty};
+ghost use Rattle.lra_forest.specs.Dues.{AreAll, IsDueAt, is_before, is_complete_duty, is_topmost_before};
+ghost use Rattle.lra_forest.specs.Participants.{parent_held, participant_of};
+ghost use Rattle.lra_history.specs.Growth.{IsSettled};
+ghost use Rattle.lra_replica.specs.Replicas.{view_of};
+ghost use Rattle.lra_history.specs.Readings.{by_view};
+ghost use Rattle.lra_history.specs.Views.{StandsFor};
+
+use crate::Replica;
+use lra_forest::{Due, Participant};
+use lra_id::{LraId, NodeId};
+use std::alloc::{AllocError, Global};
+
+impl Replica {
+    /// The compensations that are due in LRAs of a home: at most one under each topmost cancelled LRA, by its number.
+    pub fn next_compensations(&self, alloc: Global, me: NodeId) -> Result<Vec<Due>, AllocError>
+        requires { me ≤ length self.now.front }
+        ensures { (S : List Fact) → IsSettled S → StandsFor S (view_of self.now) →
+            IfOk result (λ dues. AreAll (IsDueAt me S is_compensation_due) (is_topmost_before S) dues.items) }
+    {
+        match self.home(me) {
+            Some(records) => records.next_compensations(alloc),
+            None => Ok(Vec::new(alloc)),
+        }
+    }
+
+    /// The participants in LRAs of a home that are to be called to complete, by LRA and member number.
+    pub fn complete_duties(&self, alloc: Global, me: NodeId) -> Result<Vec<Due>, AllocError>
+        requires { me ≤ length self.now.front }
+        ensures { (S : List Fact) → IsSettled S → StandsFor S (view_of self.now) →
+            IfOk result (λ dues. AreAll (IsDueAt me S is_complete_duty) is_before dues.items) }
+    {
+        match self.home(me) {
+            Some(records) => records.complete_duties(alloc),
+            None => Ok(Vec::new(alloc)),
+        }
+    }
+
+    /// The participants in LRAs of a home that are to be told that they may forget, by LRA and member number.
+    pub fn forget_duties(&self, alloc: Global, me: NodeId) -> Result<Vec<Due>, AllocError>
+        requires { me ≤ length self.now.front }
+        ensures { (S : List Fact) → IsSettled S → StandsFor S (view_of self.now) →
+            IfOk result (λ dues. AreAll (IsDueAt me S is_forget_duty) is_before dues.items) }
+    {
+        match self.home(me) {
+            Some(records) => records.forget_duties(alloc),
+            None => Ok(Vec::new(alloc)),
+        }
+    }
+
+    /// Of the participants under a root, the least that is still to be told to forget.
+    pub(crate) fn least_forget_duty(&self, root: LraId) -> Option<Due>
+        requires { root.home ≤ length self.now.front }
+        ensures { result ≡ (by_view (view_of self.now)).least_owed root }
+    {
+        match self.home(root.home()) {
+            Some(records) => records.least_forget_duty(root),
+            None => None,
+        }
+    }
+
+    /// The participant of an LRA with this member number, if the LRA is held and has one.
+    pub fn participant(&self, id: LraId, member: u8) -> Option<&Participant>
+        ensures { (S : List Fact) → IsSettled S → StandsFor S (view_of self.now) → option_copied result ≡ participant_of S id member }
+    {
+        match self.home_of(id) {
+            Ok(records) => records.participant(id, member),
+            Err(_) => None,
+        }
+    }
+
+    /// The parent of an LRA, if the LRA is held and nested.
+    pub fn parent(&self, id: LraId) -> Option<LraId>
+        ensures { (S : List Fact) → IsSettled S → StandsFor S (view_of self.now) → result ≡ parent_held S id }
+    {
+        match self.home_of(id) {
+            Ok(records) => records.parent(id),
+            Err(_) => None,
+        }
+    }
+}

@@ -1,0 +1,178 @@
+// Taking what another node tells.
+ghost use Rattle.std.specs.Prelude.{◌≡◌, ◌≤◌, ◌⊎◌, ◌++◌, [], ℕ, List, IfErr, IfOk, OnErr, OnOk, MatchResult, length};
+ghost use Rattle.lra_id.specs.Fronts.{join_fronts};
+ghost use Rattle.lra_facts.specs.declared.refusal.Refusal.TheVariants.{BadFrame, NoMemory};
+ghost use Rattle.lra_forest.specs.declared.record.Record.{Record};
+ghost use Rattle.lra_forest.specs.Shape.{AreInShape};
+ghost use Rattle.lra_replica.specs.Absorbing.{AreTakenAt, IsChangeAt, IsGrown, IsTakenTo};
+ghost use Rattle.lra_history.specs.Histories.{History, IsClosed, IsLawful, facts};
+ghost use Rattle.lra_history.specs.Merging.{IsAbsorbed, IsMerged, merged};
+ghost use Rattle.lra_replica.specs.Replicas.{Fits, KeepsRoom, view_of};
+ghost use Rattle.lra_history.specs.Changes.{HoldsOnlyChanges, patched};
+ghost use Rattle.lra_history.specs.ViewShape.{HasShape};
+ghost use Rattle.lra_history.specs.Views.{IsInOrder, StandsFor, View};
+
+use crate::{Patch, Replica, Taken};
+use lra_facts::Refusal;
+use lra_forest::{Changes, Told};
+use lra_id::Front;
+use std::alloc::{AllocError, Global};
+
+/// Adds some more to others, after them.
+fn add_all<X: Drop>(list: &mut Vec<X>, more: Vec<X>) -> Result<(), AllocError>
+    ensures { OnOk result (list.new.items ≡ list.old.items ++ more.items) }
+{
+    for next in more {
+        list.push(next)?;
+    }
+    Ok(())
+}
+
+/// Adds the changes of a home to a patch.
+fn add_changes(patch: &mut Patch, changes: Changes) -> Result<(), AllocError>
+    ensures removed { OnOk result (patch.new.removed ≡ patch.old.removed ++ changes.removed.items) }
+    ensures records { OnOk result (patch.new.records ≡ patch.old.records ++ changes.records.records) }
+    ensures front { patch.new.front ≡ patch.old.front }
+    ensures purges { patch.new.purges ≡ patch.old.purges }
+{
+    add_all(&mut patch.removed, changes.removed)?;
+    add_all(&mut patch.records, changes.records.into_records())
+}
+
+impl Replica {
+    /// What is to be changed at one home, under a front, when what another node tells of it is taken. Reach is how many of the
+    /// home's facts the other has.
+    fn changes_at(
+        &self,
+        alloc: Global,
+        told: Told,
+        reach: u64,
+        front: &Front,
+    ) -> Result<Changes, Refusal>
+        requires { told.records.home ≤ length self.now.front }
+        ensures home { IfOk result (λ changes. changes.records.home ≡ told.records.home) }
+        ensures changes { IfOk result (λ changes.
+            IsChangeAt (view_of self.now) told reach front.now changes.removed.items changes.records.records) }
+        ensures refused { IfErr result (λ refusal. (refusal ≡ NoMemory) ⊎
+            ((refusal ≡ BadFrame 0) × ((after : List Record) → AreTakenAt (view_of self.now) told reach after →
+            AreInShape front.now told.records.home after → ⊥))) }
+    {
+        let home = told.records.home();
+        let Some(own) = self.home(home) else {
+            unreachable!();
+        };
+        let changes = own.taking(alloc, self.front().count(home), reach, told)?;
+        if !own.keeps_shape_with(&changes, front) {
+            return Err(Refusal::BadFrame(0));
+        }
+        Ok(changes)
+    }
+
+    /// Adds to a patch what is to be changed at one home when what another node tells of it is taken, and makes room for it.
+    fn absorb_home(
+        &mut self,
+        alloc: Global,
+        told: Told,
+        reach: u64,
+        patch: &mut Patch,
+    ) -> Result<(), Refusal>
+        requires { told.records.home ≤ length self.old.front }
+        ensures view { view_of self.new ≡ view_of self.old }
+        ensures front { patch.new.front ≡ patch.old.front }
+        ensures purges { patch.new.purges ≡ patch.old.purges }
+        ensures room { KeepsRoom self.old self.new }
+        ensures grown { OnOk result (IsGrown (view_of self.old) told reach self.new.homes patch.old patch.new) }
+        ensures refused { IfErr result (λ refusal. (refusal ≡ NoMemory) ⊎
+            ((refusal ≡ BadFrame 0) × ((after : List Record) → AreTakenAt (view_of self.old) told reach after →
+            AreInShape patch.old.front told.records.home after → ⊥))) }
+    {
+        let home = told.records.home();
+        let changes = self.changes_at(alloc, told, reach, &patch.front)?;
+        self.make_room(home, changes.records.len())?;
+        add_changes(patch, changes)?;
+        Ok(())
+    }
+
+    /// Adds to a patch what is to be changed when what another node tells of each home is taken, and makes room for it.
+    fn absorb_homes(
+        &mut self,
+        alloc: Global,
+        taken: Taken,
+        patch: &mut Patch,
+    ) -> Result<(), Refusal>
+        requires nodes { length self.old.front ≡ length taken.front }
+        requires none { (patch.old.removed ≡ []) × (patch.old.records ≡ []) }
+        ensures view { view_of self.new ≡ view_of self.old }
+        ensures front { patch.new.front ≡ patch.old.front }
+        ensures purges { patch.new.purges ≡ patch.old.purges }
+        ensures stays { KeepsRoom self.old self.new }
+        ensures taken { OnOk result (IsTakenTo (view_of self.old) taken self.new.homes patch.new (length self.old.front)) }
+        ensures refused { IfErr result (λ refusal. (refusal ≡ NoMemory) ⊎
+            ((refusal ≡ BadFrame 0) × ((c : View) → IsAbsorbed (view_of self.old) taken c → c.front ≡ patch.old.front → HasShape c → ⊥))) }
+    {
+        let Taken { front, homes, .. } = taken;
+        for told in homes {
+            let reach = front.count(told.records.home());
+            if let Err(refusal) = self.absorb_home(alloc, told, reach, patch) {
+                return Err(refusal);
+            }
+        }
+        Ok(())
+    }
+
+    /// Prepares to take what another replica of as many nodes tells, and makes room for it. Of an LRA of which both have a
+    /// record, the two are merged. One that the other alone has is taken, unless the own front counts its begin, since then it
+    /// was purged here. One that is held here alone is removed where the other tells all that it holds at that home and its
+    /// front counts the begin, since then it was purged there. The greater of each node's counts and last purges are kept. E16
+    /// at place 0 where the view would lose its shape. The patch has only what changes, each once: a record that is kept as
+    /// it was isn't put again. It costs what `Forest::taking` and `keeps_shape_with` cost at each home.
+    pub fn absorb(&mut self, alloc: Global, taken: Taken) -> Result<Patch, Refusal>
+        requires { length self.old.front ≡ length taken.front }
+        ensures view { view_of self.new ≡ view_of self.old }
+        ensures order { IsInOrder (view_of self.old) }
+        ensures room { IfOk result (λ patch. Fits patch self.new) }
+        ensures stays { KeepsRoom self.old self.new }
+        ensures absorbed { IfOk result (λ patch. IsAbsorbed (view_of self.old) taken (patched patch (view_of self.old))) }
+        ensures shape { IfOk result (λ patch. HasShape (patched patch (view_of self.old))) }
+        ensures only { IfOk result (λ patch. HoldsOnlyChanges (view_of self.old) patch) }
+        ensures refused { IfErr result (λ refusal. (refusal ≡ NoMemory) ⊎
+            ((refusal ≡ BadFrame 0) × ((c : View) → IsAbsorbed (view_of self.old) taken c → HasShape c → ⊥))) }
+    {
+        let mut patch = Patch {
+            records: Vec::new(alloc),
+            removed: Vec::new(alloc),
+            front: self.front.join(&taken.front),
+            purges: self.purges.join(&taken.purges),
+        };
+        if !patch.purges.below(&patch.front) {
+            return Err(Refusal::BadFrame(0));
+        }
+        self.absorb_homes(alloc, taken, &mut patch)?;
+        Ok(patch)
+    }
+
+    /// Merges another replica of as many nodes into this one, by the rules of `absorb`. E16 at place 0 where the merged
+    /// records would break the shape; replicas of one history never do. On any refusal nothing changes. It costs a copy of
+    /// the other, and what `absorb` costs.
+    pub fn merge(&mut self, alloc: Global, other: &Replica) -> Result<(), Refusal>
+        requires { length self.old.front ≡ length other.now.front }
+        ensures merged { OnOk result (view_of self.new ≡ merged (view_of self.old) (view_of other.now)) }
+        ensures is { OnOk result (IsMerged (view_of self.old) (view_of other.now) (view_of self.new)) }
+        ensures shape { OnOk result (HasShape (view_of self.new)) }
+        ensures unchanged { OnErr result (view_of self.new ≡ view_of self.old) }
+        ensures refused { IfErr result (λ refusal. (refusal ≡ NoMemory) ⊎
+            ((refusal ≡ BadFrame 0) × (HasShape (merged (view_of self.old) (view_of other.now)) → ⊥))) }
+        ensures union { (h : History) (v w : List ℕ) → IsLawful h → IsClosed h v → IsClosed h w →
+            StandsFor (facts h v) (view_of self.old) → StandsFor (facts h w) (view_of other.now) →
+            MatchResult result (λ _. StandsFor (facts h (join_fronts v w)) (view_of self.new)) (λ refusal. refusal ≡ NoMemory) }
+    {
+        let taken = other.tell_all(alloc)?;
+        match self.absorb(alloc, taken) {
+            Ok(patch) => {
+                self.apply(patch);
+                Ok(())
+            }
+            Err(refusal) => Err(refusal),
+        }
+    }
+}
