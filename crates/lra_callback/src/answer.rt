@@ -3,9 +3,9 @@ ghost use Rattle.std.specs.Prelude.{◌≡◌, Some};
 ghost use Rattle.lra_callback.specs.CallWords.{heard_name, kind_name};
 ghost use Rattle.lra_callback.specs.Answers.{bare, done_status, failed_status, heard_by_act, heard_by_forget, heard_by_status, heard_of, trimmed, unquoted, without_leading, without_trailing};
 
+use lra_http::Bytes;
 use lra_states::{Act, MemberStatus, Outcome};
 use std::fmt;
-use std::marker::Model;
 
 /// What a participant is called for: to complete, to compensate, for the status of one of these, or to forget.
 #[derive(Clone, Copy, Debug, PartialEq, Eq)]
@@ -38,40 +38,10 @@ impl fmt::Display for Kind {
     }
 }
 
-/// The bytes behind the head of an answer.
-#[derive(Debug, Drop)]
-pub struct Body {
-    bytes: Vec<u8>,
-}
-
-impl Model for Body {
-    ghost use Rattle.std.specs.Prelude.{List, ℕ};
-
-    ghost Value = { List ℕ };
-
-    ghost view = { λ b. b.bytes.items };
-}
-
-impl Body {
-    /// These bytes.
-    pub fn new(bytes: Vec<u8>) -> Body
-        ensures { result ≡ bytes.items }
-    {
-        Body { bytes }
-    }
-
-    /// Its bytes.
-    pub fn as_slice(&self) -> &[u8]
-        ensures { result.now ≡ self.now }
-    {
-        &self.bytes
-    }
-}
-
 /// What came back of a call: the code and the body of a whole response, or no whole response.
 #[derive(Debug, Drop)]
 pub enum Answer {
-    Code(u16, Body),
+    Code(u16, Bytes),
     Broken,
 }
 

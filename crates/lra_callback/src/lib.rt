@@ -2,12 +2,12 @@
 #![tactic(auto)]
 
 mod answer;
+mod call;
 mod duty;
 pub mod laws;
-mod message;
 mod request;
 
-pub use answer::{Answer, Body, Heard, Kind, hear};
+pub use answer::{Answer, Heard, Kind, hear};
+pub use call::{Caller, NetCaller, NoMemory};
 pub use duty::{Duties, Duty, act_wanted, pick};
-pub use message::{CallRequest, Field, FieldName, Fields, Method, Text, request_text};
 pub use request::request_of;

@@ -1,12 +1,12 @@
 // What follows of the definitions alone.
-ghost use Rattle.std.specs.Prelude.{◌≡◌, ◌++◌, ◌∷◌, ℕ, List, map};
+ghost use Rattle.std.specs.Prelude.{◌≡◌, ◌<◌, ◌++◌, [], ◌∷◌, ℕ, List, length, map};
 ghost use Rattle.httparse.specs.Grammar.{RequestHead, ResponseHead, status_code};
 ghost use Rattle.httparse.specs.Spans.{name_and_value};
 ghost use Rattle.lra_http.specs.Faults.{IsOfBytes};
 ghost use Rattle.lra_http.specs.HeadFields.{field_bytes};
 ghost use Rattle.lra_http.specs.Heads.{Exceeds, most_lines};
 ghost use Rattle.lra_http.specs.Requests.{IsRequest, IsTextSoFar, Refuses as RefusesRequest};
-ghost use Rattle.lra_http.specs.Responses.{Behind, IsCrowded, IsResponse, Refuses as RefusesResponse, head_room};
+ghost use Rattle.lra_http.specs.Responses.{Behind, HasNoResponse, IsCrowded, IsResponse, Refuses as RefusesResponse, head_room};
 ghost use Rattle.lra_http.specs.MessageTexts.{request_text, response_text};
 ghost use Rattle.lra_http.specs.WholeMessages.{IsSound, IsSoundCall, host_field};
 ghost use Rattle.lra_http.specs.declared.fault.Fault.{Fault as TheFault};
@@ -26,6 +26,12 @@ pub fn a_request_has_one_fault()
 pub fn a_response_has_one_fault()
     ensures { (limit : ℕ) (input : List ℕ) (a b : TheFault) → IsOfBytes a → IsOfBytes b → ¬ (Behind head_room IsCrowded input)
         → RefusesResponse head_room limit input a → RefusesResponse head_room limit input b → a ≡ b }
+{}
+
+/// A whole response that is cut anywhere is none any more, and none stands before the cut.
+pub fn a_cut_response_is_none()
+    ensures { (limit : ℕ) (prefix more : List ℕ) (h : ResponseHead) (body : List ℕ) → 0 < length more
+        → IsResponse head_room limit (prefix ++ more) h body [] → HasNoResponse head_room limit prefix }
 {}
 
 /// The text of a request with plain fields, which state the length of its body, is a whole request with its parts.

@@ -1,6 +1,7 @@
-// Callbacks of small trees: what is called for, what is heard, and the text of a request.
-use lra_callback::{Answer, Body, Heard, Kind, hear, pick, request_of, request_text};
+// Callbacks of small trees: what is called for, and what is heard of an answer.
+use lra_callback::{Answer, Heard, Kind, hear, pick};
 use lra_facts::Links;
+use lra_http::Bytes;
 use lra_id::{LraId, NodeId};
 use lra_history::Command;
 use lra_replica::Replica;
@@ -10,14 +11,14 @@ use std::test::Fail;
 
 const C: Option<&str> = Some("http://p/c");
 
-const K: Option<&str> = Some("http://p/k");
+pub const K: Option<&str> = Some("http://p/k");
 
-const S: Option<&str> = Some("http://p:81/s?m=1");
+pub const S: Option<&str> = Some("http://p:81/s?m=1");
 
-const F: Option<&str> = Some("http://p/f");
+pub const F: Option<&str> = Some("http://p/f");
 
 /// The LRA that node 1 began with its fact of this number.
-fn lra(num: u64) -> Result<LraId, Fail> {
+pub fn lra(num: u64) -> Result<LraId, Fail> {
     Ok(LraId::new(NodeId::new(1)?, num)?)
 }
 
@@ -45,12 +46,14 @@ fn enter(alloc: Global, replica: &mut Replica, command: Command) -> Result<(), F
     Ok(())
 }
 
-fn begin(alloc: Global, replica: &mut Replica, parent: Option<LraId>) -> Result<(), Fail> {
+/// Begins an LRA, the first with number 1.
+pub fn begin(alloc: Global, replica: &mut Replica, parent: Option<LraId>) -> Result<(), Fail> {
     let deadline = 0;
     enter(alloc, replica, Command::Begin { parent, deadline })
 }
 
-fn join(
+/// Joins a participant to the LRA of this number, with `http://p/c` to compensate.
+pub fn join(
     alloc: Global,
     replica: &mut Replica,
     num: u64,
@@ -63,20 +66,26 @@ fn join(
     enter(alloc, replica, Command::Join { id, links })
 }
 
-fn decide(alloc: Global, replica: &mut Replica, num: u64, verdict: Verdict) -> Result<(), Fail> {
+/// Closes or cancels the LRA of this number.
+pub fn decide(
+    alloc: Global,
+    replica: &mut Replica,
+    num: u64,
+    verdict: Verdict,
+) -> Result<(), Fail> {
     let id = lra(num)?;
     enter(alloc, replica, Command::Decide { id, verdict })
 }
 
 /// An answer with a code and a body.
-fn code(alloc: Global, code: u16, body: &str) -> Result<Answer, Fail> {
+pub fn code(alloc: Global, code: u16, body: &str) -> Result<Answer, Fail> {
     let mut bytes = Vec::new(alloc);
     bytes.extend_from_slice(body.as_bytes())?;
-    Ok(Answer::Code(code, Body::new(bytes)))
+    Ok(Answer::Code(code, Bytes::new(bytes)))
 }
 
 /// Reports what is heard of an answer to the first duty.
-fn answer(alloc: Global, replica: &mut Replica, answer: &Answer) -> Result<Heard, Fail> {
+pub fn answer(alloc: Global, replica: &mut Replica, answer: &Answer) -> Result<Heard, Fail> {
     let me = NodeId::new(1)?;
     if usize::from(me.number()) > replica.front().nodes() {
         return Ok(Heard::Again);
@@ -255,7 +264,7 @@ fn each_code_of_each_kind(rt: HostRuntime) {
     codes[1002] = u16::MAX;
     for code in codes {
         let (by_act, by_status, by_forget) = heard_of_code(code);
-        let answer = Answer::Code(code, Body::new(Vec::new(rt.alloc())));
+        let answer = Answer::Code(code, Bytes::new(Vec::new(rt.alloc())));
         for act in [Act::Complete, Act::Compensate] {
             assert_eq!(rt; hear(act, Kind::Complete, &answer), by_act, "{code}");
             assert_eq!(rt; hear(act, Kind::Compensate, &answer), by_act, "{code}");
@@ -289,72 +298,15 @@ fn names_of_statuses_whole_and_cut(rt: HostRuntime) -> Result<(), Fail> {
             assert_eq!(rt; hear(act, Kind::Status, &accepted), Heard::Again, "{body}");
         }
         for end in 0..name.len() {
-            let cut = Body::new(name.as_bytes()[..end].to_vec(alloc)?);
+            let cut = Bytes::new(name.as_bytes()[..end].to_vec(alloc)?);
             let said = Answer::Code(200, cut);
             assert_eq!(rt; hear(act, Kind::Status, &said), Heard::Again, "{end}");
         }
         let mut small = name.as_bytes().to_vec(alloc)?;
         small.make_ascii_lowercase();
-        let said = Answer::Code(200, Body::new(small));
+        let said = Answer::Code(200, Bytes::new(small));
         assert_eq!(rt; hear(act, Kind::Status, &said), Heard::Again, "{name}");
         assert_eq!(rt; hear(act, Kind::Status, &Answer::Broken), Heard::Again);
-    }
-    Ok(())
-}
-
-#[test]
-fn a_request_to_complete(rt: HostRuntime) -> Result<(), Fail> {
-    let alloc = rt.alloc();
-    let mut replica = Replica::new(alloc, 1)?;
-    begin(alloc, &mut replica, None)?;
-    join(alloc, &mut replica, 1, K, None, None)?;
-    decide(alloc, &mut replica, 1, Verdict::Close)?;
-    let me = NodeId::new(1)?;
-    if usize::from(me.number()) > replica.front().nodes() {
-        return Ok(());
-    }
-    let duties = pick(alloc, &replica, me)?;
-    assert_eq!(rt; duties.as_slice().len(), 1);
-    for duty in duties.as_slice() {
-        let request = request_of(alloc, duty)?;
-        let text = request_text(alloc, &request)?;
-        let wanted = "PUT /k HTTP/1.1\r\nHost: p\r\n\
-            Long-Running-Action: urn:uuid:00000000-0000-8001-8000-000000000001\r\n\
-            Long-Running-Action-Recovery: /lra/00000000-0000-8001-8000-000000000001/member/1\r\n\
-            Content-Length: 0\r\nConnection: close\r\n\r\n";
-        assert_eq!(rt; text.as_slice(), wanted.as_bytes());
-    }
-    Ok(())
-}
-
-#[test]
-fn a_request_for_the_status_of_a_nested_one(rt: HostRuntime) -> Result<(), Fail> {
-    let alloc = rt.alloc();
-    let mut replica = Replica::new(alloc, 1)?;
-    begin(alloc, &mut replica, None)?;
-    begin(alloc, &mut replica, Some(lra(1)?))?;
-    join(alloc, &mut replica, 2, K, S, None)?;
-    decide(alloc, &mut replica, 2, Verdict::Close)?;
-    let busy = code(alloc, 202, "")?;
-    assert_eq!(rt;
-        answer(alloc, &mut replica, &busy)?,
-        Heard::Told(Outcome::Busy)
-    );
-    let me = NodeId::new(1)?;
-    if usize::from(me.number()) > replica.front().nodes() {
-        return Ok(());
-    }
-    let duties = pick(alloc, &replica, me)?;
-    assert_eq!(rt; duties.as_slice().len(), 1);
-    for duty in duties.as_slice() {
-        let request = request_of(alloc, duty)?;
-        let text = request_text(alloc, &request)?;
-        let wanted = "GET /s?m=1 HTTP/1.1\r\nHost: p:81\r\n\
-            Long-Running-Action: urn:uuid:00000000-0000-8001-8000-000000000002\r\n\
-            Long-Running-Action-Parent: urn:uuid:00000000-0000-8001-8000-000000000001\r\n\
-            Long-Running-Action-Recovery: /lra/00000000-0000-8001-8000-000000000002/member/1\r\n\
-            Connection: close\r\n\r\n";
-        assert_eq!(rt; text.as_slice(), wanted.as_bytes());
     }
     Ok(())
 }

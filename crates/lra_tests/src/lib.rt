@@ -4,6 +4,8 @@
 #[cfg(test)]
 mod callbacks;
 #[cfg(test)]
+mod calls;
+#[cfg(test)]
 mod changed_bytes;
 #[cfg(test)]
 mod commands;

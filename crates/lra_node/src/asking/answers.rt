@@ -12,7 +12,8 @@ use super::members::next_participant;
 use crate::ask::Ask;
 use crate::number::code_of;
 use crate::words::Words;
-use lra_callback::{Answer, Body, Kind};
+use lra_callback::{Answer, Kind};
+use lra_http::Bytes;
 use lra_id::{LraId, NodeId};
 use std::alloc::{AllocError, Global};
 
@@ -77,6 +78,6 @@ fn answer_of(alloc: Global, mut words: Words<'_>) -> Result<Option<Answer>, Allo
     let Some(code) = code_of(word) else {
         return Ok(None);
     };
-    let body = Body::new(words.rest().to_vec(alloc)?);
+    let body = Bytes::new(words.rest().to_vec(alloc)?);
     Ok(Some(Answer::Code(code, body)))
 }
