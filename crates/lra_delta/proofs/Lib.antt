@@ -1,7 +1,7 @@
 mod Alone
 mod AtHomes
 mod Beyond
-mod Codes
+pub mod Codes
 mod Examples
 mod Existing
 mod Filters
@@ -11,7 +11,7 @@ pub mod FrameCodes
 mod FrameExamples
 mod FrameOrder
 mod FrameSizes
-mod FramesOfHistories
+pub mod FramesOfHistories
 mod Grammar
 mod Grown
 mod HaveSpellings
@@ -24,7 +24,7 @@ pub mod OfSets
 mod OneFrameOfASet
 mod Ordered
 mod Put
-mod RecordCodes
+pub mod RecordCodes
 mod Slices
 mod TakenIsUnion
 mod ToldByFrames

@@ -1,9 +1,9 @@
 // The body of a message, read in pieces.
-ghost use Rattle.std.specs.Prelude.{◌≡◌, ℕ, ◌+◌, ◌<◌, ◌≤◌, List, ◌++◌, length, take, IfOk, IfErr, IfSome, OnOk, OnErr};
+ghost use Rattle.std.specs.Prelude.{◌≡◌, ◌≢◌, ℕ, ◌+◌, ◌<◌, ◌≤◌, List, ◌++◌, length, take, IfOk, IfErr, IfSome, OnOk, OnErr};
 ghost use Rattle.std.specs.Io.KnownBytes.{Consumes, IsAtEnd, ReadConsumes};
 ghost use Rattle.lra_http.specs.Streams.{HasCause, most_interrupted};
 ghost use Rattle.lra_http.specs.Bodies.{RefusesBody};
-ghost use Rattle.lra_http.specs.declared.fault.Fault.TheVariants.{Cut, ReadFault};
+ghost use Rattle.lra_http.specs.declared.fault.Fault.TheVariants.{Cut, ReadFault, WriteFault};
 
 use crate::{CallError, Fault, MOST_INTERRUPTED, Source};
 use std::alloc::Global;
@@ -53,6 +53,7 @@ fn take_piece<S: Source>(
     ensures below { OnOk result (interrupted.new < most_interrupted) }
     ensures none_failed { OnOk result (S.failed source.new ≡ S.failed source.old) }
     ensures read_fault { IfErr result (λ fault. fault ≡ ReadFault → HasCause (S.failed source.old) (S.failed source.new) interrupted.new) }
+    ensures of_reading { IfErr result (λ fault. fault ≢ WriteFault) }
 {
     let mut piece = [0; 512];
     let room = most.min(512);
@@ -79,6 +80,7 @@ pub fn read_body<S: Source>(
     ensures below { OnOk result (interrupted.new < most_interrupted) }
     ensures none_failed { OnOk result (S.failed source.new ≡ S.failed source.old) }
     ensures read_fault { IfErr result (λ fault. fault ≡ ReadFault → HasCause (S.failed source.old) (S.failed source.new) interrupted.new) }
+    ensures of_reading { IfErr result (λ fault. fault ≢ WriteFault) }
 {
     let mut body = Vec::new(alloc);
     while body.len() < size {

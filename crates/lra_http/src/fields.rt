@@ -1,11 +1,11 @@
 // The fields of a head that say how long its body is.
-ghost use Rattle.std.specs.Prelude.{◌≡◌, ◌<◌, ◌≤◌, ◌^◌, ℕ, List, [], ◌∷◌, ◌++◌, length, map, min, All, IfOk, IfErr, Some, None, option_map, if◌then◌else◌};
+ghost use Rattle.std.specs.Prelude.{◌≡◌, ◌≢◌, ◌<◌, ◌≤◌, ◌^◌, ℕ, List, [], ◌∷◌, ◌++◌, length, map, min, All, IfOk, IfErr, Some, None, option_map, if◌then◌else◌};
 ghost use Rattle.std.specs.List.{list_all};
 ghost use Rattle.std.specs.Char.{is_ascii_digit};
 ghost use Rattle.std.specs.Str.Parse.{digits_value};
 ghost use Rattle.httparse.specs.Spans.{IsHeaderWithin, header_bytes};
 ghost use Rattle.lra_http.specs.HeadFields.{IsFound, first_value, length_in, values, is_number, field_bytes, response_length, request_length};
-ghost use Rattle.lra_http.specs.declared.fault.Fault.TheVariants.{NoMemory};
+ghost use Rattle.lra_http.specs.declared.fault.Fault.TheVariants.{NoMemory, WriteFault};
 
 use crate::{Bytes, Fault, Field, Fields};
 use httparse::spans::HeaderSpan;
@@ -75,7 +75,8 @@ fn number(text: &[u8], most: usize) -> Option<usize>
 /// The length that the value of a Content-Length field states.
 fn length_in(text: &[u8], limit: usize) -> Result<usize, Fault>
     requires { limit < 2 ^ 31 }
-    ensures { result ≡ length_in limit text.now }
+    ensures length { result ≡ length_in limit text.now }
+    ensures of_reading { IfErr result (λ fault. fault ≢ WriteFault) }
 {
     match number(text, limit + 1) {
         None => Err(Fault::BadHead),
@@ -95,6 +96,7 @@ pub fn response_size(
     requires limit { limit < 2 ^ 31 }
     ensures length { result ≡ response_length limit code (map (header_bytes bytes.now) headers.now) }
     ensures status { IfOk result (λ _. 100 ≤ code) }
+    ensures of_reading { IfErr result (λ fault. fault ≢ WriteFault) }
 {
     if code < 100 {
         return Err(Fault::BadHead);
@@ -123,7 +125,8 @@ pub fn request_size(
 ) -> Result<usize, Fault>
     requires within { All (IsHeaderWithin (length bytes.now)) headers.now }
     requires limit { limit < 2 ^ 31 }
-    ensures { result ≡ request_length limit minor (map (header_bytes bytes.now) headers.now) }
+    ensures length { result ≡ request_length limit minor (map (header_bytes bytes.now) headers.now) }
+    ensures of_reading { IfErr result (λ fault. fault ≢ WriteFault) }
 {
     if !matches!(sole(bytes, headers, b"transfer-encoding"), Found::Absent) {
         return Err(Fault::NotOffered);

@@ -4,7 +4,7 @@ ghost use Rattle.std.specs.Io.KnownBytes.{IsAtEnd};
 ghost use Rattle.httparse.specs.Ascii.{space};
 ghost use Rattle.lra_http.specs.Streams.{HasCause, most_interrupted};
 ghost use Rattle.lra_http.specs.Heads.{IsStep, HasNoHead, MayLack, IsHeadRead, RefusesHead, most_bytes};
-ghost use Rattle.lra_http.specs.declared.fault.Fault.TheVariants.{Cut, ReadFault};
+ghost use Rattle.lra_http.specs.declared.fault.Fault.TheVariants.{Cut, ReadFault, WriteFault};
 
 use crate::{Fault, Source, read_byte};
 use httparse::spans::{HeaderSpan, parse_request, parse_response};
@@ -96,6 +96,7 @@ fn fault_at_end(kind: Kind, bytes: &[u8], headers: &mut [HeaderSpan], most: usiz
     requires most { length bytes.now ≤ most }
     ensures refuses { RefusesHead kind most (length headers.old) bytes.now result }
     ensures read { result ≢ ReadFault }
+    ensures write { result ≢ WriteFault }
 {
     match look(kind, bytes, headers, most) {
         Step::Bad => Fault::BadHead,
@@ -123,6 +124,7 @@ pub fn read_head<S: Source>(
     ensures counted { S.interrupted source.new + interrupted.old ≡ S.interrupted source.old + interrupted.new }
     ensures none_failed { OnOk result (S.failed source.new ≡ S.failed source.old) }
     ensures read_fault { IfErr result (λ fault. fault ≡ ReadFault → HasCause (S.failed source.old) (S.failed source.new) interrupted.new) }
+    ensures of_reading { IfErr result (λ fault. fault ≢ WriteFault) }
 {
     let mut head = Vec::new(alloc);
     let mut spaced = false;

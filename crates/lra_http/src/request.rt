@@ -1,12 +1,12 @@
 // A whole request.
-ghost use Rattle.std.specs.Prelude.{◌≡◌, ◌⊎◌, ℕ, ◌+◌, ◌<◌, ◌≤◌, ◌^◌, List, length, IfOk, IfErr, IfSome, OnOk, IsUtf8, codes, map, option_map};
+ghost use Rattle.std.specs.Prelude.{◌≡◌, ◌≢◌, ◌⊎◌, ℕ, ◌+◌, ◌<◌, ◌≤◌, ◌^◌, List, length, IfOk, IfErr, IfSome, OnOk, IsUtf8, codes, map, option_map};
 ghost use Rattle.std.specs.Io.KnownBytes.{IsAtEnd};
 ghost use Rattle.httparse.specs.Grammar.{IsToken, RequestHead};
 ghost use Rattle.lra_http.specs.Streams.{IsLost, most_interrupted};
 ghost use Rattle.lra_http.specs.HeadFields.{field_bytes, first_value};
 ghost use Rattle.lra_http.specs.Heads.{IsHead};
 ghost use Rattle.lra_http.specs.Requests.{IsRequest, IsRead, Refuses, ArePartsOf};
-ghost use Rattle.lra_http.specs.declared.fault.Fault.TheVariants.{Cut, NoMemory, ReadFault};
+ghost use Rattle.lra_http.specs.declared.fault.Fault.TheVariants.{Cut, NoMemory, ReadFault, WriteFault};
 ghost use Rattle.lra_http.specs.declared.head.Kind.TheVariants.{Request as OfRequest};
 
 use crate::body::read_body;
@@ -85,6 +85,8 @@ pub fn read_request<S: Source>(
     // A read fault comes only where a call failed, or 1,024 were interrupted.
     ensures read_fault { IfErr result (λ fault. fault ≡ ReadFault
         → IsLost (S.failed source.old) (S.failed source.new) (S.interrupted source.old) (S.interrupted source.new)) }
+    // Whatever the source tells of its bytes, no write is to blame.
+    ensures of_reading { IfErr result (λ fault. fault ≢ WriteFault) }
     ensures none_failed { OnOk result (S.failed source.new ≡ S.failed source.old) }
     ensures few_interrupted { OnOk result (S.interrupted source.new < S.interrupted source.old + most_interrupted) }
 {

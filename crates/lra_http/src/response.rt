@@ -1,12 +1,12 @@
 // A whole response.
-ghost use Rattle.std.specs.Prelude.{◌≡◌, ◌⊎◌, ℕ, ◌+◌, ◌<◌, ◌≤◌, ◌^◌, List, length, IfOk, IfErr, IfSome, OnOk};
+ghost use Rattle.std.specs.Prelude.{◌≡◌, ◌≢◌, ◌⊎◌, ℕ, ◌+◌, ◌<◌, ◌≤◌, ◌^◌, List, length, IfOk, IfErr, IfSome, OnOk};
 ghost use Rattle.std.specs.Io.KnownBytes.{IsAtEnd};
 ghost use Rattle.http.specs.StatusCode.{IsStatusCode};
 ghost use Rattle.httparse.specs.Grammar.{ResponseHead};
 ghost use Rattle.lra_http.specs.Streams.{HasCause, IsLost, most_interrupted};
 ghost use Rattle.lra_http.specs.Heads.{IsHead};
 ghost use Rattle.lra_http.specs.Responses.{head_room, is_interim, IsResponse, IsRead, Refuses, RefusesHeads, ArePartsOf, IsFinalRead};
-ghost use Rattle.lra_http.specs.declared.fault.Fault.TheVariants.{Cut, NoMemory, ReadFault};
+ghost use Rattle.lra_http.specs.declared.fault.Fault.TheVariants.{Cut, NoMemory, ReadFault, WriteFault};
 ghost use Rattle.lra_http.specs.declared.head.Kind.TheVariants.{Response as OfResponse};
 
 use crate::body::read_body;
@@ -61,6 +61,7 @@ fn read_final_head<S: Source>(
     ensures below { OnOk result (interrupted.new < most_interrupted) }
     ensures none_failed { OnOk result (S.failed source.new ≡ S.failed source.old) }
     ensures read_fault { IfErr result (λ fault. fault ≡ ReadFault → HasCause (S.failed source.old) (S.failed source.new) interrupted.new) }
+    ensures of_reading { IfErr result (λ fault. fault ≢ WriteFault) }
 {
     let mut headers = [EMPTY_HEADER_SPAN; LINE_LIMIT];
     let mut most = HEAD_LIMIT;
@@ -106,6 +107,8 @@ pub fn read_response<S: Source>(
     // A read fault comes only where a call failed, or 1,024 were interrupted.
     ensures read_fault { IfErr result (λ fault. fault ≡ ReadFault
         → IsLost (S.failed source.old) (S.failed source.new) (S.interrupted source.old) (S.interrupted source.new)) }
+    // Whatever the source tells of its bytes, no write is to blame.
+    ensures of_reading { IfErr result (λ fault. fault ≢ WriteFault) }
     ensures none_failed { OnOk result (S.failed source.new ≡ S.failed source.old) }
     ensures few_interrupted { OnOk result (S.interrupted source.new < S.interrupted source.old + most_interrupted) }
 {

@@ -26,6 +26,8 @@ mod pages;
 #[cfg(test)]
 mod places;
 #[cfg(test)]
+mod pulls;
+#[cfg(test)]
 mod purges;
 #[cfg(test)]
 mod random_runs;

@@ -15,7 +15,7 @@ pub(crate) const FIRST: &[u8] = &[
 ];
 
 // The same since base 2.
-const SECOND: &[u8] = &[
+pub(crate) const SECOND: &[u8] = &[
     0x4c, 0x52, 0x41, 0x44, 1, 0, 0, 0, 0x1c, 1, 0, 0, 0, 0, 0, 0, 0, 2, 0, 0, 0, 0, 0, 0, 0, 2, 0,
     0, 0, 0, 0, 0, 0, 0, 0, 0, 0,
 ];
@@ -48,7 +48,7 @@ const CHANGES: [(usize, u8, u64); 20] = [
 ];
 
 /// A replica of one node that began an LRA and closed it.
-fn closed(alloc: Global) -> Result<Replica, Fail> {
+pub(crate) fn closed(alloc: Global) -> Result<Replica, Fail> {
     let me = NodeId::new(1)?;
     let id = LraId::new(me, 1)?;
     let mut replica = Replica::new(alloc, 1)?;

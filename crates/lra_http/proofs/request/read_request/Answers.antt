@@ -27,7 +27,7 @@ returns-in_err-size-clause-fault g c =
     let p = err_from_is_err_and c.from_residual-in_err-size.result c.from_residual-in_err-size.ensures.1 in
     rw (p.1, p.2) (
     exit_fields _ _ _ _ _ _ c.parts_of-spans.result _ c.in_ok-head.ensures.head c.deref.ensures.value c.parts_of-spans.ensures
-    (sym (rw c.deref-2.ensures.value at c.in_err-size.ensures)))
+    (sym (rw c.deref-2.ensures.value at c.in_err-size.ensures.length)))
 
 pub returns-in_err-size-clause-found : goal.returns-in_err-size-clause-found
 returns-in_err-size-clause-found g c =
@@ -35,14 +35,14 @@ returns-in_err-size-clause-found g c =
     rw (p.1, p.2) (
     exit_found _ _ _ (
     exit_fields c.args.limit _ _ _ _ _ c.parts_of-spans.result _ c.in_ok-head.ensures.head c.deref.ensures.value c.parts_of-spans.ensures
-    (sym (rw c.deref-2.ensures.value at c.in_err-size.ensures))))
+    (sym (rw c.deref-2.ensures.value at c.in_err-size.ensures.length))))
 
 pub returns-in_err-body-clause-fault : goal.returns-in_err-body-clause-fault
 returns-in_err-body-clause-fault g c =
     let p = err_from_is_err_and c.from_residual-in_err-body.result c.from_residual-in_err-body.ensures.1 in
     rw (p.1, p.2) (
     exit_body _ _ _ _ _ _ c.parts_of-spans.result c.in_ok-size.size _ c.in_ok-head.ensures.head c.deref.ensures.value c.parts_of-spans.ensures
-    (sym (rw c.deref-2.ensures.value at c.in_ok-size.ensures)) c.in_err-body.ensures.fault)
+    (sym (rw c.deref-2.ensures.value at c.in_ok-size.ensures.length)) c.in_err-body.ensures.fault)
 
 pub returns-in_err-body-clause-found : goal.returns-in_err-body-clause-found
 returns-in_err-body-clause-found g c =
@@ -50,11 +50,11 @@ returns-in_err-body-clause-found g c =
     rw (p.1, p.2) (
     exit_found _ _ _ (
     exit_body c.args.limit _ _ _ _ _ c.parts_of-spans.result c.in_ok-size.size _ c.in_ok-head.ensures.head c.deref.ensures.value c.parts_of-spans.ensures
-    (sym (rw c.deref-2.ensures.value at c.in_ok-size.ensures)) c.in_err-body.ensures.fault))
+    (sym (rw c.deref-2.ensures.value at c.in_ok-size.ensures.length)) c.in_err-body.ensures.fault))
 
 pub returns-clause-message : goal.returns-clause-message
 returns-clause-message g c =
     exit_taken _ _ _ _ _ _ _ c.parts_of-spans.result c.in_ok-size.size _ _ c.in_ok-head.ensures.head c.deref.ensures.value c.parts_of-spans.ensures
-    (sym (rw c.deref-2.ensures.value at c.in_ok-size.ensures)) c.new.ensures c.in_ok-body.ensures.ok.0 c.in_ok-body.ensures.ok.1
+    (sym (rw c.deref-2.ensures.value at c.in_ok-size.ensures.length)) c.new.ensures c.in_ok-body.ensures.ok.0 c.in_ok-body.ensures.ok.1
     (c.in_ok-method.ensures.ok ∙ (rw c.deref-3.ensures.value at c.of.ensures))
     (c.in_ok-target.ensures.ok ∙ (rw c.deref-4.ensures.value at c.of-2.ensures)) (rw c.deref-5.ensures.value at c.in_ok-fields.ensures.ok)

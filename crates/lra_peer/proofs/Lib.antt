@@ -1,0 +1,7 @@
+mod Coded
+mod Meets
+mod Pulled
+mod Requested
+mod Sounds
+mod Unions
+mod Wholes

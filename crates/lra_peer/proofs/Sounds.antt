@@ -1,0 +1,22 @@
+-- A written response whose body is a frame.
+use Rattle.std.proofs.Common.{◌≡◌, ◌∙◌, ℕ, List, ◌++◌, Some, refl, subst}
+use Rattle.lra_http.specs.declared.message.Response.{Response}
+use Rattle.lra_http.specs.Responses.{IsResponse, head_room}
+use Rattle.lra_http.specs.MessageTexts.{response_text}
+use Rattle.lra_http.specs.WholeMessages.{IsSound}
+use Rattle.lra_http.proofs.WholeMessages.{whole_response}
+use Rattle.lra_delta.specs.Frames.{Frame}
+use Rattle.lra_delta.specs.Spelling.{spelling}
+use Rattle.lra_peer.specs.Answers.{IsAnswer, frame_limit}
+
+pub written_frame : (r : Response) (frame : Frame) (rest : List ℕ) → IsSound frame_limit r → r.status ≡ 200 → r.body ≡ spelling frame
+    → IsAnswer (response_text r ++ rest) (Some rest) 200 (spelling frame)
+written_frame r frame rest sound status body =
+    let whole = whole_response frame_limit r rest sound in
+    record {
+      head = whole.0;
+      rest = rest;
+      whole = subst (λ (text : List ℕ). IsResponse head_room frame_limit (response_text r ++ rest) whole.0 text rest) body whole.1;
+      status_is = whole.2 ∙ status;
+      left_is = refl;
+    }

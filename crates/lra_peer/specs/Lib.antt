@@ -1,0 +1,5 @@
+pub mod Answers
+pub mod Bodies
+pub mod Errors
+pub mod Serving
+pub mod Texts

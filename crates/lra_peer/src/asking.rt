@@ -1,0 +1,59 @@
+// The request of a pull.
+ghost use Rattle.std.specs.Prelude.{◌≡◌, IfOk};
+ghost use Rattle.lra_http.specs.MessageTexts.{request_text};
+ghost use Rattle.lra_peer.specs.Texts.{field, pull_fields, pull_request, pull_text};
+
+use crate::bodies::pull_body;
+use http::Method;
+use lra_http::{Bytes, CallRequest, Field, Fields, Text};
+use lra_id::Front;
+use std::alloc::{AllocError, Global};
+
+/// A field.
+fn field(alloc: Global, name: &str, value: &str) -> Result<Field, AllocError>
+    ensures { IfOk result (λ made. made ≡ field name.now value.now) }
+{
+    Ok(Field {
+        name: Bytes::new(Vec::from_slice(alloc, name.as_bytes())?),
+        value: Bytes::new(Vec::from_slice(alloc, value.as_bytes())?),
+    })
+}
+
+/// The fields of a pull whose body has so many bytes.
+fn pull_fields(alloc: Global, size: usize) -> Result<Fields, AllocError>
+    ensures { IfOk result (λ fields. fields ≡ pull_fields size) }
+{
+    let size = format!(in alloc; "{size}")?;
+    let mut fields = Vec::new(alloc);
+    fields.push(field(alloc, "Content-Type", "application/octet-stream")?)?;
+    fields.push(field(alloc, "Content-Length", size.as_str())?)?;
+    fields.push(field(alloc, "Connection", "close")?)?;
+    Ok(Fields::new(fields))
+}
+
+/// A text of a message.
+fn text(alloc: Global, text: &str) -> Result<Text, AllocError>
+    ensures { IfOk result (λ made. made ≡ text.now) }
+{
+    Ok(Text::new(String::from_str(alloc, text)?))
+}
+
+/// The parts of the request for what a front lacks.
+fn parts_of(alloc: Global, front: &Front) -> Result<CallRequest, AllocError>
+    ensures { IfOk result (λ request. request ≡ pull_request front.now) }
+{
+    Ok(CallRequest {
+        method: Method::POST,
+        target: text(alloc, "/peer/pull")?,
+        host: text(alloc, "peer")?,
+        fields: pull_fields(alloc, 1 + 8 * front.nodes())?,
+        body: Bytes::new(pull_body(alloc, front)?),
+    })
+}
+
+/// The request for what a front lacks.
+pub fn pull_request(alloc: Global, front: &Front) -> Result<CallRequest, AllocError>
+    ensures { IfOk result (λ request. request_text request ≡ pull_text front.now) }
+{
+    parts_of(alloc, front)
+}

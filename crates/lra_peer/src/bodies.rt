@@ -1,0 +1,122 @@
+// The body of a pull.
+ghost use Rattle.std.specs.Prelude.{◌≡◌, ◌++◌, ◌≤◌, ◌*◌, ℕ, List, Ok, IfErr, IfOk, OnOk, length};
+ghost use Rattle.std.specs.Int.{from_be_bytes, w64};
+ghost use Rattle.lra_facts.specs.declared.refusal.Refusal.TheVariants.{BadFrame};
+ghost use Rattle.lra_delta.specs.Rules.{are_counts};
+ghost use Rattle.lra_delta.specs.Spelling.{vector};
+ghost use Rattle.lra_peer.specs.Bodies.{IsAsked, asked, counts_in, front_in, pull_body};
+
+use lra_facts::Refusal;
+use lra_id::Front;
+use std::alloc::{AllocError, Global};
+
+/// Adds counts, each in 8 bytes.
+fn push_counts(body: &mut Vec<u8>, counts: &[u64]) -> Result<(), AllocError>
+    ensures { OnOk result (body.new.items ≡ body.old.items ++ vector counts.now) }
+{
+    for count in counts {
+        body.extend_from_slice(&count.to_be_bytes())?;
+    }
+    Ok(())
+}
+
+/// The body of a pull from a front: how many nodes there are in 1 byte, and the front's count of each in 8.
+pub fn pull_body(alloc: Global, front: &Front) -> Result<Vec<u8>, AllocError>
+    ensures { IfOk result (λ body. body.items ≡ pull_body front.now) }
+{
+    let mut body = Vec::new(alloc);
+    body.push(front.nodes() as u8)?;
+    push_counts(&mut body, front.as_slice())?;
+    Ok(body)
+}
+
+/// A number of 8 bytes.
+fn number_in(bytes: &[u8]) -> u64
+    requires { length bytes.now ≡ 8 }
+    ensures { result ≡ from_be_bytes w64 bytes.now }
+{
+    let mut cells = [0; 8];
+    cells.copy_from_slice(bytes);
+    u64::from_be_bytes(cells)
+}
+
+/// So many numbers of 8 bytes each, from the front of the bytes.
+fn counts_in(nodes: usize, bytes: &[u8]) -> Front
+    requires some { 1 ≤ nodes }
+    requires few { nodes ≤ 8 }
+    requires there { 8 * nodes ≤ length bytes.now }
+    ensures value { result ≡ counts_in nodes bytes.now }
+    ensures nodes { length result ≡ nodes }
+{
+    let mut counts = [0; 8];
+    let mut rest = bytes;
+    for place in 0..nodes {
+        let (number, after) = rest.split_at(8);
+        counts[place] = number_in(number);
+        rest = after;
+    }
+    Front::from_counts(&counts[..nodes])
+}
+
+/// Whether each number is one that counts facts: of 48 bits.
+fn are_counts(counts: &[u64]) -> bool
+    ensures { result ≡ are_counts counts.now }
+{
+    counts.iter().all(|count| *count <= 281_474_976_710_655)
+}
+
+/// The front that all of the bytes spell, behind the count of nodes.
+fn front_in(nodes: usize, bytes: &[u8]) -> Result<Front, Refusal>
+    requires some { 1 ≤ nodes }
+    requires few { nodes ≤ 8 }
+    ensures value { result ≡ front_in nodes bytes.now }
+    ensures nodes { IfOk result (λ front. length front ≡ nodes) }
+    ensures cause { IfErr result (λ refusal. (place : ℕ) × (refusal ≡ BadFrame place)) }
+{
+    if bytes.len() < 8 * nodes {
+        return Err(Refusal::BadFrame(1));
+    }
+    let front = counts_in(nodes, bytes);
+    if !are_counts(front.as_slice()) {
+        return Err(Refusal::BadFrame(1));
+    }
+    if 8 * nodes < bytes.len() {
+        return Err(Refusal::BadFrame(1 + 8 * nodes as u64));
+    }
+    Ok(front)
+}
+
+/// What a body asks of a node that counts so many nodes.
+fn asked(nodes: usize, body: &[u8]) -> Result<Front, Refusal>
+    requires some { 1 ≤ nodes }
+    requires few { nodes ≤ 8 }
+    ensures value { result ≡ asked nodes body.now }
+    ensures nodes { IfOk result (λ front. length front ≡ nodes) }
+    ensures cause { IfErr result (λ refusal. (place : ℕ) × (refusal ≡ BadFrame place)) }
+{
+    let Some((count, counts)) = body.split_first() else {
+        return Err(Refusal::BadFrame(0));
+    };
+    if usize::from(*count) != nodes {
+        return Err(Refusal::BadFrame(0));
+    }
+    front_in(nodes, counts)
+}
+
+/// The front that the body of a pull asks from, of a node that counts 1 to 8 nodes. It takes no memory. E16 at place 0 where
+/// the body counts another number of nodes, at 1 where the front isn't whole or has a count of more than 48 bits, and just
+/// past the front where bytes are left over.
+pub fn front_of_pull(nodes: usize, body: &[u8]) -> Result<Front, Refusal>
+    requires some { 1 ≤ nodes }
+    requires few { nodes ≤ 8 }
+    // Which front, or which place, it is.
+    ensures exact { result ≡ asked nodes body.now }
+    // It is a place, whatever else refusals may be.
+    ensures cause { IfErr result (λ refusal. (place : ℕ) × (refusal ≡ BadFrame place)) }
+    // What is read keeps the rules, and is spelled so.
+    ensures found { IfOk result (λ front. IsAsked nodes front × (body.now ≡ pull_body front)) }
+    // What is spelled so is read.
+    ensures only { (front : List ℕ) → IsAsked nodes front → body.now ≡ pull_body front → result ≡ Ok front }
+{
+    asked(nodes, body)
+}

@@ -1,0 +1,27 @@
+// Why a pull gives no delta.
+ghost use Rattle.std.specs.Prelude.{◌≡◌, Some};
+ghost use Rattle.lra_peer.specs.Errors.{error_text};
+
+use lra_http::Fault;
+use std::fmt;
+
+/// Why a pull gives no delta.
+#[derive(Clone, Copy, Debug, PartialEq, Eq)]
+pub enum PullError {
+    /// The request was not written, or no whole response was read: `NotOffered` also where its status is not 200, and
+    /// `NoMemory` also where memory ran out elsewhere in the call.
+    Fault(Fault),
+    /// E16: the body of the response is no frame. The place of its first field that isn't whole or breaks its rule.
+    BadFrame(u64),
+}
+
+impl fmt::Display for PullError {
+    ghost output = { λ error. Some (error_text error) };
+
+    fn fmt<W: fmt::Write>(&self, f: &mut fmt::Formatter<W>) -> fmt::Result {
+        match *self {
+            PullError::Fault(fault) => f.write_str(fault.name()),
+            PullError::BadFrame(place) => write!(f, "E16 BadFrame {place}"),
+        }
+    }
+}

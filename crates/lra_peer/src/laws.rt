@@ -1,0 +1,47 @@
+// Laws of pulls: each function does nothing, and its contract is the law.
+ghost use Rattle.std.specs.Prelude.{◌≡◌, ◌++◌, ◌≤◌, ℕ, List, Ok, Some, codes, length};
+ghost use Rattle.httparse.specs.Grammar.{RequestHead};
+ghost use Rattle.lra_id.specs.Fronts.{IsBelow, join_fronts};
+ghost use Rattle.lra_history.specs.Histories.{History, IsClosed, IsLawful, facts};
+ghost use Rattle.lra_history.specs.ViewShape.{HasShape};
+ghost use Rattle.lra_history.specs.Views.{StandsFor, View};
+ghost use Rattle.lra_delta.specs.Frames.{Frame};
+ghost use Rattle.lra_delta.specs.Spelling.{spelling};
+ghost use Rattle.lra_delta.specs.TakenFrames.{IsTaken};
+ghost use Rattle.lra_http.specs.Requests.{IsRequest};
+ghost use Rattle.lra_http.specs.MessageTexts.{response_text};
+ghost use Rattle.lra_http.specs.WholeMessages.{IsSound};
+ghost use Rattle.lra_http.specs.declared.message.Response.{Response as TheResponse};
+ghost use Rattle.lra_peer.specs.Answers.{IsAnswer, frame_limit};
+ghost use Rattle.lra_peer.specs.Bodies.{IsAsked, asked, pull_body};
+ghost use Rattle.lra_peer.specs.Serving.{Serves};
+ghost use Rattle.lra_peer.specs.Texts.{pull_text};
+
+/// What a node takes by a pull from a node of the same history is the union of what both have: one that asks from a front which
+/// it has itself, and has the same nodes, may take what is served, and what comes of that stands for the union, with the shape.
+/// The front may be an earlier one of its own.
+pub fn a_pull_is_the_union()
+    ensures some { (h : History) (v w front : List ℕ) (own other : View) (frame : Frame) → IsLawful h → IsClosed h v → IsClosed h w →
+        StandsFor (facts h v) own → StandsFor (facts h w) other → length own.front ≡ length other.front →
+        length own.front ≤ 8 → IsAsked (length own.front) front → IsBelow front own.front → Serves other (asked (length other.front) (pull_body front)) (Ok frame) →
+        IsBelow frame.base own.front × ((taken : View) × IsTaken own frame taken × HasShape taken) }
+    ensures union { (h : History) (v w front : List ℕ) (own other taken : View) (frame : Frame) → IsLawful h → IsClosed h v → IsClosed h w →
+        StandsFor (facts h v) own → StandsFor (facts h w) other → length own.front ≡ length other.front →
+        length own.front ≤ 8 → IsAsked (length own.front) front → IsBelow front own.front → Serves other (asked (length other.front) (pull_body front)) (Ok frame) →
+        IsTaken own frame taken → StandsFor (facts h (join_fronts v w)) taken }
+{}
+
+/// The text of a pull from a front of 1 to 8 nodes is one whole request, with the front as its body, for a reader whose limit is
+/// at least 65 bytes.
+pub fn a_pull_is_a_whole_request()
+    ensures { (limit : ℕ) (front rest : List ℕ) → 65 ≤ limit → length front ≤ 8 →
+        (h : RequestHead) × IsRequest limit (pull_text front ++ rest) h (pull_body front) rest
+        × (h.method ≡ codes "POST") × (h.target ≡ codes "/peer/pull") }
+{}
+
+/// The text of a response with status 200, whose body spells a frame and whose fields are plain and state its length, is an
+/// answer from which a pull takes that frame.
+pub fn a_written_frame_is_an_answer()
+    ensures { (r : TheResponse) (frame : Frame) (rest : List ℕ) → IsSound frame_limit r → r.status ≡ 200 → r.body ≡ spelling frame →
+        IsAnswer (response_text r ++ rest) (Some rest) 200 (spelling frame) }
+{}

@@ -1,0 +1,16 @@
+//! Pulls: a node asks another for what it lacks, over any reader and writer, and answers those who ask.
+#![tactic(auto)]
+
+mod answer;
+mod asking;
+mod bodies;
+mod error;
+pub mod laws;
+mod pulling;
+mod serving;
+
+pub use answer::FRAME_LIMIT;
+pub use bodies::{front_of_pull, pull_body};
+pub use error::PullError;
+pub use pulling::pull;
+pub use serving::serve_pull;

@@ -1,0 +1,56 @@
+// Answering a node that asks.
+ghost use Rattle.std.specs.Prelude.{◌≡◌, ◌⊎◌, ℕ, List, Ok, IfErr, IfOk, length};
+ghost use Rattle.lra_id.specs.Fronts.{meet_fronts};
+ghost use Rattle.lra_facts.specs.declared.fact.Fact.{Fact};
+ghost use Rattle.lra_facts.specs.declared.refusal.Refusal.TheVariants.{BadFrame, NoMemory};
+ghost use Rattle.lra_history.specs.Histories.{History, IsClosed, IsLawful, facts};
+ghost use Rattle.lra_replica.specs.Replicas.{view_of};
+ghost use Rattle.lra_history.specs.Views.{StandsFor};
+ghost use Rattle.lra_delta.specs.Frames.{IsFrame};
+ghost use Rattle.lra_delta.specs.Grammar.{IsOfGrammar};
+ghost use Rattle.lra_peer.specs.Bodies.{IsAsked, asked, pull_body};
+ghost use Rattle.lra_peer.specs.Serving.{Serves};
+
+use crate::bodies::front_of_pull;
+use lra_delta::Delta;
+use lra_facts::Refusal;
+use lra_id::Front;
+use lra_replica::Replica;
+use std::alloc::Global;
+
+/// What a replica tells since what it and an asker's front of as many nodes both count.
+#[tactic(auto, using(crate::proofs::Meets::meet_nodes))]
+fn since_both(alloc: Global, replica: &Replica, front: &Front) -> Result<Delta, Refusal>
+    requires { length front.now ≡ length replica.now.front }
+    ensures exact { Serves (view_of replica.now) (Ok front.now) result }
+    ensures set { (S : List Fact) → StandsFor S (view_of replica.now) → IfOk result (λ delta. IsFrame S (meet_fronts front.now replica.now.front) delta) }
+    ensures grammar { (h : History) (w : List ℕ) → IsLawful h → IsClosed h w → StandsFor (facts h w) (view_of replica.now) →
+        IfOk result (λ delta. IsOfGrammar delta) }
+{
+    let own = replica.front();
+    let base = front.meet(&own);
+    Delta::since(alloc, replica, &base)
+}
+
+/// What a node answers to the body of a pull: the frame since what both its front and the asker's count. So there is never a gap,
+/// and the asker lacks nothing of what the frame leaves out. E16 at the place of the body's first fault: at 0 where it counts
+/// another number of nodes, at 1 where its front isn't whole or has a count of more than 48 bits, and just past the front where
+/// bytes are left over. It looks at each record once, and copies those that are told.
+pub fn serve_pull(alloc: Global, body: &[u8], replica: &Replica) -> Result<Delta, Refusal>
+    // Which frame it is, or which place.
+    ensures exact { Serves (view_of replica.now) (asked (length replica.now.front) body.now) result }
+    // A body that is spelled as one is served.
+    ensures spelled { (front : List ℕ) → IsAsked (length replica.now.front) front → body.now ≡ pull_body front → Serves (view_of replica.now) (Ok front) result }
+    // There is no gap.
+    ensures cause { IfErr result (λ refusal. (refusal ≡ NoMemory) ⊎ ((place : ℕ) × (refusal ≡ BadFrame place))) }
+    ensures set { (S : List Fact) (front : List ℕ) → StandsFor S (view_of replica.now) → asked (length replica.now.front) body.now ≡ Ok front →
+        IfOk result (λ delta. IsFrame S (meet_fronts front replica.now.front) delta) }
+    // What a node of a lawful history tells keeps the rules of frames.
+    ensures grammar { (h : History) (w : List ℕ) → IsLawful h → IsClosed h w → StandsFor (facts h w) (view_of replica.now) →
+        IfOk result (λ delta. IsOfGrammar delta) }
+{
+    match front_of_pull(replica.front().nodes(), body) {
+        Ok(front) => since_both(alloc, replica, &front),
+        Err(refusal) => Err(refusal),
+    }
+}

@@ -1,0 +1,356 @@
+// Pulls: what bodies ask, what responses tell, and two nodes that ask one another through memory.
+use crate::commands::enter;
+use crate::places::{FIRST, SECOND, closed};
+use http::StatusCode;
+use lra_delta::{Delta, encode, prepare};
+use lra_facts::Refusal;
+use lra_http::{
+    BODY_LIMIT, Bytes, Fault, Field, Fields, OverRead, OverWrite, Response, read_request,
+    write_response,
+};
+use lra_id::{Front, LraId, NodeId};
+use lra_peer::{PullError, front_of_pull, pull, pull_body, serve_pull};
+use lra_history::Command;
+use lra_replica::Replica;
+use lra_states::Verdict;
+use std::alloc::Global;
+use std::io;
+use std::io::{ErrorKind, Read, Write};
+use std::test::Fail;
+
+// The requests of pulls from fronts of one and of two nodes that count nothing.
+const ASKED_OF_ONE: &[u8] =
+    b"POST /peer/pull HTTP/1.1\r\nHost: peer\r\nContent-Type: application/octet-stream\r\nContent-Length: 9\r\nConnection: close\r\n\r\n\x01\0\0\0\0\0\0\0\0";
+
+const ASKED_OF_TWO: &[u8] =
+    b"POST /peer/pull HTTP/1.1\r\nHost: peer\r\nContent-Type: application/octet-stream\r\nContent-Length: 17\r\nConnection: close\r\n\r\n\x02\0\0\0\0\0\0\0\0\0\0\0\0\0\0\0\0";
+
+// What a replica of one node that has two facts is asked, and where the fault is.
+const FAULTS: [(&[u8], u64); 12] = [
+    (b"", 0),
+    (b"\0", 0),
+    (b"\x02\0\0\0\0\0\0\0\0", 0),
+    (b"\x02\0\0\0\0\0\0\0\0\0\0\0\0\0\0\0\0", 0),
+    (b"\x09\0\0\0\0\0\0\0\0", 0),
+    (b"\x01", 1),
+    (b"\x01\0\0\0\0\0\0\0", 1),
+    (b"\x01\0\x01\0\0\0\0\0\0", 1),
+    (b"\x01\xff\xff\xff\xff\xff\xff\xff\xff", 1),
+    (b"\x01\0\x01\0\0\0\0\0\0\0", 1),
+    (b"\x01\0\0\0\0\0\0\0\0\0", 9),
+    (b"\x01\0\0\0\0\0\0\0\x02\0\0\0\0\0\0\0\0", 9),
+];
+
+// What stands before a body, the body, and why the pull gives no delta.
+const ANSWERS: [(&str, &[u8], PullError); 14] = [
+    ("", b"", PullError::Fault(Fault::Cut)),
+    (
+        "HTTP/1.1 200 OK\r\nContent-Length: 65\r\n\r\n",
+        b"LRAD",
+        PullError::Fault(Fault::Cut),
+    ),
+    (
+        "HTTP/1.1 200 OK\r\nContent-Length: 67108864\r\n\r\n",
+        FIRST,
+        PullError::Fault(Fault::Cut),
+    ),
+    (
+        "HTTP/1.1 200 OK\r\nContent-Length: 67108865\r\n\r\n",
+        FIRST,
+        PullError::Fault(Fault::BodyTooLong),
+    ),
+    (
+        "HTTP/1.1 200 OK\r\n\r\n",
+        FIRST,
+        PullError::Fault(Fault::LengthNeeded),
+    ),
+    (
+        "HTTP/1.1 200 OK\r\nTransfer-Encoding: chunked\r\n\r\n",
+        FIRST,
+        PullError::Fault(Fault::NotOffered),
+    ),
+    (
+        "SSH-2.0-OpenSSH_9.6\r\n\r\n",
+        b"",
+        PullError::Fault(Fault::BadHead),
+    ),
+    (
+        "HTTP/1.1 503 Service Unavailable\r\nContent-Length: 31\r\n\r\n",
+        b"{\"refused\":\"E20 RunFull\"}      ",
+        PullError::Fault(Fault::NotOffered),
+    ),
+    (
+        "HTTP/1.1 302 Found\r\nLocation: http://p/peer/pull\r\nContent-Length: 65\r\n\r\n",
+        FIRST,
+        PullError::Fault(Fault::NotOffered),
+    ),
+    (
+        "HTTP/1.1 206 Partial Content\r\nContent-Length: 65\r\n\r\n",
+        FIRST,
+        PullError::Fault(Fault::NotOffered),
+    ),
+    (
+        "HTTP/1.1 204 No Content\r\n\r\n",
+        b"",
+        PullError::Fault(Fault::NotOffered),
+    ),
+    (
+        "HTTP/1.1 200 OK\r\nContent-Length: 0\r\n\r\n",
+        b"",
+        PullError::BadFrame(0),
+    ),
+    (
+        "HTTP/1.1 200 OK\r\nContent-Length: 60\r\n\r\n",
+        FIRST,
+        PullError::BadFrame(56),
+    ),
+    (
+        "HTTP/1.1 100 Continue\r\n\r\nHTTP/1.1 200 OK\r\nContent-Length: 38\r\n\r\n",
+        b"\x4c\x52\x41\x44\x01\0\0\0\x1c\x01\0\0\0\0\0\0\0\x02\0\0\0\0\0\0\0\x02\0\0\0\0\0\0\0\0\0\0\0X",
+        PullError::BadFrame(37),
+    ),
+];
+
+/// A front of one node that counts so many facts.
+fn alone(count: u64) -> Result<Front, Fail> {
+    let mut front = Front::zero(1);
+    front.set(NodeId::new(1)?, count);
+    Ok(front)
+}
+
+/// Has a node begin an LRA.
+fn begin(replica: &mut Replica, alloc: Global, node: u8) -> Result<(), Fail> {
+    let command = Command::Begin {
+        parent: None,
+        deadline: 0,
+    };
+    enter(replica, alloc, node, command)
+}
+
+/// Has node 1 cancel the LRA that it began with this fact.
+fn cancel(replica: &mut Replica, alloc: Global, num: u64) -> Result<(), Fail> {
+    let id = LraId::new(NodeId::new(1)?, num)?;
+    let verdict = Verdict::Cancel;
+    enter(replica, alloc, 1, Command::Decide { id, verdict })
+}
+
+/// What a replica answers to the body of a pull, as bytes.
+fn served(alloc: Global, body: &[u8], replica: &Replica) -> Result<Vec<u8>, Fail> {
+    let delta = serve_pull(alloc, body, replica)?;
+    Ok(encode(alloc, &delta)?)
+}
+
+/// A response with status 200 and a frame.
+fn response(alloc: Global, frame: Vec<u8>) -> Result<Response, Fail> {
+    let length = format!(in alloc; "{}", frame.len())?;
+    let mut fields = Vec::new(alloc);
+    fields.push(Field {
+        name: Bytes::new(Vec::from_slice(alloc, b"Content-Length")?),
+        value: Bytes::new(Vec::from_slice(alloc, length.as_str().as_bytes())?),
+    })?;
+    Ok(Response {
+        status: StatusCode::OK,
+        fields: Fields::new(fields),
+        body: Bytes::new(frame),
+    })
+}
+
+/// What a node writes that asks from a front.
+fn asked(alloc: Global, front: &Front) -> Result<Vec<u8>, Fail> {
+    let mut writer = OverWrite::new(Vec::new(alloc));
+    let mut nothing = OverRead::new(b"".as_slice());
+    match pull(alloc, &mut nothing, &mut writer, front) {
+        Ok(_) => Err("out of nothing")?,
+        Err(PullError::Fault(Fault::Cut)) => Ok(writer.into_inner()),
+        Err(error) => Err(error)?,
+    }
+}
+
+/// What a node answers to the bytes of a request.
+fn answered(alloc: Global, request: &[u8], server: &Replica) -> Result<Vec<u8>, Fail> {
+    let request = read_request(alloc, &mut OverRead::new(request), BODY_LIMIT)?;
+    if request.method.as_str() != "POST" || request.target.as_str() != "/peer/pull" {
+        return Err("another request")?;
+    }
+    let frame = served(alloc, request.body.as_slice(), server)?;
+    let mut writer = OverWrite::new(Vec::new(alloc));
+    write_response(alloc, &mut writer, &response(alloc, frame)?)?;
+    Ok(writer.into_inner())
+}
+
+/// Has a node ask another from a front, and take what it is told.
+fn catch_up(
+    alloc: Global,
+    asker: &mut Replica,
+    server: &Replica,
+    front: &Front,
+) -> Result<usize, Fail> {
+    let request = asked(alloc, front)?;
+    let answer = answered(alloc, &request, server)?;
+    let mut writer = OverWrite::new(Vec::new(alloc));
+    let delta = pull(
+        alloc,
+        &mut OverRead::new(answer.as_slice()),
+        &mut writer,
+        front,
+    )?;
+    if writer.into_inner() != request {
+        return Err("another request")?;
+    }
+    let patch = prepare(alloc, asker, delta)?;
+    let records = patch.records().len();
+    asker.apply(patch);
+    Ok(records)
+}
+
+/// Why these bytes give no delta to one that asks from a front of one node.
+fn stopped(alloc: Global, answer: &[u8]) -> Option<PullError> {
+    let front = Front::zero(1);
+    let mut writer = OverWrite::new(Vec::new(alloc));
+    pull(alloc, &mut OverRead::new(answer), &mut writer, &front).err()
+}
+
+#[test]
+fn bodies_ask_for_what_is_lacked(rt: HostRuntime) -> Result<(), Fail> {
+    let alloc = rt.alloc();
+    let replica = closed(alloc)?;
+    let nothing = pull_body(alloc, &alone(0)?)?;
+    assert_eq!(rt; nothing.as_slice(), b"\x01\0\0\0\0\0\0\0\0".as_slice());
+    assert_eq!(rt; served(alloc, &nothing, &replica)?.as_slice(), FIRST);
+    let all = pull_body(alloc, &alone(2)?)?;
+    assert_eq!(rt; all.as_slice(), b"\x01\0\0\0\0\0\0\0\x02".as_slice());
+    assert_eq!(rt; served(alloc, &all, &replica)?.as_slice(), SECOND);
+    let ahead = b"\x01\0\0\xff\xff\xff\xff\xff\xff";
+    assert_eq!(rt; served(alloc, ahead, &replica)?.as_slice(), SECOND);
+    assert_eq!(rt; front_of_pull(1, ahead), Ok(alone(281_474_976_710_655)?));
+    Ok(())
+}
+
+#[test]
+fn bodies_are_refused_at_their_place(rt: HostRuntime) -> Result<(), Fail> {
+    let alloc = rt.alloc();
+    let replica = closed(alloc)?;
+    for (body, place) in FAULTS {
+        assert_eq!(rt;
+            serve_pull(alloc, body, &replica).err(),
+            Some(Refusal::BadFrame(place))
+        );
+    }
+    Ok(())
+}
+
+#[test]
+fn a_request_is_written_byte_by_byte(rt: HostRuntime) -> Result<(), Fail> {
+    let alloc = rt.alloc();
+    assert_eq!(rt; asked(alloc, &Front::zero(1))?.as_slice(), ASKED_OF_ONE);
+    assert_eq!(rt; asked(alloc, &Front::zero(2))?.as_slice(), ASKED_OF_TWO);
+    Ok(())
+}
+
+#[test]
+fn two_nodes_ask_one_another(rt: HostRuntime) -> Result<(), Fail> {
+    let alloc = rt.alloc();
+    let mut one = Replica::new(alloc, 2)?;
+    let mut two = Replica::new(alloc, 2)?;
+    begin(&mut one, alloc, 1)?;
+    begin(&mut one, alloc, 1)?;
+    // behind
+    let front = two.front();
+    assert_eq!(rt; catch_up(alloc, &mut two, &one, &front)?, 2);
+    assert!(rt; two.same(&one));
+    // equal
+    let front = two.front();
+    assert_eq!(rt; catch_up(alloc, &mut two, &one, &front)?, 0);
+    // ahead
+    begin(&mut two, alloc, 2)?;
+    let front = two.front();
+    assert_eq!(rt; catch_up(alloc, &mut two, &one, &front)?, 0);
+    // crossed
+    cancel(&mut one, alloc, 1)?;
+    let front = two.front();
+    assert_eq!(rt; catch_up(alloc, &mut two, &one, &front)?, 1);
+    let front = one.front();
+    assert_eq!(rt; catch_up(alloc, &mut one, &two, &front)?, 1);
+    assert!(rt; one.same(&two));
+    // from an earlier front of its own, where another LRA was purged
+    let root = LraId::new(NodeId::new(1)?, 1)?;
+    enter(&mut one, alloc, 1, Command::Purge { root })?;
+    assert_eq!(rt; catch_up(alloc, &mut two, &one, &Front::zero(2))?, 0);
+    assert!(rt; two.same(&one));
+    Ok(())
+}
+
+#[test]
+fn answers_that_give_no_delta(rt: HostRuntime) -> Result<(), Fail> {
+    let alloc = rt.alloc();
+    for (head, body, error) in ANSWERS {
+        let mut answer = Vec::from_slice(alloc, head.as_bytes())?;
+        answer.extend_from_slice(body)?;
+        assert_eq!(rt; stopped(alloc, &answer), Some(error));
+    }
+    Ok(())
+}
+
+#[test]
+fn an_answer_that_is_cut(rt: HostRuntime) -> Result<(), Fail> {
+    let alloc = rt.alloc();
+    let mut answer = Vec::from_slice(alloc, b"HTTP/1.1 200 OK\r\nContent-Length: 65\r\n\r\n")?;
+    answer.extend_from_slice(FIRST)?;
+    for end in 0..answer.len() {
+        let error = PullError::Fault(Fault::Cut);
+        assert_eq!(rt; stopped(alloc, &answer[..end]), Some(error));
+    }
+    assert_eq!(rt; stopped(alloc, &answer), None);
+    answer[39 + 55] = 3;
+    assert_eq!(rt; stopped(alloc, &answer), Some(PullError::BadFrame(55)));
+    Ok(())
+}
+
+// Every call fails.
+#[derive(Drop)]
+struct Broken;
+
+impl Read for Broken {
+    fn read(&mut self, _: &mut [u8]) -> io::Result<usize> {
+        Err(io::Error::from(ErrorKind::ConnectionReset))
+    }
+}
+
+impl Write for Broken {
+    fn write(&mut self, _: &[u8]) -> io::Result<usize> {
+        Err(io::Error::from(ErrorKind::BrokenPipe))
+    }
+
+    fn flush(&mut self) -> io::Result<()> {
+        Ok(())
+    }
+}
+
+#[test]
+fn calls_that_fail(rt: HostRuntime) -> Result<(), Fail> {
+    let alloc = rt.alloc();
+    let front = Front::zero(1);
+    let mut reader = OverRead::new(Broken);
+    let mut writer = OverWrite::new(Vec::new(alloc));
+    assert_eq!(rt;
+        pull(alloc, &mut reader, &mut writer, &front).err(),
+        Some(PullError::Fault(Fault::ReadFault))
+    );
+    assert_eq!(rt; writer.into_inner().as_slice(), ASKED_OF_ONE);
+    let mut writer = OverWrite::new(Broken);
+    assert_eq!(rt;
+        pull(alloc, &mut reader, &mut writer, &front).err(),
+        Some(PullError::Fault(Fault::WriteFault))
+    );
+    Ok(())
+}
+
+#[test]
+fn texts_of_errors(rt: HostRuntime) -> Result<(), Fail> {
+    let alloc = rt.alloc();
+    let frame = format!(in alloc; "{}", PullError::BadFrame(65))?;
+    assert_eq!(rt; frame.as_str(), "E16 BadFrame 65");
+    let fault = format!(in alloc; "{}", PullError::Fault(Fault::NotOffered))?;
+    assert_eq!(rt; fault.as_str(), "NotOffered");
+    Ok(())
+}
