@@ -246,13 +246,6 @@ pub rule_ok : {A : Type 0} (b : Bool) (e : Stop) (x y : A) → cond b (Ok x) (Er
 rule_ok true e x y h = (refl, cc)
 rule_ok false e x y h = absurd cc
 
-uncut_field : {A : Type 0} (r : Rest) (width : ℕ) (x : A) → IsThere r → Uncut (cond (ltb r.limit (r.place + width)) (Err (Fault r.place)) (cond (ltb (length r.ahead) width) (Err Cut) (Ok (x, past width r))))
-uncut_field r width x there = uncut_unless (ltb r.limit (r.place + width)) r.place _ (λ e.
-    let le : r.place + width ≤ r.limit = ltb-false _ _ e in
-    let two : ltb (length r.ahead) width ≡ false = le-ltb _ _ (omega arith) in
-    let here : IsThere (past width r) = omega (arith, length-drop width r.ahead) in
-    rw two here)
-
 -- a rule on what is read
 pub ruled : {A : Type 0} {scan : Rest → Read A} {spell : A → List ℕ} {Fits : A → Type 0} → IsCode scan spell Fits → (rule : A → Bool)
     → IsCode (λ r. scan r >>= λ x. cond (rule x.0) (Ok x) (Err (Fault r.place))) spell (λ a. Fits a × (rule a ≡ true))

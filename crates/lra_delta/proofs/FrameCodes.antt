@@ -6,6 +6,7 @@ use Rattle.std.specs.List.{AllByRecursion}
 use Rattle.std.proofs.lemmas.Bool.{eqb-true}
 use Rattle.std.proofs.lemmas.Bool.Decides.{nat_tests}
 use Rattle.std.proofs.lemmas.List.{append-nil, nil_from_length}
+use Rattle.lra_id.specs.Ids.{last_number}
 use Rattle.lra_delta.specs.declared.input.Stop.TheVariants.{Fault}
 use Rattle.lra_forest.specs.declared.record.Record.{Record}
 use Rattle.lra_delta.specs.Frames.{Frame}
@@ -14,7 +15,7 @@ use Rattle.lra_delta.specs.Spelling.{live_mark, live_body, live_list, live, reco
 use Rattle.lra_delta.specs.Rules.{Context, start, after, is_record_count, IsRecord, is_live_mark, is_live_count, is_live_number, AreLive, IsLive, is_node_count, are_counts, is_front, at_most, IsBody, IsDelta, is_frame_length, by_home}
 use Rattle.lra_delta.specs.OneRecord.{IsRecordUnder, alone_at, record_in, under}
 use Rattle.lra_delta.specs.Reading.{records_at, live_list_at, live_by, live_at, body_at, within, ended_at, framed_at, frame_at, frame_in}
-use Rattle.lra_delta.proofs.Codes.{IsBytes, IsCode, IsThere, Uncut, Takes, bind_ok, rule_ok, ok_is, uncut_bind, uncut_if, step, cased, finish, refit, each_code, number_code, wide8, wide16, wide32, wide64}
+use Rattle.lra_delta.proofs.Codes.{IsBytes, IsCode, IsThere, Takes, bind_ok, rule_ok, ok_is, uncut_bind, uncut_if, step, cased, finish, refit, each_code, number_code, wide8, wide16, wide32, wide64}
 use Rattle.lra_delta.proofs.HomeLists.{flat_by_home}
 use Rattle.lra_delta.proofs.RecordCodes.{vector_code, record_code}
 
@@ -83,7 +84,7 @@ both : (a b : Bool) → (a && b) ≡ true → (a ≡ true) × (b ≡ true)
 both true b e = (refl, e)
 both false b e = absurd cc
 
-count_fits : (n : ℕ) → nat_le n 281474976710655 ≡ true → n < 2 ^ 64
+count_fits : (n : ℕ) → nat_le n last_number ≡ true → n < 2 ^ 64
 count_fits n e = grind (arith, nat_tests)
 
 fits_under : (n l : ℕ) → nat_le n l ≡ true → l < 2 ^ 64 → n < 2 ^ 64
@@ -91,7 +92,7 @@ fits_under n l e lt = grind (arith, nat_tests)
 
 counts_fit : (ns : List ℕ) → are_counts ns ≡ true → AllByRecursion (λ x. x < 2 ^ 64) ns
 counts_fit [] e = tt
-counts_fit (n ∷ ns) e = let h = both (nat_le n 281474976710655) (are_counts ns) e in (count_fits n h.0, counts_fit ns h.1)
+counts_fit (n ∷ ns) e = let h = both (nat_le n last_number) (are_counts ns) e in (count_fits n h.0, counts_fit ns h.1)
 
 purges_fit : (limits ns : List ℕ) → length ns ≡ length limits → AllByRecursion (λ x. x < 2 ^ 64) limits → at_most limits ns ≡ true → AllByRecursion (λ x. x < 2 ^ 64) ns
 purges_fit limits [] len f e = tt
@@ -147,9 +148,6 @@ body_code =
     (flat d.records, frame_is d n a b c l f.0.0.0.0.1 f.0.0.0.1 f.0.0.1 f.0.1 f.1 g.homes, (rw (ap length (sym f.0.0.1) ∙ g.same_nodes) g.count, rw (← f.0.0.0.1, ← f.0.0.1, ← f.1) g.records))))))))
 
 -- ---- what the length bounds
-
-min_left : (a b : ℕ) → min a b ≤ a
-min_left a b = omega arith
 
 same_place : (n : ℕ) → (n == n) ≡ true
 same_place n = grind (arith, nat_tests)
@@ -247,13 +245,6 @@ record_takes front bytes kept fits e = whole_takes (record_code (under front) st
 pub record_again : (front : List ℕ) (kept : Record) → IsRecordUnder front kept → record_in front (record_text kept) ≡ Ok kept
 unfolding alone_at
 record_again front kept f = whole_again (record_code (under front) start) kept f
-
--- the input's end is the frame's: nothing is cut
-pub frame_uncut : (bytes : List ℕ) → IsBytes bytes → Uncut (frame_at (record { place = 0; limit = length bytes; ahead = bytes }))
-unfolding frame_at
-frame_uncut bytes fits =
-    let r : Rest = record { place = 0; limit = length bytes; ahead = bytes } in
-    uncut_bind (framed_at r) _ (framed_code.uncut r fits (omega arith) (omega arith)) (λ x e there. uncut_if (x.1.place == r.limit) x.1.place _ there)
 
 -- no spelling begins another
 pub one_of : {A : Type 0} {scan : Rest → Read A} {spell : A → List ℕ} {Fits : A → Type 0} → IsCode scan spell Fits → (a b : A) (x y : List ℕ) → Fits a → Fits b → spell a ++ x ≡ spell b ++ y → (a ≡ b) × (x ≡ y)

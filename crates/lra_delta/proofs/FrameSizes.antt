@@ -45,9 +45,6 @@ place_most : (o : Option Place) → place_size o ≤ 10
 place_most None = omega arith
 place_most (Some place) = omega arith
 
-times : (n m most : ℕ) → n ≤ m → n * most ≤ m * most
-times n m most e = grind (arith, e)
-
 record_most : (base front : List ℕ) (live : Option (List ℕ)) (r : Record) → KeepsRulesIn base front live r → length front ≤ 8 → ((m : Member) → In m r.members → HasShortLinks m) → record_size r ≤ 16605
 record_most base front live r fits few short =
     let members = sum_most member_size 516 r.members (λ m k. member_most m (short m k)) in

@@ -5,6 +5,7 @@ use Rattle.std.specs.List.{All, AllByRecursion}
 use Rattle.std.proofs.lemmas.Bool.Decides.{nat_tests}
 use Rattle.std.proofs.lemmas.List.Elements.{recursion_from_All}
 use Rattle.lra_id.specs.Fronts.{IsBelow}
+use Rattle.lra_id.specs.Ids.{last_number}
 use Rattle.lra_forest.specs.declared.record.Member.{Member}
 use Rattle.lra_forest.specs.declared.record.Member.TheVariants.{Nested, Participant, Left}
 use Rattle.lra_forest.specs.declared.record.Record.{Record}
@@ -62,9 +63,9 @@ lives_along b p t i (o ∷ live) f = (
 
 -- ---- vectors
 
-counts_by : (ns : List ℕ) → ((i : ℕ) → slice_index ns i ≤ 281474976710655) → are_counts ns ≡ true
+counts_by : (ns : List ℕ) → ((i : ℕ) → slice_index ns i ≤ last_number) → are_counts ns ≡ true
 counts_by [] f = refl
-counts_by (n ∷ ns) f = both_true (nat_le n 281474976710655) (are_counts ns) (le_true n 281474976710655 (f 0)) (counts_by ns (λ i. f (suc i)))
+counts_by (n ∷ ns) f = both_true (nat_le n last_number) (are_counts ns) (le_true n last_number (f 0)) (counts_by ns (λ i. f (suc i)))
 
 under : (v w : List ℕ) → IsBelow v w → (i : ℕ) → slice_index v i ≤ slice_index w i
 under v w below i = omega (arith, below (suc i), at_place v i, at_place w i)
@@ -134,7 +135,7 @@ lives_fit d is = lives_along (slice_index d.base) (slice_index d.purges) (slice_
 pub is_delta : (d : Frame) → IsTyped d → IsOfGrammar d → IsDelta d
 is_delta d typed is =
     let homes = homes_fit d is typed in
-    let limit : (i : ℕ) → slice_index d.front i ≤ 281474976710655 = λ i. omega (arith, is.small (suc i), at_place d.front i) in
+    let limit : (i : ℕ) → slice_index d.front i ≤ last_number = λ i. omega (arith, is.small (suc i), at_place d.front i) in
     let low : (i : ℕ) → slice_index d.base i ≤ slice_index d.front i = under d.base d.front is.base in
     record {
       is_body = record {

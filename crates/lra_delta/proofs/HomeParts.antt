@@ -67,16 +67,6 @@ map_last : {X Y : Type 0} (f : X → Y) (xs : List X) (x : X) → map f (xs ++ x
 map_last f [] x = refl
 map_last f (y ∷ xs) x = ap (λ zs. f y ∷ zs) (map_last f xs x)
 
--- one home more is told
-pub one_more_part : (base purges : List ℕ) (homes : List HomeRecords) (told more : List Told) (i : ℕ) (home : HomeRecords) (last : Told) → i < length homes → home ≡ get_or homes i home → more ≡ told ++ last ∷ []
-    → part_of last ≡ part_since base purges home → map part_of told ≡ map (part_since base purges) (take i homes) → map part_of more ≡ map (part_since base purges) (take (i + 1) homes)
-one_more_part base purges homes told more i home last within at items is so_far =
-    ap (map part_of) items
-    ∙ map_last part_of told last
-    ∙ ap (λ ps. ps ++ part_of last ∷ []) so_far
-    ∙ ap (λ p. map (part_since base purges) (take i homes) ++ p ∷ []) (is ∙ ap (part_since base purges) at)
-    ∙ sym (ap (map (part_since base purges)) (take_more homes i home within) ∙ map_last (part_since base purges) (take i homes) (get_or homes i home))
-
 -- The frame
 
 -- of each home of a replica what is made of it, in order

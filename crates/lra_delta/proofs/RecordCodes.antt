@@ -248,11 +248,6 @@ members_code stamp num = step _ (number_code w8 (2 ^ 8) wide8 is_member_count) (
 
 -- ---- records
 
-decision_again : (d : Option Verdict) → decision_of (decision_mark d) ≡ d
-decision_again None = refl
-decision_again (Some Close) = refl
-decision_again (Some Cancel) = refl
-
 record_is : (p : Record) (a b : ℕ) (c : Option Place) (d : ℕ) (e : Option Verdict) (s : List ℕ)
     → p.home ≡ a → p.num ≡ b → p.parent ≡ c → p.deadline ≡ d → p.decision ≡ e → p.stamps ≡ s
     → p ≡ record { home = a; num = b; parent = c; deadline = d; decision = e; stamps = s; members = p.members }

@@ -1,6 +1,7 @@
 -- the rule of each field, and what has a spelling
 use Rattle.std.specs.Prelude.{◌≡◌, ◌+◌, ◌-◌, ◌*◌, ◌^◌, ◌<◌, ◌&&◌, ◌||◌, ◌==◌, ℕ, List, [], ◌∷◌, Bool, true, Option, Some, None, length, is_some, nat_lt, nat_le, slice_index, filter, map, if◌then◌else◌}
 use Rattle.std.specs.List.{list_any, list_all, AllByRecursion, zip}
+use Rattle.lra_id.specs.Ids.{last_number}
 use Rattle.lra_forest.specs.declared.record.Place.{Place}
 use Rattle.lra_forest.specs.declared.record.Participant.{Participant as ParticipantRecord}
 use Rattle.lra_forest.specs.declared.record.Member.{Member}
@@ -92,7 +93,7 @@ abbrev pub is_node_count : ℕ → Bool
 is_node_count n = nat_le 1 n && nat_le n 8
 
 abbrev pub are_counts : List ℕ → Bool
-are_counts ns = list_all (λ n. nat_le n 281474976710655) ns
+are_counts ns = list_all (λ n. nat_le n last_number) ns
 
 -- each at most the other's
 abbrev pub at_most : List ℕ → List ℕ → Bool

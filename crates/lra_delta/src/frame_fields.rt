@@ -19,7 +19,7 @@ use crate::input::{Input, Stop};
 use crate::order::Last;
 use crate::record_fields::{at_most, many_of, record_of};
 use lra_forest::{Forest, Record, Told};
-use lra_id::{Front, NodeId};
+use lra_id::{Front, LAST_NUMBER, NodeId};
 use std::alloc::{AllocError, Global};
 
 // ---- vectors
@@ -28,7 +28,7 @@ use std::alloc::{AllocError, Global};
 fn are_counts(ns: &[u64]) -> bool
     ensures { result ≡ are_counts ns.now }
 {
-    ns.iter().all(|n| *n <= 281_474_976_710_655)
+    ns.iter().all(|n| *n <= LAST_NUMBER)
 }
 
 /// What the taker has to have.

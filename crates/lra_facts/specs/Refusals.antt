@@ -1,6 +1,6 @@
 -- When a call is refused, over the set of facts that a node holds and the front that counts it.
 use Rattle.std.specs.Prelude.{◌==◌, ℕ, Bool, Option, Some, None, List, [], ◌∷◌, if◌then◌else◌, is_none, nat_lt}
-use Rattle.lra_id.specs.Ids.{Id}
+use Rattle.lra_id.specs.Ids.{Id, last_number}
 use Rattle.lra_id.specs.Fronts.{count, is_covered}
 use Rattle.lra_facts.specs.declared.fact.Fact.{Fact}
 use Rattle.lra_facts.specs.declared.refusal.Refusal.{Refusal}
@@ -55,4 +55,4 @@ crowded S node = unless (nat_lt (held_at S node) 256) LrasFull
 
 -- the node gave its last number
 abbrev pub spent : List ℕ → ℕ → Option Refusal
-spent v node = unless (nat_lt (count v node) 281474976710655) NumbersSpent
+spent v node = unless (nat_lt (count v node) last_number) NumbersSpent

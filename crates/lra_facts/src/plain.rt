@@ -41,7 +41,7 @@ fn names_earlier(fact: &Fact) -> bool
 }
 
 /// Whether a fact is the begin of an LRA.
-fn begins_lra(id: LraId, fact: &Fact) -> bool
+pub fn begins_lra(id: LraId, fact: &Fact) -> bool
     ensures { result ≡ begins id fact.now }
 {
     match &fact.body {
@@ -68,7 +68,7 @@ fn named_parent(fact: &Fact) -> Option<LraId>
 }
 
 /// The parent of an LRA, where it was begun and is nested.
-fn parent(facts: &[Fact], id: LraId) -> Option<LraId>
+pub fn parent(facts: &[Fact], id: LraId) -> Option<LraId>
     ensures { result ≡ parent_of facts.now id }
 {
     for fact in facts {
@@ -93,7 +93,7 @@ fn decides(id: LraId, verdict: Verdict, fact: &Fact) -> bool
 }
 
 /// Whether an LRA itself was decided by this verdict.
-fn decided(facts: &[Fact], verdict: Verdict, id: LraId) -> bool
+pub fn decided(facts: &[Fact], verdict: Verdict, id: LraId) -> bool
     ensures { result ≡ is_decided facts.now verdict id }
 {
     facts.iter().any(|fact| decides(id, verdict, fact))
@@ -220,7 +220,7 @@ fn leaves(id: LraId, member: u8, fact: &Fact) -> bool
 }
 
 /// Whether a participant left.
-fn left(facts: &[Fact], id: LraId, member: u8) -> bool
+pub fn left(facts: &[Fact], id: LraId, member: u8) -> bool
     ensures { result ≡ has_left facts.now id member }
 {
     facts.iter().any(|fact| leaves(id, member, fact))
@@ -259,7 +259,7 @@ pub fn greatest_report(facts: &[Fact], id: LraId, member: u8, act: Act) -> Optio
 }
 
 /// The status of a participant, by what its LRA wants, its links and what was heard of it.
-fn status_for(
+pub fn status_for(
     want: Option<Verdict>,
     links: &Links,
     completed: Option<Outcome>,
@@ -353,7 +353,7 @@ fn shows_open(facts: &[Fact], id: LraId, fact: &Fact) -> bool
 }
 
 /// Whether something is left for a participant to do.
-fn is_open(status: MemberStatus) -> bool
+pub fn is_open(status: MemberStatus) -> bool
     ensures { result ≡ is_open status }
 {
     matches!(
@@ -400,7 +400,7 @@ fn failed_under(facts: &[Fact], id: LraId, failed: MemberStatus) -> bool
 }
 
 /// The status of an LRA, by what it wants and how the participants under it stand.
-fn shown_status(
+pub fn shown_status(
     want: Option<Verdict>,
     unsettled: bool,
     incomplete: bool,
@@ -454,7 +454,7 @@ pub fn status_of(facts: &[Fact], id: LraId) -> Option<LraStatus>
 }
 
 /// Whether a fact gives a member number of an LRA.
-fn gives_number(id: LraId, fact: &Fact) -> bool
+pub fn gives_number(id: LraId, fact: &Fact) -> bool
     ensures { result ≡ gives_number id fact.now.body }
 {
     match &fact.body {
@@ -518,7 +518,7 @@ pub fn is_participant(facts: &[Fact], id: LraId, member: u8) -> bool
 }
 
 /// Whether a want demands an act of a participant with these links.
-fn demands(want: Option<Verdict>, links: &Links, act: Act) -> bool
+pub fn demands(want: Option<Verdict>, links: &Links, act: Act) -> bool
     ensures { result ≡ demands want links.now act }
 {
     match (want, act) {

@@ -21,15 +21,6 @@ abbrev pub Differ : List Fact → Type 0
 Differ [] = Unit {0}
 Differ (f ∷ fs) = AllByRecursion (λ g. f.num ≡ g.num → ⊥) fs × Differ fs
 
-put_first : (f : Fact) (fs : List Fact) → AllByRecursion (λ g. f.num < g.num) fs → put_by_number f fs ≡ f ∷ fs
-put_first f [] h = refl
-put_first f (g ∷ fs) h = let less : nat_le f.num g.num ≡ true = grind (arith, nat_tests, h.0) in rw less refl
-
--- facts that are in order stay as they are
-pub by_number_same : (fs : List Fact) → Ascend fs → by_number fs ≡ fs
-by_number_same [] h = refl
-by_number_same (f ∷ fs) h = ap (put_by_number f) (by_number_same fs h.1) ∙ put_first f fs h.0
-
 all_put : (P : Fact → Type 0) (f : Fact) (fs : List Fact) → P f → AllByRecursion P fs → AllByRecursion P (put_by_number f fs)
 all_put P f [] at h = (at, tt)
 all_put P f (g ∷ fs) at h = by (nat_le f.num g.num) (all_put P f fs at h.1)

@@ -1,6 +1,7 @@
 -- where numbers stand in records that are in order
 use Rattle.std.proofs.Common.{◌≡◌, ◌≤◌, ◌<◌, ◌+◌, ℕ, zero, suc, List, [], ◌∷◌, refl, sym, ◌∙◌, Bool, true, false, cond, arith, Some, None, find, length, get_or, nat_lt, ◌==◌, add-one, slice_get}
 use Rattle.std.specs.List.{AllByRecursion}
+use Rattle.std.specs.List.Sorted.{IsNonDecreasingBy, IsPartitionPoint}
 use Rattle.std.proofs.lemmas.Bool.Decides.{nat_tests}
 use Rattle.lra_id.specs.Ids.{Id}
 use Rattle.lra_forest.specs.declared.record.Record.{Record}
@@ -12,38 +13,36 @@ lesser_num n q rs zero d h e = h.0
 lesser_num n q [] (suc i) d h e = absurd (omega (arith, e))
 lesser_num n q (r ∷ rs) (suc i) d h e = lesser_num n r rs i d h.1 (omega (arith, e))
 
--- a record with a lesser number comes before the place
-pub place_beyond : (num : ℕ) (rs : List Record) (i : ℕ) (d : Record) → IsAscending rs → i < length rs → (get_or rs i d).num < num → i + 1 ≤ count_below num rs
-place_beyond num [] i d h e l = absurd (omega (arith, e))
-place_beyond num (r ∷ rs) zero d h e l = by (nat_lt r.num num) refl
-  where
-    by : (b : Bool) → nat_lt r.num num ≡ b → 0 + 1 ≤ cond b (count_below num rs + 1) 0
-    by true t = omega arith
-    by false t = absurd (grind (arith, nat_tests, t, l))
-place_beyond num (r ∷ []) (suc i) d h e l = absurd (omega (arith, e))
-place_beyond num (r ∷ q ∷ rs) (suc i) d h e l =
-    let rest : i + 1 ≤ count_below num (q ∷ rs) = place_beyond num (q ∷ rs) i d h.1 (omega (arith, e)) l in
-    by (nat_lt r.num num) refl rest
-  where
-    by : (b : Bool) → nat_lt r.num num ≡ b → i + 1 ≤ count_below num (q ∷ rs) → suc i + 1 ≤ cond b (count_below num (q ∷ rs) + 1) 0
-    by true t rest = omega (arith, rest)
-    by false t rest = absurd (let lesser = lesser_num r.num q rs i d h.0 (omega (arith, e)) in grind (arith, nat_tests, t, l, lesser))
+-- their numbers rise
+pub rises : (rs : List Record) → IsAscending rs → IsNonDecreasingBy (λ (r : Record). r.num) rs
+rises [] h i j d le less = absurd (omega (arith, less))
+rises (r ∷ rs) h zero zero d le less = omega arith
+rises (r ∷ []) h zero (suc j) d le less = absurd (omega (arith, less))
+rises (r ∷ q ∷ rs) h zero (suc j) d le less = omega (arith, lesser_num r.num q rs j d h.0 (omega (arith, less)))
+rises (r ∷ rs) h (suc i) zero d le less = absurd (omega (arith, le))
+rises (r ∷ rs) h (suc i) (suc j) d le less = rises rs h.1 i j d (omega (arith, le)) (omega (arith, less))
 
--- one with no lesser number does not
-pub place_within : (num : ℕ) (rs : List Record) (i : ℕ) (d : Record) → i < length rs → num ≤ (get_or rs i d).num → count_below num rs ≤ i
-place_within num [] i d e l = absurd (omega (arith, e))
-place_within num (r ∷ rs) zero d e l = by (nat_lt r.num num) refl
+-- before it all have lesser numbers, and from it on none has
+abbrev pub Parts : ℕ → List Record → ℕ → Type 0
+Parts num rs k = IsPartitionPoint (λ (r : Record). nat_lt r.num num ≡ true) (λ (r : Record). nat_lt r.num num ≡ false) rs k
+
+-- so it is the place of the number
+pub place_is : (num : ℕ) (rs : List Record) (k : ℕ) → k ≤ length rs → Parts num rs k → k ≡ count_below num rs
+place_is num [] k e p = omega (arith, e)
+place_is num (r ∷ rs) k e p = by k e p (place_is num rs) (nat_lt r.num num) refl
   where
-    by : (b : Bool) → nat_lt r.num num ≡ b → cond b (count_below num rs + 1) 0 ≤ 0
-    by true t = absurd (grind (arith, nat_tests, t, l))
-    by false t = omega arith
-place_within num (r ∷ rs) (suc i) d e l =
-    let rest : count_below num rs ≤ i = place_within num rs i d (omega (arith, e)) l in
-    by (nat_lt r.num num) rest
-  where
-    by : (b : Bool) → count_below num rs ≤ i → cond b (count_below num rs + 1) 0 ≤ suc i
-    by true rest = omega (arith, rest)
-    by false rest = omega arith
+    by : (k : ℕ) → k ≤ length (r ∷ rs) → Parts num (r ∷ rs) k → ((i : ℕ) → i ≤ length rs → Parts num rs i → i ≡ count_below num rs)
+        → (b : Bool) → nat_lt r.num num ≡ b → k ≡ cond b (count_below num rs + 1) 0
+    by zero e p rest true t = absurd (let past : nat_lt r.num num ≡ false = p.1 0 r (omega arith) (omega arith) in cc)
+    by (suc k) e p rest true t = omega (
+      arith,
+      rest k (omega (arith, e)) (
+        (λ i d low high. p.0 (suc i) d (omega arith) (omega (arith, high))),
+        (λ i d low high. p.1 (suc i) d (omega (arith, low)) (omega (arith, high))),
+      ),
+    )
+    by zero e p rest false t = refl
+    by (suc k) e p rest false t = absurd (let before : nat_lt r.num num ≡ true = p.0 0 r (omega arith) (omega arith) in cc)
 
 pub place_length : (num : ℕ) (rs : List Record) → count_below num rs ≤ length rs
 place_length num [] = omega arith

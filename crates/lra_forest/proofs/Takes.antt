@@ -68,27 +68,6 @@ pub record IsBringing (home mine : ℕ) (own all rest records : List Record) : T
   pub later : (num : ℕ) → is_some (found_at home rest num) ≡ true → found_at home records num ≡ None
   pub there : (num : ℕ) → is_some (found_at home rest num) ≡ false → IsRight home mine own all records num
 
-pub bringing_none : (home mine : ℕ) (own all : List Record) → AreOf home all → IsBringing home mine own all all []
-bringing_none home mine own all h = record {
-  order = record { homes = tt; ascending = tt };
-  left = h;
-  last = λ num e. refl;
-  later = λ num e. refl;
-  there = λ num e. inl (by (nat_le num mine) (found_at home own num) (found_at home all num) e);
-}
-  where
-    by : (c : Bool) (o a : Option Record) → is_some a ≡ false → brought c o a ≡ None
-    by c o None e = refl
-    by c o (Some t) e = absurd cc
-
--- the next is not there yet
-pub not_yet : (home mine : ℕ) (own all rest records : List Record) (t : Record) → IsBringing home mine own all (t ∷ rest) records → found_at home records t.num ≡ None
-not_yet home mine own all rest records t h =
-    let test : (t.num == t.num) ≡ true = grind (arith, nat_tests) in
-    let here : is_of (at home t.num) t ≡ true = by_number home t.num t h.left.homes.0 ∙ test in
-    let some : is_some (found_at home (t ∷ rest) t.num) ≡ true = rw here refl in
-    h.later t.num some
-
 -- one more is brought
 pub bringing_more : (home mine : ℕ) (own all rest records new : List Record) (t : Record) → IsBringing home mine own all (t ∷ rest) records → AreOf home new
     → IsNews home own (nat_le t.num mine) t (found_at home new t.num)

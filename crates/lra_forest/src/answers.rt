@@ -5,7 +5,7 @@ ghost use Rattle.std.specs.Option.{option_copied};
 ghost use Rattle.lra_states.specs.States.{level};
 ghost use Rattle.lra_facts.specs.declared.fact.Fact.{Fact};
 ghost use Rattle.lra_facts.specs.declared.refusal.Refusal.TheVariants.{NotHeld};
-ghost use Rattle.lra_facts.specs.Sets.{IsNumbered, demands, depth, is_demanded, is_heard, is_held, is_participant, numbers_given};
+ghost use Rattle.lra_facts.specs.Sets.{IsNumbered, depth, is_demanded, is_heard, is_held, is_participant, numbers_given};
 ghost use Rattle.lra_forest.specs.Forests.{AreOf, is_of};
 ghost use Rattle.lra_forest.specs.Overdue.{IsLeastOverdue, is_overdue, is_past};
 ghost use Rattle.lra_forest.specs.Participants.{answered_of, heard_by, parent_held, participant_at, participant_of as participant_held};
@@ -14,9 +14,9 @@ ghost use Rattle.lra_forest.specs.Shape.{found_at};
 ghost use Rattle.lra_forest.specs.Standing.{IsNested, IsSeated, IsWhole, Stands, answered};
 
 use crate::{Forest, MOST_DEPTH, Member, Participant, Record};
-use lra_facts::Refusal;
+use lra_facts::{Refusal, plain};
 use lra_id::LraId;
-use lra_states::{Act, Outcome, Verdict};
+use lra_states::{Act, Outcome};
 
 /// The participant that a member is.
 pub fn participant_at(member: Option<&Member>) -> Option<&Participant>
@@ -25,17 +25,6 @@ pub fn participant_at(member: Option<&Member>) -> Option<&Participant>
     match member {
         Some(Member::Participant(participant)) => Some(participant),
         _ => None,
-    }
-}
-
-/// Whether a want demands an act of a participant.
-fn demands(want: Option<Verdict>, participant: &Participant, act: Act) -> bool
-    ensures { result ≡ demands want participant.now.links act }
-{
-    match (want, act) {
-        (Some(Verdict::Close), Act::Complete) => participant.links.complete.is_some(),
-        (Some(Verdict::Cancel), Act::Compensate) => true,
-        _ => false,
     }
 }
 
@@ -167,7 +156,7 @@ impl Forest {
         let Some(participant) = participant_at(record.members.get(member)) else {
             return Err(Refusal::UnknownMember);
         };
-        Ok(demands(self.wanted(id.num()), participant, act))
+        Ok(plain::demands(self.wanted(id.num()), &participant.links, act))
     }
 
     /// Whether this outcome of an act was heard of the participant of an LRA with this member number, or a greater one.

@@ -1,12 +1,11 @@
 // What a list of facts says of one LRA, as a record.
-ghost use Rattle.std.specs.Prelude.{◌≡◌, ◌+◌, ◌<◌, ◌≤◌, ◌&&◌, ◌==◌, ◌^◌, IfOk, Some, None, length, map, find, nat_lt, if◌then◌else◌, replicate};
-ghost use Rattle.std.specs.List.{list_any, AllByRecursion};
+ghost use Rattle.std.specs.Prelude.{◌≡◌, ◌+◌, ◌<◌, ◌≤◌, ◌&&◌, ◌==◌, ◌^◌, IfOk, Some, None, map, find, nat_lt, if◌then◌else◌};
+ghost use Rattle.std.specs.List.{AllByRecursion};
 ghost use Rattle.std.specs.Option.{option_copied};
 ghost use Rattle.lra_id.specs.Ids.{Id};
-ghost use Rattle.lra_facts.specs.Sets.{begins, begins_held, begun_by, gives_number, has_left, is_begin, is_decided, is_decision, is_leave, member_number, parent_named, parent_of, IsNumbered, NamesEarlier};
+ghost use Rattle.lra_facts.specs.Sets.{begins, begins_held, begun_by, gives_number, is_begin, member_number, parent_of, IsNumbered, NamesEarlier};
 ghost use Rattle.lra_facts.specs.Duties.{has_forgot, is_forgot};
 ghost use Rattle.lra_forest.specs.Records.{deadline_given, deadline_of, decision_of, is_about, is_named, member_by, members_of, nodes_to, place_in, record_of, stamp};
-ghost use Rattle.lra_facts.specs.Lists.{most};
 ghost use Rattle.lra_forest.specs.Gathering.{giver_at, least_above, lesser_number, next_giver, number_above, IsRecordable};
 
 use crate::{MOST_MEMBERS, Member, Members, Participant, Place, Record};
@@ -14,26 +13,6 @@ use lra_facts::{Body, Fact, plain};
 use lra_id::{Front, LraId, NodeId};
 use lra_states::{Act, Verdict};
 use std::alloc::{AllocError, Global};
-
-/// Whether a fact is the begin of an LRA.
-fn begins(id: LraId, fact: &Fact) -> bool
-    ensures { result ≡ begins id fact.now }
-{
-    match &fact.body {
-        Body::Begin { .. } => fact.origin == id.home() && fact.num == id.num(),
-        _ => false,
-    }
-}
-
-/// The parent that the begin of an LRA names.
-fn parent_named(fact: &Fact) -> Option<LraId>
-    ensures { result ≡ parent_named fact.now.body }
-{
-    match &fact.body {
-        Body::Begin { parent, .. } => *parent,
-        _ => None,
-    }
-}
 
 /// The deadline that the begin of an LRA gives.
 fn deadline_given(fact: &Fact) -> u64
@@ -45,49 +24,23 @@ fn deadline_given(fact: &Fact) -> u64
     }
 }
 
-/// The parent of an LRA.
-fn parent(facts: &[Fact], id: LraId) -> Option<LraId>
-    ensures { result ≡ parent_of facts.now id }
-{
-    for fact in facts {
-        if begins(id, fact) {
-            return parent_named(fact);
-        }
-    }
-    None
-}
-
 /// The deadline of an LRA.
 fn deadline(facts: &[Fact], id: LraId) -> u64
     ensures { result ≡ deadline_of facts.now id }
 {
     for fact in facts {
-        if begins(id, fact) {
+        if plain::begins_lra(id, fact) {
             return deadline_given(fact);
         }
     }
     0
 }
 
-/// Whether a fact gives a member number of an LRA.
-fn gives_number(id: LraId, fact: &Fact) -> bool
-    ensures { result ≡ gives_number id fact.now.body }
-{
-    match &fact.body {
-        Body::Begin {
-            parent: Some(parent),
-            ..
-        } => *parent == id,
-        Body::Join { id: joined, .. } => *joined == id,
-        _ => false,
-    }
-}
-
 /// Whether a fact with a lesser number gives a member number of an LRA.
 fn gives_before(id: LraId, num: u64, fact: &Fact) -> bool
     ensures { result ≡ (gives_number id fact.now.body && nat_lt fact.now.num num) }
 {
-    gives_number(id, fact) && fact.num < num
+    plain::gives_number(id, fact) && fact.num < num
 }
 
 /// How many facts with lesser numbers give a member number of an LRA.
@@ -119,40 +72,20 @@ fn member_number(facts: &[Fact], id: LraId, num: u64) -> u8
 fn place(facts: &[Fact], id: LraId) -> Option<Place>
     ensures { ((p : Id) → member_number facts.now p id.num < 2 ^ 8) → result ≡ place_in facts.now id.num (parent_of facts.now id) }
 {
-    let parent = parent(facts, id)?;
+    let parent = plain::parent(facts, id)?;
     Some(Place {
         number: parent.num(),
         slot: member_number(facts, parent, id.num()),
     })
 }
 
-/// Whether a fact decides an LRA by this verdict.
-fn decides(id: LraId, verdict: Verdict, fact: &Fact) -> bool
-    ensures { result ≡ is_decision id verdict fact.now.body }
-{
-    match &fact.body {
-        Body::Decide {
-            id: decided,
-            verdict: given,
-        } => *decided == id && *given == verdict,
-        _ => false,
-    }
-}
-
-/// Whether an LRA itself was decided by this verdict.
-fn decided(facts: &[Fact], verdict: Verdict, id: LraId) -> bool
-    ensures { result ≡ is_decided facts.now verdict id }
-{
-    facts.iter().any(|fact| decides(id, verdict, fact))
-}
-
 /// How an LRA itself was decided.
 fn decision(facts: &[Fact], id: LraId) -> Option<Verdict>
     ensures { result ≡ decision_of facts.now id }
 {
-    if decided(facts, Verdict::Cancel, id) {
+    if plain::decided(facts, Verdict::Cancel, id) {
         Some(Verdict::Cancel)
-    } else if decided(facts, Verdict::Close, id) {
+    } else if plain::decided(facts, Verdict::Close, id) {
         Some(Verdict::Close)
     } else {
         None
@@ -178,7 +111,7 @@ fn names(id: LraId, fact: &Fact) -> bool
 fn number_about(id: LraId, node: NodeId, fact: &Fact) -> u64
     ensures { result ≡ (if (fact.now.origin == node) && is_about id fact.now then fact.now.num else 0) }
 {
-    if fact.origin == node && (begins(id, fact) || names(id, fact)) {
+    if fact.origin == node && (plain::begins_lra(id, fact) || names(id, fact)) {
         fact.num
     } else {
         0
@@ -196,19 +129,6 @@ fn stamp(facts: &[Fact], id: LraId, node: NodeId) -> u64
     greatest
 }
 
-/// Whether a fact is the leave of a participant.
-fn leaves(id: LraId, member: u8, fact: &Fact) -> bool
-    ensures { result ≡ is_leave id member fact.now.body }
-{
-    match &fact.body {
-        Body::Leave {
-            id: left,
-            member: number,
-        } => *left == id && *number == member,
-        _ => false,
-    }
-}
-
 /// Whether a fact tells that a participant was told to forget.
 fn tells_forgot(id: LraId, member: u8, fact: &Fact) -> bool
     ensures { result ≡ is_forgot id member fact.now.body }
@@ -220,13 +140,6 @@ fn tells_forgot(id: LraId, member: u8, fact: &Fact) -> bool
         } => *told == id && *number == member,
         _ => false,
     }
-}
-
-/// Whether a participant left.
-fn left(facts: &[Fact], id: LraId, member: u8) -> bool
-    ensures { result ≡ has_left facts.now id member }
-{
-    facts.iter().any(|fact| leaves(id, member, fact))
 }
 
 /// Whether a participant was told to forget.
@@ -243,7 +156,7 @@ fn member(facts: &[Fact], id: LraId, fact: &Fact) -> Result<Member, AllocError>
     let Body::Join { member, links, .. } = &fact.body else {
         return Ok(Member::Nested(fact.num));
     };
-    if left(facts, id, *member) {
+    if plain::left(facts, id, *member) {
         return Ok(Member::Left);
     }
     Ok(Member::Participant(Participant {
@@ -269,7 +182,7 @@ fn lesser_number(a: Option<u64>, b: Option<u64>) -> Option<u64>
 fn number_above(id: LraId, after: u64, fact: &Fact) -> Option<u64>
     ensures { result ≡ number_above after id fact.now }
 {
-    if gives_number(id, fact) && after < fact.num {
+    if plain::gives_number(id, fact) && after < fact.num {
         Some(fact.num)
     } else {
         None
@@ -293,7 +206,7 @@ fn giver_at(facts: &[Fact], id: LraId, num: u64) -> Option<&Fact>
 {
     facts
         .iter()
-        .find(|fact| gives_number(id, fact) && fact.num == num)
+        .find(|fact| plain::gives_number(id, fact) && fact.num == num)
 }
 
 /// The first fact after this number that gives a member number of an LRA.

@@ -1,11 +1,12 @@
 // What is seen of participants.
 ghost use Rattle.std.specs.Prelude.{◌≡◌, ◌&&◌, is_some};
 ghost use mathlib.Core.Bool.{not};
-ghost use Rattle.lra_states.specs.States.{same_member_status, shown};
+ghost use Rattle.lra_states.specs.States.{shown};
 ghost use Rattle.lra_forest.specs.Statuses.{seen_by, seen_or, status_in};
 
 use crate::Participant;
-use lra_states::{LraStatus, MemberStatus, Outcome, Verdict};
+use lra_facts::plain;
+use lra_states::{LraStatus, MemberStatus, Verdict};
 
 /// What is seen of some participants: whether one has something left to do, one failed to complete, and one failed to
 /// compensate.
@@ -29,10 +30,7 @@ impl Seen {
         ensures { result ≡ seen_by (λ test. test status) }
     {
         Seen {
-            unsettled: matches!(
-                status,
-                MemberStatus::Active | MemberStatus::Completing | MemberStatus::Compensating
-            ),
+            unsettled: plain::is_open(status),
             incomplete: status == MemberStatus::FailedToComplete,
             uncompensated: status == MemberStatus::FailedToCompensate,
         }
@@ -60,27 +58,7 @@ impl Seen {
     pub fn shown(self, want: Option<Verdict>) -> LraStatus
         ensures { result ≡ shown want (is_some want && not self.unsettled) self.incomplete self.uncompensated }
     {
-        match want {
-            None => LraStatus::Active,
-            Some(Verdict::Close) => {
-                if self.unsettled {
-                    LraStatus::Closing
-                } else if self.incomplete {
-                    LraStatus::FailedToClose
-                } else {
-                    LraStatus::Closed
-                }
-            }
-            Some(Verdict::Cancel) => {
-                if self.unsettled {
-                    LraStatus::Cancelling
-                } else if self.uncompensated {
-                    LraStatus::FailedToCancel
-                } else {
-                    LraStatus::Cancelled
-                }
-            }
-        }
+        plain::shown_status(want, self.unsettled, self.incomplete, self.uncompensated)
     }
 }
 
@@ -88,22 +66,10 @@ impl Seen {
 pub fn status_of(want: Option<Verdict>, participant: &Participant) -> MemberStatus
     ensures { result ≡ status_in want participant.now }
 {
-    match want {
-        None => MemberStatus::Active,
-        Some(Verdict::Close) => {
-            if participant.links.complete.is_none() {
-                return MemberStatus::Completed;
-            }
-            match participant.completed {
-                None | Some(Outcome::Busy) => MemberStatus::Completing,
-                Some(Outcome::Done) => MemberStatus::Completed,
-                Some(Outcome::Failed) => MemberStatus::FailedToComplete,
-            }
-        }
-        Some(Verdict::Cancel) => match participant.compensated {
-            None | Some(Outcome::Busy) => MemberStatus::Compensating,
-            Some(Outcome::Done) => MemberStatus::Compensated,
-            Some(Outcome::Failed) => MemberStatus::FailedToCompensate,
-        },
-    }
+    plain::status_for(
+        want,
+        &participant.links,
+        participant.completed,
+        participant.compensated,
+    )
 }

@@ -13,6 +13,10 @@ pub record Id : Type 0 where
 abbrev pub IsNodeNumber : ℕ → Type 0
 IsNodeNumber n = (1 ≤ n) × (n ≤ 8)
 
+-- the greatest number of a fact, 2 ^ 48 - 1
+abbrev pub last_number : ℕ
+last_number = 281474976710655
+
 -- a node numbers its facts from 1, and a number fits 48 bits
 abbrev pub IsFactNumber : ℕ → Type 0
 IsFactNumber n = (1 ≤ n) × (n < 2 ^ 48)

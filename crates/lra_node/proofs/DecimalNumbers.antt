@@ -58,9 +58,3 @@ pub id_parted : (text : List ℕ) (id : Id) → IsId id → text ≡ id_text id 
 id_parted text id valid e =
     let d : decimal id.home ≡ (48 + id.home) ∷ [] = decimal_digit id.home (omega (arith, valid.home.1)) in
     parted (48 + id.home) id text d (e ∙ ap (λ (h : List ℕ). h ++ codes "." ++ decimal id.num) d)
-
-pub id_joined : (text : List ℕ) (id : Id) → 2 ≤ length text → take 1 text ≡ decimal id.home → get_or text 1 0 ≡ 46 → drop 2 text ≡ decimal id.num → text ≡ id_text id
-id_joined [] id long home point num = absurd (omega (arith, long))
-id_joined (a ∷ []) id long home point num = absurd (omega (arith, long))
-id_joined (a ∷ b ∷ text) id long home point num =
-    ap (λ (x : ℕ). a ∷ x ∷ text) point ∙ ap (λ (t : List ℕ). a ∷ 46 ∷ t) num ∙ ap (λ (h : List ℕ). h ++ codes "." ++ decimal id.num) home

@@ -1,9 +1,9 @@
 -- How far the reading of a line has come.
-use Rattle.std.proofs.Common.{◌≡◌, ℕ, ◌<◌, ◌≤◌, ◌==◌, true, false, List, [], ◌∷◌, ◌++◌, Option, None, Some, length, take, refl, ap, sym, subst, ◌∙◌, append_assoc, arith}
+use Rattle.std.proofs.Common.{◌≡◌, ℕ, ◌<◌, ◌≤◌, ◌==◌, true, false, List, [], ◌∷◌, ◌++◌, Option, None, Some, length, take, ap, sym, subst, ◌∙◌, append_assoc, arith}
 use Rattle.std.proofs.lemmas.List.{append-nil, take_all, length-take, length-append, take-append-le}
 use Rattle.std.specs.Io.KnownBytes.{Consumes, Keeps, IsAtEnd}
 use Rattle.lra_node.specs.LineParts.{HasNone}
-use Rattle.lra_node.specs.Scripts.{ReadsLine, ReadsPart}
+use Rattle.lra_node.specs.Scripts.{ReadsLine}
 use Rattle.lra_node.proofs.Splits.{HasNone-push}
 
 -- of what was left a part of a line was read, of which so much is kept
@@ -11,10 +11,6 @@ abbrev pub IsReading : List ℕ → Option (List ℕ) → Option (List ℕ) → 
 IsReading kept None now = Unit {0}
 IsReading kept (Some left) None = ⊥
 IsReading kept (Some left) (Some now) = (part : List ℕ) × (kept ≡ take 4097 part) × HasNone 10 part × (left ≡ part ++ now)
-
-pub reading_start : (left : Option (List ℕ)) → IsReading [] left left
-reading_start None = tt
-reading_start (Some left) = ([], refl, tt, refl)
 
 pub reading_byte : (kept more : List ℕ) (left now next : Option (List ℕ)) (b : ℕ) → IsReading kept left now → Consumes now next (b ∷ []) → (b == 10) ≡ false
     → ((part : List ℕ) → kept ≡ take 4097 part → more ≡ take 4097 (part ++ b ∷ [])) → IsReading more left next
@@ -38,19 +34,6 @@ reading_end kept (Some left) (Some now) None r end kept_it = absurd kept_it
 reading_end kept (Some left) (Some now) (Some next) (part, is, none, had) end kept_it =
     let whole : left ≡ part = had ∙ ap (λ (l : List ℕ). part ++ l) end ∙ append-nil part in
     (is ∙ ap (take 4097) (sym whole), subst (HasNone 10) (sym whole) none, kept_it ∙ end)
-
--- a fault keeps what is left
-pub reading_cut : (kept : List ℕ) (left now next : Option (List ℕ)) → IsReading kept left now → Keeps now next → ReadsPart left next
-reading_cut kept None now next r kept_it = tt
-reading_cut kept (Some left) None next r kept_it = absurd r
-reading_cut kept (Some left) (Some now) None r kept_it = absurd kept_it
-reading_cut kept (Some left) (Some now) (Some next) (part, is, none, had) kept_it =
-    (part, none, had ∙ ap (λ (l : List ℕ). part ++ l) (sym kept_it))
-
-pub reading_stop : (kept : List ℕ) (left now : Option (List ℕ)) → IsReading kept left now → ReadsPart left now
-reading_stop kept None now r = tt
-reading_stop kept (Some left) None r = absurd r
-reading_stop kept (Some left) (Some now) (part, is, none, had) = (part, none, had)
 
 -- one more byte is kept, where there is room
 pub keep_more : (kept part : List ℕ) (b : ℕ) → length kept < 4097 → kept ≡ take 4097 part → kept ++ b ∷ [] ≡ take 4097 (part ++ b ∷ [])

@@ -1,6 +1,6 @@
 -- How far a script has come, and how it goes on.
 use Rattle.std.proofs.Common.{◌≡◌, ℕ, suc, ◌+◌, ◌*◌, ◌<◌, ◌≤◌, ◌⊎◌, inl, inr, Bool, true, false, List, [], ◌∷◌, ◌++◌, Option, None, Some, length, take, refl, ap, sym, subst, ◌∙◌, append_assoc, arith}
-use Rattle.std.proofs.lemmas.List.{append-nil, take_all, length-replicate, length-take-le}
+use Rattle.std.proofs.lemmas.List.{append-nil, take_all, length-take-le}
 use Rattle.std.specs.Io.KnownBytes.{Appends}
 use Rattle.lra_http.specs.Streams.{AppendsPart}
 use Rattle.lra_http.proofs.Known.{Appends-trans}
@@ -198,10 +198,6 @@ Runs n world start now old new = (s : State) × IsWorldOf s world × (nodes_of s
 pub runs_nodes : (n : ℕ) (world : Machine) (start now old new : Option (List ℕ)) → Runs n world start now old new → length world.replicas ≡ n
 runs_nodes n world start now old new (s, w, nodes, r) = w.nodes ∙ nodes
 
--- a world without facts, from which nothing was read yet
-pub runs_start : (n : ℕ) (world : Machine) (start old : Option (List ℕ)) → IsWorldOf (beginning n) world → Runs n world start start old old
-runs_start n world start old w = (beginning n, w, length-replicate n [], running_start n start old)
-
 -- what a line prints in a world was written so, whatever state the world stands for
 abbrev pub PrintsIn : ℕ → (before after : Machine) → List ℕ → (List ℕ → Type 0) → Type 0
 PrintsIn n before after kept was_written = (s : State) → IsWorldOf s before → Prints n s kept after was_written
@@ -241,10 +237,6 @@ abbrev pub IsFewSoFar : Option (List ℕ) → Option (List ℕ) → (before afte
 IsFewSoFar None now before after = Unit {0}
 IsFewSoFar (Some input) None before after = ⊥
 IsFewSoFar (Some input) (Some left) before after = after + 1023 * length (lines_of left) ≤ before + 1023 * length (lines_of input)
-
-pub few_start : (start : Option (List ℕ)) (before : ℕ) → IsFewSoFar start start before before
-few_start None before = tt
-few_start (Some input) before = omega arith
 
 pub few_line : (kept : List ℕ) (start now next : Option (List ℕ)) (before mid after : ℕ) → IsFewSoFar start now before mid → ReadsLine true kept now next → after < mid + 1024
     → IsFewSoFar start next before after

@@ -4,11 +4,9 @@ ghost use Rattle.std.specs.Fmt.{decimal};
 ghost use Rattle.lra_id.specs.Ids.{Id, IsId, id_text};
 ghost use Rattle.lra_node.specs.Asks.{IsMemberNumber, IsNodeOf};
 
+use lra_forest::MOST_MEMBERS;
 use lra_id::{LraId, MOST_NODES, NodeId};
 use std::str;
-
-/// How many member numbers an LRA gives at most.
-const MOST_MEMBERS: u64 = 32;
 
 /// The number that a word spells in decimal, without leading zeros.
 pub fn number_of(word: &[u8]) -> Option<u64>
@@ -61,7 +59,7 @@ pub fn member_number_of(word: &[u8]) -> Option<u8>
     let Some(number) = number_of(word) else {
         return None;
     };
-    if number == 0 || number > MOST_MEMBERS {
+    if number == 0 || number > MOST_MEMBERS as u64 {
         return None;
     }
     Some(number as u8)

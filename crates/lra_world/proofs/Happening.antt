@@ -1,13 +1,11 @@
 -- What happens in a world.
-use Rattle.std.proofs.Common.{◌≡◌, ◌⊎◌, ◌+◌, zero, suc, inl, inr, [], ◌∷◌, ◌++◌, append_assoc, take, ◌≤◌, ◌<◌, ◌-◌, ◌==◌, ◌&&◌, ℕ, List, refl, sym, ap, subst, ◌∙◌, Bool, true, false, cond, arith, Option, None, Some, length, nat_le, slice_get}
+use Rattle.std.proofs.Common.{◌≡◌, ◌⊎◌, ◌+◌, zero, suc, inl, inr, [], ◌∷◌, ◌++◌, append_assoc, take, ◌≤◌, ◌-◌, ◌&&◌, ℕ, List, refl, sym, ap, subst, ◌∙◌, Bool, true, false, arith, Some, length, nat_le, slice_get}
 use Rattle.std.proofs.Math.Seq.{take-append_seam}
 use Rattle.std.proofs.lemmas.Bool.Decides.{nat_tests}
-use Rattle.std.proofs.lemmas.Option.{slice_get_past}
 use Rattle.lra_id.specs.Ids.{Id}
 use Rattle.std.proofs.lemmas.List.{length-append}
 use Rattle.lra_id.specs.Fronts.{IsBelow}
-use Rattle.lra_facts.specs.declared.refusal.Refusal.{Refusal}
-use Rattle.lra_facts.specs.declared.refusal.Refusal.TheVariants.{BadText, Gap}
+use Rattle.lra_facts.specs.declared.refusal.Refusal.TheVariants.{BadText}
 use Rattle.lra_history.specs.declared.command.Command.{Command}
 use Rattle.lra_history.specs.declared.command.Command.TheVariants.{Decide}
 use Rattle.lra_history.specs.declared.command.CommandReply.{CommandReply}
@@ -19,12 +17,12 @@ use Rattle.lra_history.specs.Histories.{History, IsClosed, IsLawful, facts}
 use Rattle.lra_replica.specs.Replicas.{ReplicaState, view_of}
 use Rattle.lra_history.specs.Views.{StandsFor}
 use Rattle.lra_world.specs.declared.event.Event.{Event}
-use Rattle.lra_world.specs.declared.event.Event.TheVariants.{Act, Deliver, Restart, Send, Tick}
+use Rattle.lra_world.specs.declared.event.Event.TheVariants.{Act, Restart, Send, Tick}
 use Rattle.lra_world.specs.declared.event.Reply.{Reply}
-use Rattle.lra_world.specs.declared.event.Reply.TheVariants.{Answered, Quiet, Refused, Restarted, Sent}
+use Rattle.lra_world.specs.declared.event.Reply.TheVariants.{Answered, Refused, Restarted, Sent}
 use Rattle.lra_world.specs.Headline.{IsNode}
 use Rattle.lra_world.specs.Machines.{Happens, IsChanged, IsExpired, IsWorldOf, LeadsTo, Machine, StopsIn}
-use Rattle.lra_world.specs.Worlds.{Acts, Comes, SentFrame, IfNode, IsSpelled, IsWorld, Runs, Sends, State, Stays, Steps, Ticks, after_command, expired, frame_at, front_of, is_node, nodes_of, set_of}
+use Rattle.lra_world.specs.Worlds.{Acts, SentFrame, IfNode, IsSpelled, IsWorld, Runs, Sends, State, Stays, Steps, Ticks, after_command, expired, front_of, is_node, nodes_of, set_of}
 use Rattle.lra_world.proofs.Delivering.{at_node}
 use Rattle.lra_world.proofs.Agreeing.{nodes_agree}
 use Rattle.lra_world.proofs.Moving.{kept_posted, run_keeps}
@@ -35,9 +33,6 @@ use Rattle.lra_world.proofs.WorldsStand.{ActsSo, acted_world, still_world, with_
 -- there is such a node
 pub node_there : (s : State) (m : Machine) (node : ℕ) → IsWorldOf s m → 1 ≤ node → nat_le node (length m.replicas) ≡ true → IsNode s node
 node_there s m node w some e = let there : node ≤ length m.replicas = grind (arith, nat_tests) in record { some = some; there = omega (arith, there, w.nodes) }
-
-pub node_within : (m : Machine) (node : ℕ) → nat_le node (length m.replicas) ≡ true → node ≤ length m.replicas
-node_within m node e = grind (arith, nat_tests)
 
 -- where there is none, nothing happens
 not_node : (s : State) (m : Machine) (node : ℕ) → IsWorldOf s m → nat_le node (length m.replicas) ≡ false → is_node s node ≡ false
@@ -66,22 +61,6 @@ restart_happens s old new node reply w is change =
     let same = change.so s.history (front_of s node) w.world.lawful (w.world.current node is.some is.there).closed view.stands view.counts in
     (s, at_node s s node (Stays s Restarted reply s) reply is (same.0, refl), still_world s old new node w is (with_so old new node change same.1))
 
--- a frame that was never sent
-pub never_sent : (s : State) (m : Machine) (number node kept : ℕ) → IsWorldOf s m → IsNode s node → frame_at s number ≡ None → Happens s (Deliver number node kept) (Refused BadText) m
-never_sent s m number node kept w is none = (
-  s,
-  at_node s s node (Comes s node (frame_at s number) kept (Refused BadText) s) (Refused BadText) is
-      (subst (λ (f : Option SentFrame). Comes s node f kept (Refused BadText) s) (sym none) (refl, refl)),
-  w,
-)
-
-pub beyond_none : (s : State) (m : Machine) (number : ℕ) → IsWorldOf s m → length m.sent < number → frame_at s number ≡ None
-beyond_none s m number w beyond = by (number == 0)
-  where
-    by : (b : Bool) → cond b None (slice_get s.sent (number - 1)) ≡ None
-    by true = refl
-    by false = slice_get_past s.sent (number - 1) (omega (arith, beyond, w.count))
-
 -- a node's set is settled, and its replica stands for it
 pub own_set : (s : State) (m : Machine) (node : ℕ) (kept : ReplicaState) → IsWorldOf s m → IsNode s node → slice_get m.replicas (node - 1) ≡ Some kept → IsSettled (set_of s node) × StandsFor (set_of s node) (view_of kept)
 own_set s m node kept w is at = (
@@ -98,10 +77,6 @@ expire_happens s old new node l reply w is change =
 pub tick_happens : (s : State) (new : Machine) (node now : ℕ) (l : Id) (reply : Reply) → IsNode s node → IsLeastOverdue (set_of s node) node now (Some l) → IsExpired s node l reply new → Happens s (Tick node now) reply new
 tick_happens s new node now l reply is least e =
     (e.0, at_node s e.0 node (Ticks s node now reply e.0) reply is (Some l, least, e.1), e.2)
-
-pub quiet_happens : (s : State) (m : Machine) (node now : ℕ) → IsWorldOf s m → IsNode s node → IsLeastOverdue (set_of s node) node now None → Happens s (Tick node now) Quiet m
-quiet_happens s m node now w is none =
-    (s, at_node s s node (Ticks s node now Quiet s) Quiet is (None, none, (refl, refl)), w)
 
 -- Runs
 
@@ -197,16 +172,3 @@ send_happens s m node base bytes w is nodes below spelled =
         ];
       },
     )
-
-pub gap_happens : (s : State) (m : Machine) (node : ℕ) (base : List ℕ) (refusal : Refusal) → IsWorldOf s m → IsNode s node → length base ≡ length m.replicas → refusal ≡ Gap (front_of s node) → (IsBelow base (front_of s node) → ⊥)
-    → Happens s (Send node base) (Refused refusal) m
-gap_happens s m node base refusal w is nodes gap beyond = (
-  s,
-  at_node s s node (Sends s node base (Refused refusal) s) (Refused refusal) is
-      (inr (inl (nodes ∙ w.nodes, beyond, (ap Refused gap, refl)))),
-  w,
-)
-
-pub other_nodes : (s : State) (m : Machine) (node : ℕ) (base : List ℕ) → IsWorldOf s m → IsNode s node → (length base ≡ length m.replicas → ⊥) → Happens s (Send node base) (Refused BadText) m
-other_nodes s m node base w is others =
-    (s, at_node s s node (Sends s node base (Refused BadText) s) (Refused BadText) is (inl (λ e. others (e ∙ sym w.nodes), (refl, refl))), w)

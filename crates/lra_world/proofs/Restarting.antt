@@ -49,9 +49,6 @@ join_zeros (a ∷ v) = let here : max 0 a ≡ a = omega arith in ap (λ n. n ∷
 pub zeros_stand : (h : History) → StandsFor (facts h (replicate (length h) 0)) (empty_view (length h))
 zeros_stand h = subst (λ (S : List Fact). StandsFor S (empty_view (length h))) (sym (zeros_count_none h)) (empty_stands (length h))
 
-pub zeros_are_closed : (h : History) → IsClosed h (replicate (length h) 0)
-zeros_are_closed h = zeros_closed h
-
 -- what stands for the union with no facts is the view itself
 pub joined_none : (h : History) (v : List ℕ) (a b : View) → IsClosed h v → a.front ≡ v → length b.front ≡ length a.front → StandsFor (facts h v) a → StandsFor (facts h (join_fronts (replicate (length h) 0) v)) b → b ≡ a
 joined_none h v a b closed front nodes own joined =

@@ -1,4 +1,4 @@
-use Rattle.std.proofs.Common.{◌≡◌, ◌<◌, ◌∙◌, List, sym, ap, subst}
+use Rattle.std.proofs.Common.{◌<◌, ◌∙◌, List, sym, ap, subst}
 use Rattle.std.specs.List.{AllByRecursion}
 use Rattle.lra_forest.specs.declared.record.Record.{Record}
 use Rattle.lra_forest.specs.Forests.{AreOf, HomeRecords}
