@@ -8,7 +8,7 @@ ghost use Rattle.lra_forest.specs.declared.duties.Due.{Due};
 ghost use Rattle.lra_forest.specs.Dues.{AreAll, IsDueAt};
 ghost use Rattle.lra_history.specs.Growth.{IsSettled};
 ghost use Rattle.lra_replica.specs.Replicas.{view_of};
-ghost use Rattle.lra_history.specs.Views.{StandsFor};
+ghost use Rattle.lra_history.specs.Views.{OfItsSet, StandsFor};
 ghost use Rattle.lra_callback.specs.CallDuties.{IsDuty, act_wanted, comes_first, link_for};
 ghost use Rattle.lra_callback.specs.Errands.{act_from, due_by, duty_from, kind_by, kind_in, kind_of_act};
 
@@ -185,8 +185,7 @@ fn add(
 /// number, to compensate by the topmost cancelled LRA.
 pub fn pick(alloc: Global, replica: &Replica, me: NodeId) -> Result<Duties, Refusal>
     requires { me ≤ length replica.now.front }
-    ensures all { (S : List Fact) → IsSettled S → StandsFor S (view_of replica.now) →
-        IfOk result (λ duties. AreAll (IsDuty me S) (comes_first S) duties) }
+    ensures all { OfItsSet (view_of replica.now) (λ S. IfOk result (λ duties. AreAll (IsDuty me S) (comes_first S) duties)) }
     ensures cause { IfErr result (λ refusal. refusal ≡ NoMemory) }
 {
     let mut list = Vec::new(alloc);

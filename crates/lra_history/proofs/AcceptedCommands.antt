@@ -1,7 +1,7 @@
 -- what a node knows of a command that it takes
 use Rattle.std.proofs.Common.{◌≡◌, ◌<◌, ◌==◌, ◌||◌, ℕ, List, refl, Bool, true, false, Option, Some, None, is_none, nat_lt}
 use Rattle.std.specs.Option.{option_map_or}
-use Rattle.lra_id.specs.Ids.{Id}
+use Rattle.lra_id.specs.Ids.{Id, last_number}
 use Rattle.lra_id.specs.Fronts.{count, is_covered}
 use Rattle.lra_facts.specs.declared.fact.Fact.{Fact}
 use Rattle.lra_facts.specs.declared.refusal.Refusal.{Refusal}
@@ -147,7 +147,7 @@ pub lawful_gives : (S : List Fact) (v : List ℕ) (node : ℕ) (c : Command) →
 lawful_gives S v node c e = let t = taken_by (refusal_of S v node c) (is_known S c) (spent v node) e in given S v node c t.0 t.1
 
 -- and it has a number left
-pub number_left : (S : List Fact) (v : List ℕ) (node : ℕ) (c : Command) → judge S v node c ≡ Accepted → count v node < 281474976710655
+pub number_left : (S : List Fact) (v : List ℕ) (node : ℕ) (c : Command) → judge S v node c ≡ Accepted → count v node < last_number
 number_left S v node c e =
     let t = taken_by (refusal_of S v node c) (is_known S c) (spent v node) e in
-    less_by (count v node) 281474976710655 (passed (nat_lt (count v node) 281474976710655) _ t.2)
+    less_by (count v node) last_number (passed (nat_lt (count v node) last_number) _ t.2)

@@ -2,7 +2,7 @@
 use Rattle.std.proofs.Common.{◌≡◌, inl, inr, ◌≤◌, ◌<◌, ◌+◌, ◌==◌, ◌&&◌, ℕ, zero, suc, List, [], ◌∷◌, refl, sym, ap, subst, ◌∙◌, Bool, true, false, cond, arith, filter, length, Option, Some, None, IfSome, is_some, nat_lt, slice_get}
 use Rattle.std.specs.Option.{option_map_or}
 use Rattle.std.proofs.lemmas.Bool.Decides.{nat_tests}
-use Rattle.lra_id.specs.Ids.{Id, IsFactNumber, same_id}
+use Rattle.lra_id.specs.Ids.{Id, IsFactNumber, same_id, last_number}
 use Rattle.lra_id.specs.Fronts.{count}
 use Rattle.lra_facts.specs.declared.fact.Body.{Body}
 use Rattle.lra_facts.specs.declared.fact.Body.TheVariants.{Begin, Join, Leave, Decide, Report, Forgot, Purge}
@@ -310,7 +310,7 @@ pub record IsEntered (J T : List Fact) (v : List ℕ) (node : ℕ) (c : Command)
   pub next : (l : Id) → gives_number l (body_for J c) ≡ true → member_number T l (count v node + 1) ≡ numbers_given J l + 1
   pub joins : (f : Fact) (l : Id) (m : ℕ) (links : Links) → In f J → f.body ≡ Join l m links → m ≡ member_number T l f.num
 
-fits_number : (n : ℕ) → n < 281474976710655 → IsFactNumber (n + 1)
+fits_number : (n : ℕ) → n < last_number → IsFactNumber (n + 1)
 fits_number n h = (omega arith, omega arith)
 
 shallow_new : (J T : List Fact) (v : List ℕ) (node : ℕ) (c : Command) → IsEntered J T v node c → IsWhole T → AreOnce T → is_begin (body_for J c) ≡ true → depth T (begun_by (next_fact J v node c)) ≤ 8

@@ -7,6 +7,7 @@ use Rattle.std.proofs.lemmas.Bool.Decides.{nat_tests}
 use Rattle.std.proofs.lemmas.List.{take-append-drop, length-take, length-drop, get_or-drop, get_or-take, get_or_past, take_more_set}
 use Rattle.std.proofs.lemmas.List.Concat.{flat_map-cons}
 use Rattle.std.proofs.lemmas.Nat.{be_bytes_8, from_be_bytes-to_be_bytes_8}
+use Rattle.lra_id.specs.Ids.{last_number}
 use Rattle.lra_facts.specs.declared.refusal.Refusal.{Refusal}
 use Rattle.lra_facts.specs.declared.refusal.Refusal.TheVariants.{BadFrame}
 use Rattle.lra_delta.specs.Rules.{are_counts}
@@ -20,7 +21,7 @@ both true true e = (refl, refl)
 both true false e = absurd cc
 both false b e = absurd cc
 
-small_fits : (n : ℕ) → nat_le n 281474976710655 ≡ true → n < 2 ^ 64
+small_fits : (n : ℕ) → nat_le n last_number ≡ true → n < 2 ^ 64
 small_fits n e = grind (arith, nat_tests)
 
 -- ---- counts
@@ -38,7 +39,7 @@ first_bytes bytes fits i =
 pub counts_again : (front : List ℕ) → are_counts front ≡ true → counts_in (length front) (vector front) ≡ front
 counts_again [] small = refl
 counts_again (n ∷ ns) small =
-    let p = both (nat_le n 281474976710655) (are_counts ns) small in
+    let p = both (nat_le n last_number) (are_counts ns) small in
     ap (counts_in (suc (length ns))) (flat_map-cons number n ns)
     ∙ ap (λ (k : ℕ). k ∷ counts_in (length ns) (vector ns)) (from_be_bytes-to_be_bytes_8 n (small_fits n p.0))
     ∙ ap (λ (l : List ℕ). n ∷ l) (counts_again ns p.1)

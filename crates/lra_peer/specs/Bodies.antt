@@ -15,7 +15,7 @@ pub record IsAsked (nodes : ℕ) (front : List ℕ) : Type 0 where
   pub count : length front ≡ nodes
   pub small : are_counts front ≡ true
 
--- so many numbers of 8 bytes each, from the front of the bytes
+-- so many numbers of 8 bytes each, from the start of the bytes
 abbrev pub counts_in : ℕ → List ℕ → List ℕ
 counts_in zero bytes = []
 counts_in (suc n) bytes = from_be_bytes w64 (take 8 bytes) ∷ counts_in n (drop 8 bytes)

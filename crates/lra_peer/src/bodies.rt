@@ -7,7 +7,7 @@ ghost use Rattle.lra_delta.specs.Spelling.{vector};
 ghost use Rattle.lra_peer.specs.Bodies.{IsAsked, asked, counts_in, front_in, pull_body};
 
 use lra_facts::Refusal;
-use lra_id::Front;
+use lra_id::{Front, LAST_NUMBER};
 use std::alloc::{AllocError, Global};
 
 /// Adds counts, each in 8 bytes.
@@ -40,7 +40,7 @@ fn number_in(bytes: &[u8]) -> u64
     u64::from_be_bytes(cells)
 }
 
-/// So many numbers of 8 bytes each, from the front of the bytes.
+/// So many numbers of 8 bytes each, from the start of the bytes.
 fn counts_in(nodes: usize, bytes: &[u8]) -> Front
     requires some { 1 ≤ nodes }
     requires few { nodes ≤ 8 }
@@ -62,7 +62,7 @@ fn counts_in(nodes: usize, bytes: &[u8]) -> Front
 fn are_counts(counts: &[u64]) -> bool
     ensures { result ≡ are_counts counts.now }
 {
-    counts.iter().all(|count| *count <= 281_474_976_710_655)
+    counts.iter().all(|count| *count <= LAST_NUMBER)
 }
 
 /// The front that all of the bytes spell, behind the count of nodes.

@@ -1,10 +1,8 @@
 // What one node makes of an event.
-ghost use Rattle.std.specs.Prelude.{◌≡◌, ◌⊎◌, ◌≤◌, ℕ, List, Some, None, IfErr, IfOk, IfSome, OnErr, length};
-ghost use Rattle.lra_facts.specs.declared.fact.Fact.{Fact};
-ghost use Rattle.lra_history.specs.Growth.{IsSettled};
+ghost use Rattle.std.specs.Prelude.{◌≡◌, ◌⊎◌, ◌≤◌, ℕ, List, IfErr, IfOk, IfSome, OnErr, length};
 ghost use Rattle.lra_history.specs.Histories.{History, IsClosed, IsLawful, facts};
 ghost use Rattle.lra_replica.specs.Replicas.{Fits, view_of};
-ghost use Rattle.lra_history.specs.Views.{StandsFor};
+ghost use Rattle.lra_history.specs.Views.{OfItsSet, StandsFor};
 ghost use Rattle.lra_id.specs.Fronts.{IsBelow};
 ghost use Rattle.lra_facts.specs.declared.refusal.Refusal.TheVariants.{Gap, NoMemory};
 ghost use Rattle.lra_delta.specs.Frames.{frame_of};
@@ -45,8 +43,7 @@ pub fn act(
 ) -> Result<CommandReply, AllocError>
     requires { me ≤ length replica.old.front }
     ensures nodes { length replica.new.front ≡ length replica.old.front }
-    ensures acted { (S : List Fact) → IsSettled S → StandsFor S (view_of replica.old) →
-        IfOk result (λ reply. IsActed S (view_of replica.old) me command reply (view_of replica.new)) }
+    ensures acted { OfItsSet (view_of replica.old) (λ S. IfOk result (λ reply. IsActed S (view_of replica.old) me command reply (view_of replica.new))) }
     ensures err { OnErr result (view_of replica.new ≡ view_of replica.old) }
 {
     match replica.prepare(alloc, me, command) {

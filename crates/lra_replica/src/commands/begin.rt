@@ -1,6 +1,7 @@
 // The begin of an LRA, top-level or nested.
 ghost use Rattle.std.specs.Prelude.{◌≡◌, ◌≤◌, ◌<◌, ℕ, [], ◌∷◌, None, Some, length, true, ◌+◌, IfOk};
 ghost use Rattle.lra_facts.specs.Refusals.{first, unknown, away};
+ghost use Rattle.lra_id.specs.Ids.{last_number};
 ghost use Rattle.lra_id.specs.Fronts.{count};
 ghost use Rattle.lra_history.specs.declared.command.Command.TheVariants.{Begin};
 ghost use Rattle.lra_history.specs.Next.{judge_on};
@@ -35,7 +36,7 @@ impl Replica {
     fn refusal_of_root(&self, me: NodeId) -> Option<Refusal>
         requires { me ≤ length self.now.front }
         ensures judged { (deadline : ℕ) → judge_on (view_of self.now) me (Begin None deadline) ≡ judged_by result }
-        ensures left { result ≡ None → count self.now.front me < 281474976710655 }
+        ensures left { result ≡ None → count self.now.front me < last_number }
         ensures some { 1 ≤ me }
     {
         let _ = me.number();
@@ -73,7 +74,7 @@ impl Replica {
     fn refusal_of_nested(&self, me: NodeId, parent: LraId) -> Option<Refusal>
         requires { me ≤ length self.now.front }
         ensures judged { (deadline : ℕ) → judge_on (view_of self.now) me (Begin (Some parent) deadline) ≡ judged_by result }
-        ensures left { result ≡ None → count self.now.front me < 281474976710655 }
+        ensures left { result ≡ None → count self.now.front me < last_number }
     {
         if let Some(refusal) = self.refusal_to_nest(me, parent) {
             return Some(refusal);
@@ -83,7 +84,7 @@ impl Replica {
 
     /// The id of an LRA that a node begins with its next fact.
     fn next_id(&self, me: NodeId) -> LraId
-        requires { count self.now.front me < 281474976710655 }
+        requires { count self.now.front me < last_number }
         ensures { result ≡ record { home = me; num = count self.now.front me + 1 } }
     {
         let Ok(id) = LraId::new(me, self.front().count(me) + 1) else {
@@ -100,7 +101,7 @@ impl Replica {
         parent: Option<Place>,
         deadline: u64,
     ) -> Record
-        requires { count self.now.front me < 281474976710655 }
+        requires { count self.now.front me < last_number }
         ensures { result ≡ fresh_record self.now.front me parent deadline }
     {
         let front = self.front();
@@ -143,7 +144,7 @@ impl Replica {
     fn ready_to_nest(&self, me: NodeId, parent: LraId) -> Result<Record, Refusal>
         requires { me ≤ length self.now.front }
         ensures ready { (deadline : ℕ) → IsReadyNext (view_of self.now) me (Begin (Some parent) deadline) parent result }
-        ensures left { IfOk result (λ _. count self.now.front me < 281474976710655) }
+        ensures left { IfOk result (λ _. count self.now.front me < last_number) }
         ensures home { IfOk result (λ copy. copy.home ≡ me) }
         ensures few { IfOk result (λ copy. length copy.members < 32) }
     {

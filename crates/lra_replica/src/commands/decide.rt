@@ -1,5 +1,6 @@
 // An LRA is closed or cancelled.
 ghost use Rattle.std.specs.Prelude.{◌≡◌, ◌≤◌, ◌<◌, None, length, true, Ok, IfOk, is_some};
+ghost use Rattle.lra_id.specs.Ids.{last_number};
 ghost use Rattle.lra_id.specs.Fronts.{count};
 ghost use Rattle.lra_states.specs.declared.outcome.Verdict.{Verdict};
 ghost use Rattle.lra_history.specs.declared.command.Command.TheVariants.{Decide};
@@ -24,7 +25,7 @@ impl Replica {
     /// The refusal of a decision, if it is refused.
     fn refusal_of_decide(&self, me: NodeId, id: LraId) -> Option<Refusal>
         ensures judged { (verdict : Verdict) → judge_on (view_of self.now) me (Decide id verdict) ≡ judged_by result }
-        ensures left { result ≡ None → count self.now.front me < 281474976710655 }
+        ensures left { result ≡ None → count self.now.front me < last_number }
     {
         if let Some(denied) = self.refusal_unless_active(me, id) {
             return Some(denied);
@@ -36,7 +37,7 @@ impl Replica {
     fn ready_to_decide(&self, me: NodeId, id: LraId) -> Result<Record, Refusal>
         ensures ready { (verdict : Verdict) → IsReadyNext (view_of self.now) me (Decide id verdict) id result }
         ensures some { IfOk result (λ _. 1 ≤ me) }
-        ensures left { IfOk result (λ _. count self.now.front me < 281474976710655) }
+        ensures left { IfOk result (λ _. count self.now.front me < last_number) }
         ensures home { IfOk result (λ copy. copy.home ≤ length self.now.front) }
     {
         if let Some(refusal) = self.refusal_of_decide(me, id) {

@@ -1,5 +1,6 @@
 // What the fact of a command changes: the front, and one record or two.
 ghost use Rattle.std.specs.Prelude.{◌≡◌, ◌≤◌, ◌<◌, ◌+◌, ◌⊎◌, Some, None, IfOk, IfErr, OnOk, length};
+ghost use Rattle.lra_id.specs.Ids.{last_number};
 ghost use Rattle.lra_id.specs.Fronts.{count};
 ghost use Rattle.lra_facts.specs.declared.refusal.Refusal.TheVariants.{NoMemory};
 ghost use Rattle.lra_forest.specs.declared.record.Record.{Record};
@@ -27,7 +28,7 @@ pub fn stamp(stamps: &mut Front, node: NodeId, num: u64)
 impl Replica {
     /// A copy of an LRA's record with the number of a node's next fact.
     pub(crate) fn stamped(&self, id: LraId, node: NodeId) -> Result<Record, Refusal>
-        requires { count self.now.front node < 281474976710655 }
+        requires { count self.now.front node < last_number }
         ensures some { IfOk result (λ _. 1 ≤ node) }
         ensures home { IfOk result (λ copy. copy.home ≤ length self.now.front) }
         ensures found { IfOk result (λ copy. (old : Record) × (record_at (view_of self.now) id ≡ Some old) × (copy ≡ with_stamp node (count self.now.front node + 1) old)) }
@@ -44,7 +45,7 @@ impl Replica {
     /// The front with one more of a node that has a number left.
     pub(crate) fn raised(&self, me: NodeId) -> Front
         requires node { me ≤ length self.now.front }
-        requires left { count self.now.front me < 281474976710655 }
+        requires left { count self.now.front me < last_number }
         ensures value { result ≡ raised self.now.front me }
         ensures some { 1 ≤ me }
     {
@@ -73,7 +74,7 @@ impl Replica {
         next: Record,
     ) -> Result<Patch, AllocError>
         requires node { me ≤ length self.old.front }
-        requires left { count self.old.front me < 281474976710655 }
+        requires left { count self.old.front me < last_number }
         requires home { next.home ≤ length self.old.front }
         ensures view { view_of self.new ≡ view_of self.old }
         ensures patch { IfOk result (λ patch. patch ≡ one_change (view_of self.old) me next) }
@@ -103,7 +104,7 @@ impl Replica {
         second: Record,
     ) -> Result<Patch, AllocError>
         requires node { me ≤ length self.old.front }
-        requires left { count self.old.front me < 281474976710655 }
+        requires left { count self.old.front me < last_number }
         requires home { first.home ≤ length self.old.front }
         requires same { second.home ≡ first.home }
         ensures view { view_of self.new ≡ view_of self.old }

@@ -1,5 +1,6 @@
 // That a participant was told to forget.
 ghost use Rattle.std.specs.Prelude.{◌≡◌, ◌≤◌, ◌<◌, ◌-◌, OnOk, length, ◌||◌, [], ◌∷◌, Ok, false, true};
+ghost use Rattle.lra_id.specs.Ids.{last_number};
 ghost use Rattle.lra_id.specs.Fronts.{count};
 ghost use Rattle.lra_history.specs.Growth.{member_changed, forgetting};
 ghost use Rattle.lra_replica.specs.Replicas.{view_of, KeepsRoom};
@@ -106,7 +107,7 @@ impl Replica {
     /// Whether it is known already that a participant was told to forget, or the refusal of it.
     fn knows_forgot(&self, me: NodeId, id: LraId, member: u8) -> Result<bool, Refusal>
         ensures judged { judge_on (view_of self.now) me (Forgot id member) ≡ judged_as result }
-        ensures left { result ≡ Ok false → count self.now.front me < 281474976710655 }
+        ensures left { result ≡ Ok false → count self.now.front me < last_number }
     {
         if let Some(refusal) = self.refusal_to_forget(id, member) {
             return Err(refusal);

@@ -1,5 +1,6 @@
 // A participant joins.
 ghost use Rattle.std.specs.Prelude.{◌≡◌, ◌≤◌, ◌<◌, None, length, IfOk};
+ghost use Rattle.lra_id.specs.Ids.{last_number};
 ghost use Rattle.lra_id.specs.Fronts.{count};
 ghost use Rattle.lra_facts.specs.declared.links.Links.{Links};
 ghost use Rattle.lra_history.specs.declared.command.Command.TheVariants.{Join};
@@ -19,7 +20,7 @@ impl Replica {
     /// The refusal of a join, if it is refused.
     fn refusal_of_join(&self, me: NodeId, id: LraId) -> Option<Refusal>
         ensures judged { (links : Links) → judge_on (view_of self.now) me (Join id links) ≡ judged_by result }
-        ensures left { result ≡ None → count self.now.front me < 281474976710655 }
+        ensures left { result ≡ None → count self.now.front me < last_number }
     {
         if let Some(refusal) = self.refusal_to_number_member(me, id) {
             return Some(refusal);
@@ -30,7 +31,7 @@ impl Replica {
     /// The record of an LRA that a participant may join.
     fn ready_to_join(&self, me: NodeId, id: LraId) -> Result<Record, Refusal>
         ensures ready { (links : Links) → IsReadyNext (view_of self.now) me (Join id links) id result }
-        ensures left { IfOk result (λ _. count self.now.front me < 281474976710655) }
+        ensures left { IfOk result (λ _. count self.now.front me < last_number) }
         ensures home { IfOk result (λ copy. copy.home ≤ length self.now.front) }
         ensures few { IfOk result (λ copy. length copy.members < 32) }
     {

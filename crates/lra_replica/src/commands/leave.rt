@@ -1,5 +1,6 @@
 // A participant leaves.
 ghost use Rattle.std.specs.Prelude.{◌≡◌, ◌≤◌, ◌<◌, ◌-◌, None, IfOk, length, [], ◌∷◌};
+ghost use Rattle.lra_id.specs.Ids.{last_number};
 ghost use Rattle.lra_id.specs.Fronts.{count};
 ghost use Rattle.lra_history.specs.Growth.{member_changed, leaving};
 ghost use Rattle.lra_replica.specs.Replicas.{view_of, KeepsRoom};
@@ -55,7 +56,7 @@ impl Replica {
     /// The refusal of a leave, if it is refused.
     fn refusal_of_leave(&self, me: NodeId, id: LraId, member: u8) -> Option<Refusal>
         ensures judged { judge_on (view_of self.now) me (Leave id member) ≡ judged_by result }
-        ensures left { result ≡ None → count self.now.front me < 281474976710655 }
+        ensures left { result ≡ None → count self.now.front me < last_number }
     {
         if let Some(refusal) = self.refusal_to_leave(me, id, member) {
             return Some(refusal);
@@ -66,7 +67,7 @@ impl Replica {
     /// The record of an LRA that a participant may leave.
     fn ready_to_leave(&self, me: NodeId, id: LraId, member: u8) -> Result<Record, Refusal>
         ensures ready { IsReadyNext (view_of self.now) me (Leave id member) id result }
-        ensures left { IfOk result (λ _. count self.now.front me < 281474976710655) }
+        ensures left { IfOk result (λ _. count self.now.front me < last_number) }
         ensures home { IfOk result (λ copy. copy.home ≤ length self.now.front) }
     {
         if let Some(refusal) = self.refusal_of_leave(me, id, member) {

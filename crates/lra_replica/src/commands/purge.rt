@@ -1,5 +1,6 @@
 // A purge of a root and all that is nested in it.
 ghost use Rattle.std.specs.Prelude.{◌≡◌, ◌≤◌, ◌<◌, [], ◌∷◌, None, Some, true, IfOk, length};
+ghost use Rattle.lra_id.specs.Ids.{last_number};
 ghost use Rattle.lra_id.specs.Fronts.{count};
 ghost use Rattle.lra_facts.specs.declared.refusal.Refusal.TheVariants.{NotEnded};
 ghost use Rattle.lra_facts.specs.Refusals.{first, unknown, away};
@@ -104,7 +105,7 @@ impl Replica {
     fn refusal_of_purge(&self, me: NodeId, root: LraId) -> Option<Refusal>
         requires { me ≤ length self.now.front }
         ensures judged { judge_on (view_of self.now) me (Purge root) ≡ judged_by result }
-        ensures left { result ≡ None → count self.now.front me < 281474976710655 }
+        ensures left { result ≡ None → count self.now.front me < last_number }
         ensures home { result ≡ None → root.home ≡ me }
     {
         if let Some(refusal) = self.refusal_to_purge(me, root) {
@@ -127,7 +128,7 @@ impl Replica {
     /// The patch of a purge that removes these LRAs.
     fn removal(&self, alloc: Global, me: NodeId, removed: Vec<LraId>) -> Patch
         requires node { me ≤ length self.now.front }
-        requires left { count self.now.front me < 281474976710655 }
+        requires left { count self.now.front me < last_number }
         ensures patch { result ≡ purge_change (view_of self.now) me removed.items }
         ensures room { Fits result self.now }
         ensures some { 1 ≤ me }

@@ -1,5 +1,6 @@
 // What was heard of an act of a participant.
 ghost use Rattle.std.specs.Prelude.{◌≡◌, ◌≤◌, ◌<◌, ◌-◌, OnOk, length, [], ◌∷◌, true, Ok, false};
+ghost use Rattle.lra_id.specs.Ids.{last_number};
 ghost use Rattle.lra_id.specs.Fronts.{count};
 ghost use Rattle.lra_history.specs.Growth.{member_changed, reporting};
 ghost use Rattle.lra_replica.specs.Replicas.{view_of, KeepsRoom};
@@ -93,7 +94,7 @@ impl Replica {
         outcome: Outcome,
     ) -> Result<bool, Refusal>
         ensures judged { judge_on (view_of self.now) me (Report id member act outcome) ≡ judged_as result }
-        ensures left { result ≡ Ok false → count self.now.front me < 281474976710655 }
+        ensures left { result ≡ Ok false → count self.now.front me < last_number }
     {
         if let Some(refusal) = self.refusal_to_report(id, member, act) {
             return Err(refusal);

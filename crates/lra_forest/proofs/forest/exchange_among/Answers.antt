@@ -11,7 +11,7 @@ returns-clause-items c =
 
 pub returns-clause-back : goal.returns-clause-back
 returns-clause-back c =
-    let place : c.seat-seat.result ≡ count_below c.args.next.num c.args.records.now.items = cc in
-    let there : is_some (with_number c.args.next.num (slice_get c.args.records.now.items c.seat-seat.result)) ≡ true = cc in
-    let read : with_number c.args.next.num (slice_get c.args.records.now.items c.seat-seat.result) ≡ Some c.index_mut.result.now = back_is c.args.next.num c.args.records.now.items c.seat-seat.result c.index_mut.result.now there c.index_mut.ensures.value in
+    let place : c.place_of-place.result ≡ count_below c.args.next.num c.args.records.now.items = cc in
+    let there : is_some (with_number c.args.next.num (slice_get c.args.records.now.items c.place_of-place.result)) ≡ true = cc in
+    let read : with_number c.args.next.num (slice_get c.args.records.now.items c.place_of-place.result) ≡ Some c.index_mut.result.now = back_is c.args.next.num c.args.records.now.items c.place_of-place.result c.index_mut.result.now there c.index_mut.ensures.value in
     cc
