@@ -8,12 +8,12 @@ use Rattle.lra_facts.specs.declared.refusal.Refusal.{Refusal}
 use Rattle.lra_facts.specs.declared.refusal.Refusal.TheVariants.{StillToForget}
 use Rattle.lra_facts.specs.Sets.{depth, held_at, is_demanded, is_ended, is_heard, is_held, is_participant, is_root, numbers_given, want}
 use Rattle.lra_facts.specs.Duties.{has_forgot, is_forget_duty}
-use Rattle.lra_facts.specs.Refusals.{unknown, gone, away, stranger, inactive, unasked, full, deep, crowded, spent}
+use Rattle.lra_facts.specs.Refusals.{unknown, away, spent}
 use Rattle.lra_forest.specs.declared.duties.Due.{Due}
 use Rattle.lra_forest.specs.Dues.{least_forget}
 use Rattle.lra_history.specs.declared.command.Command.{Command}
 use Rattle.lra_history.specs.declared.command.Command.TheVariants.{Begin as BeginAsked, Join as JoinAsked, Leave as LeaveAsked, Decide as DecideAsked, Report as ReportAsked, Forgot as ForgotAsked, Purge as PurgeAsked}
-use Rattle.lra_history.specs.Replies.{by_facts, Accepted, is_known, judge, judged, nested_by, refusal_of, running_by, unforgotten_by, unowed_by}
+use Rattle.lra_history.specs.Replies.{by_facts, gone_by, stranger_by, inactive_by, unasked_by, full_by, deep_by, crowded_by, Accepted, is_known, judge, judged, nested_by, refusal_of, running_by, unforgotten_by, unowed_by}
 use Rattle.lra_history.proofs.Basics.{equal_from, less_by, open_first, passed}
 
 -- the front counts l, and the set holds it
@@ -53,25 +53,25 @@ none_is (Some x) e = absurd cc
 covered_by : (v : List ℕ) (l : Id) → unknown v l ≡ None → is_covered v l ≡ true
 covered_by v l e = passed (is_covered v l) _ e
 
-held_by : (S : List Fact) (l : Id) → gone S l ≡ None → is_held S l ≡ true
+held_by : (S : List Fact) (l : Id) → gone_by (by_facts S) l ≡ None → is_held S l ≡ true
 held_by S l e = passed (is_held S l) _ e
 
 home_by : (node : ℕ) (l : Id) → away node l ≡ None → l.home ≡ node
 home_by node l e = equal_from l.home node (passed (l.home == node) _ e)
 
-active_by : (S : List Fact) (l : Id) → inactive S l ≡ None → want S l ≡ None
+active_by : (S : List Fact) (l : Id) → inactive_by (by_facts S) l ≡ None → want S l ≡ None
 active_by S l e = none_is (want S l) (passed (is_none (want S l)) _ e)
 
-participant_by : (S : List Fact) (l : Id) (m : ℕ) → stranger S l m ≡ None → is_participant S l m ≡ true
+participant_by : (S : List Fact) (l : Id) (m : ℕ) → stranger_by (by_facts S) l m ≡ None → is_participant S l m ≡ true
 participant_by S l m e = passed (is_participant S l m) _ e
 
-room_by : (S : List Fact) (l : Id) → full S l ≡ None → numbers_given S l < 32
+room_by : (S : List Fact) (l : Id) → full_by (by_facts S) l ≡ None → numbers_given S l < 32
 room_by S l e = less_by (numbers_given S l) 32 (passed (nat_lt (numbers_given S l) 32) _ e)
 
-depth_by : (S : List Fact) (l : Id) → deep S l ≡ None → depth S l < 8
+depth_by : (S : List Fact) (l : Id) → deep_by (by_facts S) l ≡ None → depth S l < 8
 depth_by S l e = less_by (depth S l) 8 (passed (nat_lt (depth S l) 8) _ e)
 
-few_by : (S : List Fact) (node : ℕ) → crowded S node ≡ None → held_at S node < 256
+few_by : (S : List Fact) (node : ℕ) → crowded_by (by_facts S) node ≡ None → held_at S node < 256
 few_by S node e = less_by (held_at S node) 256 (passed (nat_lt (held_at S node) 256) _ e)
 
 owed_by : (S : List Fact) (l : Id) (m : ℕ) → unowed_by (by_facts S) l m ≡ None → has_forgot S l m ≡ false → is_forget_duty S l m ≡ true
@@ -89,54 +89,54 @@ told_by S l e = by (least_forget S S l) e
     by None e = refl
     by (Some duty) e = absurd cc
 
-active_here : (S : List Fact) (v : List ℕ) (node : ℕ) (l : Id) → unknown v l ≡ None → gone S l ≡ None → away node l ≡ None → inactive S l ≡ None → IsActiveHere S v node l
+active_here : (S : List Fact) (v : List ℕ) (node : ℕ) (l : Id) → unknown v l ≡ None → gone_by (by_facts S) l ≡ None → away node l ≡ None → inactive_by (by_facts S) l ≡ None → IsActiveHere S v node l
 active_here S v node l a b c d =
     record { covered = covered_by v l a; held = held_by S l b; home = home_by node l c; active = active_by S l d }
 
-is_here : (S : List Fact) (v : List ℕ) (l : Id) → unknown v l ≡ None → gone S l ≡ None → IsHere S v l
+is_here : (S : List Fact) (v : List ℕ) (l : Id) → unknown v l ≡ None → gone_by (by_facts S) l ≡ None → IsHere S v l
 is_here S v l a b = record { covered = covered_by v l a; held = held_by S l b }
 
 given : (S : List Fact) (v : List ℕ) (node : ℕ) (c : Command) → refusal_of S v node c ≡ None → is_known S c ≡ false → IsGiven S v node c
-given S v node (BeginAsked None deadline) e new = few_by S node (open_first (crowded S node) _ e).0
+given S v node (BeginAsked None deadline) e new = few_by S node (open_first (crowded_by (by_facts S) node) _ e).0
 given S v node (BeginAsked (Some p) deadline) e new =
     let a = open_first (unknown v p) _ e in
-    let b = open_first (gone S p) _ a.1 in
+    let b = open_first (gone_by (by_facts S) p) _ a.1 in
     let c = open_first (away node p) _ b.1 in
-    let d = open_first (inactive S p) _ c.1 in
-    let f = open_first (full S p) _ d.1 in
-    let g = open_first (deep S p) _ f.1 in
-    (active_here S v node p a.0 b.0 c.0 d.0, room_by S p f.0, depth_by S p g.0, few_by S node (open_first (crowded S node) _ g.1).0)
+    let d = open_first (inactive_by (by_facts S) p) _ c.1 in
+    let f = open_first (full_by (by_facts S) p) _ d.1 in
+    let g = open_first (deep_by (by_facts S) p) _ f.1 in
+    (active_here S v node p a.0 b.0 c.0 d.0, room_by S p f.0, depth_by S p g.0, few_by S node (open_first (crowded_by (by_facts S) node) _ g.1).0)
 given S v node (JoinAsked l links) e new =
     let a = open_first (unknown v l) _ e in
-    let b = open_first (gone S l) _ a.1 in
+    let b = open_first (gone_by (by_facts S) l) _ a.1 in
     let c = open_first (away node l) _ b.1 in
-    let d = open_first (inactive S l) _ c.1 in
-    (active_here S v node l a.0 b.0 c.0 d.0, room_by S l (open_first (full S l) _ d.1).0)
+    let d = open_first (inactive_by (by_facts S) l) _ c.1 in
+    (active_here S v node l a.0 b.0 c.0 d.0, room_by S l (open_first (full_by (by_facts S) l) _ d.1).0)
 given S v node (LeaveAsked l m) e new =
     let a = open_first (unknown v l) _ e in
-    let b = open_first (gone S l) _ a.1 in
+    let b = open_first (gone_by (by_facts S) l) _ a.1 in
     let c = open_first (away node l) _ b.1 in
-    let s = open_first (stranger S l m) _ c.1 in
-    (active_here S v node l a.0 b.0 c.0 (open_first (inactive S l) _ s.1).0, participant_by S l m s.0)
+    let s = open_first (stranger_by (by_facts S) l m) _ c.1 in
+    (active_here S v node l a.0 b.0 c.0 (open_first (inactive_by (by_facts S) l) _ s.1).0, participant_by S l m s.0)
 given S v node (DecideAsked l verdict) e new =
     let a = open_first (unknown v l) _ e in
-    let b = open_first (gone S l) _ a.1 in
+    let b = open_first (gone_by (by_facts S) l) _ a.1 in
     let c = open_first (away node l) _ b.1 in
-    active_here S v node l a.0 b.0 c.0 (open_first (inactive S l) _ c.1).0
+    active_here S v node l a.0 b.0 c.0 (open_first (inactive_by (by_facts S) l) _ c.1).0
 given S v node (ReportAsked l m act outcome) e new =
     let a = open_first (unknown v l) _ e in
-    let b = open_first (gone S l) _ a.1 in
-    let s = open_first (stranger S l m) _ b.1 in
-    let u = open_first (unasked S l m act) _ s.1 in
+    let b = open_first (gone_by (by_facts S) l) _ a.1 in
+    let s = open_first (stranger_by (by_facts S) l m) _ b.1 in
+    let u = open_first (unasked_by (by_facts S) l m act) _ s.1 in
     (is_here S v l a.0 b.0, participant_by S l m s.0, passed (is_demanded S l m act) _ u.0, new)
 given S v node (ForgotAsked l m) e new =
     let a = open_first (unknown v l) _ e in
-    let b = open_first (gone S l) _ a.1 in
-    let s = open_first (stranger S l m) _ b.1 in
+    let b = open_first (gone_by (by_facts S) l) _ a.1 in
+    let s = open_first (stranger_by (by_facts S) l m) _ b.1 in
     (is_here S v l a.0 b.0, participant_by S l m s.0, owed_by S l m (open_first (unowed_by (by_facts S) l m) _ s.1).0 new, new)
 given S v node (PurgeAsked l) e new =
     let a = open_first (unknown v l) _ e in
-    let b = open_first (gone S l) _ a.1 in
+    let b = open_first (gone_by (by_facts S) l) _ a.1 in
     let c = open_first (away node l) _ b.1 in
     let n = open_first (nested_by (by_facts S) l) _ c.1 in
     let r = open_first (running_by (by_facts S) l) _ n.1 in

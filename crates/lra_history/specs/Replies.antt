@@ -15,7 +15,7 @@ use Rattle.lra_facts.specs.declared.fact.Fact.{Fact}
 use Rattle.lra_facts.specs.declared.refusal.Refusal.{Refusal}
 use Rattle.lra_facts.specs.declared.refusal.Refusal.TheVariants.{DepthFull, LrasFull, MembersFull, NotActive, NotDue, NotEnded, NotHeld, NotRoot, StillToForget, UnknownMember}
 use Rattle.lra_facts.specs.Duties.{has_forgot, is_forget_duty}
-use Rattle.lra_facts.specs.Refusals.{unless, first, unknown, away, spent, gone}
+use Rattle.lra_facts.specs.Refusals.{unless, first, unknown, away, spent}
 use Rattle.lra_facts.specs.Sets.{begun_by, depth, held_at, is_demanded, is_ended, is_heard, is_held, is_participant, is_root, member_status, numbers_given, shows_now, want}
 use Rattle.lra_forest.specs.declared.duties.Due.{Due}
 use Rattle.lra_forest.specs.Dues.{least_forget}
@@ -67,36 +67,47 @@ by_facts S =
 
 -- Refusals
 
+-- it is not held
 abbrev pub gone_by : Reading → Id → Option Refusal
 gone_by t l = unless (t.held l) NotHeld
 
+-- no participant joined with this number, or it left
 abbrev pub stranger_by : Reading → Id → ℕ → Option Refusal
 stranger_by t l m = unless (t.participant l m) UnknownMember
 
+-- it wants something already
 abbrev pub inactive_by : Reading → Id → Option Refusal
 inactive_by t l = unless (is_none (t.want l)) (NotActive (t.shows l))
 
+-- what it wants does not demand the act of the participant
 abbrev pub unasked_by : Reading → Id → ℕ → Act → Option Refusal
 unasked_by t l m act = unless (t.demanded l m act) (NotDue (t.shows l))
 
+-- it gave its last member number
 abbrev pub full_by : Reading → Id → Option Refusal
 full_by t l = unless (nat_lt (t.numbers l) 32) MembersFull
 
+-- nothing may be nested in it, as deep as it is
 abbrev pub deep_by : Reading → Id → Option Refusal
 deep_by t l = unless (nat_lt (t.depth l) 8) DepthFull
 
+-- the node holds as many LRAs of its own as it may
 abbrev pub crowded_by : Reading → ℕ → Option Refusal
 crowded_by t node = unless (nat_lt (t.held_at node) 256) LrasFull
 
+-- it is not to be told to forget, and was not told
 abbrev pub unowed_by : Reading → Id → ℕ → Option Refusal
 unowed_by t l m = unless (t.owed l m || t.forgot l m) (NotDue (t.shows l))
 
+-- it is nested in another
 abbrev pub nested_by : Reading → Id → Option Refusal
 nested_by t l = unless (t.root l) NotRoot
 
+-- it is not ended
 abbrev pub running_by : Reading → Id → Option Refusal
 running_by t l = unless (t.ended l) (NotEnded (t.shows l))
 
+-- a participant under it is still to be told to forget: the least of these is named
 abbrev pub unforgotten_by : Reading → Id → Option Refusal
 unforgotten_by t l = option_map_or (λ due. Some (StillToForget due.lra due.member)) (t.least_owed l) None
 
@@ -207,12 +218,12 @@ after S v node c = after_by (judge S v node c) S (entered S v node c)
 
 -- what is shown of an LRA, or the refusal
 abbrev pub shown_of : List Fact → List ℕ → Id → Result LraStatus Refusal
-shown_of S v l = option_map_or (λ r. Err r) (first (unknown v l ∷ gone S l ∷ [])) (Ok (shows_now S l))
+shown_of S v l = option_map_or (λ r. Err r) (first (unknown v l ∷ gone_by (by_facts S) l ∷ [])) (Ok (shows_now S l))
 
 -- what is shown of a participant, or the refusal
 abbrev pub member_shown : List Fact → List ℕ → Id → ℕ → Result MemberStatus Refusal
 member_shown S v l m =
-    option_map_or (λ r. Err r) (first (unknown v l ∷ gone S l ∷ []))
+    option_map_or (λ r. Err r) (first (unknown v l ∷ gone_by (by_facts S) l ∷ []))
     (option_map_or (λ s. Ok s) (member_status S l m) (Err UnknownMember))
 
 -- Lawful bodies
