@@ -4,7 +4,7 @@ ghost use Rattle.std.specs.Prelude.{◌≡◌, IfOk, length};
 use crate::commands::prepared;
 use lra_facts::{Links, Refusal};
 use lra_forest::{Forest, Members, Record, Told};
-use lra_id::{Front, LraId, NodeId};
+use lra_id::{Front, LAST_NUMBER, LraId, NodeId};
 use lra_history::{Command, CommandReply};
 use lra_replica::{Prepared, Replica, Taken};
 use lra_states::Verdict;
@@ -124,7 +124,7 @@ fn a_node_without_a_number_left_enters_nothing(rt: HostRuntime) -> Result<(), Fa
     let alloc = rt.alloc();
     let (parent, deadline) = (None, 0);
     let begin = Command::Begin { parent, deadline };
-    let mut spent = taking(alloc, 1, 281_474_976_710_655)?;
+    let mut spent = taking(alloc, 1, LAST_NUMBER)?;
     let told = reply(&mut spent, alloc, 1, begin)?;
     assert_eq!(rt; told, CommandReply::Refused(Refusal::NumbersSpent));
     let verdict = Verdict::Close;
