@@ -15,12 +15,9 @@ use lra_states::{Act, LraStatus, MemberStatus, Outcome, Verdict};
 pub fn are_in_order(facts: &[Fact]) -> bool
     ensures { IsTrue result ↔ (AllByRecursion NamesEarlier facts.now × AllByRecursion IsNumbered facts.now) }
 {
-    for fact in facts {
-        if !(is_numbered(fact) && names_earlier(fact)) {
-            return false;
-        }
-    }
-    true
+    facts
+        .iter()
+        .all(|fact| is_numbered(fact) && names_earlier(fact))
 }
 
 /// Whether a fact has a number that a node can give.
@@ -471,13 +468,7 @@ pub fn gives_number(id: LraId, fact: &Fact) -> bool
 pub fn numbers_given(facts: &[Fact], id: LraId) -> usize
     ensures { result ≡ numbers_given facts.now id }
 {
-    let mut count = 0;
-    for fact in facts {
-        if gives_number(id, fact) {
-            count += 1;
-        }
-    }
-    count
+    facts.iter().filter(|fact| gives_number(id, fact)).count()
 }
 
 /// The depth of an LRA: 1 for a root, and one more for each LRA above it.
