@@ -4,6 +4,8 @@ ghost use Rattle.std.specs.Io.KnownBytes.{Appends};
 ghost use Rattle.lra_http.specs.Responses.{HasNoResponse, head_room};
 ghost use Rattle.lra_http.specs.Streams.{AppendsPart, IsLost, most_interrupted};
 ghost use Rattle.lra_http.specs.MessageTexts.{request_text};
+ghost use Rattle.lra_http.specs.declared.message.CallRequest.{CallRequest as TheRequest};
+ghost use Rattle.lra_callback.specs.declared.answer.Answer.{Answer as TheAnswer};
 ghost use Rattle.lra_callback.specs.Calls.{IsBroken, IsCodeOf, IsOfStatus, answer_limit};
 
 use crate::Answer;
@@ -17,10 +19,14 @@ pub struct NoMemory;
 
 /// What participants are called with.
 pub trait Caller {
+    /// What holds of the caller before and after a request was answered so: each caller says what makes its answers true.
+    ghost answered: { (old new : Self) → TheRequest → TheAnswer → Type 0 };
+
     /// Makes one call. Where the request can't be brought to the participant, or no whole response comes of it, the answer
     /// is `Broken`. Errors: want of memory.
     fn call(&mut self, alloc: Global, request: &CallRequest) -> Result<Answer, NoMemory>
-        ensures { IfOk result IsOfStatus };
+        ensures answered { IfOk result (answered self.old self.new request.now) }
+        ensures status { IfOk result IsOfStatus };
 }
 
 /// A caller over one connection, for one call: its request says that the connection ends with the answer. Over a socket a
@@ -114,6 +120,16 @@ impl<R: Source, W: Sink> NetCaller<R, W> {
 }
 
 impl<R: Source, W: Sink> Caller for NetCaller<R, W> {
+    // The clauses of `ask`: what a code is of, that it comes behind the whole request, and where an answer is broken.
+    ghost answered = { λ old new request answer. IsCodeOf (R.left old.reader) (R.left new.reader) answer
+        × (IsBroken answer ⊎ Appends (W.written old.writer) (W.written new.writer) (request_text request))
+        × (IsBroken answer
+        → (IsLost (W.failed old.writer) (W.failed new.writer) (W.interrupted old.writer) (W.interrupted new.writer)
+        × (new.reader ≡ old.reader))
+        ⊎ (Appends (W.written old.writer) (W.written new.writer) (request_text request)
+        × (IsLost (R.failed old.reader) (R.failed new.reader) (R.interrupted old.reader) (R.interrupted new.reader)
+        ⊎ IfSome (R.left old.reader) (HasNoResponse head_room answer_limit)))) };
+
     fn call(&mut self, alloc: Global, request: &CallRequest) -> Result<Answer, NoMemory> {
         self.ask(alloc, request)
     }

@@ -1,4 +1,6 @@
 // Calls over connections in memory: the bytes of requests, and what is heard of answers that are whole, cut or broken.
+ghost use Rattle.lra_callback.specs.Calls.{IsBroken};
+
 use crate::callbacks::{F, K, S, answer, begin, code, decide, join, lra};
 use lra_callback::{Answer, Caller, Heard, Kind, NetCaller, NoMemory, hear, pick, request_of};
 use lra_http::{CallRequest, OverRead, OverWrite, read_byte};
@@ -409,6 +411,8 @@ fn interrupted_calls(rt: HostRuntime) -> Result<(), Fail> {
 struct Refused;
 
 impl Caller for Refused {
+    ghost answered = { λ old new request answer. IsBroken answer };
+
     fn call(&mut self, _: Global, _: &CallRequest) -> Result<Answer, NoMemory> {
         Ok(Answer::Broken)
     }
