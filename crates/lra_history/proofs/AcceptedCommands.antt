@@ -1,4 +1,4 @@
--- what a node knows of a command that it takes
+-- what a node knows of a command that it accepts
 use Rattle.std.proofs.Common.{◌≡◌, ◌<◌, ◌==◌, ◌||◌, ℕ, List, refl, Bool, true, false, Option, Some, None, is_none, nat_lt}
 use Rattle.std.specs.Option.{option_map_or}
 use Rattle.lra_id.specs.Ids.{Id, last_number}
@@ -28,7 +28,7 @@ pub record IsActiveHere (S : List Fact) (v : List ℕ) (node : ℕ) (l : Id) : T
   pub home : l.home ≡ node
   pub active : want S l ≡ None
 
--- what is known of each command that is taken
+-- what is known of each command that is accepted
 abbrev pub IsGiven : List Fact → List ℕ → ℕ → Command → Type 0
 IsGiven S v node (BeginAsked None deadline) = held_at S node < 256
 IsGiven S v node (BeginAsked (Some p) deadline) = IsActiveHere S v node p × (numbers_given S p < 32) × (depth S p < 8) × (held_at S node < 256)
@@ -39,12 +39,12 @@ IsGiven S v node (ReportAsked l m act outcome) = IsHere S v l × (is_participant
 IsGiven S v node (ForgotAsked l m) = IsHere S v l × (is_participant S l m ≡ true) × (is_forget_duty S l m ≡ true) × (has_forgot S l m ≡ false)
 IsGiven S v node (PurgeAsked l) = IsHere S v l × (l.home ≡ node) × (is_root S l ≡ true) × (is_ended S l ≡ true) × (least_forget S S l ≡ None)
 
--- a command that is taken meets no refusal, is not known, and finds a number left
-taken_by : (o : Option Refusal) (known : Bool) (limit : Option Refusal) → judged o known limit ≡ Accepted → (o ≡ None) × (known ≡ false) × (limit ≡ None)
-taken_by (Some r) known limit e = absurd cc
-taken_by None true limit e = absurd cc
-taken_by None false (Some r) e = absurd cc
-taken_by None false None e = (refl, refl, refl)
+-- a command that is accepted meets no refusal, is not known, and finds a number left
+accepted_when : (o : Option Refusal) (known : Bool) (limit : Option Refusal) → judged o known limit ≡ Accepted → (o ≡ None) × (known ≡ false) × (limit ≡ None)
+accepted_when (Some r) known limit e = absurd cc
+accepted_when None true limit e = absurd cc
+accepted_when None false (Some r) e = absurd cc
+accepted_when None false None e = (refl, refl, refl)
 
 pub none_is : {X : Type 0} (o : Option X) → is_none o ≡ true → o ≡ None
 none_is None e = refl
@@ -142,12 +142,12 @@ given S v node (PurgeAsked l) e new =
     let r = open_first (running_by (by_facts S) l) _ n.1 in
     (is_here S v l a.0 b.0, home_by node l c.0, passed (is_root S l) _ n.0, passed (is_ended S l) _ r.0, told_by S l (open_first (unforgotten_by (by_facts S) l) _ r.1).0)
 
--- what a node knows of a command that it takes
+-- what a node knows of a command that it accepts
 pub lawful_gives : (S : List Fact) (v : List ℕ) (node : ℕ) (c : Command) → judge S v node c ≡ Accepted → IsGiven S v node c
-lawful_gives S v node c e = let t = taken_by (refusal_of S v node c) (is_known S c) (spent v node) e in given S v node c t.0 t.1
+lawful_gives S v node c e = let t = accepted_when (refusal_of S v node c) (is_known S c) (spent v node) e in given S v node c t.0 t.1
 
 -- and it has a number left
 pub number_left : (S : List Fact) (v : List ℕ) (node : ℕ) (c : Command) → judge S v node c ≡ Accepted → count v node < last_number
 number_left S v node c e =
-    let t = taken_by (refusal_of S v node c) (is_known S c) (spent v node) e in
+    let t = accepted_when (refusal_of S v node c) (is_known S c) (spent v node) e in
     less_by (count v node) last_number (passed (nat_lt (count v node) last_number) _ t.2)

@@ -129,7 +129,7 @@ module _ (S T U : List Fact) (v w : List ℕ) (t : AreTogether S T U v w) (l : I
       ] in
       omega (arith, (begun_covered T w l t.counted_second begun).1, beyond)
 
--- What is taken
+-- What is absorbed
 
 module _ (S T U : List Fact) (v w : List ℕ) (t : AreTogether S T U v w) (l : Id) (nodes : ℕ) (low : 1 ≤ l.home) (high : l.home ≤ nodes) where
   abbrev at_union : Option Record
@@ -171,11 +171,11 @@ module _ (S T U : List Fact) (v w : List ℕ) (t : AreTogether S T U v w) (l : I
   by_held false true a b = in_second a b (is_covered v l) refl
   by_held false false a b = in_none a b
 
-  -- of each LRA what is taken is what the union has
+  -- of each LRA what is absorbed is what the union has
   pub taken_union : at_union ≡ absorbed (is_covered v l) (is_covered w l) (cond (is_held S l) (Some (record_of nodes S l)) None) (cond (is_held T l) (Some (record_of nodes T l)) None)
   taken_union = by_held (is_held S l) (is_held T l) refl refl
 
--- What is taken of a part that is sent. Listed: it is told which LRAs of the home are held. Sent: the record is told, if there
+-- What is absorbed of a part that is sent. Listed: it is told which LRAs of the home are held. Sent: the record is told, if there
 -- is one
 
 module _ (S T U : List Fact) (v w : List ℕ) (t : AreTogether S T U v w) (l : Id) (nodes : ℕ) (low : 1 ≤ l.home) (high : l.home ≤ nodes) (listed sent : Bool)
@@ -238,7 +238,7 @@ module _ (S T U : List Fact) (v w : List ℕ) (t : AreTogether S T U v w) (l : I
       let nothing = none_sent sent None refl in
       in_none S T U v w t l nodes low high a b ∙ ap (λ o. absorbed (is_covered v l) (listed && (is_covered w l && true)) None o) (sym nothing)
 
-  -- what is taken is what the union has, where the first set has those of the second's purges that are not told, and all that
+  -- what is absorbed is what the union has, where the first set has those of the second's purges that are not told, and all that
   -- the second has about an LRA whose record is not sent
   pub taken_part : cond (is_held U l) (Some (record_of nodes U l)) None ≡ absorbed (is_covered v l) (listed && (is_covered w l && not (is_held T l))) (cond (is_held S l) (Some (record_of nodes S l)) None) (cond sent (cond (is_held T l) (Some (record_of nodes T l)) None) None)
   taken_part = part_by (is_held S l) (is_held T l) refl refl
@@ -254,7 +254,7 @@ fact_number S l settled held =
     by : (n : ℕ) → 1 ≤ n → n < 2 ^ 48 → is_fact_number n ≡ true
     by n some few = grind (arith, nat_tests)
 
--- so that what is taken doesn't go by its number
+-- so that what is absorbed doesn't go by its number
 pub guarded : (c g b held : Bool) (r : Record) (p : Option Record) → (held ≡ true → b ≡ true) → absorbed c (b && g) (cond held (Some r) None) p ≡ absorbed c g (cond held (Some r) None) p
 guarded c g b true r p e = ap (λ (x : Bool). absorbed c (x && g) (Some r) p) (e refl)
 guarded c g b false r None e = refl

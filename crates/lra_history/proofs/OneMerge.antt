@@ -55,7 +55,7 @@ merged_num r t = by (nat_le (home_stamp t) (home_stamp r)) refl
     by true e = rw e refl
     by false e = rw e refl
 
--- what is taken of an LRA is a record of it
+-- what is absorbed of an LRA is a record of it
 taken_named : (l : Id) (c g : Bool) (o p : Option Record) (s : Record) → ((r : Record) → o ≡ Some r → is_of l r ≡ true) → ((r : Record) → p ≡ Some r → is_of l r ≡ true) → absorbed c g o p ≡ Some s → is_of l s ≡ true
 taken_named l c g None None s left right e = absurd cc
 taken_named l true g None (Some t) s left right e = absurd cc
@@ -75,7 +75,7 @@ taken_is a b l s e =
     (λ r k. (find_in (is_of l) (records_at a.records l.home) r k).1)
     (λ r k. (find_in (is_of l) (records_at b.records l.home) r k).1) e
 
--- All that is taken
+-- All that is absorbed
 
 put_some_are_of : (home : ℕ) (o : Option Record) (rs : List Record) → ((s : Record) → o ≡ Some s → s.home ≡ home) → AreOf home rs → AreOf home (put_some o rs)
 put_some_are_of home None rs own h = h
@@ -86,7 +86,7 @@ taken_are_of a b home [] h = record { homes = tt; ascending = tt }
 taken_are_of a b home (r ∷ rs) h =
     put_some_are_of home (merged_of a b (id_of r)) (all_merged a b rs) (λ s e. name_home (id_of r) s (taken_is a b (id_of r) s e) ∙ h.0) (taken_are_of a b home rs h.1)
 
--- of an LRA with a record in the list just what is taken is found
+-- of an LRA with a record in the list just what is absorbed is found
 taken_found : (a b : View) (home : ℕ) (rs : List Record) (l : Id) → AllByRecursion (λ (r : Record). r.home ≡ home) rs → find (is_of l) (all_merged a b rs) ≡ cond (list_any (is_of l) rs) (merged_of a b l) None
 taken_found a b home [] l h = refl
 taken_found a b home (r ∷ rs) l h = by (merged_of a b (id_of r)) refl (taken_found a b home rs l h.1)

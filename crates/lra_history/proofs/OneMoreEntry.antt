@@ -284,7 +284,7 @@ lawful_with h v node e some there closed own lawful front body =
           lawful = subst (λ (S : List Fact). IsLawfulBody S v node e.body) (sym (unmoved h v node e some there closed)) body;
         }
 
--- what is entered for a command that is taken is lawful
+-- what is entered for a command that is accepted is lawful
 pub taken_lawful : (S : List Fact) (v : List ℕ) (node : ℕ) (c : Command) → judge S v node c ≡ Accepted → IsLawfulBody S v node (body_for S c)
 taken_lawful S v node c taken =
     record {

@@ -68,7 +68,7 @@ purge_held f S T more settled r body root x = by (is_begun S x) refl
     by true b = let gone = along b in rw (begun, b, gone) (swapped (is_under S r x) (list_any (is_purged_root S) (chain S x)))
     by false b = rw (begun, b) refl
 
--- Records that are taken out
+-- Records that are removed
 
 -- the LRA of a record
 abbrev pub id_of : Record → Id

@@ -18,7 +18,7 @@ use Rattle.lra_history.proofs.Basics.{held_begun}
 pub reply_denied : (S : List Fact) (v : List ℕ) (node : ℕ) (c : Command) (refusal : Refusal) → judge S v node c ≡ Denied refusal → reply_of S v node c ≡ Refused refusal
 reply_denied S v node c refusal denied = ap (λ (j : Judgement). reply_by j (accepted S v node c)) denied
 
--- a command that is taken has the reply to its fact
+-- a command that is accepted has the reply to its fact
 pub reply_taken : (S : List Fact) (v : List ℕ) (node : ℕ) (c : Command) → judge S v node c ≡ Accepted → reply_of S v node c ≡ accepted S v node c
 reply_taken S v node c taken = ap (λ (j : Judgement). reply_by j (accepted S v node c)) taken
 

@@ -69,8 +69,8 @@ first_past b c r xs ys same rest = ap (λ (x : Bool). first (unless x r ∷ xs))
     by true rest = rest refl
     by false rest = refl
 
-settled_alike : (nodes : ℕ) (t u : Reading) (l : Id) → AreAlike nodes t u → u.held l ≡ true → inactive_by t l ≡ inactive_by u l
-settled_alike nodes t u l alike held =
+inactive_alike : (nodes : ℕ) (t u : Reading) (l : Id) → AreAlike nodes t u → u.held l ≡ true → inactive_by t l ≡ inactive_by u l
+inactive_alike nodes t u l alike held =
     ap (λ (w : Option Verdict). unless (is_none w) (NotActive (t.shows l))) (alike.want l held)
     ∙ ap (λ (s : LraStatus). unless (is_none (u.want l)) (NotActive s)) (alike.shows l held)
 
@@ -114,24 +114,24 @@ refusal_alike nodes t u v node (Begin None deadline) plain alike = first_both _ 
 refusal_alike nodes t u v node (Begin (Some p) deadline) plain alike =
     first_both (unknown v p) (unknown v p) _ _ refl (first_past (t.held p) (u.held p) NotHeld _ _ (alike.held p) (λ held.
     first_both (away node p) (away node p) _ _ refl
-    (first_both _ _ _ _ (settled_alike nodes t u p alike held)
+    (first_both _ _ _ _ (inactive_alike nodes t u p alike held)
     (first_both _ _ _ _ (full_alike nodes t u p alike held)
     (first_both _ _ _ _ (deep_alike nodes t u p alike held)
     (first_both _ _ [] [] (crowded_alike nodes t u node alike plain.0 plain.1) refl))))))
 refusal_alike nodes t u v node (Join l links) plain alike =
     first_both (unknown v l) (unknown v l) _ _ refl (first_past (t.held l) (u.held l) NotHeld _ _ (alike.held l) (λ held.
     first_both (away node l) (away node l) _ _ refl
-    (first_both _ _ _ _ (settled_alike nodes t u l alike held)
+    (first_both _ _ _ _ (inactive_alike nodes t u l alike held)
     (first_both _ _ [] [] (full_alike nodes t u l alike held) refl))))
 refusal_alike nodes t u v node (Leave l m) plain alike =
     first_both (unknown v l) (unknown v l) _ _ refl (first_past (t.held l) (u.held l) NotHeld _ _ (alike.held l) (λ held.
     first_both (away node l) (away node l) _ _ refl
     (first_past (t.participant l m) (u.participant l m) UnknownMember _ _ (alike.participant l m held) (λ joined.
-    first_both _ _ [] [] (settled_alike nodes t u l alike held) refl))))
+    first_both _ _ [] [] (inactive_alike nodes t u l alike held) refl))))
 refusal_alike nodes t u v node (Decide l verdict) plain alike =
     first_both (unknown v l) (unknown v l) _ _ refl (first_past (t.held l) (u.held l) NotHeld _ _ (alike.held l) (λ held.
     first_both (away node l) (away node l) _ _ refl
-    (first_both _ _ [] [] (settled_alike nodes t u l alike held) refl)))
+    (first_both _ _ [] [] (inactive_alike nodes t u l alike held) refl)))
 refusal_alike nodes t u v node (Report l m act outcome) plain alike =
     first_both (unknown v l) (unknown v l) _ _ refl (first_past (t.held l) (u.held l) NotHeld _ _ (alike.held l) (λ held.
     first_past (t.participant l m) (u.participant l m) UnknownMember _ _ (alike.participant l m held) (λ joined.

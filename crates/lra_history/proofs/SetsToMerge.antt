@@ -27,7 +27,7 @@ use Rattle.lra_history.proofs.ClosedSets.{closed_settled, entry_of, facts_inside
 use Rattle.lra_history.proofs.AcceptedCommands.{IsGiven, lawful_gives}
 use Rattle.lra_history.proofs.TwoClosedSets.{IsProper}
 
--- What a taken command says of its body
+-- What an accepted command says of its body
 
 home_of : (id l : Id) (node : ℕ) → id.home ≡ node → same_id id l ≡ true → node ≡ l.home
 home_of id l node home same = sym home ∙ ap (λ (x : Id). x.home) (same_is id l same)

@@ -11,7 +11,7 @@ use Rattle.lra_history.specs.Merging.{IsAbsorbed, IsMerged, TellsAll, Telling, a
 use Rattle.lra_history.specs.Views.{View, record_at, records_at}
 use Rattle.lra_history.proofs.JoinedFronts.{length_join}
 
--- What is taken of an LRA
+-- What is absorbed of an LRA
 
 -- that the other purged it matters only where the other has none
 gone_same : (covered gone past : Bool) (o p : Option Record) → (p ≡ None → gone ≡ past) → absorbed covered gone o p ≡ absorbed covered past o p
@@ -34,7 +34,7 @@ not_listed : (b listed : Bool) → listed ≡ false → (b && not listed) ≡ b
 not_listed true listed e = ap not e
 not_listed false listed e = refl
 
--- of each LRA the same is taken as of the view that is told
+-- of each LRA the same is absorbed as of the view that is told
 taken_told : (a b : View) (telling : Telling) (l : Id) → TellsAll telling b → 1 ≤ l.home → l.home ≤ length b.front → absorbed_of a telling l ≡ merged_of a b l
 taken_told a b telling l all low high =
     let rs = records_at b.records l.home in

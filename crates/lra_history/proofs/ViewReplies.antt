@@ -37,16 +37,16 @@ use Rattle.lra_history.proofs.Covered.{found_of}
 use Rattle.lra_history.proofs.AcceptedCommands.{lawful_gives}
 use Rattle.lra_history.proofs.RemovedByPurge.{removal_said}
 
--- What is known of a command that is taken, by any reading
+-- What is known of a command that is accepted, by any reading
 
-pub taken_open : (o : Option Refusal) (known : Bool) (limit : Option Refusal) → judged o known limit ≡ Accepted → o ≡ None
-taken_open (Some r) known limit e = absurd cc
-taken_open None known limit e = refl
+pub accepted_open : (o : Option Refusal) (known : Bool) (limit : Option Refusal) → judged o known limit ≡ Accepted → o ≡ None
+accepted_open (Some r) known limit e = absurd cc
+accepted_open None known limit e = refl
 
 pub leave_passed : (view : View) (me : ℕ) (l : Id) (m : ℕ) → judge_on view me (Leave l m) ≡ Accepted → (is_some (record_at view l) ≡ true) × ((by_view view).participant l m ≡ true)
 leave_passed view me l m taken =
     let t = by_view view in
-    let none = taken_open (refusal_by t view.front me (Leave l m)) false (spent view.front me) taken in
+    let none = accepted_open (refusal_by t view.front me (Leave l m)) false (spent view.front me) taken in
     let after_unknown = open_first (unknown view.front l) _ none in
     let after_gone = open_first (unless (t.held l) NotHeld) _ after_unknown.1 in
     let after_away = open_first (away me l) _ after_gone.1 in
@@ -56,7 +56,7 @@ leave_passed view me l m taken =
 pub decide_passed : (view : View) (me : ℕ) (l : Id) (verdict : Verdict) → judge_on view me (Decide l verdict) ≡ Accepted → (is_some (record_at view l) ≡ true) × (l.home ≡ me)
 decide_passed view me l verdict taken =
     let t = by_view view in
-    let none = taken_open (refusal_by t view.front me (Decide l verdict)) false (spent view.front me) taken in
+    let none = accepted_open (refusal_by t view.front me (Decide l verdict)) false (spent view.front me) taken in
     let after_unknown = open_first (unknown view.front l) _ none in
     let after_gone = open_first (unless (t.held l) NotHeld) _ after_unknown.1 in
     let after_away = open_first (away me l) _ after_gone.1 in
@@ -91,23 +91,23 @@ some_record (Some r) e = (r, refl)
 pub join_passed : (view : View) (me : ℕ) (l : Id) (links : Links) → judge_on view me (Join l links) ≡ Accepted → (is_some (record_at view l) ≡ true) × ((by_view view).numbers l < 32)
 join_passed view me l links taken =
     let t = by_view view in
-    let none = taken_open (refusal_by t view.front me (Join l links)) false (spent view.front me) taken in
+    let none = accepted_open (refusal_by t view.front me (Join l links)) false (spent view.front me) taken in
     let after_unknown = open_first (unknown view.front l) _ none in
     let after_gone = open_first (unless (t.held l) NotHeld) _ after_unknown.1 in
     let after_away = open_first (away me l) _ after_gone.1 in
-    let after_settled = open_first (inactive_by t l) _ after_away.1 in
-    let after_full = open_first (full_by t l) _ after_settled.1 in
+    let after_inactive = open_first (inactive_by t l) _ after_away.1 in
+    let after_full = open_first (full_by t l) _ after_inactive.1 in
     (passed (t.held l) NotHeld after_gone.0, less_by (t.numbers l) 32 (passed (nat_lt (t.numbers l) 32) MembersFull after_full.0))
 
 pub nest_passed : (view : View) (me : ℕ) (p : Id) (deadline : ℕ) → judge_on view me (Begin (Some p) deadline) ≡ Accepted → (is_some (record_at view p) ≡ true) × (p.home ≡ me) × ((by_view view).numbers p < 32)
 nest_passed view me p deadline taken =
     let t = by_view view in
-    let none = taken_open (refusal_by t view.front me (Begin (Some p) deadline)) false (spent view.front me) taken in
+    let none = accepted_open (refusal_by t view.front me (Begin (Some p) deadline)) false (spent view.front me) taken in
     let after_unknown = open_first (unknown view.front p) _ none in
     let after_gone = open_first (unless (t.held p) NotHeld) _ after_unknown.1 in
     let after_away = open_first (away me p) _ after_gone.1 in
-    let after_settled = open_first (inactive_by t p) _ after_away.1 in
-    let after_full = open_first (full_by t p) _ after_settled.1 in
+    let after_inactive = open_first (inactive_by t p) _ after_away.1 in
+    let after_full = open_first (full_by t p) _ after_inactive.1 in
     (passed (t.held p) NotHeld after_gone.0, equal_from p.home me (passed _ (NotHome p.home) after_away.0), less_by (t.numbers p) 32 (passed (nat_lt (t.numbers p) 32) MembersFull after_full.0))
 
 -- as many members as the record has

@@ -83,7 +83,7 @@ abbrev pub purge_change : View → ℕ → List Id → Change
 purge_change view me removed =
     record { records = []; removed = removed; front = raised view.front me; purges = slice_set view.purges (me - 1) (count view.front me + 1) }
 
--- A patch where the command is taken: with it the view stands for the set with exactly the command's fact. None where it
+-- A patch where the command is accepted: with it the view stands for the set with exactly the command's fact. None where it
 -- was known.
 abbrev pub AddsFact : List Fact → View → ℕ → Command → Option Change → Type 0
 AddsFact S view me c None = judge S view.front me c ≡ AlreadyKnown

@@ -18,7 +18,7 @@ use Rattle.lra_history.specs.Views.{StandsFor, View, record_at, records_at}
 abbrev pub merged_of : View → View → Id → Option Record
 merged_of a b l = absorbed (is_covered a.front l) (is_fact_number l.num && is_covered b.front l) (record_at a l) (record_at b l)
 
--- c is made of a and b, which count the same nodes: the greater counts and purges, and of each LRA what is taken
+-- c is made of a and b, which count the same nodes: the greater counts and purges, and of each LRA what is absorbed
 pub record IsMerged (a b c : View) : Type 0 where
   pub nodes : length a.front ≡ length b.front
   pub front : c.front ≡ join_fronts a.front b.front
@@ -32,7 +32,7 @@ abbrev pub put_some : Option Record → List Record → List Record
 put_some None rs = rs
 put_some (Some r) rs = put_record r rs
 
--- what is taken of the LRAs of a list of records, in order
+-- what is absorbed of the LRAs of a list of records, in order
 abbrev pub all_merged : View → View → List Record → List Record
 all_merged a b [] = []
 all_merged a b (r ∷ rs) = put_some (merged_of a b (id_of r)) (all_merged a b rs)
@@ -73,13 +73,13 @@ told_records telling home = option_map_or (λ (told : Told). told.records.record
 abbrev pub told_held : Telling → ℕ → Option (List ℕ)
 told_held telling home = option_map_or (λ (told : Told). held_numbers told.held) (slice_get telling.homes (home - 1)) None
 
--- what is taken of an LRA, of a view and what another node tells
+-- what is absorbed of an LRA, of a view and what another node tells
 abbrev pub absorbed_of : View → Telling → Id → Option Record
 absorbed_of a telling l =
     absorbed (is_covered a.front l) (is_gone (count telling.front l.home) (told_held telling l.home) l.num)
     (record_at a l) (find (is_of l) (told_records telling l.home))
 
--- c is a with what is told, by a node that counts the same nodes: the greater counts and purges, and of each LRA what is taken
+-- c is a with what is told, by a node that counts the same nodes: the greater counts and purges, and of each LRA what is absorbed
 pub record IsAbsorbed (a : View) (telling : Telling) (c : View) : Type 0 where
   pub nodes : length a.front ≡ length telling.front
   pub front : c.front ≡ join_fronts a.front telling.front

@@ -57,14 +57,14 @@ changed view me c = patched (change_on view me c) view
 abbrev pub judge_on : View → ℕ → Command → Judgement
 judge_on view me c = judge_by (by_view view) view.front me c
 
--- the reply to a command that is taken
+-- the reply to a command that is accepted
 abbrev pub accepted_on : View → ℕ → Command → CommandReply
 accepted_on view me c = accepted_by (by_view view) (by_view (changed view me c)) view.front me c
 
 abbrev pub reply_on : View → ℕ → Command → CommandReply
 reply_on view me c = reply_by (judge_on view me c) (accepted_on view me c)
 
--- only a command that is taken changes the view
+-- only a command that is accepted changes the view
 abbrev pub view_by : Judgement → (before after : View) → View
 view_by (Denied r) before after = before
 view_by AlreadyKnown before after = before

@@ -177,7 +177,7 @@ entered S v node c = S ++ next_fact S v node c ∷ []
 abbrev pub accepted : List Fact → List ℕ → ℕ → Command → CommandReply
 accepted S v node c = accepted_by (by_facts S) (by_facts (entered S v node c)) v node c
 
--- a command is refused, it is known already, or it is taken
+-- a command is refused, it is known already, or it is accepted
 pub data Judgement : Type 0 where
   Denied : Refusal → Judgement
   AlreadyKnown : Judgement
@@ -205,7 +205,7 @@ reply_by Accepted reply = reply
 abbrev pub reply_of : List Fact → List ℕ → ℕ → Command → CommandReply
 reply_of S v node c = reply_by (judge S v node c) (accepted S v node c)
 
--- only a command that is taken enters something
+-- only a command that is accepted enters something
 abbrev pub after_by : Judgement → (before with_it : List Fact) → List Fact
 after_by (Denied r) before with_it = before
 after_by AlreadyKnown before with_it = before

@@ -36,7 +36,7 @@ use Rattle.lra_history.specs.Views.{StandsFor, View, record_at, records_at}
 use Rattle.lra_history.proofs.SameReadings.{IsPlain, forgot_passed, judge_view, report_passed, view_alike}
 use Rattle.lra_history.proofs.AcceptedCommands.{lawful_gives}
 use Rattle.lra_history.proofs.ReplyOrRefusal.{held_within, never_lost, reply_denied, reply_taken}
-use Rattle.lra_history.proofs.ViewReplies.{taken_open, leave_passed, decide_passed, found_id, found_there, changed_records, join_passed, nest_passed, numbers_on, is_added}
+use Rattle.lra_history.proofs.ViewReplies.{accepted_open, leave_passed, decide_passed, found_id, found_there, changed_records, join_passed, nest_passed, numbers_on, is_added}
 use Rattle.lra_replica.specs.declared.patch.Prepared.{Prepared}
 use Rattle.lra_replica.specs.Prepared.{IsAnswer, IsNext, IsReadyNext, IsPrepared}
 
@@ -215,7 +215,7 @@ root_next view me deadline id next change taken named is change_is =
 pub report_some : (view : View) (me : ℕ) (l : Id) (m : ℕ) (act : Act) (outcome : Outcome) → judge_on view me (Report l m act outcome) ≡ Accepted → 1 ≤ m
 report_some view me l m act outcome taken =
     let t = by_view view in
-    let none = taken_open (refusal_by t view.front me (Report l m act outcome)) (t.heard l m act outcome) (spent view.front me) taken in
+    let none = accepted_open (refusal_by t view.front me (Report l m act outcome)) (t.heard l m act outcome) (spent view.front me) taken in
     some_number (at_home view l.home) l.num m (report_passed t view.front me l m act outcome none).1
 
 pub report_next : (view : View) (me : ℕ) (l : Id) (m : ℕ) (act : Act) (outcome : Outcome) (copy : Record) (members : List Member) (change : Change) → IsReadyNext view me (Report l m act outcome) l (Ok copy)
@@ -236,7 +236,7 @@ report_next view me l m act outcome copy members change ready is change_is =
 pub forgot_some : (view : View) (me : ℕ) (l : Id) (m : ℕ) → judge_on view me (Forgot l m) ≡ Accepted → 1 ≤ m
 forgot_some view me l m taken =
     let t = by_view view in
-    let none = taken_open (refusal_by t view.front me (Forgot l m)) (t.forgot l m) (spent view.front me) taken in
+    let none = accepted_open (refusal_by t view.front me (Forgot l m)) (t.forgot l m) (spent view.front me) taken in
     some_number (at_home view l.home) l.num m (forgot_passed t view.front me l m none).1
 
 pub forgot_next : (view : View) (me : ℕ) (l : Id) (m : ℕ) (copy : Record) (members : List Member) (change : Change) → IsReadyNext view me (Forgot l m) l (Ok copy)
@@ -275,12 +275,12 @@ prepared_settled S view me c result plain there settled stands some next = by (j
     by AlreadyKnown here e is = subst (λ (x : Result Prepared Refusal). IsPrepared S view me c x) (sym is) (sym (ap (λ (j : Judgement). reply_by j (accepted S view.front me c)) e), e)
     by Accepted here e is = taken here e result some is
 
--- want of memory, where it is taken
+-- want of memory, where it is accepted
 pub memory_prepared : (S : List Fact) (view : View) (me : ℕ) (c : Command) (result : Result Prepared Refusal) → IsPlain (length view.front) me c → IsSettled S → StandsFor S view → judge_on view me c ≡ Accepted → result ≡ Err NoMemory
     → IsPrepared S view me c result
 memory_prepared S view me c result plain settled stands taken is = subst (IsPrepared S view me c) (sym is) (inl (refl, sym (judge_view S view me c plain settled stands) ∙ taken))
 
--- where a report is taken, or that one was told, its LRA has a record: only memory may want for a copy of it
+-- where a report is accepted, or that one was told, its LRA has a record: only memory may want for a copy of it
 unready : (S : List Fact) (view : View) (me : ℕ) (c : Command) (l : Id) (refusal : Refusal) → StandsFor S view → (judge S view.front me c ≡ Accepted → is_held S l ≡ true) → judge S view.front me c ≡ Accepted
     → (refusal ≡ NoMemory) ⊎ (record_at view l ≡ None) → IsPrepared S view me c (Err refusal)
 unready S view me c l refusal stands gives taken (inl memory) = inl (memory, taken)

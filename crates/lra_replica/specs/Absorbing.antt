@@ -26,7 +26,7 @@ AreTakenAt a told reach after =
     AreTaken told.records.home (count a.front told.records.home) reach (held_numbers told.held) told.records.records
     (records_at a.records told.records.home) after
 
--- What is changed at a home, each once, which has its shape then: these are taken out, and these records put in their places
+-- What is changed at a home, each once, which has its shape then: these are removed, and these records put in their places
 pub record IsChangeAt (a : View) (told : Told) (reach : ℕ) (front : List ℕ) (ids : List Id) (more : List Record) : Type 0 where
   pub some : 1 ≤ told.records.home
   pub only : AreOnlyChanges told.records.home (records_at a.records told.records.home) ids more

@@ -26,7 +26,7 @@ use Rattle.lra_world.specs.Headline.{IsNode}
 use Rattle.lra_world.specs.Worlds.{Acts, Comes, Expires, SentFrame, IfNode, IsSent, IsWorld, Runs, Sends, State, Steps, Takes, Ticks, after_command, frame_at, front_of, if_taken, is_node, nodes_of, set_of, start, with_command, with_front}
 use Rattle.lra_world.proofs.GrowingHistories.{IsGrown, grown_more, grown_none, grown_with, sent_still}
 
--- nothing changes, a node enters a command that it takes, a node joins the front of a frame, or a node sends a frame
+-- nothing changes, a node enters a command that it accepts, a node joins the front of a frame, or a node sends a frame
 pub data IsMove (s t : State) : Type 0 where
   Still : t ≡ s → IsMove s t
   Entered : (node : ℕ) (c : Command) → IsNode s node → judge (set_of s node) (front_of s node) node c ≡ Accepted → t ≡ with_command s node c → IsMove s t
@@ -118,7 +118,7 @@ risen_at fronts place new at up other = elim (same_or_not other place) [
   | inr apart ↦ subst (IsBelow (get_or fronts other [])) (sym (get_or-set_other fronts place other new [] apart)) (λ n. omega arith)
 ]
 
--- a node that enters a command that it takes
+-- a node that enters a command that it accepts
 pub kept_entered : (s : State) (node : ℕ) (c : Command) → IsWorld s → IsNode s node → judge (set_of s node) (front_of s node) node c ≡ Accepted → IsKeptBy s (with_command s node c)
 kept_entered s node c w is taken =
     record {

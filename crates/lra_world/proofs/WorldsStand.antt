@@ -92,7 +92,7 @@ with_so old new node c so = record { was = c.was; now = c.now; at = c.at; replic
 abbrev pub ActsSo : ℕ → Command → CommandReply → ReplicaState → ReplicaState → Type 0
 ActsSo node c reply was now = (S : List Fact) → IsSettled S → StandsFor S (view_of was) → IsActed S (view_of was) node c reply (view_of now)
 
--- a node that enters a command that it takes
+-- a node that enters a command that it accepts
 entered_world : (s : State) (old new : Machine) (node : ℕ) (c : Command) (P : ReplicaState → ReplicaState → Type 0) (change : IsChanged old new node P) → IsWorldOf s old → IsNode s node → judge (set_of s node) (front_of s node) node c ≡ Accepted
     → (change.now.front ≡ raised (front_of s node) node) → ((T : List Fact) → IsMore (next_fact (set_of s node) (front_of s node) node c) (set_of s node) T → StandsFor T (view_of change.now)) → IsWorldOf (with_command s node c) new
 entered_world s old new node c P change w is taken raises adds =

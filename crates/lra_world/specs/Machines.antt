@@ -59,7 +59,7 @@ abbrev pub with_patch : Option Change → View → View
 with_patch None view = view
 with_patch (Some change) view = patched change view
 
--- only a command that is taken changes a view: then it stands for the set with the command's fact
+-- only a command that is accepted changes a view: then it stands for the set with the command's fact
 abbrev pub Becomes : Judgement → List Fact → View → ℕ → Command → View → Type 0
 Becomes (Denied r) S old me c new = new ≡ old
 Becomes AlreadyKnown S old me c new = new ≡ old

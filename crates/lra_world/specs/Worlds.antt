@@ -108,7 +108,7 @@ with_command s node c =
       sent = s.sent;
     }
 
--- only a command that is taken enters something
+-- only a command that is accepted enters something
 abbrev pub if_taken : Judgement → (before after : State) → State
 if_taken (Denied r) before after = before
 if_taken AlreadyKnown before after = before

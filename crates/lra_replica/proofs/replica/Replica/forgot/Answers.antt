@@ -7,7 +7,7 @@ use Rattle.lra_replica.specs.declared.patch.Prepared.{Prepared}
 use Rattle.lra_replica.specs.Prepared.{IsNext, IsPrepared, judged_as}
 use Rattle.lra_replica.specs.Replicas.{view_of}
 use Rattle.lra_replica.proofs.PreparedReplies.{answer_denied, memory_prepared, prepared_settled, forgot_next, forgot_unready}
-use Rattle.lra_replica.proofs.KnownReports.{newly_taken}
+use Rattle.lra_replica.proofs.KnownReports.{newly_accepted}
 use Rattle.lra_replica.proofs.replica.Replica.forgot.Goals as goal
 
 pub returns-in_err-known-clause-prepared : goal.returns-in_err-known-clause-prepared
@@ -28,7 +28,7 @@ returns-then-known-clause-prepared c S settled stands =
 pub returns-clause-prepared : goal.returns-clause-prepared
 returns-clause-prepared c S settled stands =
     let view = view_of c.args.self.now in
-    let taken = newly_taken _ _ c.in_ok-known.ensures.judged c.if-known.false in
+    let taken = newly_accepted _ _ c.in_ok-known.ensures.judged c.if-known.false in
     prepared_settled S view c.args.me (Forgot c.args.id c.args.member) _ tt c.requires settled stands (λ taken. c.in_ok-patch.ensures.some)
     (forgot_next view c.args.me c.args.id c.args.member c.in_ok-next.next c.forget_at.new.members c.in_ok-patch.patch (taken, c.in_ok-next.ensures.found) c.in_ok-forget_at.ensures c.in_ok-patch.ensures.patch)
 
@@ -37,14 +37,14 @@ returns-in_err-next-clause-prepared c S settled stands =
     let view = view_of c.args.self.now in
     let is : c.from_residual-in_err-next.result ≡ Err c.in_err-next.field-0.0 = search rules in
     subst (λ (r : Result Prepared Refusal). IsPrepared S view c.args.me (Forgot c.args.id c.args.member) r) (sym is)
-    (forgot_unready S view c.args.me c.args.id c.args.member c.in_err-next.field-0.0 settled stands (newly_taken _ _ c.in_ok-known.ensures.judged c.if-known.false) c.in_err-next.ensures.lost)
+    (forgot_unready S view c.args.me c.args.id c.args.member c.in_err-next.field-0.0 settled stands (newly_accepted _ _ c.in_ok-known.ensures.judged c.if-known.false) c.in_err-next.ensures.lost)
 
 pub returns-in_err-forget_at-clause-prepared : goal.returns-in_err-forget_at-clause-prepared
 returns-in_err-forget_at-clause-prepared c S settled stands =
     let is : c.from_residual-in_err-forget_at.result ≡ Err NoMemory = search rules in
-    memory_prepared S (view_of c.args.self.now) c.args.me (Forgot c.args.id c.args.member) c.from_residual-in_err-forget_at.result tt settled stands (newly_taken _ _ c.in_ok-known.ensures.judged c.if-known.false) is
+    memory_prepared S (view_of c.args.self.now) c.args.me (Forgot c.args.id c.args.member) c.from_residual-in_err-forget_at.result tt settled stands (newly_accepted _ _ c.in_ok-known.ensures.judged c.if-known.false) is
 
 pub returns-in_err-patch-clause-prepared : goal.returns-in_err-patch-clause-prepared
 returns-in_err-patch-clause-prepared c S settled stands =
     let is : c.from_residual-in_err-patch.result ≡ Err NoMemory = search rules in
-    memory_prepared S (view_of c.args.self.now) c.args.me (Forgot c.args.id c.args.member) c.from_residual-in_err-patch.result tt settled stands (newly_taken _ _ c.in_ok-known.ensures.judged c.if-known.false) is
+    memory_prepared S (view_of c.args.self.now) c.args.me (Forgot c.args.id c.args.member) c.from_residual-in_err-patch.result tt settled stands (newly_accepted _ _ c.in_ok-known.ensures.judged c.if-known.false) is
