@@ -24,7 +24,7 @@ use Rattle.lra_delta.specs.Sending.{IsToldBy}
 use Rattle.lra_delta.specs.TakenFrames.{IsTaken}
 use Rattle.lra_delta.proofs.Existing.{view_made, view_stands}
 use Rattle.lra_delta.proofs.OfSets.{frame_stands}
-use Rattle.lra_delta.proofs.ToldByFrames.{absorbed_by, accepted_when}
+use Rattle.lra_delta.proofs.ToldByFrames.{absorbed_by, taken_by}
 use Rattle.lra_delta.proofs.TakenIsUnion.{facts_known, purges_known, stands_taken, taken_stands}
 
 -- a home whose last purge the base counts has no purge that the receiver lacks
@@ -76,7 +76,7 @@ pub patched_union : (h : History) (v w : List ℕ) (a : View) (frame : Frame) (t
     → IfErr result (λ refusal. (refusal ≡ NoMemory) ⊎ ((refusal ≡ BadFrame 0) × ((c : View) → IsAbsorbed a telling c → HasShape c → ⊥)))
     → MatchResult result (λ patch. StandsFor (facts h (join_fronts v w)) (patched patch a)) (λ refusal. refusal ≡ NoMemory)
 patched_union h v w a frame telling (Ok patch) law cv cw sa is nodes below told taken refused =
-    take_law h v w frame.base a (patched patch a) frame law cv cw sa is below (accepted_when a (patched patch a) frame telling told taken)
+    take_law h v w frame.base a (patched patch a) frame law cv cw sa is below (taken_by a (patched patch a) frame telling told taken)
 patched_union h v w a frame telling (Err refusal) law cv cw sa is nodes below told taken refused = elim refused [
   | inl memory ↦ memory
   | inr broken ↦

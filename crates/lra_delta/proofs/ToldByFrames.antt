@@ -32,8 +32,8 @@ same_taken a frame telling l is =
     ∙ ap (λ held. absorbed (is_covered a.front l) (is_gone (count frame.front l.home) held l.num) (record_at a l) (find (is_of l) (told_records telling l.home))) (is.live l.home)
     ∙ ap (λ rs. absorbed (is_covered a.front l) (is_gone (count frame.front l.home) (live_at frame.live l.home) l.num) (record_at a l) (find (is_of l) rs)) (is.records l.home)
 
-pub accepted_when : (a c : View) (frame : Frame) (telling : Telling) → IsToldBy frame telling → IsAbsorbed a telling c → IsTaken a frame c
-accepted_when a c frame telling is m = record {
+pub taken_by : (a c : View) (frame : Frame) (telling : Telling) → IsToldBy frame telling → IsAbsorbed a telling c → IsTaken a frame c
+taken_by a c frame telling is m = record {
   nodes = m.nodes ∙ ap (λ (v : List ℕ). length v) is.front;
   front = m.front ∙ ap (join_fronts a.front) is.front;
   purges = m.purges ∙ ap (join_fronts a.purges) is.purges;
