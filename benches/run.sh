@@ -16,7 +16,7 @@ trap 'rm -rf "$copy"' EXIT
 cp -r "$top/crates" "$top/crates.txt" "$top/HANDLES" "$copy/"
 mkdir -p "$copy/crates/bench_$name/src"
 cp "$top/benches/$name/main.rt.txt" "$copy/crates/bench_$name/src/main.rt"
-uses="lra_id lra_states lra_facts lra_forest lra_replica lra_delta lra_world lra_callback anyhow"
+uses="lra_id lra_states lra_facts lra_forest lra_history lra_replica lra_delta lra_world lra_http lra_callback anyhow"
 if [ "$name" = http ]; then uses="lra_http httparse anyhow"; fi
 echo "bench_$name: $uses" >> "$copy/crates.txt"
 cd "$copy" && git init -q . && cd "crates/bench_$name" && rt run
