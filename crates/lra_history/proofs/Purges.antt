@@ -75,8 +75,8 @@ abbrev pub id_of : Record → Id
 id_of q = record { home = q.home; num = q.num }
 
 -- those that are not under r
-abbrev pub without : List Fact → Id → List Record → List Record
-without S r records = filter (λ q. not (is_under S r (id_of q))) records
+abbrev pub without_tree : List Fact → Id → List Record → List Record
+without_tree S r records = filter (λ q. not (is_under S r (id_of q))) records
 
 pub all_kept : (P : Record → Type 0) (keep : Record → Bool) (records : List Record) → AllByRecursion P records → AllByRecursion P (filter keep records)
 all_kept P keep [] h = tt
@@ -115,7 +115,7 @@ find_filter t keep k (q ∷ records) h = by (t q) refl (keep q) refl k refl (fin
 of_id : (x : Id) (q : Record) → is_of x q ≡ true → id_of q ≡ x
 of_id x q e = same_is (id_of q) x e
 
-find_without : (S : List Fact) (r x : Id) (records : List Record) → find (is_of x) (without S r records) ≡ cond (not (is_under S r x)) (find (is_of x) records) None
+find_without : (S : List Fact) (r x : Id) (records : List Record) → find (is_of x) (without_tree S r records) ≡ cond (not (is_under S r x)) (find (is_of x) records) None
 find_without S r x records =
     find_filter (is_of x) (λ q. not (is_under S r (id_of q))) (not (is_under S r x)) records (λ q e. ap (λ (y : Id). not (is_under S r y)) (of_id x q e))
 
@@ -127,7 +127,7 @@ purge_record f S T more settled nodes r x body held =
 
 -- those under the root go, the others stay
 pub purge_stands : (f : Fact) (S T : List Fact) → IsMore f S T → IsSettled S → (nodes home : ℕ) (r : Id) (records : List Record) → f.body ≡ Purge r → is_root S r ≡ true
-    → AreRecords nodes S home records → AreRecords nodes T home (without S r records)
+    → AreRecords nodes S home records → AreRecords nodes T home (without_tree S r records)
 purge_stands f S T more settled nodes home r records body root are =
     record {
       order = filter_are_of home (λ q. not (is_under S r (id_of q))) records are.order;

@@ -16,8 +16,8 @@ use crate::room::Room;
 use crate::showing::{held, id_line, show, show_front, show_member, show_same, text_line};
 use crate::telling::{refusal_line, tell};
 use lra_facts::Refusal;
-use lra_id::NodeId;
 use lra_history::CommandReply;
+use lra_id::NodeId;
 use lra_world::{Event, World};
 use std::alloc::{AllocError, Global};
 

@@ -1,7 +1,7 @@
 // What a line of the script asks.
 use lra_callback::{Answer, Kind};
-use lra_id::{Front, LraId, NodeId};
 use lra_history::Command;
+use lra_id::{Front, LraId, NodeId};
 
 /// What a line asks.
 #[derive(Debug, Drop)]

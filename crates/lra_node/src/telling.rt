@@ -6,8 +6,8 @@ ghost use Rattle.lra_node.specs.Scripts.{IsNothing, IsRefusal, began_text, event
 
 use crate::room::Room;
 use lra_facts::Refusal;
-use lra_id::LraId;
 use lra_history::CommandReply;
+use lra_id::LraId;
 use lra_world::Reply;
 use std::alloc::{AllocError, Global};
 

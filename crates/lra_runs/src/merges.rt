@@ -2,8 +2,8 @@
 use crate::commands::enter;
 use lra_facts::{Links, Refusal};
 use lra_forest::{Forest, Told};
-use lra_id::{Front, LraId, NodeId};
 use lra_history::Command;
+use lra_id::{Front, LraId, NodeId};
 use lra_replica::{Replica, Row, Taken};
 use lra_states::{Act, LraStatus, Outcome, Verdict};
 use std::alloc::Global;

@@ -4,13 +4,13 @@ use crate::places::{FIRST, SECOND, closed};
 use http::StatusCode;
 use lra_delta::{Delta, encode, prepare};
 use lra_facts::Refusal;
+use lra_history::Command;
 use lra_http::{
     BODY_LIMIT, Bytes, Fault, Field, Fields, OverRead, OverWrite, Response, read_request,
     write_response,
 };
 use lra_id::{Front, LraId, NodeId};
 use lra_peer::{PullError, front_of_pull, pull, pull_body, serve_pull};
-use lra_history::Command;
 use lra_replica::Replica;
 use lra_states::Verdict;
 use std::alloc::Global;

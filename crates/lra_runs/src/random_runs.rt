@@ -1,8 +1,8 @@
 // Many events at random, after which what the nodes show is compared with the slow evaluators over the facts of each.
 use crate::commands::body;
 use lra_facts::{Body, Fact, Links, Refusal, plain};
-use lra_id::{Front, LraId, NodeId};
 use lra_history::{Command, CommandReply};
+use lra_id::{Front, LraId, NodeId};
 use lra_states::{Act, Outcome as Heard, Verdict};
 use lra_world::{Event, Reply, World};
 use std::alloc::{AllocError, Global};

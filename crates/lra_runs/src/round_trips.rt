@@ -2,8 +2,8 @@
 use crate::commands::enter;
 use lra_delta::{Delta, encode, prepare};
 use lra_facts::{LINK_LIMIT, Links};
-use lra_id::{Front, LraId, NodeId};
 use lra_history::Command;
+use lra_id::{Front, LraId, NodeId};
 use lra_replica::Replica;
 use lra_states::{Act, Outcome, Verdict};
 use std::alloc::Global;

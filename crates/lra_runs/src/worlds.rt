@@ -1,7 +1,7 @@
 // Runs with ample memory: what is replied, and what the nodes show.
 use lra_facts::{Links, Refusal};
-use lra_id::{Front, LraId, NodeId};
 use lra_history::{Command, CommandReply};
+use lra_id::{Front, LraId, NodeId};
 use lra_states::{Act, LraStatus, Outcome, Verdict};
 use lra_world::{Event, Reply, World};
 use std::alloc::Global;

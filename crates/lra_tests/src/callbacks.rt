@@ -1,9 +1,9 @@
 // Callbacks of small trees: what is called for, and what is heard of an answer.
 use lra_callback::{Answer, Heard, Kind, hear, pick};
 use lra_facts::Links;
+use lra_history::Command;
 use lra_http::Bytes;
 use lra_id::{LraId, NodeId};
-use lra_history::Command;
 use lra_replica::Replica;
 use lra_states::{Act, Outcome, Verdict};
 use std::alloc::Global;

@@ -1,7 +1,7 @@
 // What may happen in a world, and what is replied to it.
 use lra_facts::Refusal;
-use lra_id::{Front, LraId, NodeId};
 use lra_history::{Command, CommandReply};
+use lra_id::{Front, LraId, NodeId};
 use std::alloc::AllocError;
 
 /// What may happen next.

@@ -17,8 +17,8 @@ ghost use Rattle.lra_facts.specs.declared.refusal.Refusal.TheVariants.{BadText, 
 use crate::node::{act, bytes_since, restart, take_bytes};
 use crate::{Event, Reply};
 use lra_facts::Refusal;
-use lra_id::{Front, LraId, NodeId};
 use lra_history::{Command, CommandReply};
+use lra_id::{Front, LraId, NodeId};
 use lra_replica::Replica;
 use lra_states::Verdict;
 use std::alloc::{AllocError, Global};

@@ -11,8 +11,8 @@ use super::lras::next_node_and_id;
 use crate::ask::Ask;
 use crate::number::member_number_of;
 use crate::words::Words;
-use lra_id::{LraId, NodeId};
 use lra_history::Command;
+use lra_id::{LraId, NodeId};
 use lra_states::{Act, Outcome};
 
 pub fn leave_of(words: Words<'_>, nodes: u8) -> Option<Ask>
