@@ -34,7 +34,7 @@ use Rattle.lra_history.proofs.SettledFacts.{body_gives, filter_agree, givers_len
 use Rattle.lra_history.proofs.LeftAsItWas.{held_stays}
 use Rattle.lra_history.proofs.ListsWithOneMore.{filter_all}
 use Rattle.lra_history.proofs.RecordsWithOneMore.{decide_stands, forgot_stands, join_stands, leave_stands, nested_stands, other_home_stands, report_stands, root_stands, touched_home}
-use Rattle.lra_history.proofs.Purges.{purge_elsewhere_stands, purge_stands, purges_gained, purges_kept, without}
+use Rattle.lra_history.proofs.Purges.{purge_elsewhere_stands, purge_stands, purges_gained, purges_kept, without_tree}
 use Rattle.lra_history.proofs.StaysSettled.{settled_with}
 use Rattle.lra_history.proofs.FactsOfMembers.{participant_given}
 use Rattle.lra_history.proofs.Basics.{at_most, held_begun, same_or_not}
@@ -338,7 +338,7 @@ some_found t (x ∷ records) r m e = by (t x) refl m (some_found t records r)
 
 -- what a removal leaves at the root's home is what is not under the root
 removal_leaves : (S : List Fact) (view : View) (root : Id) (removed : List Id) → AreRecords (length view.front) S root.home (records_at view.records root.home) → IsRemoval S view root removed
-    → filter (λ r. not (list_any (λ l. is_of l r) removed)) (records_at view.records root.home) ≡ without S root (records_at view.records root.home)
+    → filter (λ r. not (list_any (λ l. is_of l r) removed)) (records_at view.records root.home) ≡ without_tree S root (records_at view.records root.home)
 removal_leaves S view root removed are removal =
     filter_agree (λ (r : Record). not (list_any (λ l. is_of l r) removed)) (λ (r : Record). not (is_under S root (id_of r))) (records_at view.records root.home) (λ r m. ap not (same r m))
   where
@@ -369,7 +369,7 @@ purge_adds S view me root removed settled stands some there taken removal =
     let are = stands.records root.home home within in (
       taken,
       refl,
-      λ T more. home_stands S T view me (PurgeAsked root) root.home (remove_each removed view.records) (slice_set view.purges (me - 1) (count view.front me + 1)) (without S root (records_at view.records root.home)) stands some there more
+      λ T more. home_stands S T view me (PurgeAsked root) root.home (remove_each removed view.records) (slice_set view.purges (me - 1) (count view.front me + 1)) (without_tree S root (records_at view.records root.home)) stands some there more
           (ap (λ (ps : List ℕ). slice_set ps (me - 1) (count view.front me + 1)) stands.purges ∙ sym (purges_gained (next_fact S view.front me (PurgeAsked root)) S T more refl (length view.front)))
           (subst (λ (rs : List Record). ChangesHome view.records (remove_each removed view.records) root.home rs) (removal_leaves S view root removed are removal)
           (take_changes removed view.records root.home removal.homes home (omega (arith, within, size))))
