@@ -1,4 +1,4 @@
--- What a prepare answers: the refusal, or the copy of a record that is changed, and then the reply with its patch.
+-- What is held has a record, and what the reply to a command is where it is refused and where it is accepted.
 use Rattle.std.proofs.Common.{◌≡◌, ◌≤◌, ℕ, List, refl, sym, ap, ◌∙◌, Bool, true, false, cond, Some, None, length}
 use Rattle.lra_id.specs.Ids.{Id}
 use Rattle.lra_facts.specs.declared.fact.Fact.{Fact}

@@ -83,6 +83,14 @@ abbrev pub purge_change : View → ℕ → List Id → Change
 purge_change view me removed =
     record { records = []; removed = removed; front = raised view.front me; purges = slice_set view.purges (me - 1) (count view.front me + 1) }
 
+-- the record of an LRA that a node begins with its next fact
+abbrev pub fresh_record : List ℕ → ℕ → Option Place → ℕ → Record
+fresh_record v me parent deadline = begun_record (length v) me (count v me + 1) parent deadline
+
+-- with the number of a node's next fact
+abbrev pub with_stamp : ℕ → ℕ → Record → Record
+with_stamp node num r = record r { stamps = stamped node num r.stamps }
+
 -- A patch where the command is accepted: with it the view stands for the set with exactly the command's fact. None where it
 -- was known.
 abbrev pub AddsFact : List Fact → View → ℕ → Command → Option Change → Type 0
@@ -91,11 +99,3 @@ AddsFact S view me c (Some change) =
     (judge S view.front me c ≡ Accepted)
     × (change.front ≡ raised view.front me)
     × ((T : List Fact) → IsMore (next_fact S view.front me c) S T → StandsFor T (patched change view))
-
--- the record of an LRA that a node begins with its next fact
-abbrev pub fresh_record : List ℕ → ℕ → Option Place → ℕ → Record
-fresh_record v me parent deadline = begun_record (length v) me (count v me + 1) parent deadline
-
--- with the number of a node's next fact
-abbrev pub with_stamp : ℕ → ℕ → Record → Record
-with_stamp node num r = record r { stamps = stamped node num r.stamps }

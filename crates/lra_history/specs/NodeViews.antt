@@ -1,4 +1,4 @@
--- What the laws of histories and views speak of.
+-- A node's view in a history, and what the node enters next.
 use Rattle.std.specs.Prelude.{◌≡◌, ◌≤◌, ℕ, List, length}
 use Rattle.lra_id.specs.Fronts.{count}
 use Rattle.lra_history.specs.declared.command.Command.{Command}

@@ -1,4 +1,4 @@
--- What a replica keeps, and when that stands for a set of facts.
+-- What a node has of its facts as records, and when that stands for a set.
 use Rattle.std.specs.Prelude.{◌≡◌, ◌≤◌, ◌-◌, ◌&&◌, ◌==◌, ℕ, Bool, true, false, Option, List, [], length, map, find, get_or, if◌then◌else◌, replicate}
 use Rattle.lra_id.specs.Ids.{Id}
 use Rattle.lra_id.specs.Fronts.{count}

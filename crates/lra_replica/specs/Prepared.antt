@@ -1,4 +1,4 @@
--- What a prepare answers, and what is shown of what a node holds.
+-- What a prepare answers.
 use Rattle.std.specs.Prelude.{◌≡◌, ◌⊎◌, ◌+◌, ℕ, Bool, true, false, Option, Some, None, List, Result, Ok, Err, IfSome}
 use Rattle.lra_id.specs.Ids.{Id}
 use Rattle.lra_id.specs.Fronts.{count}

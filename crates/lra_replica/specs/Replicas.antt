@@ -1,4 +1,4 @@
--- A replica as contracts see it, and what a patch makes of its view.
+-- A replica as contracts see it: its state, the view that this is, and the room for a patch.
 use Rattle.std.specs.Prelude.{◌≡◌, ◌≤◌, ◌+◌, ◌-◌, ◌==◌, ℕ, List, [], ◌∷◌, length, map, filter, replicate, slice_get}
 use Rattle.std.specs.List.{AllByRecursion}
 use Rattle.std.specs.Option.{option_map_or}
