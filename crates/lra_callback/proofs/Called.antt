@@ -30,6 +30,6 @@ not_read P old BadHead Cause found read memory = inr (none_there P old BadHead f
 not_read P old LengthNeeded Cause found read memory = inr (none_there P old LengthNeeded found (λ e. absurd (cc)) memory)
 not_read P old NotOffered Cause found read memory = inr (none_there P old NotOffered found (λ e. absurd (cc)) memory)
 
--- the whole is a front of itself
+-- the whole is a prefix of itself
 pub whole_part : (old new : Option (List ℕ)) (bs : List ℕ) → Appends old new bs → AppendsPart old new bs
 whole_part old new bs h = (bs, [], sym (append-nil bs), h)

@@ -24,11 +24,17 @@ use std::marker::Model;
 /// A participant that is to be called: what for, at which link, and the parent of its LRA, if it is nested.
 #[derive(Debug, PartialEq, Drop)]
 pub struct Duty {
+    /// What the call is.
     pub kind: Kind,
+    /// The act that is to be done, is asked about, or was done; of a forget the one that the LRA wants.
     pub act: Act,
+    /// The LRA.
     pub id: LraId,
+    /// The participant's member number, 1 to 32.
     pub member: u8,
+    /// Where it is called.
     pub link: Link,
+    /// The LRA in which this one is nested.
     pub parent: Option<LraId>,
 }
 
@@ -181,8 +187,9 @@ fn add(
     Ok(())
 }
 
-/// The participants in LRAs of a home that are to be called now: to complete and to be told to forget by LRA and member
-/// number, to compensate by the topmost cancelled LRA.
+/// The participants in LRAs of a home that are to be called now: first to complete, by LRA and member number; then to compensate,
+/// by the number of the topmost cancelled LRA; then those to be told that they may forget, by LRA and member number. Errors:
+/// NoMemory.
 pub fn pick(alloc: Global, replica: &Replica, me: NodeId) -> Result<Duties, Refusal>
     requires { me ≤ length replica.now.front }
     ensures all { OfItsSet (view_of replica.now) (λ S. IfOk result (λ duties. AreAll (IsDuty me S) (comes_first S) duties)) }

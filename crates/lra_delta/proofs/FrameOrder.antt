@@ -25,7 +25,7 @@ use Rattle.lra_delta.proofs.Fitted.{record_fits}
 use Rattle.lra_delta.proofs.ToldLists.{last_of}
 
 -- the record fits in a frame, and its numbers and links have their types
-pub record IsFit (k : Context) (r : Record) : Type 0 where
+pub record MeetsSettled (k : Context) (r : Record) : Type 0 where
   pub fits : KeepsRulesIn k.base k.front (live_at k.lives r.home) r
   pub typed : IsTypedRecord r
 
@@ -33,7 +33,7 @@ pub record IsFit (k : Context) (r : Record) : Type 0 where
 pub record AreFit (k : Context) (home : ℕ) (rs : List Record) : Type 0 where
   pub own : AreOf home rs
   pub few : length rs ≤ 256
-  pub each : AllByRecursion (IsFit k) rs
+  pub each : AllByRecursion (MeetsSettled k) rs
 
 -- so it is of the homes after this one
 abbrev pub AreHomes : Context → ℕ → List (List Record) → Type 0
@@ -76,7 +76,7 @@ count_right last r rs few (inr same) = by (last.home == r.home)
     by false = omega (arith, same.2)
 
 records_along : (k : Context) (home : ℕ) (last : Last) (rs : List Record) → length k.front ≤ 8 → ((node : ℕ) → count k.front node < 2 ^ 48) → 1 ≤ home → home ≤ length k.front
-    → AllByRecursion (λ (r : Record). r.home ≡ home) rs → IsAscending rs → length rs ≤ 256 → AllByRecursion (IsFit k) rs → MayFollow home last rs → Along (IsRecord k) after last rs
+    → AllByRecursion (λ (r : Record). r.home ≡ home) rs → IsAscending rs → length rs ≤ 256 → AllByRecursion (MeetsSettled k) rs → MayFollow home last rs → Along (IsRecord k) after last rs
 records_along k home last [] nodes small some high own rising few each may = tt
 records_along k home last (r ∷ rs) nodes small some high own rising few each may =
     let here : MayFollow r.home last (r ∷ rs) = subst (λ (h : ℕ). MayFollow h last (r ∷ rs)) (sym own.0) may in

@@ -20,7 +20,7 @@ use Rattle.lra_delta.specs.Spelling.{body, flat}
 use Rattle.lra_delta.specs.Typed.{HasLinks, IsTyped, IsTypedRecord}
 use Rattle.lra_delta.proofs.Fitted.{at_most_by, at_place, both_true, le_true}
 use Rattle.lra_delta.proofs.Lengths.{length_body}
-use Rattle.lra_delta.proofs.FrameOrder.{AreFit, AreHomes, IsFit, are_homes, flat_few, homes_along, parted}
+use Rattle.lra_delta.proofs.FrameOrder.{AreFit, AreHomes, MeetsSettled, are_homes, flat_few, homes_along, parted}
 use Rattle.lra_delta.proofs.FrameSizes.{frame_most}
 
 -- ---- live lists
@@ -108,7 +108,7 @@ home_fits d is typed home low high =
     record {
       own = own;
       few = is.few home low high;
-      each = all_from (IsFit (context d)) rs (λ r m.
+      each = all_from (MeetsSettled (context d)) rs (λ r m.
           let mine : r.home ≡ home = all_in (λ (q : Record). q.home ≡ home) rs own.homes r m in
           record {
             fits = subst (λ (h : ℕ). KeepsRulesIn d.base d.front (live_at d.live h) r) (sym mine) (is.records home r low high m);

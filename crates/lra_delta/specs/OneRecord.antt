@@ -12,8 +12,8 @@ use Rattle.lra_delta.specs.Reading.{record_at}
 abbrev pub under : (front : List ℕ) → Context
 under front = told_context (replicate (length front) 0) front []
 
--- The record fits under this front, of at most 8 nodes and with numbers of 48 bits: it is of one of the nodes, and would fit in
--- a frame with base zero
+-- The record keeps the rules under this front, of at most 8 nodes and with numbers of 48 bits: it is of one of the nodes, and
+-- would keep those of a frame with base zero
 pub record KeepsRulesUnder (front : List ℕ) (kept : Record) : Type 0 where
   pub few : length front ≤ 8
   pub small : (node : ℕ) → count front node < 2 ^ 48

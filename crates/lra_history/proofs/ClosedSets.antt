@@ -21,7 +21,7 @@ use Rattle.lra_history.specs.Views.{IsCounted}
 use Rattle.lra_history.specs.Replies.{body_for, command_of, next_fact}
 use Rattle.lra_history.specs.declared.command.Command.{Command}
 use Rattle.lra_history.proofs.AcceptedCommands.{lawful_gives}
-use Rattle.lra_history.proofs.SettledFacts.{IsEntered, IsFit, begun_inside, body_gives, earlier_new, filter_agree, fit_new, join_gives, joined_as, named_new, settled_from, whole_from}
+use Rattle.lra_history.proofs.SettledFacts.{IsEntered, MeetsSettled, begun_inside, body_gives, earlier_new, filter_agree, meets_new, join_gives, joined_as, named_new, settled_from, whole_from}
 use Rattle.lra_history.proofs.Basics.{in_left, in_right}
 
 -- Entries as facts
@@ -249,4 +249,4 @@ closed_settled h lawful v closed = settled_from (facts h v) (closed_whole h lawf
       next = λ l gives. next_number h lawful v closed e.0 e.1 bound l (ap (gives_number l) (sym entry.lawful.made) ∙ gives);
       joins = λ g l n links k joins. join_number h lawful v closed g l n links (inside g k) joins;
     } in
-    subst (IsFit (facts h v)) (sym (e.2 ∙ is)) (fit_new J (facts h v) e.0.front e.0.fact.origin (asked e.0) new (closed_whole h lawful v closed) (facts_once h v)))
+    subst (MeetsSettled (facts h v)) (sym (e.2 ∙ is)) (meets_new J (facts h v) e.0.front e.0.fact.origin (asked e.0) new (closed_whole h lawful v closed) (facts_once h v)))

@@ -285,8 +285,8 @@ lawful_with h v node e some there closed own lawful front body =
         }
 
 -- what is entered for a command that is accepted is lawful
-pub taken_lawful : (S : List Fact) (v : List ℕ) (node : ℕ) (c : Command) → judge S v node c ≡ Accepted → IsLawfulBody S v node (body_for S c)
-taken_lawful S v node c taken =
+pub accepted_lawful : (S : List Fact) (v : List ℕ) (node : ℕ) (c : Command) → judge S v node c ≡ Accepted → IsLawfulBody S v node (body_for S c)
+accepted_lawful S v node c taken =
     record {
       accepted = ap (judge S v node) (asked S c) ∙ taken;
       made = ap (body_for S) (asked S c);

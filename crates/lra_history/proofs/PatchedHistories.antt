@@ -9,7 +9,7 @@ use Rattle.lra_history.specs.NodeViews.{IsCurrent, IsViewIn, entry_for}
 use Rattle.lra_history.specs.Changes.{AddsFact, Change, patched, raised}
 use Rattle.lra_history.specs.Views.{empty_view, StandsFor, View}
 use Rattle.lra_history.proofs.CountedByFronts.{empty_stands, zero_at}
-use Rattle.lra_history.proofs.OneMoreEntry.{closed_with, lawful_with, length_with, one_more, own_with, taken_lawful}
+use Rattle.lra_history.proofs.OneMoreEntry.{closed_with, lawful_with, length_with, one_more, own_with, accepted_lawful}
 use Rattle.lra_history.proofs.ClosedSets.{fact_of}
 
 -- the front that was raised is current
@@ -36,7 +36,7 @@ view_with h node v view c change at front adds =
         let e = entry_for h v c in
         let current = at.current in
         record {
-          lawful = lawful_with h v node e current.some current.there current.closed current.own at.lawful refl (taken_lawful (facts h v) v node c adds.0);
+          lawful = lawful_with h v node e current.some current.there current.closed current.own at.lawful refl (accepted_lawful (facts h v) v node c adds.0);
           current = current_with h node v e current refl;
           stands = adds.2 (facts (with_entry h node e) (raised v node)) (one_more h v node e current.some current.there current.closed current.own);
         }

@@ -19,8 +19,8 @@ pub reply_denied : (S : List Fact) (v : List ℕ) (node : ℕ) (c : Command) (re
 reply_denied S v node c refusal denied = ap (λ (j : Judgement). reply_by j (accepted S v node c)) denied
 
 -- a command that is accepted has the reply to its fact
-pub reply_taken : (S : List Fact) (v : List ℕ) (node : ℕ) (c : Command) → judge S v node c ≡ Accepted → reply_of S v node c ≡ accepted S v node c
-reply_taken S v node c taken = ap (λ (j : Judgement). reply_by j (accepted S v node c)) taken
+pub reply_accepted : (S : List Fact) (v : List ℕ) (node : ℕ) (c : Command) → judge S v node c ≡ Accepted → reply_of S v node c ≡ accepted S v node c
+reply_accepted S v node c taken = ap (λ (j : Judgement). reply_by j (accepted S v node c)) taken
 
 -- what is held has a record
 pub never_lost : (S : List Fact) (view : View) (l : Id) → StandsFor S view → is_held S l ≡ true → l.home ≤ length view.front → record_at view l ≡ None → ⊥

@@ -28,7 +28,7 @@ use Rattle.lra_history.proofs.AcceptedCommands.{IsGiven, lawful_gives, number_le
 use Rattle.lra_history.proofs.Basics.{held_begun}
 
 -- what is asked of each fact of a settled set
-pub record IsFit (T : List Fact) (f : Fact) : Type 0 where
+pub record MeetsSettled (T : List Fact) (f : Fact) : Type 0 where
   pub givers : (l : Id) → gives_number l f.body ≡ true → f.origin ≡ l.home
   pub numbers : (l : Id) (m : ℕ) (links : Links) → f.body ≡ Join l m links → m ≡ member_number T l f.num
   pub few : (l : Id) → gives_number l f.body ≡ true → member_number T l f.num ≤ 32
@@ -170,7 +170,7 @@ own_id : (f : Fact) (l : Id) → begins l f ≡ true → begun_by f ≡ l
 own_id f l e = let at = begins_at l f e in ap (λ (k : ℕ). record { home = k; num = f.num }) at.0 ∙ ap (λ (k : ℕ). record { home = l.home; num = k }) at.1
 
 -- a set whose facts are fit is settled
-pub settled_from : (T : List Fact) → IsWhole T → AreOnce T → ((f : Fact) → In f T → IsFit T f) → IsSettled T
+pub settled_from : (T : List Fact) → IsWhole T → AreOnce T → ((f : Fact) → In f T → MeetsSettled T f) → IsSettled T
 settled_from T whole once fit =
     let seated : IsSeated T =
     record {
@@ -327,8 +327,8 @@ shallow_new J T v node c new whole once e = by (parent_named (body_for J c)) ref
         omega (arith, ap (λ (c : List Id). length c) (chain_up T whole.nested (begun_by (next_fact J v node c)) p above), parent.2, ap (λ (c : List Id). length c) same)
 
 -- a fact that was lawful in a part of a set is fit
-pub fit_new : (J T : List Fact) (v : List ℕ) (node : ℕ) (c : Command) → IsEntered J T v node c → IsWhole T → AreOnce T → IsFit T (next_fact J v node c)
-fit_new J T v node c new whole once =
+pub meets_new : (J T : List Fact) (v : List ℕ) (node : ℕ) (c : Command) → IsEntered J T v node c → IsWhole T → AreOnce T → MeetsSettled T (next_fact J v node c)
+meets_new J T v node c new whole once =
     let given = lawful_gives J v node c new.accepted in
     record {
       givers = λ l e. sym (body_gives J v node c l given e).0;

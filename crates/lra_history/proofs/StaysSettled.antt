@@ -15,7 +15,7 @@ use Rattle.lra_history.specs.Views.{IsCounted}
 use Rattle.lra_history.specs.Replies.{Accepted, body_for, judge, next_fact}
 use Rattle.lra_history.specs.declared.command.Command.{Command}
 use Rattle.lra_history.proofs.AcceptedCommands.{lawful_gives}
-use Rattle.lra_history.proofs.SettledFacts.{IsEntered, IsFit, body_gives, begun_inside, chain_inside, earlier_new, filter_agree, fit_new, join_gives, named_new, number_within, settled_from, whole_from}
+use Rattle.lra_history.proofs.SettledFacts.{IsEntered, MeetsSettled, body_gives, begun_inside, chain_inside, earlier_new, filter_agree, meets_new, join_gives, named_new, number_within, settled_from, whole_from}
 
 -- A list with one element more
 
@@ -126,7 +126,7 @@ number_next f S T l more settled home =
     by g m true t = less g.num f.num (more.newest g m (settled.seated.givers g l m t ∙ sym home))
 
 -- an old fact stays fit
-fit_old : (f g : Fact) (S T : List Fact) → IsMore f S T → IsSettled S → ((l : Id) → gives_number l f.body ≡ true → f.origin ≡ l.home) → In g S → IsFit T g
+fit_old : (f g : Fact) (S T : List Fact) → IsMore f S T → IsSettled S → ((l : Id) → gives_number l f.body ≡ true → f.origin ≡ l.home) → In g S → MeetsSettled T g
 fit_old f g S T more settled home m =
     let inside = in_more f S T more in
     record {
@@ -177,6 +177,6 @@ settled_with f S T v node c settled counted some there taken is more =
           joins = λ g l m links k e. settled.seated.numbers g l m links k e ∙ sym (number_stays f g S T l more settled (home l) k (join_gives l m links g.body e));
         } in
         settled_from T whole once (λ g m. elim (either_more f g S T more m) [
-          | inl s ↦ subst (IsFit T) (sym s) (fit_new S T v node c new whole once)
+          | inl s ↦ subst (MeetsSettled T) (sym s) (meets_new S T v node c new whole once)
           | inr k ↦ fit_old f g S T more settled home k
         ])

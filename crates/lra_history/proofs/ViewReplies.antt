@@ -125,7 +125,7 @@ changed_adds : (S : List Fact) (view : View) (me : ℕ) (c : Command) (l : Id) (
 changed_adds S view me c l r found adds =
     subst (λ (k : Change). AddsFact S view me c (Some k)) (ap (λ (o : Option Record). option_map_or (λ (q : Record). one_change view me (record_after (next_fact_on view me c) q)) o (no_change view)) (sym found)) adds
 
--- where the set takes a command, the view adds its fact
+-- where the set accepts a command, the view adds its fact
 pub is_added : (S : List Fact) (view : View) (me : ℕ) (c : Command) → IsPlain (length view.front) me c → 1 ≤ me → me ≤ length view.front → IsSettled S → StandsFor S view → judge S view.front me c ≡ Accepted → IsAdded S view me c
 is_added S view me (Begin None deadline) plain one there settled stands taken = (
   refl,

@@ -53,7 +53,7 @@ change_on view me (Purge root) = purge_change view me (ids_below (at_home view r
 abbrev pub changed : View → ℕ → Command → View
 changed view me c = patched (change_on view me c) view
 
--- it is refused, known already, or taken
+-- it is refused, known already, or accepted
 abbrev pub judge_on : View → ℕ → Command → Judgement
 judge_on view me c = judge_by (by_view view) view.front me c
 

@@ -27,14 +27,14 @@ pub enum Command {
         id: LraId,
         verdict: Verdict,
     },
-    /// Take what was heard of an act of a participant.
+    /// Enter what was heard of an act of a participant.
     Report {
         id: LraId,
         member: u8,
         act: Act,
         outcome: Outcome,
     },
-    /// Take that a participant was told to forget.
+    /// Enter that a participant was told to forget.
     Forgot {
         id: LraId,
         member: u8,

@@ -76,7 +76,7 @@ some_head kind text lines is =
 
 -- ---- one byte more
 
--- a head of a longer text that is no longer than the front is a head of the front
+-- a head of a longer text that is no longer than the prefix is a head of the prefix
 pub short_head : (kind : Kind) (prefix more text rest : List ℕ) (lines : ℕ) → HasNoHead kind prefix → IsHead kind text lines
     → prefix ++ more ≡ text ++ rest → length text ≤ length prefix → ⊥
 short_head kind prefix more text rest lines none is e short =

@@ -17,7 +17,7 @@ Appends-slice old mid new i n bs p q =
     let rest : take (length bs - i) (drop i bs) ≡ drop i bs = take_all (length bs - i) (drop i bs) (omega (arith, length-drop i bs)) in
     rw (take-add i n bs) (Appends-trans old mid new (take i bs) (take n (drop i bs)) p (rw rest at q))
 
--- the first n bytes are a front
+-- the first n bytes are a prefix
 pub part_of_take : (old new : Option (List ℕ)) (n : ℕ) (bs : List ℕ) → Appends old new (take n bs) → AppendsPart old new bs
 part_of_take old new n bs h = (take n bs, drop n bs, sym (take-append-drop n bs), h)
 
@@ -27,7 +27,7 @@ Keeps-appends (Some x) None new a p q = absurd p
 Keeps-appends (Some x) (Some y) None a p q = absurd q
 Keeps-appends (Some x) (Some y) (Some z) a p q = q ∙ p
 
--- what was written so far is a front, where a call kept it
+-- what was written so far is a prefix, where a call kept it
 pub part_kept : (old mid new : Option (List ℕ)) (n : ℕ) (bs : List ℕ) → Appends old mid (take n bs) → Keeps mid new → AppendsPart old new bs
 part_kept old mid new n bs p q = part_of_take old new n bs (Keeps-appends old mid new (take n bs) p q)
 

@@ -29,7 +29,7 @@ data Reason (limit : ℕ) (input : List ℕ) (fault : Fault) : Type 0 where
 
 -- ---- no two of them
 
--- bytes that can become a head have no front that never can
+-- bytes that can become a head have no prefix that never can
 never_may : (prefix rest bytes : List ℕ) → NeverHasRequest prefix → bytes ≡ prefix ++ rest
     → ((more : List ℕ) × (h : RequestHead) × ReadsRequest (bytes ++ more) h []) → ⊥
 never_may prefix rest bytes never whole (more, h, reads) =

@@ -16,7 +16,7 @@ pub struct WriteFault;
 /// So many interrupted calls in one message are a fault: a message of 1,023 is still read or written.
 pub const MOST_INTERRUPTED: u16 = 1024;
 
-/// Writes all of the bytes, or a part from their front before a fault. `interrupted` counts the interrupted calls of the
+/// Writes all of the bytes, or a prefix of them before a fault. `interrupted` counts the interrupted calls of the
 /// message that the bytes belong to, and is handed on from one piece of it to the next.
 pub fn write_all<W: Sink>(
     sink: &mut W,

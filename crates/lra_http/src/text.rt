@@ -91,7 +91,7 @@ fn head_of_request(alloc: Global, request: &CallRequest) -> Result<Vec<u8>, Allo
     Ok(text)
 }
 
-/// Writes a head and a body as one message, or a part from their front before a fault.
+/// Writes a head and a body as one message, or a prefix of them before a fault.
 fn write_parts<W: Sink>(sink: &mut W, head: &[u8], body: &[u8]) -> Result<(), WriteFault>
     ensures ok { OnOk result (Appends (W.written sink.old) (W.written sink.new) (head.now ++ body.now)) }
     ensures part { OnErr result (AppendsPart (W.written sink.old) (W.written sink.new) (head.now ++ body.now)) }

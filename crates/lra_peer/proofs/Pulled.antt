@@ -26,8 +26,14 @@ sent_before old new text (Ok answer) whole = tt
 sent_before old new text (Err fault) whole = inl whole
 
 pub sent_part : (old new : Option (List ℕ)) (whole text : List ℕ) (fault : HttpFault) → whole ≡ text → AppendsPart old new whole
-    → (fault ≡ WriteFault) ⊎ (fault ≡ NoMemory) → IsSent old new text fault
-sent_part old new whole text fault is part cause = inr (cause, subst (λ (t : List ℕ). AppendsPart old new t) is part)
+    → (fault ≡ WriteFault) ⊎ (fault ≡ NoMemory) → (fault ≡ NoMemory → new ≡ old) → IsSent old new text fault
+sent_part old new whole text fault is part (inl write) nothing = inr (inl (write, subst (λ (t : List ℕ). AppendsPart old new t) is part))
+sent_part old new whole text fault is part (inr memory) nothing = inr (inr (memory, nothing memory))
+
+-- where the text was written whole, that is so also where memory runs out later
+pub whole_before : {A : Type 0} (P Q : Type 0) (result : Result A HttpFault) → Q → IfErr result (λ fault. fault ≡ NoMemory → P ⊎ Q)
+whole_before P Q (Ok answer) q = tt
+whole_before P Q (Err fault) q = λ e. inr q
 
 -- ---- an answer
 

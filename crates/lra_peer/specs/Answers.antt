@@ -43,10 +43,10 @@ RefusesPull input left (BadFrame place) = IsNoFrame input left place
 abbrev pub IsOfStreams : PullError → Type 0
 IsOfStreams error = (error ≡ Fault WriteFault) ⊎ ((error ≡ Fault ReadFault) ⊎ (error ≡ Fault NoMemory))
 
--- all of the text was written, or a part of it, where a write failed or memory ran out
+-- all of the text was written; or a prefix of it, where a write failed; or nothing, where memory ran out before
 abbrev pub IsSent : Option (List ℕ) → Option (List ℕ) → (text : List ℕ) → HttpFault → Type 0
 IsSent old new text fault =
-    Appends old new text ⊎ (((fault ≡ WriteFault) ⊎ (fault ≡ NoMemory)) × AppendsPart old new text)
+    Appends old new text ⊎ (((fault ≡ WriteFault) × AppendsPart old new text) ⊎ ((fault ≡ NoMemory) × (new ≡ old)))
 
 abbrev pub IsSentBy : Option (List ℕ) → Option (List ℕ) → (text : List ℕ) → PullError → Type 0
 IsSentBy old new text (Fault fault) = IsSent old new text fault
@@ -57,3 +57,9 @@ abbrev pub Tells : Result Frame PullError → Result Frame Stop → Type 0
 Tells (Ok delta) read = read ≡ Ok delta
 Tells (Err (BadFrame place)) read = read ≡ Err (FaultAt place)
 Tells (Err (Fault fault)) read = fault ≡ NoMemory
+
+-- P holds where a whole answer with status 200 was read, whether or not its body is a frame
+abbrev pub WhereRead : Result Frame PullError → Type 0 → Type 0
+WhereRead (Ok delta) P = P
+WhereRead (Err (BadFrame place)) P = P
+WhereRead (Err (Fault fault)) P = Unit {0}

@@ -1,5 +1,5 @@
 // Why a pull gives no delta.
-ghost use Rattle.std.specs.Prelude.{◌≡◌, Some};
+ghost use Rattle.std.specs.Prelude.{Some};
 ghost use Rattle.lra_peer.specs.Errors.{error_text};
 
 use lra_http::Fault;

@@ -6,8 +6,8 @@ ghost use Rattle.lra_delta.specs.Rules.{IsDelta};
 ghost use Rattle.lra_delta.specs.Spelling.{spelling};
 ghost use Rattle.lra_http.specs.Responses.{IsRead, Refuses, head_room};
 ghost use Rattle.lra_http.specs.Streams.{IsLost, most_interrupted};
-ghost use Rattle.lra_http.specs.declared.fault.Fault.TheVariants.{Cut, ReadFault, WriteFault};
-ghost use Rattle.lra_peer.specs.Answers.{IsAnswer, IsOfStreams, IsSent, IsSentBy, RefusesPull, frame_limit};
+ghost use Rattle.lra_http.specs.declared.fault.Fault.TheVariants.{Cut, NoMemory, ReadFault, WriteFault};
+ghost use Rattle.lra_peer.specs.Answers.{IsAnswer, IsOfStreams, IsSent, IsSentBy, RefusesPull, WhereRead, frame_limit};
 ghost use Rattle.lra_peer.specs.Texts.{pull_text};
 ghost use Rattle.lra_peer.specs.declared.error.PullError.TheVariants.{Fault as OfHttp};
 
@@ -34,6 +34,8 @@ fn exchange<R: Source, W: Sink>(
     ensures unread { IfErr result (λ fault. fault ≡ WriteFault → reader.new ≡ reader.old) }
     ensures write_fault { IfErr result (λ fault. fault ≡ WriteFault
         → IsLost (W.failed writer.old) (W.failed writer.new) (W.interrupted writer.old) (W.interrupted writer.new)) }
+    ensures memory { IfErr result (λ fault. fault ≡ NoMemory
+        → ((writer.new ≡ writer.old) × (reader.new ≡ reader.old)) ⊎ Appends (W.written writer.old) (W.written writer.new) (pull_text front.now)) }
     ensures read_fault { IfErr result (λ fault. fault ≡ ReadFault
         → IsLost (R.failed reader.old) (R.failed reader.new) (R.interrupted reader.old) (R.interrupted reader.new)) }
     ensures none_failed { OnOk result ((R.failed reader.new ≡ R.failed reader.old) × (W.failed writer.new ≡ W.failed writer.old)) }
@@ -56,7 +58,7 @@ pub fn pull<R: Source, W: Sink>(
     writer: &mut W,
     front: &Front,
 ) -> Result<Delta, PullError>
-    // The whole request was written, or a part of it where a write failed or memory ran out.
+    // The whole request was written; or a prefix of it, where a write failed; or nothing, where memory ran out before.
     ensures written { OnOk result (Appends (W.written writer.old) (W.written writer.new) (pull_text front.now)) }
     ensures sent { IfErr result (λ error. IsSentBy (W.written writer.old) (W.written writer.new) (pull_text front.now) error) }
     // What is taken is one whole response with status 200, whose body spells the delta, and no byte more.
@@ -69,13 +71,17 @@ pub fn pull<R: Source, W: Sink>(
         → MatchResult result (λ delta. delta ≡ frame) IsOfStreams) }
     // Where the request is not written, nothing is read.
     ensures unread { IfErr result (λ error. error ≡ OfHttp WriteFault → reader.new ≡ reader.old) }
+    // Where memory ran out and not the whole request was written, nothing was written or read.
+    ensures memory { IfErr result (λ error. error ≡ OfHttp NoMemory
+        → ((writer.new ≡ writer.old) × (reader.new ≡ reader.old)) ⊎ Appends (W.written writer.old) (W.written writer.new) (pull_text front.now)) }
     // Such a fault comes only where a call failed, or 1,024 were interrupted.
     ensures write_fault { IfErr result (λ error. error ≡ OfHttp WriteFault
         → IsLost (W.failed writer.old) (W.failed writer.new) (W.interrupted writer.old) (W.interrupted writer.new)) }
     ensures read_fault { IfErr result (λ error. error ≡ OfHttp ReadFault
         → IsLost (R.failed reader.old) (R.failed reader.new) (R.interrupted reader.old) (R.interrupted reader.new)) }
-    ensures none_failed { OnOk result ((R.failed reader.new ≡ R.failed reader.old) × (W.failed writer.new ≡ W.failed writer.old)) }
-    ensures few_interrupted { OnOk result ((R.interrupted reader.new < R.interrupted reader.old + most_interrupted)
+    // Behind a whole answer no call failed, and fewer than 1,024 writes and 1,024 reads were interrupted.
+    ensures none_failed { WhereRead result ((R.failed reader.new ≡ R.failed reader.old) × (W.failed writer.new ≡ W.failed writer.old)) }
+    ensures few_interrupted { WhereRead result ((R.interrupted reader.new < R.interrupted reader.old + most_interrupted)
         × (W.interrupted writer.new < W.interrupted writer.old + most_interrupted)) }
 {
     match exchange(alloc, reader, writer, front) {

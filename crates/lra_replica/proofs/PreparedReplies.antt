@@ -35,7 +35,7 @@ use Rattle.lra_history.specs.Readings.{at_home, by_view}
 use Rattle.lra_history.specs.Views.{StandsFor, View, record_at, records_at}
 use Rattle.lra_history.proofs.SameReadings.{IsPlain, forgot_passed, judge_view, report_passed, view_alike}
 use Rattle.lra_history.proofs.AcceptedCommands.{lawful_gives}
-use Rattle.lra_history.proofs.ReplyOrRefusal.{held_within, never_lost, reply_denied, reply_taken}
+use Rattle.lra_history.proofs.ReplyOrRefusal.{held_within, never_lost, reply_denied, reply_accepted}
 use Rattle.lra_history.proofs.ViewReplies.{accepted_open, leave_passed, decide_passed, found_id, found_there, changed_records, join_passed, nest_passed, numbers_on, is_added}
 use Rattle.lra_replica.specs.declared.patch.Prepared.{Prepared}
 use Rattle.lra_replica.specs.Prepared.{IsAnswer, IsNext, IsReadyNext, IsPrepared}
@@ -48,8 +48,8 @@ answer_denied j reply change r e = subst (λ (k : Judgement). IsAnswer k reply c
 pub answer_memory : (j : Judgement) (reply : CommandReply) (change : Change) (r : Refusal) → j ≡ Accepted → r ≡ NoMemory → IsAnswer j reply change (Err r)
 answer_memory j reply change r e memory = subst (λ (k : Judgement). IsAnswer k reply change (Err r)) (sym e) (inl (ap (λ x. Err x) memory))
 
-pub answer_taken : (j : Judgement) (reply given : CommandReply) (change made : Change) → j ≡ Accepted → given ≡ reply → made ≡ change → IsAnswer j reply change (Ok (record { reply = given; patch = Some made }))
-answer_taken j reply given change made e same is =
+pub answer_accepted : (j : Judgement) (reply given : CommandReply) (change made : Change) → j ≡ Accepted → given ≡ reply → made ≡ change → IsAnswer j reply change (Ok (record { reply = given; patch = Some made }))
+answer_accepted j reply given change made e same is =
     subst (λ (k : Judgement). IsAnswer k reply change (Ok (record { reply = given; patch = Some made }))) (sym e)
     (inr (ap (λ (x : CommandReply). Ok (record { reply = x; patch = Some made })) same ∙ ap (λ (x : Change). Ok (record { reply = reply; patch = Some x })) is))
 
@@ -87,7 +87,7 @@ leave_next view me l m copy members change ready is change_is =
     let same : copy.members ≡ old.members = ap (λ (r : Record). r.members) ready.1.2 in
     let next : record copy { members = members } ≡ record_after (next_fact_on view me c) old =
     ap (λ (r : Record). record r { members = members }) ready.1.2 ∙ ap (λ (ms : List Member). record (with_stamp me (count view.front me + 1) old) { members = ms }) (is some ∙ ap (member_changed leaving (m - 1)) same) in
-    answer_taken (judge_on view me c) (accepted_on view me c) Left (change_on view me c) change ready.0 refl
+    answer_accepted (judge_on view me c) (accepted_on view me c) Left (change_on view me c) change ready.0 refl
     (change_is ∙ ap (one_change view me) next ∙ ap (λ (o : Option Record). option_map_or (λ (r : Record). one_change view me (record_after (next_fact_on view me c) r)) o (no_change view)) (sym ready.1.1))
 
 record_next : (view : View) (me : ℕ) (l : Id) (verdict : Verdict) (copy old : Record) → copy ≡ with_stamp me (count view.front me + 1) old → record copy { decision = Some verdict } ≡ record_after (next_fact_on view me (Decide l verdict)) old
@@ -126,7 +126,7 @@ pub decide_next : (view : View) (me : ℕ) (l : Id) (verdict : Verdict) (copy : 
     → IsNext view me (Decide l verdict) (Ok (record { reply = Decided l status; patch = Some change }))
 decide_next view me l verdict copy status change ready is change_is =
     let c : Command = Decide l verdict in
-    answer_taken (judge_on view me c) (accepted_on view me c) (Decided l status) (change_on view me c) change ready.0 (ap (λ (s : LraStatus). Decided l s) is) (change_is ∙ decided_change view me l verdict copy ready)
+    answer_accepted (judge_on view me c) (accepted_on view me c) (Decided l status) (change_on view me c) change ready.0 (ap (λ (s : LraStatus). Decided l s) is) (change_is ∙ decided_change view me l verdict copy ready)
 
 -- Questions
 
@@ -181,7 +181,7 @@ join_next view me l links copy members member change ready is number change_is =
     let many : member ≡ (by_view view).numbers l + 1 = number ∙ ap (λ (ms : List Member). length ms) is ∙ one_more (joined links) copy.members ∙ ap (λ (ms : List Member). length ms + 1) same ∙ ap (λ (n : ℕ). n + 1) (sym (numbers_on view l old ready.1.1)) in
     let next : record copy { members = members } ≡ record_after (next_fact_on view me c) old =
     ap (λ (r : Record). record r { members = members }) ready.1.2 ∙ ap (λ (ms : List Member). record (with_stamp me (count view.front me + 1) old) { members = ms }) (is ∙ ap (λ (ms : List Member). ms ++ joined links ∷ []) same) in
-    answer_taken (judge_on view me c) (accepted_on view me c) (Joined l member) (change_on view me c) change ready.0 (ap (λ (n : ℕ). Joined l n) many)
+    answer_accepted (judge_on view me c) (accepted_on view me c) (Joined l member) (change_on view me c) change ready.0 (ap (λ (n : ℕ). Joined l n) many)
     (change_is ∙ ap (one_change view me) next ∙ ap (λ (o : Option Record). option_map_or (λ (r : Record). one_change view me (record_after (next_fact_on view me c) r)) o (no_change view)) (sym ready.1.1))
 
 pub nest_next : (view : View) (me : ℕ) (p : Id) (deadline : ℕ) (id : Id) (slot : ℕ) (copy child : Record) (members : List Member) (change : Change) → IsReadyNext view me (Begin (Some p) deadline) p (Ok copy)
@@ -198,7 +198,7 @@ nest_next view me p deadline id slot copy child members change ready named is nu
     ap (λ (r : Record). record r { members = members }) ready.1.2 ∙ ap (λ (ms : List Member). record (with_stamp me (count view.front me + 1) old) { members = ms }) own in
     let new : child ≡ fresh_record view.front me (Some (record { number = p.num; slot = (by_view view).numbers p + 1 })) deadline =
     begun ∙ ap (λ (n : ℕ). fresh_record view.front me (Some (record { number = p.num; slot = n })) deadline) many in
-    answer_taken (judge_on view me c) (accepted_on view me c) (Began id slot) (change_on view me c) change ready.0
+    answer_accepted (judge_on view me c) (accepted_on view me c) (Began id slot) (change_on view me c) change ready.0
     (ap (λ (l : Id). Began l slot) named ∙ ap (λ (n : ℕ). Began (record { home = me; num = count view.front me + 1 }) n) many)
     (change_is ∙ ap (λ (r : Record). two_changes view me r child) next ∙ ap (two_changes view me (record_after (next_fact_on view me c) old)) new
     ∙ ap (λ (o : Option Record). option_map_or (λ (r : Record). two_changes view me (record_after (next_fact_on view me c) r) (fresh_record view.front me (Some (record { number = p.num; slot = (by_view view).numbers p + 1 })) deadline)) o (no_change view)) (sym ready.1.1))
@@ -208,7 +208,7 @@ pub root_next : (view : View) (me deadline : ℕ) (id : Id) (next : Record) (cha
     → IsNext view me (Begin None deadline) (Ok (record { reply = Began id 0; patch = Some change }))
 root_next view me deadline id next change taken named is change_is =
     let c : Command = Begin None deadline in
-    answer_taken (judge_on view me c) (accepted_on view me c) (Began id 0) (change_on view me c) change taken (ap (λ (l : Id). Began l 0) named) (change_is ∙ ap (one_change view me) is)
+    answer_accepted (judge_on view me c) (accepted_on view me c) (Began id 0) (change_on view me c) change taken (ap (λ (l : Id). Began l 0) named) (change_is ∙ ap (one_change view me) is)
 
 -- A report
 
@@ -228,7 +228,7 @@ report_next view me l m act outcome copy members change ready is change_is =
     let next : record copy { members = members } ≡ record_after (next_fact_on view me c) old =
     ap (λ (r : Record). record r { members = members }) ready.1.2
     ∙ ap (λ (ms : List Member). record (with_stamp me (count view.front me + 1) old) { members = ms }) (is (report_some view me l m act outcome ready.0) ∙ ap (member_changed (reporting act outcome) (m - 1)) same) in
-    answer_taken (judge_on view me c) (accepted_on view me c) Reported (change_on view me c) change ready.0 refl
+    answer_accepted (judge_on view me c) (accepted_on view me c) Reported (change_on view me c) change ready.0 refl
     (change_is ∙ ap (one_change view me) next ∙ ap (λ (o : Option Record). option_map_or (λ (r : Record). one_change view me (record_after (next_fact_on view me c) r)) o (no_change view)) (sym ready.1.1))
 
 -- That a participant was told to forget
@@ -249,7 +249,7 @@ forgot_next view me l m copy members change ready is change_is =
     let next : record copy { members = members } ≡ record_after (next_fact_on view me c) old =
     ap (λ (r : Record). record r { members = members }) ready.1.2
     ∙ ap (λ (ms : List Member). record (with_stamp me (count view.front me + 1) old) { members = ms }) (is (forgot_some view me l m ready.0) ∙ ap (member_changed forgetting (m - 1)) same) in
-    answer_taken (judge_on view me c) (accepted_on view me c) Forgotten (change_on view me c) change ready.0 refl
+    answer_accepted (judge_on view me c) (accepted_on view me c) Forgotten (change_on view me c) change ready.0 refl
     (change_is ∙ ap (one_change view me) next ∙ ap (λ (o : Option Record). option_map_or (λ (r : Record). one_change view me (record_after (next_fact_on view me c) r)) o (no_change view)) (sym ready.1.1))
 
 pub ok_any : {X : Type 0} (P : Type 0) (r : Result X Refusal) → P → IfOk r (λ _. P)
@@ -268,7 +268,7 @@ prepared_settled S view me c result plain there settled stands some next = by (j
     taken here e (Ok prepared) one (inl wrong) = absurd cc
     taken here e (Ok prepared) one (inr is) =
         let adds = is_added S view me c plain (one here) there settled stands e in
-        subst (λ (r : Result Prepared Refusal). IsPrepared S view me c r) (sym is) (adds.0 ∙ sym (reply_taken S view.front me c e), adds.1)
+        subst (λ (r : Result Prepared Refusal). IsPrepared S view me c r) (sym is) (adds.0 ∙ sym (reply_accepted S view.front me c e), adds.1)
 
     by : (j : Judgement) → judge_on view me c ≡ j → judge S view.front me c ≡ j → IsAnswer j (accepted_on view me c) (change_on view me c) result → IsPrepared S view me c result
     by (Denied r) here e is = subst (λ (x : Result Prepared Refusal). IsPrepared S view me c x) (sym is) (inr (reply_denied S view.front me c r e))

@@ -1,5 +1,5 @@
 // Making a patch's changes.
-ghost use Rattle.std.specs.Prelude.{◌≡◌, ◌≤◌, ◌+◌, ◌==◌, ℕ, List, if◌then◌else◌, length};
+ghost use Rattle.std.specs.Prelude.{◌≡◌, ◌≤◌, ◌+◌, ◌==◌, ℕ, if◌then◌else◌, length};
 ghost use Rattle.std.specs.List.{AllByRecursion};
 ghost use Rattle.lra_replica.specs.Replicas.{Fits, count_of_home, spare_at, view_of};
 ghost use Rattle.lra_history.specs.Changes.{patched, put_at_home, put_each, remove_each, remove_at_home};

@@ -87,6 +87,7 @@ impl Replica {
         ensures few { result ≤ 8 }
         ensures state { IsReplicaState self.now }
     {
+        // It tells what holds of every replica's state.
         let _ = self.homes();
         self.front().nodes()
     }

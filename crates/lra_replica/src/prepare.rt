@@ -11,7 +11,7 @@ use lra_id::NodeId;
 use std::alloc::Global;
 
 impl Replica {
-    /// Prepares what a command asks of a node, by the function of that command.
+    /// Prepares what a command asks of a node, by the function of that command, which says what it costs and its errors.
     pub fn prepare(
         &mut self,
         alloc: Global,

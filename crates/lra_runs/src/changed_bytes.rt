@@ -2,7 +2,6 @@
 use crate::places::FIRST;
 use lra_delta::Delta;
 use lra_facts::Refusal;
-use std::alloc::Global;
 use std::test::Fail;
 
 /// Numbers of as many nodes as there can be.

@@ -2,7 +2,7 @@
 use crate::commands::enter;
 use crate::places::{FIRST, SECOND, closed};
 use http::StatusCode;
-use lra_delta::{Delta, encode, prepare};
+use lra_delta::{encode, prepare};
 use lra_facts::Refusal;
 use lra_history::Command;
 use lra_http::{

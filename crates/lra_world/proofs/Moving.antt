@@ -16,7 +16,7 @@ use Rattle.lra_history.specs.NodeViews.{IsCurrent, entry_for}
 use Rattle.lra_history.specs.Changes.{raised}
 use Rattle.lra_history.specs.Replies.{Judgement, Denied, AlreadyKnown, Accepted, judge}
 use Rattle.lra_history.proofs.Basics.{same_or_not}
-use Rattle.lra_history.proofs.OneMoreEntry.{below_raised, closed_with, lawful_with, length_with, own_with, taken_lawful}
+use Rattle.lra_history.proofs.OneMoreEntry.{below_raised, closed_with, lawful_with, length_with, own_with, accepted_lawful}
 use Rattle.lra_history.proofs.PatchedHistories.{empty_view_in}
 use Rattle.lra_history.proofs.JoinedFronts.{closed_join, count_join}
 use Rattle.lra_world.specs.declared.event.Event.{Event}
@@ -123,7 +123,7 @@ pub kept_entered : (s : State) (node : ℕ) (c : Command) → IsWorld s → IsNo
 kept_entered s node c w is taken =
     record {
       world = record {
-        lawful = lawful_with h v node e is.some is.there mine.closed mine.own w.lawful refl (taken_lawful (facts h v) v node c taken);
+        lawful = lawful_with h v node e is.some is.there mine.closed mine.own w.lawful refl (accepted_lawful (facts h v) v node c taken);
         nodes = length-set s.fronts (node - 1) (raised v node) ∙ w.nodes ∙ sym (length_with h node e);
         current = λ n some there. current n some (omega (arith, there, length_with h node e));
         sent = λ frame m. sent_still h longer grown frame (w.sent frame m);

@@ -1,5 +1,5 @@
 //! The shape of views: a law of what nodes of one lawful history keep.
-ghost use Rattle.std.specs.Prelude.{◌≡◌, ℕ, List};
+ghost use Rattle.std.specs.Prelude.{ℕ, List};
 ghost use Rattle.lra_history.specs.Histories.{History, IsClosed, IsLawful, facts};
 ghost use Rattle.lra_history.specs.Merging.{IsMerged};
 ghost use Rattle.lra_history.specs.ViewShape.{HasShape};

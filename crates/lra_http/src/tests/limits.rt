@@ -6,7 +6,7 @@ use std::io;
 use std::io::Read;
 use std::test::Fail;
 
-/// A front, so many of a piece, and an end.
+/// A prefix, so many of a piece, and an end.
 fn repeated(
     alloc: Global,
     prefix: &str,

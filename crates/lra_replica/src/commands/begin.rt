@@ -39,6 +39,7 @@ impl Replica {
         ensures left { result ≡ None → count self.now.front me < last_number }
         ensures some { 1 ≤ me }
     {
+        // A node's number is at least 1: only a call of a `NodeId` tells.
         let _ = me.number();
         if let Some(refusal) = self.refusal_to_hold(me) {
             return Some(refusal);
@@ -152,6 +153,7 @@ impl Replica {
             return Err(refusal);
         }
         let copy = self.stamped(parent, me)?;
+        // Neither comes: both were asked. It tells what is known of the copy.
         if copy.home != me {
             return Err(Refusal::NotHome(copy.home));
         }
@@ -176,6 +178,7 @@ impl Replica {
         ensures next { IsNext (view_of self.old) me (Begin (Some parent) deadline) result }
         ensures prepared { OfItsSet (view_of self.old) (λ S. IsPrepared S (view_of self.old) me (Begin (Some parent) deadline) result) }
     {
+        // Likewise.
         let _ = me.number();
         let mut next = self.ready_to_nest(me, parent)?;
         let id = self.next_id(me);
@@ -193,8 +196,9 @@ impl Replica {
         })
     }
 
-    /// Prepares the begin of an LRA, top-level or in a parent. A root costs one insertion, a nested LRA a copy of its
-    /// parent's record and a look at those that the parent is nested in.
+    /// Prepares the begin of an LRA, top-level or in a parent, with a deadline in milliseconds, 0 for none. A root costs one
+    /// insertion, a nested LRA a copy of its parent's record and a look at those that the parent is nested in. Errors, the
+    /// first that holds: of a root E13, E14; of a nested LRA E2, E3, E4, E6, E11, E12, E13, E14; and E17.
     pub fn begin(
         &mut self,
         alloc: Global,

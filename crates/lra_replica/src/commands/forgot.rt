@@ -91,7 +91,7 @@ impl Replica {
         }
     }
 
-    /// The refusal to take that a participant was told to forget.
+    /// The refusal to enter that a participant was told to forget.
     fn refusal_to_forget(&self, id: LraId, member: u8) -> Option<Refusal>
         ensures { let t = by_view (view_of self.now) in result ≡ first (unknown self.now.front id ∷ gone_by t id ∷ stranger_by t id member ∷ unowed_by t id member ∷ []) }
     {
@@ -123,7 +123,8 @@ impl Replica {
     }
 
     /// Prepares that a participant was told to forget, which any node may enter. Where it was told already, it is known, and
-    /// there is no patch. It costs a copy of the LRA's record and a look at those of its root's tree.
+    /// there is no patch. It costs a copy of the LRA's record and a look at those of its root's tree. Errors, the
+    /// first that holds: E2, E3, E5, E7; where it isn't known E14, E17.
     pub fn forgot(
         &mut self,
         alloc: Global,

@@ -59,7 +59,7 @@ impl Replica {
         }
     }
 
-    /// The refusal that tells what an LRA shows.
+    /// E6, with what an LRA shows.
     fn not_active(&self, id: LraId) -> Option<Refusal>
         ensures { let t = by_view (view_of self.now) in t.held id ≡ true → result ≡ Some (NotActive (t.shows id)) }
     {
@@ -99,7 +99,7 @@ impl Replica {
         }
     }
 
-    /// The refusal that tells what an LRA shows.
+    /// E7, with what an LRA shows.
     pub(crate) fn not_due(&self, id: LraId) -> Option<Refusal>
         ensures { let t = by_view (view_of self.now) in t.held id ≡ true → result ≡ Some (NotDue (t.shows id)) }
     {

@@ -71,7 +71,7 @@ impl Replica {
         }
     }
 
-    /// The refusal to take what was heard of a participant.
+    /// The refusal to enter what was heard of a participant.
     fn refusal_to_report(&self, id: LraId, member: u8, act: Act) -> Option<Refusal>
         ensures { let t = by_view (view_of self.now) in result ≡ first (unknown self.now.front id ∷ gone_by t id ∷ stranger_by t id member ∷ unasked_by t id member act ∷ []) }
     {
@@ -111,7 +111,7 @@ impl Replica {
 
     /// Prepares a report of an outcome of an act of a participant, which any node may enter. Where this outcome or a greater
     /// one was heard, it is known, and there is no patch. It costs a copy of the LRA's record and a look at those that it is
-    /// nested in.
+    /// nested in. Errors, the first that holds: E2, E3, E5, E7; where it isn't known E14, E17.
     pub fn report(
         &mut self,
         alloc: Global,

@@ -5,14 +5,14 @@ use Rattle.lra_history.specs.declared.command.CommandReply.TheVariants.{Purged}
 use Rattle.lra_history.specs.Next.{accepted_on, change_on, judge_on}
 use Rattle.lra_history.specs.Changes.{purge_change}
 use Rattle.lra_replica.specs.Replicas.{view_of}
-use Rattle.lra_replica.proofs.PreparedReplies.{answer_denied, answer_taken, memory_prepared, prepared_settled}
+use Rattle.lra_replica.proofs.PreparedReplies.{answer_denied, answer_accepted, memory_prepared, prepared_settled}
 use Rattle.lra_replica.proofs.replica.Replica.purge.Goals as goal
 
 pub returns-clause-next : goal.returns-clause-next
 returns-clause-next c =
     let view = view_of c.args.self.now in
     let command = Purge c.args.root in
-    answer_taken (judge_on view c.args.me command) (accepted_on view c.args.me command) Purged (change_on view c.args.me command) c.removal-patch.result c.in_default.ensures.judged refl
+    answer_accepted (judge_on view c.args.me command) (accepted_on view c.args.me command) Purged (change_on view c.args.me command) c.removal-patch.result c.in_default.ensures.judged refl
     (c.removal-patch.ensures.patch ∙ ap (purge_change view c.args.me) c.in_ok-removed.ensures)
 
 pub returns-clause-prepared : goal.returns-clause-prepared
