@@ -9,7 +9,7 @@ use Rattle.lra_callback.specs.declared.answer.Answer.TheVariants.{Code, Broken}
 use Rattle.lra_callback.specs.declared.answer.Heard.TheVariants.{Again}
 use Rattle.lra_callback.specs.declared.answer.Kind.{Kind}
 use Rattle.lra_callback.specs.Answers.{heard_of}
-use Rattle.lra_callback.specs.Calls.{IsCodeOf, answer_limit}
+use Rattle.lra_callback.specs.OneCall.{IsCodeOf, answer_limit}
 
 pub none_heard : (act : Act) (kind : Kind) (input : List ℕ) (left : Option (List ℕ)) (answer : Answer)
     → HasNoResponse head_room answer_limit input → IsCodeOf (Some input) left answer → heard_of act kind answer ≡ Again

@@ -2,5 +2,5 @@ pub mod Answers
 pub mod CallDuties
 pub mod CallRequests
 pub mod CallWords
-pub mod Calls
 pub mod Errands
+pub mod OneCall

@@ -6,7 +6,7 @@ ghost use Rattle.lra_http.specs.Streams.{AppendsPart, IsLost, most_interrupted};
 ghost use Rattle.lra_http.specs.MessageTexts.{request_text};
 ghost use Rattle.lra_http.specs.declared.message.CallRequest.{CallRequest as TheRequest};
 ghost use Rattle.lra_callback.specs.declared.answer.Answer.{Answer as TheAnswer};
-ghost use Rattle.lra_callback.specs.Calls.{IsBroken, IsCodeOf, IsOfStatus, answer_limit};
+ghost use Rattle.lra_callback.specs.OneCall.{IsBroken, IsCodeOf, IsOfStatus, answer_limit};
 
 use crate::Answer;
 use lra_http::{BODY_LIMIT, CallRequest, Fault, Sink, Source, read_response, write_request};
@@ -38,7 +38,7 @@ pub struct NetCaller<R, W> {
 }
 
 impl<R, W> Model for NetCaller<R, W> {
-    ghost use Rattle.lra_callback.specs.Calls.{Ends};
+    ghost use Rattle.lra_callback.specs.OneCall.{Ends};
 
     ghost Value = { Ends R W };
 

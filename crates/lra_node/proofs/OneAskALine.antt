@@ -24,7 +24,7 @@ use Rattle.lra_callback.specs.CallWords.{kind_name}
 use Rattle.lra_node.specs.declared.ask.Ask.{Ask}
 use Rattle.lra_node.specs.declared.ask.Ask.TheVariants.{Enter, Tick, Send, Deliver, Restart, Show, Member, Duties, Hear, Front, Same, Text, Read}
 use Rattle.lra_node.specs.Asks.{IsInRange, HasArguments, IsMemberNumber, IsNodeOf, IsNumber, Spells, kept_words, parent_words, verb_of}
-use Rattle.lra_node.specs.Calls.{IsAnswerInRange, GivesAnswer, IsRestOf}
+use Rattle.lra_node.specs.CallLines.{IsAnswerInRange, GivesAnswer, IsRestOf}
 use Rattle.lra_node.specs.Joins.{GivesLinks}
 use Rattle.lra_node.specs.LineParts.{onto_first, parts, words_of}
 use Rattle.lra_node.proofs.DecimalNumbers.{id_parted, one_number, own}

@@ -11,7 +11,7 @@ use Rattle.lra_world.proofs.Determined.{one_spelling, step_once}
 use Rattle.lra_node.specs.declared.ask.Ask.{Ask}
 use Rattle.lra_node.specs.declared.ask.Ask.TheVariants.{Enter, Tick, Send, Deliver, Restart, Show, Member, Duties, Hear, Front, Same, Text, Read}
 use Rattle.lra_node.specs.Asks.{Spells}
-use Rattle.lra_node.specs.Calls.{duties_text}
+use Rattle.lra_node.specs.CallLines.{duties_text}
 use Rattle.lra_node.specs.Scripts.{Answers, AnswersInRoom, Does, IsDone, PrintsReply, ScriptText, TellsSame, TextInRoom, event_line, printed}
 use Rattle.lra_node.specs.NodeHoldings.{AreComing}
 use Rattle.lra_node.proofs.OneAskALine.{one_ask}

@@ -8,7 +8,7 @@ use Rattle.lra_node.specs.declared.ask.Ask.{Ask}
 use Rattle.lra_node.specs.declared.ask.Ask.TheVariants.{Enter, Tick, Send, Deliver, Restart, Show, Member, Duties, Hear, Front, Same, Text, Read}
 use Rattle.lra_history.specs.declared.command.Command.{Command}
 use Rattle.lra_history.specs.declared.command.Command.TheVariants.{Begin, Join, Leave, Decide, Report, Forgot, Purge}
-use Rattle.lra_node.specs.Calls.{IsAnswerInRange, GivesAnswer}
+use Rattle.lra_node.specs.CallLines.{IsAnswerInRange, GivesAnswer}
 use Rattle.lra_node.specs.Joins.{GivesLinks}
 use Rattle.lra_node.specs.LineParts.{words_of}
 

@@ -1,6 +1,6 @@
 pub mod Arguments
 pub mod Asks
-pub mod Calls
+pub mod CallLines
 pub mod Joins
 pub mod LineParts
 pub mod NodeHoldings

@@ -32,7 +32,7 @@ use Rattle.lra_http.specs.Streams.{most_interrupted}
 use Rattle.lra_node.specs.declared.ask.Ask.{Ask}
 use Rattle.lra_node.specs.declared.ask.Ask.TheVariants.{Enter, Tick, Send, Deliver, Restart, Show, Member, Duties, Hear, Front, Same, Text, Read}
 use Rattle.lra_node.specs.Asks.{Spells}
-use Rattle.lra_node.specs.Calls.{act_asked, command_of, duties_text}
+use Rattle.lra_node.specs.CallLines.{act_asked, command_of, duties_text}
 use Rattle.lra_node.specs.LineParts.{HasNone, lines_of}
 use Rattle.lra_node.specs.NodeHoldings.{AreComing}
 

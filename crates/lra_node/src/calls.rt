@@ -10,7 +10,7 @@ ghost use Rattle.lra_history.specs.Replies.{member_shown};
 ghost use Rattle.lra_world.specs.Machines.{IsWorldOf};
 ghost use Rattle.lra_world.specs.Worlds.{State, front_of, set_of};
 ghost use Rattle.lra_node.specs.Asks.{IsNodeOf};
-ghost use Rattle.lra_node.specs.Calls.{act_asked, act_demanded, act_where, command_of, duties_text, duty_text, further_text};
+ghost use Rattle.lra_node.specs.CallLines.{act_asked, act_demanded, act_where, command_of, duties_text, duty_text, further_text};
 ghost use Rattle.lra_node.specs.Scripts.{IsNothing, after_answer, after_heard, answer_line, heard_line, heard_reply_line, printed};
 ghost use Rattle.lra_node.specs.NodeHoldings.{Holds};
 

@@ -1,6 +1,6 @@
 // The words of a line.
 ghost use Rattle.std.specs.Prelude.{◌≡◌, [], ◌∷◌, ◌↔◌, IsTrue, MatchOption};
-ghost use Rattle.lra_node.specs.Calls.{IsRestOf};
+ghost use Rattle.lra_node.specs.CallLines.{IsRestOf};
 ghost use Rattle.lra_node.specs.LineParts.{words_of};
 
 use std::marker::Model;

@@ -14,7 +14,7 @@ use Rattle.lra_delta.specs.Rules.{are_counts}
 use Rattle.lra_delta.specs.Spelling.{number, vector}
 use Rattle.lra_delta.proofs.Codes.{IsBytes}
 use Rattle.lra_delta.proofs.RecordCodes.{length-vector}
-use Rattle.lra_peer.specs.Bodies.{IsAsked, asked, counts_in, pull_body}
+use Rattle.lra_peer.specs.PullBodies.{IsAsked, asked, counts_in, pull_body}
 
 both : (a b : Bool) → (a && b) ≡ true → (a ≡ true) × (b ≡ true)
 both true true e = (refl, refl)

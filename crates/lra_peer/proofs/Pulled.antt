@@ -14,7 +14,7 @@ use Rattle.lra_http.specs.declared.fault.Fault.{Fault as HttpFault}
 use Rattle.lra_http.specs.declared.fault.Fault.TheVariants.{NoMemory, NotOffered, ReadFault, WriteFault}
 use Rattle.lra_http.specs.declared.message.Response.{Response}
 use Rattle.lra_http.proofs.Messages.{exit_found, unique_final}
-use Rattle.lra_peer.specs.Answers.{IsAnswer, IsOfStreams, IsSent, RefusesPull, Tells, frame_limit}
+use Rattle.lra_peer.specs.PullAnswers.{IsAnswer, IsOfStreams, IsSent, RefusesPull, Tells, frame_limit}
 use Rattle.lra_peer.specs.declared.error.PullError.{PullError}
 use Rattle.lra_peer.specs.declared.error.PullError.TheVariants.{Fault, BadFrame}
 

@@ -4,7 +4,7 @@ use Rattle.std.specs.Prelude.{IfOk}
 use Rattle.std.specs.Fmt.{decimal}
 use Rattle.lra_http.specs.declared.message.CallRequest.{CallRequest}
 use Rattle.lra_http.specs.MessageTexts.{line_end, request_text}
-use Rattle.lra_peer.specs.Bodies.{pull_body}
+use Rattle.lra_peer.specs.PullBodies.{pull_body}
 use Rattle.lra_peer.specs.Texts.{pull_request, pull_text}
 
 grouped : (d e c l b : List ℕ) → ((((d ++ e) ++ c) ++ l) ++ b) ≡ d ++ (e ++ (c ++ (l ++ b)))

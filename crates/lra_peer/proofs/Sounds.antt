@@ -7,7 +7,7 @@ use Rattle.lra_http.specs.WholeMessages.{IsSound}
 use Rattle.lra_http.proofs.WholeMessages.{whole_response}
 use Rattle.lra_delta.specs.Frames.{Frame}
 use Rattle.lra_delta.specs.Spelling.{spelling}
-use Rattle.lra_peer.specs.Answers.{IsAnswer, frame_limit}
+use Rattle.lra_peer.specs.PullAnswers.{IsAnswer, frame_limit}
 
 pub written_frame : (r : Response) (frame : Frame) (rest : List ℕ) → IsSound frame_limit r → r.status ≡ 200 → r.body ≡ spelling frame
     → IsAnswer (response_text r ++ rest) (Some rest) 200 (spelling frame)

@@ -11,7 +11,7 @@ use Rattle.lra_delta.specs.Frames.{Frame, frame_of}
 use Rattle.lra_delta.specs.TakenFrames.{IsTaken}
 use Rattle.lra_delta.proofs.FramesOfHistories.{some_view, take_law}
 use Rattle.lra_delta.proofs.OfSets.{frame_stands}
-use Rattle.lra_peer.specs.Bodies.{IsAsked, asked, pull_body}
+use Rattle.lra_peer.specs.PullBodies.{IsAsked, asked, pull_body}
 use Rattle.lra_peer.specs.Serving.{Serves}
 use Rattle.lra_peer.proofs.Coded.{asked_again}
 

@@ -15,7 +15,7 @@ use Rattle.lra_http.specs.MessageTexts.{line_end}
 use Rattle.lra_http.specs.WholeMessages.{IsPlain, IsSoundCall, host_field}
 use Rattle.lra_http.proofs.WholeMessages.{whole_request}
 use Rattle.lra_delta.proofs.RecordCodes.{length-vector}
-use Rattle.lra_peer.specs.Bodies.{pull_body}
+use Rattle.lra_peer.specs.PullBodies.{pull_body}
 use Rattle.lra_peer.specs.Texts.{field, pull_fields, pull_request, pull_text}
 use Rattle.lra_peer.proofs.Requested.{before_length, text_is}
 

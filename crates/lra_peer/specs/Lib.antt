@@ -1,5 +1,5 @@
-pub mod Answers
-pub mod Bodies
 pub mod Errors
+pub mod PullAnswers
+pub mod PullBodies
 pub mod Serving
 pub mod Texts

@@ -4,7 +4,7 @@ use Rattle.std.specs.Fmt.{decimal}
 use Rattle.lra_http.specs.declared.message.CallRequest.{CallRequest}
 use Rattle.lra_http.specs.declared.message.Field.{Field}
 use Rattle.lra_http.specs.MessageTexts.{line_end}
-use Rattle.lra_peer.specs.Bodies.{pull_body}
+use Rattle.lra_peer.specs.PullBodies.{pull_body}
 
 -- the request for what a front lacks: a head of five lines, an empty line and the body
 abbrev pub pull_text : List ℕ → List ℕ

@@ -5,7 +5,7 @@ ghost use Rattle.lra_delta.specs.Reading.{frame_in};
 ghost use Rattle.lra_delta.specs.Rules.{IsDelta};
 ghost use Rattle.lra_delta.specs.Spelling.{spelling};
 ghost use Rattle.lra_http.specs.declared.fault.Fault.TheVariants.{NoMemory, NotOffered};
-ghost use Rattle.lra_peer.specs.Answers.{Tells};
+ghost use Rattle.lra_peer.specs.PullAnswers.{Tells};
 ghost use Rattle.lra_peer.specs.declared.error.PullError.TheVariants.{Fault as OfHttp};
 
 use crate::PullError;

@@ -4,7 +4,7 @@ ghost use Rattle.std.specs.Int.{from_be_bytes, w64};
 ghost use Rattle.lra_facts.specs.declared.refusal.Refusal.TheVariants.{BadFrame};
 ghost use Rattle.lra_delta.specs.Rules.{are_counts};
 ghost use Rattle.lra_delta.specs.Spelling.{vector};
-ghost use Rattle.lra_peer.specs.Bodies.{IsAsked, asked, counts_in, front_in, pull_body};
+ghost use Rattle.lra_peer.specs.PullBodies.{IsAsked, asked, counts_in, front_in, pull_body};
 
 use lra_facts::Refusal;
 use lra_id::{Front, LAST_NUMBER};

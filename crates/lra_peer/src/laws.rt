@@ -12,8 +12,8 @@ ghost use Rattle.lra_http.specs.Requests.{IsRequest};
 ghost use Rattle.lra_http.specs.MessageTexts.{response_text};
 ghost use Rattle.lra_http.specs.WholeMessages.{IsSound};
 ghost use Rattle.lra_http.specs.declared.message.Response.{Response as TheResponse};
-ghost use Rattle.lra_peer.specs.Answers.{IsAnswer, frame_limit};
-ghost use Rattle.lra_peer.specs.Bodies.{IsAsked, asked, pull_body};
+ghost use Rattle.lra_peer.specs.PullAnswers.{IsAnswer, frame_limit};
+ghost use Rattle.lra_peer.specs.PullBodies.{IsAsked, asked, pull_body};
 ghost use Rattle.lra_peer.specs.Serving.{Serves};
 ghost use Rattle.lra_peer.specs.Texts.{pull_text};
 

@@ -7,7 +7,7 @@ ghost use Rattle.lra_delta.specs.Spelling.{spelling};
 ghost use Rattle.lra_http.specs.Responses.{IsRead, Refuses, head_room};
 ghost use Rattle.lra_http.specs.Streams.{IsLost, most_interrupted};
 ghost use Rattle.lra_http.specs.declared.fault.Fault.TheVariants.{Cut, NoMemory, ReadFault, WriteFault};
-ghost use Rattle.lra_peer.specs.Answers.{IsAnswer, IsOfStreams, IsSent, IsSentBy, RefusesPull, WhereRead, frame_limit};
+ghost use Rattle.lra_peer.specs.PullAnswers.{IsAnswer, IsOfStreams, IsSent, IsSentBy, RefusesPull, WhereRead, frame_limit};
 ghost use Rattle.lra_peer.specs.Texts.{pull_text};
 ghost use Rattle.lra_peer.specs.declared.error.PullError.TheVariants.{Fault as OfHttp};
 

@@ -8,7 +8,7 @@ ghost use Rattle.lra_replica.specs.Replicas.{view_of};
 ghost use Rattle.lra_history.specs.Views.{StandsFor};
 ghost use Rattle.lra_delta.specs.Frames.{IsFrame};
 ghost use Rattle.lra_delta.specs.Grammar.{IsOfGrammar};
-ghost use Rattle.lra_peer.specs.Bodies.{IsAsked, asked, pull_body};
+ghost use Rattle.lra_peer.specs.PullBodies.{IsAsked, asked, pull_body};
 ghost use Rattle.lra_peer.specs.Serving.{Serves};
 
 use crate::bodies::front_of_pull;

@@ -1,5 +1,5 @@
 // Calls over connections in memory: the bytes of requests, and what is heard of answers that are whole, cut or broken.
-ghost use Rattle.lra_callback.specs.Calls.{IsBroken};
+ghost use Rattle.lra_callback.specs.OneCall.{IsBroken};
 
 use crate::callbacks::{F, K, S, answer, begin, code, decide, join, lra};
 use lra_callback::{Answer, Caller, Heard, Kind, NetCaller, NoMemory, hear, pick, request_of};

@@ -6,7 +6,7 @@ ghost use Rattle.lra_callback.specs.declared.answer.Answer.{Answer};
 ghost use Rattle.lra_callback.specs.declared.answer.Kind.{Kind};
 ghost use Rattle.lra_callback.specs.CallWords.{kind_name};
 ghost use Rattle.lra_node.specs.Asks.{IsMemberNumber, IsNodeOf, ReadsArguments};
-ghost use Rattle.lra_node.specs.Calls.{IsAnswerInRange, GivesAnswer};
+ghost use Rattle.lra_node.specs.CallLines.{IsAnswerInRange, GivesAnswer};
 
 use super::members::next_participant;
 use crate::ask::Ask;

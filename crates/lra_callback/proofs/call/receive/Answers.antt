@@ -1,5 +1,5 @@
 use Rattle.lra_http.specs.Responses.{IsResponse, head_room}
-use Rattle.lra_callback.specs.Calls.{answer_limit}
+use Rattle.lra_callback.specs.OneCall.{answer_limit}
 use Rattle.lra_callback.proofs.Called.{not_read}
 use Rattle.lra_callback.proofs.call.receive.Goals as goal
 

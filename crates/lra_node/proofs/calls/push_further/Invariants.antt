@@ -1,5 +1,5 @@
 use Rattle.std.proofs.Common.{◌≡◌, ◌++◌, drop, string_bytes}
-use Rattle.lra_node.specs.Calls.{further_text}
+use Rattle.lra_node.specs.CallLines.{further_text}
 use Rattle.lra_node.proofs.calls.push_further.Given as goal
 
 -- with the texts of the duties that are left it comes to all

@@ -1,5 +1,5 @@
 use Rattle.std.proofs.Common.{◌≡◌, ◌++◌, ◌≤◌, ◌*◌, ◌-◌, length, take}
-use Rattle.lra_peer.specs.Bodies.{counts_in}
+use Rattle.lra_peer.specs.PullBodies.{counts_in}
 use Rattle.lra_peer.proofs.bodies.counts_in.Given as goal
 
 -- the counts so far, and those of the rest
