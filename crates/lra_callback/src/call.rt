@@ -23,7 +23,7 @@ pub trait Caller {
     ghost answered: { (old new : Self) → TheRequest → TheAnswer → Type 0 };
 
     /// Makes one call. Where the request can't be brought to the participant, or no whole response comes of it, the answer
-    /// is `Broken`. Errors: want of memory.
+    /// is `Broken`. Of that the trait promises what the caller's `answered` says, and no more. Errors: want of memory.
     fn call(&mut self, alloc: Global, request: &CallRequest) -> Result<Answer, NoMemory>
         ensures answered { IfOk result (answered self.old self.new request.now) }
         ensures status { IfOk result IsOfStatus };
