@@ -69,6 +69,35 @@ impl Duties {
     }
 }
 
+impl Clone for Duty {
+    ghost use Rattle.std.specs.Prelude.{◌≡◌};
+
+    ghost is_clone = { λ x y. y ≡ x };
+
+    fn clone(&self) -> Result<Duty, AllocError> {
+        Ok(Duty {
+            kind: self.kind,
+            act: self.act,
+            id: self.id,
+            member: self.member,
+            link: self.link.clone()?,
+            parent: self.parent,
+        })
+    }
+}
+
+impl Clone for Duties {
+    ghost use Rattle.std.specs.Prelude.{◌≡◌};
+
+    ghost is_clone = { λ x y. y ≡ x };
+
+    fn clone(&self) -> Result<Duties, AllocError> {
+        Ok(Duties {
+            list: self.list.clone()?,
+        })
+    }
+}
+
 /// What a participant is called for: to do an act, or to be released from remembering it.
 #[derive(Clone, Copy)]
 enum Errand {

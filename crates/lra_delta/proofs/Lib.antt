@@ -1,7 +1,8 @@
 mod Alone
 mod AtHomes
-mod Beyond
+pub mod Beyond
 pub mod Codes
+mod CopiedHomes
 mod Examples
 mod Existing
 mod Filters
@@ -25,6 +26,7 @@ mod OneFrameOfASet
 mod Ordered
 mod Put
 pub mod RecordCodes
+mod SamePlaces
 mod Slices
 mod TakenIsUnion
 mod ToldByFrames

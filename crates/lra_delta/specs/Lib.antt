@@ -8,6 +8,7 @@ pub mod OneRecord
 pub mod Order
 pub mod Reading
 pub mod Rules
+pub mod SameFrames
 pub mod Seen
 pub mod Sending
 pub mod Spelling

@@ -3,6 +3,7 @@
 
 mod buffer;
 mod bytes;
+mod copies;
 mod count;
 mod decoding;
 mod delta;
@@ -18,6 +19,7 @@ mod output;
 mod preparing;
 mod record_fields;
 mod record_spelling;
+mod sameness;
 mod since;
 
 pub use buffer::Buffer;

@@ -59,6 +59,19 @@ impl Page {
     }
 }
 
+impl Clone for Page {
+    ghost use Rattle.std.specs.Prelude.{◌≡◌};
+
+    ghost is_clone = { λ x y. y ≡ x };
+
+    fn clone(&self) -> Result<Page, AllocError> {
+        Ok(Page {
+            rows: self.rows.clone()?,
+            more: self.more,
+        })
+    }
+}
+
 /// The LRA of the first record.
 fn first_of(records: &[Record]) -> Option<LraId>
     ensures none { records.now ≡ [] → result ≡ None }

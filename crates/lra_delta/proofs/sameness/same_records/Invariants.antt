@@ -1,0 +1,11 @@
+use Rattle.std.proofs.Common.{◌≡◌, drop, map}
+use Rattle.lra_forest.specs.declared.merging.Told.{Told}
+use Rattle.lra_forest.specs.RecordMerges.{held_numbers}
+use Rattle.lra_delta.specs.SameFrames.{same_records}
+use Rattle.lra_delta.proofs.sameness.same_records.Given as goal
+
+-- those behind tell whether all are the same
+abbrev pub invariant-loop-place : goal.invariant-loop-place
+invariant-loop-place l =
+    same_records (map (λ (told : Told). told.records.records) (drop l.place l.a)) (map (λ (told : Told). told.records.records) (drop l.place l.b))
+    ≡ same_records (map (λ (told : Told). told.records.records) l.a) (map (λ (told : Told). told.records.records) l.b)

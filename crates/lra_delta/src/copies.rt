@@ -1,0 +1,43 @@
+// Copies of what a node tells. Only memory can be wanting.
+ghost use Rattle.std.specs.Prelude.{◌≡◌, IfOk, map};
+ghost use Rattle.lra_delta.specs.Sending.{part_of};
+
+use crate::Delta;
+use lra_forest::Told;
+use std::alloc::{AllocError, Global};
+
+/// A copy of what is told of a home.
+fn copy_of(told: &Told) -> Result<Told, AllocError>
+    ensures { IfOk result (λ copy. part_of copy ≡ part_of told.now) }
+{
+    Ok(Told {
+        records: told.records.clone()?,
+        held: told.held.clone()?,
+    })
+}
+
+/// A copy of what is told of each home.
+fn copies_of(alloc: Global, homes: &[Told]) -> Result<Vec<Told>, AllocError>
+    ensures { IfOk result (λ copies. map part_of copies.items ≡ map part_of homes.now) }
+{
+    let mut copies = Vec::new(alloc);
+    for told in homes {
+        copies.push(copy_of(told)?)?;
+    }
+    Ok(copies)
+}
+
+impl Clone for Delta {
+    ghost use Rattle.std.specs.Prelude.{◌≡◌};
+
+    ghost is_clone = { λ x y. y ≡ x };
+
+    fn clone(&self) -> Result<Delta, AllocError> {
+        Ok(Delta {
+            base: self.base,
+            front: self.front,
+            purges: self.purges,
+            homes: copies_of(*self.homes.allocator(), &self.homes)?,
+        })
+    }
+}

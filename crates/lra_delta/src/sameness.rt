@@ -1,0 +1,70 @@
+// Whether two nodes tell the same.
+ghost use Rattle.std.specs.Prelude.{◌≡◌, ◌&&◌, length, map};
+ghost use Rattle.std.specs.Cmp.Lexicographic.{pointwise};
+ghost use Rattle.std.specs.Option.{option_eq};
+ghost use Rattle.std.specs.Str.{bytes_eq};
+ghost use Rattle.lra_forest.specs.contracts.record.RecordPartialEq.TheImpl as of_records;
+ghost use Rattle.lra_forest.specs.RecordMerges.{held_numbers};
+ghost use Rattle.lra_delta.specs.SameFrames.{same_frame, same_lives, same_records};
+
+use crate::Delta;
+use lra_forest::Told;
+
+/// Whether two live lists are the same.
+fn same_held(a: &Option<Vec<u64>>, b: &Option<Vec<u64>>) -> bool
+    ensures { result ≡ option_eq bytes_eq (held_numbers a.now) (held_numbers b.now) }
+{
+    match (a, b) {
+        (Some(a), Some(b)) => a.as_slice() == b.as_slice(),
+        (None, None) => true,
+        _ => false,
+    }
+}
+
+/// Whether as many homes have the same live lists.
+fn same_lives(a: &[Told], b: &[Told]) -> bool
+    requires { length a.now ≡ length b.now }
+    ensures { result ≡ same_lives (map (λ told. held_numbers told.held) a.now) (map (λ told. held_numbers told.held) b.now) }
+{
+    for place in 0..a.len() {
+        if !same_held(&a[place].held, &b[place].held) {
+            return false;
+        }
+    }
+    true
+}
+
+/// Whether as many homes have the same records.
+fn same_records(a: &[Told], b: &[Told]) -> bool
+    requires { length a.now ≡ length b.now }
+    ensures { result ≡ same_records (map (λ told. told.records.records) a.now) (map (λ told. told.records.records) b.now) }
+{
+    for place in 0..a.len() {
+        if !(a[place].records.records() == b[place].records.records()) {
+            return false;
+        }
+    }
+    true
+}
+
+/// Whether what is told of each home is the same.
+fn same_homes(a: &[Told], b: &[Told]) -> bool
+    ensures { result ≡ (same_lives (map (λ told. held_numbers told.held) a.now) (map (λ told. held_numbers told.held) b.now)
+        && same_records (map (λ told. told.records.records) a.now) (map (λ told. told.records.records) b.now)) }
+{
+    if a.len() != b.len() {
+        return false;
+    }
+    same_lives(a, b) && same_records(a, b)
+}
+
+impl Delta {
+    /// Whether another tells the same.
+    pub fn same(&self, other: &Delta) -> bool
+        ensures { result ≡ same_frame self.now other.now }
+    {
+        self.base == other.base
+            && (self.front == other.front
+                && (self.purges == other.purges && same_homes(&self.homes, &other.homes)))
+    }
+}
