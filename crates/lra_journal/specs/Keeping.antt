@@ -1,0 +1,25 @@
+-- What a journal keeps.
+use Rattle.std.specs.Prelude.{◌⊎◌, ℕ}
+use Rattle.sqlite.specs.Held.{Held, state}
+use Rattle.sqlite.specs.State.{State}
+use Rattle.sqlite_trees.specs.declared.store.Store.{Ghosts}
+use Rattle.lra_history.specs.Views.{View}
+use Rattle.lra_journal.specs.NewStores.{IsNew}
+use Rattle.lra_journal.specs.Stands.{KeepsView}
+use Rattle.lra_journal.specs.Tables.{IsJournal}
+
+-- a store that no one else wrote: a new one, or a journal
+abbrev pub IsOwn : State → Type 0
+IsOwn s = IsNew s ⊎ IsJournal s
+
+-- A journal as contracts see it: its connection, what that was when the journal was opened, and how often the database refused
+-- since, want of memory apart
+pub record JournalState (S : Type 0) : Type 0 where
+  pub connection : Held S
+  pub opened : Held S
+  pub refusals : ℕ
+
+-- A journal that was opened on a store of its own keeps this view of the node: while the disk is clean and the connection open,
+-- its rows stand for it
+abbrev pub Keeps : {S : Type 0} → Ghosts S → (me : ℕ) → JournalState S → View → Type 0
+Keeps g me journal view = IsOwn (state g journal.opened) → KeepsView me (state g journal.connection) view

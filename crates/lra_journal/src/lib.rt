@@ -1,0 +1,17 @@
+//! The journal of a replica, in two tables of a SQLite database.
+#![tactic(auto)]
+
+mod front_rows;
+mod journal;
+pub mod laws;
+mod lra_rows;
+mod open;
+mod patches;
+mod rebuilding;
+mod rows;
+mod schema;
+mod selects;
+mod steps;
+mod store;
+
+pub use journal::Journal;
