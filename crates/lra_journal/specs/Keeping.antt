@@ -1,5 +1,5 @@
 -- What a journal keeps.
-use Rattle.std.specs.Prelude.{◌⊎◌, ℕ}
+use Rattle.std.specs.Prelude.{◌≡◌, ◌+◌, ◌⊎◌, ℕ}
 use Rattle.sqlite.specs.Held.{Held, state}
 use Rattle.sqlite.specs.State.{State}
 use Rattle.sqlite_trees.specs.declared.store.Store.{Ghosts}
@@ -13,7 +13,7 @@ abbrev pub IsOwn : State → Type 0
 IsOwn s = IsNew s ⊎ IsJournal s
 
 -- A journal as contracts see it: its connection, what that was when the journal was opened, and how often the database refused
--- since, want of memory apart
+-- since, want of memory apart, as far as a number of 64 bits counts
 pub record JournalState (S : Type 0) : Type 0 where
   pub connection : Held S
   pub opened : Held S
@@ -23,3 +23,7 @@ pub record JournalState (S : Type 0) : Type 0 where
 -- its rows stand for it
 abbrev pub Keeps : {S : Type 0} → Ghosts S → (me : ℕ) → JournalState S → View → Type 0
 Keeps g me journal view = IsOwn (state g journal.opened) → KeepsView me (state g journal.connection) view
+
+-- one refusal more was counted, unless the count is as great as it gets
+abbrev pub IsCounted : (old new : ℕ) → Type 0
+IsCounted old new = (new ≡ old + 1) ⊎ ((new ≡ old) × (old ≡ 18446744073709551615))

@@ -7,30 +7,29 @@ ghost use Rattle.lra_facts.specs.declared.refusal.Refusal.TheVariants.{BadFrame,
 ghost use Rattle.lra_history.specs.Changes.{patched};
 ghost use Rattle.lra_history.specs.Views.{View, empty_view};
 ghost use Rattle.lra_journal.specs.Broken.{IsBrokenAt};
-ghost use Rattle.lra_journal.specs.Keeping.{IsOwn, Keeps};
+ghost use Rattle.lra_journal.specs.Keeping.{IsCounted, IsOwn, Keeps};
 ghost use Rattle.lra_journal.specs.NewStores.{IsNew};
 ghost use Rattle.lra_journal.specs.Stands.{IsPatchOf, Stands};
 ghost use Rattle.lra_journal.specs.Tables.{IsJournal};
 ghost use Rattle.lra_replica.specs.Replicas.{view_of};
 
+use crate::first::First;
 use crate::open::{opened, refusal_of};
 use crate::store::write_patch;
 use lra_facts::Refusal;
-use lra_http::Count;
 use lra_id::NodeId;
 use lra_replica::{Patch, Replica};
 use sqlite::{Alter, Connection, Error, ErrorCode};
 use std::alloc::Global;
 use std::marker::Model;
-use std::snapshot::Snapshot;
 
 /// The journal of a replica: a connection to its rows. Clauses alone read what the connection was when the journal was opened,
 /// and a count of what `sqlite` refused since, want of memory apart.
 #[derive(Drop)]
 pub struct Journal<S: Alter> {
     connection: Connection<S>,
-    opened: Snapshot<Connection<S>>,
-    refusals: Count,
+    opened: First<S>,
+    refusals: u64,
 }
 
 impl<S: Alter> Model for Journal<S> {
@@ -43,7 +42,7 @@ impl<S: Alter> Model for Journal<S> {
 
     ghost coded = { Prim.hlevel (codes, held_code S.code) };
 
-    ghost view = { λ j. record { connection = j.connection; opened = j.opened.value; refusals = j.refusals } };
+    ghost view = { λ j. record { connection = j.connection; opened = j.opened.held; refusals = j.refusals } };
 
     ghost invariant = { λ j. j.connection.in_transaction ≡ false };
 }
@@ -84,13 +83,13 @@ impl<S: Alter> Journal<S> {
         ensures crash { IfOk result (λ r. Survives (state S.Store connection) (state S.Store r.0.connection) (λ db. IsNew (state S.Store connection) → Stands me db (empty_view nodes))) }
         ensures crash_refused { IfErr result (λ e. Survives (state S.Store connection) (state S.Store e.1) (λ db. IsNew (state S.Store connection) → Stands me db (empty_view nodes))) }
     {
-        let first = Snapshot::of(&connection);
+        let first = First::of(&connection);
         match opened(alloc, &mut connection, me, nodes) {
             Ok(replica) => Ok((
                 Journal {
                     connection,
                     opened: first,
-                    refusals: Count::zero(),
+                    refusals: 0,
                 },
                 replica,
             )),
@@ -103,11 +102,11 @@ impl<S: Alter> Journal<S> {
         ensures connection { self.new.connection ≡ self.old.connection }
         ensures opened { self.new.opened ≡ self.old.opened }
         ensures cause { ((result ≡ NoMemory) × (error ≡ Error.SqliteFailure ErrorCode.OutOfMemory) × (self.new.refusals ≡ self.old.refusals))
-            ⊎ ((result ≡ JournalFailed) × (error ≢ Error.SqliteFailure ErrorCode.OutOfMemory) × (self.new.refusals ≡ self.old.refusals + 1)) }
+            ⊎ ((result ≡ JournalFailed) × (error ≢ Error.SqliteFailure ErrorCode.OutOfMemory) × IsCounted self.old.refusals self.new.refusals) }
     {
         let refusal = refusal_of(error);
         if refusal == Refusal::JournalFailed {
-            self.refusals = self.refusals.next();
+            self.refusals = self.refusals.saturating_add(1);
         }
         refusal
     }
@@ -141,7 +140,7 @@ impl<S: Alter> Journal<S> {
             OnOk result ((db : _) → (state S.Store self.new.connection).may_leave db → db ≡ (state S.Store self.new.connection).now.trees) }
         // Which refusal it is, and that the count rises with E18 alone.
         ensures cause { MatchResult result (λ _. self.new.refusals ≡ self.old.refusals) (λ refusal.
-            ((refusal ≡ NoMemory) × (self.new.refusals ≡ self.old.refusals)) ⊎ ((refusal ≡ JournalFailed) × (self.new.refusals ≡ self.old.refusals + 1))) }
+            ((refusal ≡ NoMemory) × (self.new.refusals ≡ self.old.refusals)) ⊎ ((refusal ≡ JournalFailed) × IsCounted self.old.refusals self.new.refusals)) }
     {
         match write_patch(alloc, &mut self.connection, patch) {
             Ok(()) => Ok(()),

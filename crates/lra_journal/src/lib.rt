@@ -1,6 +1,7 @@
 //! The journal of a replica, in two tables of a SQLite database.
 #![tactic(auto)]
 
+mod first;
 mod front_rows;
 mod journal;
 pub mod laws;

@@ -1,0 +1,11 @@
+-- What a replica has room for is a patch of its view.
+use Rattle.std.proofs.Common.{Option, Some, None}
+use Rattle.std.specs.Prelude.{IfSome}
+use Rattle.lra_history.specs.Changes.{Change}
+use Rattle.lra_replica.specs.Replicas.{Fits, ReplicaState, view_of}
+use Rattle.lra_journal.specs.Stands.{IsPatchOf}
+use Rattle.lra_journal.proofs.FittingPatches.{patch_of_its_view}
+
+pub fits_its_view : (patch : Option Change) (kept : ReplicaState) → IfSome patch (λ change. Fits change kept) → IfSome patch (IsPatchOf (view_of kept))
+fits_its_view None kept fits = fits
+fits_its_view (Some change) kept fits = patch_of_its_view kept change fits

@@ -1,0 +1,54 @@
+-- What a book keeps, with one entry more and where a call isn't stored.
+use Rattle.std.proofs.Common.{◌≡◌, ◌≤◌, ◌<◌, ◌⊎◌, inl, inr, ℕ, Bool, true, false, List, [], ◌∷◌, ◌++◌, Option, Some, None, refl, sym, ap, subst, ◌∙◌, ◌&&◌, not, length, arith, length-append}
+use Rattle.std.proofs.lemmas.Bool.Decides.{nat_tests}
+use Rattle.std.specs.Prelude.{IfSome, nat_le, nat_lt}
+use Rattle.lra_facts.specs.declared.refusal.Refusal.{Refusal}
+use Rattle.lra_facts.specs.declared.refusal.Refusal.TheVariants.{JournalFailed, NoMemory, RunFull, Stopped, TrailLost}
+use Rattle.lra_facts.specs.Refusals.{first, unless}
+use Rattle.lra_history.specs.Views.{View}
+use Rattle.lra_book.specs.declared.calls.Call.{Call}
+use Rattle.lra_book.specs.declared.calls.Entry.{Entry}
+use Rattle.lra_book.specs.Books.{BookState, IsBook, has_room_for, refusal_at_once}
+use Rattle.sqlite_trees.specs.declared.store.Store.{Ghosts}
+use Rattle.lra_journal.specs.Keeping.{JournalState, Keeps}
+use Rattle.lra_book.specs.Next.{IsNext}
+use Rattle.lra_book.specs.Trails.{LeadsTo}
+use Rattle.lra_book.proofs.Trails.{legal_on}
+
+pub with_entry : {S : Type 0} (g : Ghosts S) (old : BookState S) (b : View) (k : JournalState S) (new : List Entry) (e : Entry) → IsBook g old → IsNext old.me old.records e.call e.moment e.reply b
+    → length b.front ≡ length old.records.front → new ≡ old.trail ++ e ∷ [] → length old.trail < 1024 → Keeps g old.me k b
+    → IsBook g (record { me = old.me; records = b; journal = k; opening = old.opening; trail = new; stopped = old.stopped })
+with_entry g old b k new e is next nodes more room keeps =
+    record {
+      node = omega (arith, is.node, nodes);
+      legal = subst (λ (trail : List Entry). IfSome old.opening (λ a. LeadsTo old.me a trail b)) (sym more) (legal_on old.me old.opening old.records b old.trail e is.legal next);
+      stored = keeps;
+      few = let long = ap (λ (trail : List Entry). length trail) more ∙ length-append old.trail (e ∷ []) in omega (arith, long, room);
+    }
+
+pub not_stored : {S : Type 0} (g : Ghosts S) (old : BookState S) (b : View) (k : JournalState S) (stopped : Bool) → IsBook g old → b ≡ old.records → Keeps g old.me k b
+    → IsBook g (record { me = old.me; records = b; journal = k; opening = old.opening; trail = old.trail; stopped = stopped })
+not_stored g old b k stopped is same keeps =
+    record {
+      node = subst (λ (v : View). old.me ≤ length v.front) (sym same) is.node;
+      legal = subst (λ (v : View). IfSome old.opening (λ a. LeadsTo old.me a old.trail v)) (sym same) is.legal;
+      stored = keeps;
+      few = is.few;
+    }
+
+-- a call that nothing refuses at once: the book isn't stopped, and there is room for an entry
+pub not_stopped : {S : Type 0} (book : BookState S) (seen : ℕ) (asked : Call) → refusal_at_once book seen asked ≡ None → book.stopped ≡ false
+not_stopped book seen asked free = by book.stopped refl free
+  where
+    by : (b : Bool) → book.stopped ≡ b → first (unless (not b) Stopped ∷ unless (nat_le seen (length book.trail)) (TrailLost (length book.trail)) ∷ unless (has_room_for book.trail asked) RunFull ∷ []) ≡ None → book.stopped ≡ false
+    by true e free = absurd cc
+    by false e free = e
+
+pub has_room : {S : Type 0} (book : BookState S) (seen : ℕ) (asked : Call) → refusal_at_once book seen asked ≡ None → length book.trail < 1024
+has_room book seen asked free = by (not book.stopped) (nat_le seen (length book.trail)) (nat_lt (length book.trail) 1024) _ refl free
+  where
+    by : (a b c d : Bool) → nat_lt (length book.trail) 1024 ≡ c → first (unless a Stopped ∷ unless b (TrailLost (length book.trail)) ∷ unless (c && d) RunFull ∷ []) ≡ None → length book.trail < 1024
+    by false b c d e free = absurd cc
+    by true false c d e free = absurd cc
+    by true true false d e free = absurd cc
+    by true true true d e free = grind (arith, nat_tests, e)

@@ -1,0 +1,17 @@
+mod Clerked
+mod FittingPatches
+mod Frames
+mod KeptBooks
+mod Lent
+mod NewPasses
+mod NextViews
+mod OneCall
+mod OneNext
+mod Pulls
+mod Refusals
+mod RepliesOfSets
+mod SameAsItself
+mod SettledViews
+mod Stands
+mod Strange
+mod Trails

@@ -1,0 +1,66 @@
+use Rattle.std.proofs.Common.{◌≡◌, ◌<◌, ◌∙◌, ◌++◌, ◌∷◌, [], None, ap, arith, length, rules, subst, sym}
+use Rattle.std.specs.Option.{option_map}
+use Rattle.lra_history.specs.Views.{View}
+use Rattle.lra_replica.specs.Replicas.{view_of}
+use Rattle.lra_journal.specs.Keeping.{Keeps}
+use Rattle.lra_book.specs.declared.calls.Entry.{Entry}
+use Rattle.lra_book.specs.Books.{BookState, refusal_at_once}
+use Rattle.lra_book.specs.Next.{IsNext, with_patch}
+use Rattle.lra_book.specs.Trails.{entry}
+use Rattle.lra_book.proofs.KeptBooks.{has_room, not_stored, with_entry}
+use Rattle.lra_book.proofs.book.Book.call.Goals as goal
+
+pub invariant_of-self-in-Err-carry_out : goal.invariant_of-self-in-Err-carry_out
+invariant_of-self-in-Err-carry_out g c =
+    let old : BookState g.row.S.Denot = record { me = c.self.inside.me; records = view_of c.self.inside.replica; journal = c.self.inside.journal; opening = option_map view_of c.self.inside.opening; trail = c.self.inside.trail.items; stopped = c.self.inside.stopped } in
+    let same = c.in-Err-carry_out.ensures.same ∙ c.in-Ok.ensures.view in
+    let before = subst (λ (v : View). Keeps g.S.Store c.self.inside.me c.self.inside.journal v) (sym c.in-Ok.ensures.view) c.self.invariant.0.stored in
+    let keeps = c.carry_out.ensures.keeps c.self.inside.me before in
+    (not_stored g.S.Store old (view_of c.carry_out.new.replica) c.carry_out.new.journal c.eq-self-inside.result c.self.invariant.0 same keeps, c.self.invariant.1)
+
+pub invariant_of-self-2 : goal.invariant_of-self-2
+invariant_of-self-2 g c =
+    let old : BookState g.row.S.Denot = record { me = c.self.inside.me; records = view_of c.self.inside.replica; journal = c.self.inside.journal; opening = option_map view_of c.self.inside.opening; trail = c.self.inside.trail.items; stopped = c.self.inside.stopped } in
+    let free : refusal_at_once c.args.self.now c.args.pass.now c.args.call ≡ None = search rules in
+    let reply = c.in-Ok.ready.copy.reply in
+    let is : view_of c.carry_out.new.replica ≡ with_patch c.in-Ok.ready.patch (view_of c.self.inside.replica) = c.in_default-carry_out.ensures.view ∙ ap (with_patch c.in-Ok.ready.patch) c.in-Ok.ensures.view in
+    let next = subst (λ (v : View). IsNext c.self.inside.me (view_of c.self.inside.replica) c.args.call c.args.now reply v) (sym is) c.in-Ok.ensures.next in
+    let nodes = c.in_default-carry_out.ensures.nodes ∙ ap (λ (v : View). length v.front) c.in-Ok.ensures.view in
+    let more = c.put.ensures.items ∙ ap (λ (e : Entry). c.self.inside.trail.items ++ e ∷ []) c.in-Ok.ensures.entry in
+    let count : length c.self.inside.trail.items ≡ length c.args.self.now.trail = ap (λ (b : BookState g.row.S.Denot). length b.trail) c.self.view_is in
+    let few = has_room c.args.self.now c.args.pass.now c.args.call free in
+    let room : length c.self.inside.trail.items < 1024 = omega (arith, count, few) in
+    let before = subst (λ (v : View). Keeps g.S.Store c.self.inside.me c.self.inside.journal v) (sym c.in-Ok.ensures.view) c.self.invariant.0.stored in
+    let keeps = c.carry_out.ensures.keeps c.self.inside.me before in
+    let kept = with_entry g.S.Store old (view_of c.carry_out.new.replica) c.carry_out.new.journal c.put.new.trail.items (entry c.args.call c.args.now reply) c.self.invariant.0 next nodes more room keeps in
+    (kept, λ run. let wide = c.self.invariant.1 run in omega (arith, wide, c.put.ensures.room))
+
+pub returns-clause-legal : goal.returns-clause-legal
+returns-clause-legal g c =
+    let old : BookState g.row.S.Denot = record { me = c.self.inside.me; records = view_of c.self.inside.replica; journal = c.self.inside.journal; opening = option_map view_of c.self.inside.opening; trail = c.self.inside.trail.items; stopped = c.self.inside.stopped } in
+    let free : refusal_at_once c.args.self.now c.args.pass.now c.args.call ≡ None = search rules in
+    let reply = c.in-Ok.ready.copy.reply in
+    let is : view_of c.carry_out.new.replica ≡ with_patch c.in-Ok.ready.patch (view_of c.self.inside.replica) = c.in_default-carry_out.ensures.view ∙ ap (with_patch c.in-Ok.ready.patch) c.in-Ok.ensures.view in
+    let next = subst (λ (v : View). IsNext c.self.inside.me (view_of c.self.inside.replica) c.args.call c.args.now reply v) (sym is) c.in-Ok.ensures.next in
+    let nodes = c.in_default-carry_out.ensures.nodes ∙ ap (λ (v : View). length v.front) c.in-Ok.ensures.view in
+    let more = c.put.ensures.items ∙ ap (λ (e : Entry). c.self.inside.trail.items ++ e ∷ []) c.in-Ok.ensures.entry in
+    let count : length c.self.inside.trail.items ≡ length c.args.self.now.trail = ap (λ (b : BookState g.row.S.Denot). length b.trail) c.self.view_is in
+    let few = has_room c.args.self.now c.args.pass.now c.args.call free in
+    let room : length c.self.inside.trail.items < 1024 = omega (arith, count, few) in
+    let before = subst (λ (v : View). Keeps g.S.Store c.self.inside.me c.self.inside.journal v) (sym c.in-Ok.ensures.view) c.self.invariant.0.stored in
+    let keeps = c.carry_out.ensures.keeps c.self.inside.me before in
+    let kept = with_entry g.S.Store old (view_of c.carry_out.new.replica) c.carry_out.new.journal c.put.new.trail.items (entry c.args.call c.args.now reply) c.self.invariant.0 next nodes more room keeps in
+    kept.legal
+
+pub returns-in-Some-clause-rows : goal.returns-in-Some-clause-rows
+returns-in-Some-clause-rows g c = subst (λ (b : BookState g.row.S.Denot). Keeps g.S.Store b.me b.journal b.records) c.self.view_is c.self.invariant.0.stored
+
+pub returns-in-Err-carry_out-clause-rows : goal.returns-in-Err-carry_out-clause-rows
+returns-in-Err-carry_out-clause-rows g c =
+    let before = subst (λ (v : View). Keeps g.S.Store c.self.inside.me c.self.inside.journal v) (sym c.in-Ok.ensures.view) c.self.invariant.0.stored in
+    c.carry_out.ensures.keeps c.self.inside.me before
+
+pub returns-clause-rows : goal.returns-clause-rows
+returns-clause-rows g c =
+    let before = subst (λ (v : View). Keeps g.S.Store c.self.inside.me c.self.inside.journal v) (sym c.in-Ok.ensures.view) c.self.invariant.0.stored in
+    c.carry_out.ensures.keeps c.self.inside.me before

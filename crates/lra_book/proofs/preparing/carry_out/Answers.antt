@@ -1,0 +1,13 @@
+use Rattle.std.proofs.Common.{subst, sym}
+use Rattle.lra_history.specs.Views.{View}
+use Rattle.lra_replica.specs.Replicas.{view_of}
+use Rattle.lra_journal.specs.Keeping.{Keeps}
+use Rattle.lra_book.proofs.FittingPatches.{fits_its_view}
+use Rattle.lra_book.proofs.preparing.carry_out.Goals as goal
+
+pub returns-in-Ok-clause-keeps : goal.returns-in-Ok-clause-keeps
+returns-in-Ok-clause-keeps g c me kept =
+    subst (λ (v : View). Keeps g.S.Store me c.store.new.journal v) (sym c.change.ensures.view) (c.in-Ok.ensures.stored me (view_of c.args.replica.now) kept (fits_its_view c.args.patch c.args.replica.now c.requires))
+
+pub returns-in-Err-clause-keeps : goal.returns-in-Err-clause-keeps
+returns-in-Err-clause-keeps g c me kept = c.in-Err.ensures.kept me (view_of c.args.replica.now) kept

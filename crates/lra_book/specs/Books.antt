@@ -1,0 +1,119 @@
+-- A book as contracts see it, and what a call of it does.
+use Rattle.std.specs.Prelude.{◌≡◌, ◌≤◌, ◌<◌, ◌⊎◌, ◌&&◌, ◌||◌, ◌++◌, ◌∷◌, ℕ, Bool, true, false, Option, Some, None, List, [], ◌+◌, IfSome, if◌then◌else◌, length, nat_le, nat_lt}
+use mathlib.Core.Bool.{not}
+use Rattle.lra_facts.specs.declared.refusal.Refusal.{Refusal}
+use Rattle.lra_facts.specs.declared.refusal.Refusal.TheVariants.{JournalFailed, NoMemory, RunFull, Stopped, TrailLost}
+use Rattle.lra_facts.specs.Refusals.{first, unless}
+use Rattle.lra_history.specs.Views.{View}
+use Rattle.lra_book.specs.declared.calls.Call.{Call}
+use Rattle.lra_book.specs.declared.calls.Entry.{Entry}
+use Rattle.lra_book.specs.declared.calls.Receipt.{Receipt}
+use Rattle.sqlite_trees.specs.declared.store.Store.{Ghosts}
+use Rattle.lra_journal.specs.Keeping.{IsCounted, JournalState, Keeps}
+use Rattle.lra_book.specs.Next.{IsNext, is_move}
+use Rattle.lra_book.specs.Trails.{LeadsTo, entry}
+
+-- A node's number, its view, and its journal; of the run that is on the view at its opening, none where no run is on, and the
+-- calls since; and whether the journal failed
+pub record BookState (S : Type 0) : Type 0 where
+  pub me : ℕ
+  pub records : View
+  pub journal : JournalState S
+  pub opening : Option View
+  pub trail : List Entry
+  pub stopped : Bool
+
+-- how many calls of a trail move a frame
+abbrev pub moves_in : List Entry → ℕ
+moves_in [] = 0
+moves_in (e ∷ es) = (if is_move e.call then 1 else 0) + moves_in es
+
+-- the trail of the run that is on is legal from its opening, and its replay is the view
+abbrev pub IsLegal : {S : Type 0} → BookState S → Type 0
+IsLegal book = IfSome book.opening (λ opening. LeadsTo book.me opening book.trail book.records)
+
+-- What every book keeps: the trail is legal, and the journal's rows stand for the view
+pub record IsBook {S : Type 0} (g : Ghosts S) (book : BookState S) : Type 0 where
+  pub node : book.me ≤ length book.records.front
+  pub legal : IsLegal book
+  pub stored : Keeps g book.me book.journal book.records
+  pub few : length book.trail ≤ 1024
+
+-- a run has room for one more entry of the call: of 1,024 entries, and of 16 that move a frame
+abbrev pub has_room_for : List Entry → Call → Bool
+has_room_for trail asked = nat_lt (length trail) 1024 && (not (is_move asked) || nat_lt (moves_in trail) 16)
+
+-- the refusals of a call that come before all else, in their order: of a pass that has seen so many entries
+abbrev pub refusal_at_once : {S : Type 0} → BookState S → (seen : ℕ) → Call → Option Refusal
+refusal_at_once book seen asked =
+    first (unless (not book.stopped) Stopped ∷ unless (nat_le seen (length book.trail)) (TrailLost (length book.trail))
+    ∷ unless (has_room_for book.trail asked) RunFull ∷ [])
+
+-- One entry more, of this call and moment, with the node's next reply, and its next view. The receipt says so
+pub record IsEntered {S : Type 0} (old : BookState S) (seen : ℕ) (new : BookState S) (asked : Call) (now : ℕ) (r : Receipt) : Type 0 where
+  pub free : refusal_at_once old seen asked ≡ None
+  pub index : r.index ≡ length old.trail
+  pub call : r.call ≡ asked
+  pub next : IsNext old.me old.records asked now r.reply new.records
+  pub trail : new.trail ≡ old.trail ++ entry asked now r.reply ∷ []
+  pub opening : new.opening ≡ old.opening
+  pub node : new.me ≡ old.me
+  pub running : new.stopped ≡ false
+
+-- all but the journal and the stop is as it was
+pub record Stays {S : Type 0} (old new : BookState S) : Type 0 where
+  pub node : new.me ≡ old.me
+  pub records : new.records ≡ old.records
+  pub opening : new.opening ≡ old.opening
+  pub trail : new.trail ≡ old.trail
+
+-- What is refused later: for want of memory, and the book goes on; or since the database refused, and it stops
+abbrev pub IsRefusedLate : {S : Type 0} → (old new : BookState S) → Refusal → Type 0
+IsRefusedLate old new NoMemory = Stays old new × (new.stopped ≡ false)
+IsRefusedLate old new JournalFailed = Stays old new × (new.stopped ≡ true) × IsCounted old.journal.refusals new.journal.refusals
+IsRefusedLate old new _ = ⊥
+
+-- why a patch isn't stored: for want of memory, or since the database refused, which is counted
+abbrev pub IsStoreFault : {S : Type 0} → (old new : JournalState S) → Refusal → Type 0
+IsStoreFault old new NoMemory = new.refusals ≡ old.refusals
+IsStoreFault old new JournalFailed = IsCounted old.refusals new.refusals
+IsStoreFault old new _ = ⊥
+
+-- why a call is not entered
+abbrev pub IsNotEntered : {S : Type 0} → (old : BookState S) → (seen : ℕ) → (new : BookState S) → Call → Refusal → Type 0
+IsNotEntered old seen new asked refusal =
+    ((refusal_at_once old seen asked ≡ Some refusal) × (new ≡ old))
+    ⊎ ((refusal_at_once old seen asked ≡ None) × IsRefusedLate old new refusal)
+
+-- a run began: no entry, and the opening is the view
+pub record IsBegun {S : Type 0} (old new : BookState S) : Type 0 where
+  pub node : new.me ≡ old.me
+  pub records : new.records ≡ old.records
+  pub journal : new.journal ≡ old.journal
+  pub opening : new.opening ≡ Some old.records
+  pub trail : new.trail ≡ []
+  pub before : old.stopped ≡ false
+  pub stopped : new.stopped ≡ false
+
+-- why no run began
+abbrev pub IsNotBegun : {S : Type 0} → BookState S → Refusal → Type 0
+IsNotBegun book Stopped = book.stopped ≡ true
+IsNotBegun book NoMemory = book.stopped ≡ false
+IsNotBegun book _ = ⊥
+
+-- no run is on, and all else is as it was
+pub record IsEnded {S : Type 0} (old new : BookState S) : Type 0 where
+  pub node : new.me ≡ old.me
+  pub records : new.records ≡ old.records
+  pub journal : new.journal ≡ old.journal
+  pub opening : new.opening ≡ None
+  pub trail : new.trail ≡ []
+  pub stopped : new.stopped ≡ old.stopped
+
+-- the book of a node of so many, with no run on
+pub record IsOpened {S : Type 0} (node nodes : ℕ) (book : BookState S) : Type 0 where
+  pub me : book.me ≡ node
+  pub count : length book.records.front ≡ nodes
+  pub idle : book.opening ≡ None
+  pub empty : book.trail ≡ []
+  pub running : book.stopped ≡ false

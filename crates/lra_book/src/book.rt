@@ -1,0 +1,340 @@
+// The book: what a node holds, its journal, and the trail of the run that is on.
+ghost use Rattle.std.specs.Prelude.{◌≡◌, ◌+◌, ◌<◌, ◌≤◌, ◌⊎◌, ◌↔◌, ◌++◌, ◌∷◌, [], None, IfErr, IfOk, IfSome, IsSome, IsTrue, OnErr, OnOk, length, vec_capacity};
+ghost use Rattle.lra_facts.specs.declared.refusal.Refusal.TheVariants.{NoMemory};
+ghost use Rattle.lra_replica.specs.Replicas.{Fits, view_of};
+ghost use Rattle.lra_book.specs.Books.{IsBegun, IsEntered, IsEnded, IsLegal, IsNotBegun, IsNotEntered, IsOpened, Stays, has_room_for, moves_in, refusal_at_once};
+ghost use Rattle.lra_journal.specs.Keeping.{Keeps};
+ghost use Rattle.lra_book.specs.Looks.{lesser, look_of, lost_from};
+ghost use Rattle.lra_book.specs.Next.{IsNext, with_patch};
+ghost use Rattle.lra_book.specs.Trails.{entry, stands, tells};
+
+use crate::preparing::{carry_out, prepare};
+use crate::sameness::{same_call, same_reply};
+use crate::{Call, Entry, Pass, Receipt, Reply};
+use lra_facts::Refusal;
+use lra_id::NodeId;
+use lra_journal::Journal;
+use lra_replica::{Patch, Replica};
+use sqlite::{Alter, Connection};
+use std::alloc::{AllocError, Global};
+use std::marker::Model;
+use std::mem;
+
+/// The most entries of a run.
+pub const MOST_ENTRIES: usize = 1024;
+
+/// The most of them that move a frame.
+pub const MOST_MOVES: usize = 16;
+
+/// What a node holds and its journal, with the calls of the run that is on.
+#[derive(Drop)]
+pub struct Book<S: Alter> {
+    me: NodeId,
+    replica: Replica,
+    journal: Journal<S>,
+    opening: Option<Replica>,
+    trail: Vec<Entry>,
+    stopped: bool,
+}
+
+impl<S: Alter> Model for Book<S> {
+    ghost use Rattle.std.specs.Prelude.{◌≤◌, IsSome, option_map, vec_capacity};
+    ghost use Rattle.lra_replica.specs.Replicas.{view_of};
+    ghost use Rattle.std.specs.Coded.{codes};
+    ghost use Rattle.sqlite.specs.Held.{held_code};
+    ghost use Rattle.lra_book.specs.Books.{BookState, IsBook};
+
+    ghost Value = { BookState S };
+
+    ghost coded = { Prim.hlevel (codes, held_code S.code) };
+
+    ghost view = { λ b. record { me = b.me; records = view_of b.replica; journal = b.journal; opening = option_map view_of b.opening; trail = b.trail.items; stopped = b.stopped } };
+
+    ghost invariant = { λ b. IsBook S.Store (record { me = b.me; records = view_of b.replica; journal = b.journal; opening = option_map view_of b.opening; trail = b.trail.items; stopped = b.stopped })
+        × (IsSome b.opening → 1024 ≤ vec_capacity b.trail) };
+}
+
+/// How many calls of a trail move a frame.
+fn moves_in(trail: &[Entry]) -> usize
+    ensures { result ≡ moves_in trail.now }
+{
+    let mut moves = 0;
+    for entry in trail {
+        if entry.call.is_move() {
+            moves += 1;
+        }
+    }
+    moves
+}
+
+/// Whether a run has room for one more entry of this call.
+fn has_room_for(trail: &[Entry], call: &Call) -> bool
+    ensures { result ≡ has_room_for trail.now call.now }
+{
+    trail.len() < MOST_ENTRIES && (!call.is_move() || moves_in(trail) < MOST_MOVES)
+}
+
+/// What is to be entered of a call, a copy of it, and what it changes, if anything.
+#[derive(Drop)]
+struct Ready {
+    entry: Entry,
+    copy: Told,
+    patch: Option<Patch>,
+}
+
+/// What a receipt says of a call.
+#[derive(Drop)]
+struct Told {
+    call: Call,
+    reply: Reply,
+}
+
+/// Prepares a call, and makes the copies for its entry and its receipt. Only memory can be wanting.
+fn make_ready(
+    alloc: Global,
+    replica: &mut Replica,
+    me: NodeId,
+    call: Call,
+    now: u64,
+) -> Result<Ready, Refusal>
+    requires { me ≤ length replica.old.front }
+    ensures view { view_of replica.new ≡ view_of replica.old }
+    ensures room { IfOk result (λ ready. IfSome ready.patch (λ change. Fits change replica.new)) }
+    ensures entry { IfOk result (λ ready. ready.entry ≡ entry call now ready.copy.reply) }
+    ensures copy { IfOk result (λ ready. ready.copy.call ≡ call) }
+    ensures next { IfOk result (λ ready. IsNext me (view_of replica.old) call now ready.copy.reply (with_patch ready.patch (view_of replica.old))) }
+    ensures cause { IfErr result (λ refusal. refusal ≡ NoMemory) }
+{
+    let (first, second) = twice(&call)?;
+    let step = prepare(alloc, replica, me, call, now)?;
+    let reply = step.reply.clone()?;
+    Ok(Ready {
+        entry: Entry {
+            call: first,
+            moment: now,
+            reply: step.reply,
+        },
+        copy: Told {
+            call: second,
+            reply,
+        },
+        patch: step.patch,
+    })
+}
+
+/// Two copies of a call.
+fn twice(call: &Call) -> Result<(Call, Call), AllocError>
+    ensures { IfOk result (λ copies. (copies.0 ≡ call.now) × (copies.1 ≡ call.now)) }
+{
+    Ok((call.clone()?, call.clone()?))
+}
+
+/// Puts an entry last, for which there is room.
+fn put(trail: &mut Vec<Entry>, entry: Entry)
+    requires { length trail.old.items < vec_capacity trail.old }
+    ensures items { trail.new.items ≡ trail.old.items ++ entry ∷ [] }
+    ensures room { vec_capacity trail.old ≤ vec_capacity trail.new }
+{
+    let Ok(()) = trail.push(entry) else {
+        unreachable!();
+    };
+}
+
+/// Whether a receipt says what an entry says.
+pub(crate) fn tells(entry: &Entry, receipt: &Receipt) -> bool
+    ensures { result ≡ tells entry.now receipt.now }
+{
+    same_call(&entry.call, &receipt.call) && same_reply(&entry.reply, &receipt.reply)
+}
+
+/// Whether a receipt is in call and reply the trail's entry at its index.
+pub(crate) fn stands(trail: &[Entry], receipt: &Receipt) -> bool
+    ensures { result ≡ stands trail.now receipt.now }
+{
+    match trail.get(receipt.index as usize) {
+        Some(entry) => tells(entry, receipt),
+        None => false,
+    }
+}
+
+/// The lesser of an index and the one found so far.
+fn lesser(index: u64, found: Option<u64>) -> u64
+    ensures { result ≡ lesser index found }
+{
+    match found {
+        Some(least) if least <= index => least,
+        _ => index,
+    }
+}
+
+/// The least index of a receipt that doesn't stand in the trail.
+fn lost_index(trail: &[Entry], receipts: &[Receipt]) -> Option<u64>
+    ensures { result ≡ lost_from trail.now None receipts.now }
+{
+    let mut found = None;
+    for receipt in receipts {
+        if !stands(trail, receipt) {
+            found = Some(lesser(receipt.index, found));
+        }
+    }
+    found
+}
+
+impl<S: Alter> Book<S> {
+    /// The book of node `me` of so many, over its journal, with no run on. A refusal hands the connection back.
+    pub fn open(
+        alloc: Global,
+        connection: Connection<S>,
+        me: NodeId,
+        nodes: usize,
+    ) -> Result<Book<S>, (Refusal, Connection<S>)>
+        requires me { me ≤ nodes }
+        requires some { 1 ≤ nodes }
+        requires nodes { nodes ≤ 8 }
+        ensures opened { IfOk result (λ book. IsOpened me nodes book) }
+        ensures rows { IfOk result (λ book. Keeps S.Store me book.journal book.records) }
+    {
+        match Journal::open(alloc, connection, me, nodes) {
+            Ok((journal, replica)) => Ok(Book {
+                me,
+                replica,
+                journal,
+                opening: None,
+                trail: Vec::new(alloc),
+                stopped: false,
+            }),
+            Err(refused) => Err(refused),
+        }
+    }
+
+    /// Whether a run is on.
+    pub fn in_run(&self) -> bool
+        ensures { IsTrue result ↔ IsSome self.now.opening }
+    {
+        self.opening.is_some()
+    }
+
+    /// The calls of the run that is on, in order.
+    pub fn trail(&self) -> &[Entry]
+        ensures trail { result.now ≡ self.now.trail }
+        ensures legal { IsLegal self.now }
+    {
+        &self.trail
+    }
+
+    /// Begins a run: empties the trail, with room for all entries of a run, and takes what the node holds as its opening. It
+    /// gives the run's first pass. E19 where the journal failed.
+    pub fn start_run(&mut self, alloc: Global) -> Result<Pass, Refusal>
+        requires { self.old.opening ≡ None }
+        ensures pass { IfOk result (λ pass. pass ≡ 0) }
+        ensures begun { OnOk result (IsBegun self.old self.new) }
+        ensures refused { IfErr result (λ refusal. IsNotBegun self.old refusal × (self.new ≡ self.old)) }
+    {
+        if self.stopped {
+            return Err(Refusal::Stopped);
+        }
+        let opening = self.replica.try_clone()?;
+        let trail = Vec::with_capacity(alloc, MOST_ENTRIES)?;
+        self.opening = Some(opening);
+        self.trail = trail;
+        Ok(Pass::first())
+    }
+
+    /// The refusal that a call meets before anything is done.
+    fn refusal_at_once(&self, pass: &Pass, call: &Call) -> Option<Refusal>
+        ensures { result ≡ refusal_at_once self.now pass.now call.now }
+    {
+        if self.stopped {
+            return Some(Refusal::Stopped);
+        }
+        let count = self.trail.len() as u64;
+        if count < pass.seen {
+            return Some(Refusal::TrailLost(count));
+        }
+        if !has_room_for(&self.trail, call) {
+            return Some(Refusal::RunFull);
+        }
+        None
+    }
+
+    /// Makes a call at a moment, and enters it with its reply: it is prepared, stored, made and entered, in this order. The
+    /// receipt and the room for it are there before anything is stored. E19 where the journal failed before, E21 where the
+    /// pass has seen more than the trail has, E20 where the run has no room for the call: looked at first, in this order. E17,
+    /// and nothing changed. E18 where the journal refused: from then on the book is stopped.
+    pub fn call(
+        &mut self,
+        alloc: Global,
+        pass: &mut Pass,
+        call: Call,
+        now: u64,
+    ) -> Result<Receipt, Refusal>
+        requires { IsSome self.old.opening }
+        ensures entered { IfOk result (λ receipt. IsEntered self.old pass.old self.new call now receipt) }
+        ensures legal { IsLegal self.new }
+        // Whatever comes, the journal's rows stand for the records.
+        ensures rows { Keeps S.Store self.new.me self.new.journal self.new.records }
+        ensures seen { IfOk result (λ receipt. (pass.old ≤ receipt.index) × (pass.new ≡ receipt.index + 1)) }
+        ensures refused { IfErr result (λ refusal. IsNotEntered self.old pass.old self.new call refusal) }
+        ensures kept { OnErr result (Stays self.old self.new × (pass.new ≡ pass.old)) }
+    {
+        if let Some(refusal) = self.refusal_at_once(pass, &call) {
+            return Err(refusal);
+        }
+        let ready = match make_ready(alloc, &mut self.replica, self.me, call, now) {
+            Ok(ready) => ready,
+            Err(refusal) => return Err(refusal),
+        };
+        let Ready { entry, copy, patch } = ready;
+        if let Err(refusal) = carry_out(alloc, &mut self.journal, &mut self.replica, patch) {
+            self.stopped = refusal == Refusal::JournalFailed;
+            return Err(refusal);
+        }
+        let index = self.trail.len() as u64;
+        put(&mut self.trail, entry);
+        pass.seen = index + 1;
+        Ok(Receipt {
+            index,
+            call: copy.call,
+            reply: copy.reply,
+        })
+    }
+
+    /// Whether the trail has all that a pass has seen, and each of its receipts. E19 where the journal failed before, E21 where
+    /// the pass has seen more than the trail has, with its length, or where a receipt isn't the trail's entry at its index, with
+    /// the least such index: looked at in this order.
+    pub fn look(&self, pass: &Pass, receipts: &[Receipt]) -> Result<(), Refusal>
+        ensures ok { OnOk result (look_of self.now pass.now receipts.now ≡ None) }
+        ensures refused { IfErr result (λ refusal. look_of self.now pass.now receipts.now ≡ Some refusal) }
+    {
+        if self.stopped {
+            return Err(Refusal::Stopped);
+        }
+        let count = self.trail.len() as u64;
+        if count < pass.seen {
+            return Err(Refusal::TrailLost(count));
+        }
+        match lost_index(&self.trail, receipts) {
+            Some(index) => Err(Refusal::TrailLost(index)),
+            None => Ok(()),
+        }
+    }
+
+    /// Ends the run, and hands its trail out.
+    pub(crate) fn end_run(&mut self) -> Vec<Entry>
+        ensures trail { result.items ≡ self.old.trail }
+        ensures legal { IsLegal self.old }
+        ensures ended { IsEnded self.old self.new }
+    {
+        let empty = Vec::new(*self.trail.allocator());
+        self.opening = None;
+        mem::replace(&mut self.trail, empty)
+    }
+
+    /// Gives the connection back, with the rows as they are.
+    pub fn close(self) -> Connection<S>
+        ensures connection { result ≡ self.journal.connection }
+        ensures rows { Keeps S.Store self.me self.journal self.records }
+    {
+        self.journal.close()
+    }
+}

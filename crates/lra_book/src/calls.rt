@@ -1,0 +1,123 @@
+// What a book is asked, and what it replies.
+ghost use Rattle.std.specs.Prelude.{◌≡◌};
+ghost use Rattle.lra_book.specs.Next.{is_move};
+
+use lra_callback::Duties;
+use lra_delta::Delta;
+use lra_facts::Refusal;
+use lra_history::{Command, CommandReply};
+use lra_id::LraId;
+use lra_replica::Page;
+use lra_states::{LraStatus, MemberStatus};
+use std::marker::Model;
+
+/// The body of a pull: the bytes in which another node says what it has.
+#[derive(Debug, Drop)]
+pub struct PullBody {
+    pub(crate) bytes: Vec<u8>,
+}
+
+impl Model for PullBody {
+    ghost use Rattle.std.specs.Prelude.{List, ℕ};
+
+    ghost Value = { List ℕ };
+
+    ghost view = { λ b. b.bytes.items };
+}
+
+impl PullBody {
+    /// These bytes.
+    pub fn new(bytes: Vec<u8>) -> PullBody
+        ensures { result ≡ bytes.items }
+    {
+        PullBody { bytes }
+    }
+
+    /// They as a slice.
+    pub fn as_slice(&self) -> &[u8]
+        ensures { result.now ≡ self.now }
+    {
+        &self.bytes
+    }
+
+    /// They as a vector.
+    pub fn into_vec(self) -> Vec<u8>
+        ensures { result.items ≡ self }
+    {
+        self.bytes
+    }
+}
+
+/// What a book is asked.
+#[derive(Debug, Drop)]
+pub enum Call {
+    /// Enter something.
+    Command(Command),
+    /// Take what another node tells.
+    Take(Delta),
+    /// Tell another node what it lacks, which asks by these bytes.
+    Pull(PullBody),
+    /// Show an LRA.
+    Status(LraId),
+    /// Show a participant.
+    Member { id: LraId, member: u8 },
+    /// List the LRAs that are held beyond this one, or from the first on.
+    Page(Option<LraId>),
+    /// Name the participants that are to be called.
+    Duties,
+    /// Cancel an LRA of this node whose deadline has passed.
+    Expire,
+}
+
+impl Call {
+    /// Whether it moves a frame.
+    pub fn is_move(&self) -> bool
+        ensures { result ≡ is_move self.now }
+    {
+        match self {
+            Call::Take(_) | Call::Pull(_) => true,
+            _ => false,
+        }
+    }
+}
+
+/// What a book replies.
+#[derive(Debug, Drop)]
+pub enum Reply {
+    /// The reply to a command.
+    Command(CommandReply),
+    /// What the other node told was taken.
+    Took,
+    /// What the other node lacks.
+    Gave(Delta),
+    /// An LRA shows this.
+    Shown(LraId, LraStatus),
+    /// A participant shows this.
+    ShownMember(LraId, u8, MemberStatus),
+    /// The LRAs that are held.
+    Listed(Page),
+    /// The participants that are to be called.
+    Due(Duties),
+    /// This LRA was cancelled since its deadline had passed.
+    Expired(LraId),
+    /// No LRA of the node was overdue.
+    Quiet,
+    /// A call that is no command was refused.
+    Refused(Refusal),
+}
+
+/// A call of a run, the moment at which it was made, and the reply.
+#[derive(Debug, Drop)]
+pub struct Entry {
+    pub call: Call,
+    pub moment: u64,
+    pub reply: Reply,
+}
+
+/// What a caller keeps of a call: where it stands in the trail, and what it says there.
+#[derive(Debug, Drop)]
+pub struct Receipt {
+    pub index: u64,
+    pub call: Call,
+    pub reply: Reply,
+}

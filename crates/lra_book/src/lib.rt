@@ -1,0 +1,25 @@
+//! The book: a node's replica and its journal, and the trail of a run's calls with their replies; and the desk, at which threads
+//! share a book.
+#![tactic(auto)]
+
+mod book;
+mod calls;
+mod clerk;
+mod copies;
+mod crossing;
+mod desk;
+pub mod laws;
+mod pass;
+mod preparing;
+mod receipts;
+mod sameness;
+
+pub use book::{Book, MOST_ENTRIES, MOST_MOVES};
+pub use calls::{Call, Entry, PullBody, Receipt, Reply};
+pub use clerk::{BookClerk, Clerk, DeskClerk};
+pub use crossing::{
+    book_crosses, desk_is_shared, desk_pass_crosses, locked_book_is_shared, pass_crosses,
+    receipts_cross, share_crosses,
+};
+pub use desk::{Desk, DeskPass, Run};
+pub use pass::Pass;

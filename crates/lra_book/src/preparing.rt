@@ -1,0 +1,273 @@
+// What a call comes to, and carrying it out.
+ghost use Rattle.std.specs.Prelude.{◌≡◌, ◌≤◌, ◌<◌, ◌⊎◌, ℕ, Err, IfErr, IfOk, IfSome, OnErr, OnOk, length};
+ghost use Rattle.lra_facts.specs.declared.refusal.Refusal.TheVariants.{JournalFailed, NoMemory};
+ghost use Rattle.lra_history.specs.declared.command.Command.TheVariants.{Decide};
+ghost use Rattle.lra_history.specs.Next.{member_shown_on, next_view, overdue_on, reply_on, shown_on};
+ghost use Rattle.lra_history.specs.Views.{View};
+ghost use Rattle.lra_replica.specs.Replicas.{Fits, view_of};
+ghost use Rattle.lra_peer.specs.PullBodies.{asked};
+ghost use Rattle.lra_journal.specs.Keeping.{Keeps};
+ghost use Rattle.lra_journal.specs.Stands.{IsPatchOf};
+ghost use Rattle.lra_book.specs.Books.{IsStoreFault};
+ghost use Rattle.lra_book.specs.Next.{AreDuties, IsListing, IsNext, IsTakeReply, expire_reply, expired, member_reply, pull_reply, status_reply, view_expired, with_patch};
+
+use crate::{Call, PullBody, Reply};
+use lra_callback::pick;
+use lra_delta::Delta;
+use lra_facts::Refusal;
+use lra_history::{Command, CommandReply};
+use lra_id::{LraId, NodeId};
+use lra_journal::Journal;
+use lra_peer::serve_pull;
+use lra_replica::{Patch, Prepared, Replica};
+use lra_states::Verdict;
+use sqlite::Alter;
+use std::alloc::Global;
+
+/// What a call comes to: the reply, and what it changes, if anything.
+#[derive(Drop)]
+pub struct Step {
+    pub reply: Reply,
+    pub patch: Option<Patch>,
+}
+
+/// Prepares a command. Only memory can be wanting: a refusal is its reply.
+fn act(
+    alloc: Global,
+    replica: &mut Replica,
+    me: NodeId,
+    command: Command,
+) -> Result<Prepared, Refusal>
+    requires { me ≤ length replica.old.front }
+    ensures view { view_of replica.new ≡ view_of replica.old }
+    ensures room { IfOk result (λ act. IfSome act.patch (λ change. Fits change replica.new)) }
+    ensures reply { IfOk result (λ act. act.reply ≡ reply_on (view_of replica.old) me command) }
+    ensures next { IfOk result (λ act. with_patch act.patch (view_of replica.old) ≡ next_view (view_of replica.old) me command) }
+    ensures cause { IfErr result (λ refusal. refusal ≡ NoMemory) }
+{
+    match replica.prepare(alloc, me, command) {
+        Ok(prepared) => Ok(prepared),
+        Err(refusal) => {
+            if refusal == Refusal::NoMemory {
+                return Err(Refusal::NoMemory);
+            }
+            Ok(Prepared {
+                reply: CommandReply::Refused(refusal),
+                patch: None,
+            })
+        }
+    }
+}
+
+/// Prepares to take what another node tells.
+fn take(alloc: Global, replica: &mut Replica, delta: Delta) -> Result<Step, Refusal>
+    ensures view { view_of replica.new ≡ view_of replica.old }
+    ensures room { IfOk result (λ step. IfSome step.patch (λ change. Fits change replica.new)) }
+    ensures next { IfOk result (λ step. IsTakeReply (view_of replica.old) delta step.reply (with_patch step.patch (view_of replica.old))) }
+    ensures cause { IfErr result (λ refusal. refusal ≡ NoMemory) }
+{
+    match lra_delta::prepare(alloc, replica, delta) {
+        Ok(patch) => Ok(Step {
+            reply: Reply::Took,
+            patch: Some(patch),
+        }),
+        Err(refusal) => {
+            if refusal == Refusal::NoMemory {
+                return Err(Refusal::NoMemory);
+            }
+            Ok(Step {
+                reply: Reply::Refused(refusal),
+                patch: None,
+            })
+        }
+    }
+}
+
+/// What a node gives another that asks by these bytes.
+fn give(alloc: Global, replica: &Replica, body: &PullBody) -> Result<Reply, Refusal>
+    ensures reply { IfOk result (λ reply. reply ≡ pull_reply (view_of replica.now) (asked (length replica.now.front) body.now)) }
+    ensures cause { IfErr result (λ refusal. refusal ≡ NoMemory) }
+{
+    match serve_pull(alloc, body.as_slice(), replica) {
+        Ok(delta) => Ok(Reply::Gave(delta)),
+        Err(refusal) => {
+            if refusal == Refusal::NoMemory {
+                return Err(Refusal::NoMemory);
+            }
+            Ok(Reply::Refused(refusal))
+        }
+    }
+}
+
+/// What an LRA shows.
+fn show(replica: &Replica, id: LraId) -> Reply
+    ensures { result ≡ status_reply id (shown_on (view_of replica.now) id) }
+{
+    match replica.status(id) {
+        Ok(status) => Reply::Shown(id, status),
+        Err(refusal) => Reply::Refused(refusal),
+    }
+}
+
+/// What a participant shows.
+fn show_member(replica: &Replica, id: LraId, member: u8) -> Reply
+    ensures { result ≡ member_reply id member (member_shown_on (view_of replica.now) id member) }
+{
+    match replica.member(id, member) {
+        Ok(status) => Reply::ShownMember(id, member, status),
+        Err(refusal) => Reply::Refused(refusal),
+    }
+}
+
+/// The LRAs that are held.
+fn list(alloc: Global, replica: &Replica, after: Option<LraId>) -> Result<Reply, Refusal>
+    ensures page { IfOk result (λ reply. IsListing (view_of replica.now) after reply) }
+    ensures cause { IfErr result (λ refusal. refusal ≡ NoMemory) }
+{
+    let page = replica.page(alloc, after)?;
+    Ok(Reply::Listed(page))
+}
+
+/// The participants that are to be called.
+fn duties(alloc: Global, replica: &Replica, me: NodeId) -> Result<Reply, Refusal>
+    requires { me ≤ length replica.now.front }
+    ensures due { IfOk result (λ reply. AreDuties (view_of replica.now) me reply) }
+    ensures cause { IfErr result (λ refusal. refusal ≡ NoMemory) }
+{
+    let duties = pick(alloc, replica, me)?;
+    Ok(Reply::Due(duties))
+}
+
+/// The reply where an LRA was to be cancelled since its deadline had passed.
+fn expired(id: LraId, reply: CommandReply) -> Reply
+    ensures { result ≡ expired id reply }
+{
+    match reply {
+        CommandReply::Refused(refusal) => Reply::Refused(refusal),
+        _ => Reply::Expired(id),
+    }
+}
+
+/// Prepares to cancel the overdue LRA, if there is one.
+fn expire(alloc: Global, replica: &mut Replica, me: NodeId, now: u64) -> Result<Step, Refusal>
+    requires { me ≤ length replica.old.front }
+    ensures view { view_of replica.new ≡ view_of replica.old }
+    ensures room { IfOk result (λ step. IfSome step.patch (λ change. Fits change replica.new)) }
+    ensures reply { IfOk result (λ step. step.reply ≡ expire_reply (view_of replica.old) me (overdue_on (view_of replica.old) me now)) }
+    ensures next { IfOk result (λ step.
+        with_patch step.patch (view_of replica.old) ≡ view_expired (view_of replica.old) me (overdue_on (view_of replica.old) me now)) }
+    ensures cause { IfErr result (λ refusal. refusal ≡ NoMemory) }
+{
+    let Some(id) = replica.expire(me, now) else {
+        return Ok(Step {
+            reply: Reply::Quiet,
+            patch: None,
+        });
+    };
+    let cancel = Command::Decide {
+        id,
+        verdict: Verdict::Cancel,
+    };
+    match act(alloc, replica, me, cancel) {
+        Ok(act) => Ok(Step {
+            reply: expired(id, act.reply),
+            patch: act.patch,
+        }),
+        Err(refusal) => Err(refusal),
+    }
+}
+
+/// A reply that changes nothing.
+fn answer(reply: Result<Reply, Refusal>) -> Result<Step, Refusal>
+    ensures ok { IfOk result (λ step. (reply ≡ Ok step.reply) × (step.patch ≡ None)) }
+    ensures err { IfErr result (λ refusal. reply ≡ Err refusal) }
+{
+    match reply {
+        Ok(reply) => Ok(Step { reply, patch: None }),
+        Err(refusal) => Err(refusal),
+    }
+}
+
+/// Prepares a call of a node at a moment: its reply, and what it changes, if anything. Only memory can be wanting.
+pub fn prepare(
+    alloc: Global,
+    replica: &mut Replica,
+    me: NodeId,
+    call: Call,
+    now: u64,
+) -> Result<Step, Refusal>
+    requires { me ≤ length replica.old.front }
+    ensures view { view_of replica.new ≡ view_of replica.old }
+    ensures room { IfOk result (λ step. IfSome step.patch (λ change. Fits change replica.new)) }
+    ensures next { IfOk result (λ step. IsNext me (view_of replica.old) call now step.reply (with_patch step.patch (view_of replica.old))) }
+    ensures cause { IfErr result (λ refusal. refusal ≡ NoMemory) }
+{
+    match call {
+        Call::Command(command) => match act(alloc, replica, me, command) {
+            Ok(act) => Ok(Step {
+                reply: Reply::Command(act.reply),
+                patch: act.patch,
+            }),
+            Err(refusal) => Err(refusal),
+        },
+        Call::Take(delta) => take(alloc, replica, delta),
+        Call::Pull(body) => answer(give(alloc, replica, &body)),
+        Call::Status(id) => answer(Ok(show(replica, id))),
+        Call::Member { id, member } => answer(Ok(show_member(replica, id, member))),
+        Call::Page(after) => answer(list(alloc, replica, after)),
+        Call::Duties => answer(duties(alloc, replica, me)),
+        Call::Expire => expire(alloc, replica, me, now),
+    }
+}
+
+/// Makes the changes of a patch, if there is one.
+fn change(replica: &mut Replica, patch: Option<Patch>)
+    requires { IfSome patch (λ change. Fits change replica.old) }
+    ensures view { view_of replica.new ≡ with_patch patch (view_of replica.old) }
+    ensures nodes { length replica.new.front ≡ length replica.old.front }
+{
+    if let Some(patch) = patch {
+        replica.apply(patch);
+    }
+}
+
+/// Stores a patch, if there is one.
+fn store<S: Alter>(
+    alloc: Global,
+    journal: &mut Journal<S>,
+    patch: &Option<Patch>,
+) -> Result<(), Refusal>
+    ensures stored { (me : ℕ) (view : View) → Keeps S.Store me journal.old view → IfSome patch.now (IsPatchOf view) →
+        OnOk result (Keeps S.Store me journal.new (with_patch patch.now view)) }
+    ensures kept { (me : ℕ) (view : View) → Keeps S.Store me journal.old view → OnErr result (Keeps S.Store me journal.new view) }
+    ensures cause { IfErr result (IsStoreFault journal.old journal.new) }
+{
+    match patch {
+        Some(patch) => journal.store(alloc, patch),
+        None => Ok(()),
+    }
+}
+
+/// Stores a patch, if there is one, and then makes its changes. Where it isn't stored, nothing is changed.
+pub fn carry_out<S: Alter>(
+    alloc: Global,
+    journal: &mut Journal<S>,
+    replica: &mut Replica,
+    patch: Option<Patch>,
+) -> Result<(), Refusal>
+    requires { IfSome patch (λ change. Fits change replica.old) }
+    ensures view { OnOk result (view_of replica.new ≡ with_patch patch (view_of replica.old)) }
+    ensures same { OnErr result (view_of replica.new ≡ view_of replica.old) }
+    ensures nodes { length replica.new.front ≡ length replica.old.front }
+    // The journal's rows go with the replica, whatever comes.
+    ensures keeps { (me : ℕ) → Keeps S.Store me journal.old (view_of replica.old) → Keeps S.Store me journal.new (view_of replica.new) }
+    ensures cause { IfErr result (IsStoreFault journal.old journal.new) }
+{
+    match store(alloc, journal, &patch) {
+        Ok(()) => {
+            change(replica, patch);
+            Ok(())
+        }
+        Err(refusal) => Err(refusal),
+    }
+}

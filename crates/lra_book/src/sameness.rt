@@ -1,0 +1,124 @@
+// Whether calls and replies are the same.
+ghost use Rattle.std.specs.Prelude.{◌≡◌};
+ghost use Rattle.lra_book.specs.Sameness.{same_call, same_command, same_duties, same_page, same_reply};
+
+use crate::{Call, Reply};
+use lra_callback::Duties;
+use lra_history::Command;
+use lra_replica::Page;
+
+/// Whether two commands are the same.
+fn same_command(a: &Command, b: &Command) -> bool
+    ensures { result ≡ same_command a.now b.now }
+{
+    match (a, b) {
+        (
+            Command::Begin { parent, deadline },
+            Command::Begin {
+                parent: other,
+                deadline: till,
+            },
+        ) => *parent == *other && *deadline == *till,
+        (
+            Command::Join { id, links },
+            Command::Join {
+                id: other,
+                links: others,
+            },
+        ) => *id == *other && *links == *others,
+        (
+            Command::Leave { id, member },
+            Command::Leave {
+                id: other,
+                member: number,
+            },
+        ) => *id == *other && *member == *number,
+        (
+            Command::Decide { id, verdict },
+            Command::Decide {
+                id: other,
+                verdict: decided,
+            },
+        ) => *id == *other && *verdict == *decided,
+        (
+            Command::Report {
+                id,
+                member,
+                act,
+                outcome,
+            },
+            Command::Report {
+                id: other,
+                member: number,
+                act: done,
+                outcome: heard,
+            },
+        ) => *id == *other && (*member == *number && (*act == *done && *outcome == *heard)),
+        (
+            Command::Forgot { id, member },
+            Command::Forgot {
+                id: other,
+                member: number,
+            },
+        ) => *id == *other && *member == *number,
+        (Command::Purge { root }, Command::Purge { root: other }) => *root == *other,
+        _ => false,
+    }
+}
+
+/// Whether two calls are the same.
+pub fn same_call(a: &Call, b: &Call) -> bool
+    ensures { result ≡ same_call a.now b.now }
+{
+    match (a, b) {
+        (Call::Command(a), Call::Command(b)) => same_command(a, b),
+        (Call::Take(a), Call::Take(b)) => a.same(b),
+        (Call::Pull(a), Call::Pull(b)) => a.as_slice() == b.as_slice(),
+        (Call::Status(a), Call::Status(b)) => *a == *b,
+        (
+            Call::Member { id, member },
+            Call::Member {
+                id: other,
+                member: number,
+            },
+        ) => *id == *other && *member == *number,
+        (Call::Page(a), Call::Page(b)) => *a == *b,
+        (Call::Duties, Call::Duties) | (Call::Expire, Call::Expire) => true,
+        _ => false,
+    }
+}
+
+/// Whether two pages are the same.
+fn same_page(a: &Page, b: &Page) -> bool
+    ensures { result ≡ same_page a.now b.now }
+{
+    a.rows() == b.rows() && a.more() == b.more()
+}
+
+/// Whether two lists of duties are the same.
+fn same_duties(a: &Duties, b: &Duties) -> bool
+    ensures { result ≡ same_duties a.now b.now }
+{
+    a.as_slice() == b.as_slice()
+}
+
+/// Whether two replies are the same.
+pub fn same_reply(a: &Reply, b: &Reply) -> bool
+    ensures { result ≡ same_reply a.now b.now }
+{
+    match (a, b) {
+        (Reply::Command(a), Reply::Command(b)) => *a == *b,
+        (Reply::Gave(a), Reply::Gave(b)) => a.same(b),
+        (Reply::Shown(id, status), Reply::Shown(other, shown)) => *id == *other
+            && *status == *shown,
+        (Reply::ShownMember(id, member, status), Reply::ShownMember(other, number, shown)) => {
+            *id == *other && (*member == *number && *status == *shown)
+        }
+        (Reply::Listed(a), Reply::Listed(b)) => same_page(a, b),
+        (Reply::Due(a), Reply::Due(b)) => same_duties(a, b),
+        (Reply::Expired(a), Reply::Expired(b)) => *a == *b,
+        (Reply::Refused(a), Reply::Refused(b)) => *a == *b,
+        (Reply::Took, Reply::Took) | (Reply::Quiet, Reply::Quiet) => true,
+        _ => false,
+    }
+}
