@@ -1,9 +1,16 @@
 // The book: what a node holds, its journal, and the trail of the run that is on.
-ghost use Rattle.std.specs.Prelude.{◌≡◌, ◌+◌, ◌<◌, ◌≤◌, ◌⊎◌, ◌↔◌, ◌++◌, ◌∷◌, [], None, IfErr, IfOk, IfSome, IsSome, IsTrue, OnErr, OnOk, length, vec_capacity};
-ghost use Rattle.lra_facts.specs.declared.refusal.Refusal.TheVariants.{NoMemory};
+ghost use Rattle.std.specs.Prelude.{◌≡◌, ◌≢◌, ◌+◌, ◌<◌, ◌≤◌, ◌⊎◌, ◌↔◌, ◌++◌, ◌∷◌, [], ℕ, None, IfErr, IfOk, IfSome, IsSome, IsTrue, OnErr, OnOk, length, vec_capacity};
+ghost use Rattle.lra_facts.specs.declared.refusal.Refusal.TheVariants.{BadFrame, JournalFailed, NoMemory};
+ghost use Rattle.sqlite.specs.Held.{state};
+ghost use Rattle.sqlite.specs.State.{HasCleanDisk, Survives};
+ghost use Rattle.lra_history.specs.Views.{empty_view};
 ghost use Rattle.lra_replica.specs.Replicas.{Fits, view_of};
 ghost use Rattle.lra_book.specs.Books.{IsBegun, IsEntered, IsEnded, IsLegal, IsNotBegun, IsNotEntered, IsOpened, Stays, has_room_for, moves_in, refusal_at_once};
-ghost use Rattle.lra_journal.specs.Keeping.{Keeps};
+ghost use Rattle.lra_journal.specs.Broken.{IsBrokenAt};
+ghost use Rattle.lra_journal.specs.Keeping.{IsOwn, Keeps};
+ghost use Rattle.lra_journal.specs.NewStores.{IsNew};
+ghost use Rattle.lra_journal.specs.Stands.{Stands};
+ghost use Rattle.lra_journal.specs.Tables.{IsJournal};
 ghost use Rattle.lra_book.specs.Looks.{lesser, look_of, lost_from};
 ghost use Rattle.lra_book.specs.Next.{IsNext, with_patch};
 ghost use Rattle.lra_book.specs.Trails.{entry, stands, tells};
@@ -191,8 +198,23 @@ impl<S: Alter> Book<S> {
         requires me { me ≤ nodes }
         requires some { 1 ≤ nodes }
         requires nodes { nodes ≤ 8 }
-        ensures opened { IfOk result (λ book. IsOpened me nodes book) }
+        ensures opened { IfOk result (λ book. IsOpened me nodes book × (book.journal.opened ≡ connection)) }
         ensures rows { IfOk result (λ book. Keeps S.Store me book.journal book.records) }
+        // A new store gets the rows of a view of no facts; of a journal's rows the records are those that they stand for.
+        ensures made { IfOk result (λ book. HasCleanDisk (state S.Store book.journal.connection) → IsNew (state S.Store connection) → book.records ≡ empty_view nodes) }
+        ensures reads { IfOk result (λ book. HasCleanDisk (state S.Store book.journal.connection) → IsJournal (state S.Store connection) →
+            Stands me (state S.Store connection).now.trees book.records) }
+        // Why it is refused: where the rows break the format, for want of memory, or by the database. What the connection shows
+        // is left, while it is open.
+        ensures place { IfErr result (λ e. HasCleanDisk (state S.Store e.1) → IsJournal (state S.Store connection) →
+            (k : ℕ) → e.0 ≡ BadFrame k → IsBrokenAt me nodes (state S.Store connection).now.trees k) }
+        ensures unbroken { IfErr result (λ e. HasCleanDisk (state S.Store e.1) → IsNew (state S.Store connection) → (k : ℕ) → e.0 ≢ BadFrame k) }
+        ensures unchanged { IfErr result (λ e. HasCleanDisk (state S.Store e.1) → IsOwn (state S.Store connection) → IsTrue (state S.Store e.1).is_open →
+            (state S.Store e.1).now ≡ (state S.Store connection).now) }
+        ensures cause { IfErr result (λ e. (e.0 ≡ NoMemory) ⊎ ((e.0 ≡ JournalFailed) ⊎ ((k : ℕ) × (e.0 ≡ BadFrame k)))) }
+        // A stop leaves what it left before, or in the first opening the rows of a view of no facts.
+        ensures crash { IfOk result (λ book. Survives (state S.Store connection) (state S.Store book.journal.connection) (λ db. IsNew (state S.Store connection) → Stands me db (empty_view nodes))) }
+        ensures crash_refused { IfErr result (λ e. Survives (state S.Store connection) (state S.Store e.1) (λ db. IsNew (state S.Store connection) → Stands me db (empty_view nodes))) }
     {
         match Journal::open(alloc, connection, me, nodes) {
             Ok((journal, replica)) => Ok(Book {
@@ -273,6 +295,7 @@ impl<S: Alter> Book<S> {
         ensures legal { IsLegal self.new }
         // Whatever comes, the journal's rows stand for the records.
         ensures rows { Keeps S.Store self.new.me self.new.journal self.new.records }
+        ensures first { self.new.journal.opened ≡ self.old.journal.opened }
         ensures seen { IfOk result (λ receipt. (pass.old ≤ receipt.index) × (pass.new ≡ receipt.index + 1)) }
         ensures refused { IfErr result (λ refusal. IsNotEntered self.old pass.old self.new call refusal) }
         ensures kept { OnErr result (Stays self.old self.new × (pass.new ≡ pass.old)) }
@@ -324,6 +347,7 @@ impl<S: Alter> Book<S> {
         ensures trail { result.items ≡ self.old.trail }
         ensures legal { IsLegal self.old }
         ensures ended { IsEnded self.old self.new }
+        ensures rows { Keeps S.Store self.new.me self.new.journal self.new.records }
     {
         let empty = Vec::new(*self.trail.allocator());
         self.opening = None;

@@ -1,6 +1,7 @@
 // The desk: a book under one lock, and the passes of the threads that share it.
 ghost use Rattle.std.specs.Prelude.{◌≡◌, ◌+◌, ◌-◌, ◌<◌, ◌≤◌, ◌==◌, ◌++◌, ◌∷◌, [], ℕ, None, Some, IfErr, IfNone, IfOk, IfSome, OnErr, OnOk, count_by, flat_map, length, slice_get, sum_by, vec_len};
 ghost use Rattle.lra_facts.specs.declared.refusal.Refusal.TheVariants.{NoMemory};
+ghost use Rattle.lra_journal.specs.Keeping.{Keeps};
 ghost use Rattle.lra_book.specs.Clerks.{IsOfClerk};
 ghost use Rattle.lra_book.specs.Desks.{AreNew, HasTrail, IsCalled, first_stray, first_strange, names, new_pass, strange_of};
 ghost use Rattle.lra_book.specs.Trails.{LeadsTo};
@@ -324,6 +325,8 @@ impl<J: Run, S: Alter> Desk<J, S> {
         ensures legal { LeadsTo J.opening.node J.opening.view result.1.items result.0.records }
         ensures counted { length result.1.items ≡ sum_by (λ p. p.share) passes.items }
         ensures ended { (result.0.opening ≡ None) × (result.0.me ≡ J.opening.node) }
+        // The journal's rows stand for the records.
+        ensures rows { Keeps S.Store result.0.me result.0.journal result.0.records }
         ensures ok { OnOk result.2 (strange_of result.1.items (flat_map (λ p. p.receipts) passes.items) ≡ None) }
         ensures err { IfErr result.2 (λ refusal. strange_of result.1.items (flat_map (λ p. p.receipts) passes.items) ≡ Some refusal) }
     {

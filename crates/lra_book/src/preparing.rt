@@ -240,6 +240,7 @@ fn store<S: Alter>(
     ensures stored { (me : ℕ) (view : View) → Keeps S.Store me journal.old view → IfSome patch.now (IsPatchOf view) →
         OnOk result (Keeps S.Store me journal.new (with_patch patch.now view)) }
     ensures kept { (me : ℕ) (view : View) → Keeps S.Store me journal.old view → OnErr result (Keeps S.Store me journal.new view) }
+    ensures opened { journal.new.opened ≡ journal.old.opened }
     ensures cause { IfErr result (IsStoreFault journal.old journal.new) }
 {
     match patch {
@@ -261,6 +262,7 @@ pub fn carry_out<S: Alter>(
     ensures nodes { length replica.new.front ≡ length replica.old.front }
     // The journal's rows go with the replica, whatever comes.
     ensures keeps { (me : ℕ) → Keeps S.Store me journal.old (view_of replica.old) → Keeps S.Store me journal.new (view_of replica.new) }
+    ensures opened { journal.new.opened ≡ journal.old.opened }
     ensures cause { IfErr result (IsStoreFault journal.old journal.new) }
 {
     match store(alloc, journal, &patch) {
