@@ -1,11 +1,11 @@
 -- What a clerk's call comes to, from what its book or its desk did.
-use Rattle.std.proofs.Common.{◌≡◌, ◌+◌, ◌-◌, ◌++◌, ◌∷◌, ◌∙◌, ◌⊎◌, inl, inr, ℕ, List, [], Result, Ok, Err, Option, length, refl, sym, ap, subst, arith, length-append}
+use Rattle.std.proofs.Common.{◌≡◌, ◌+◌, ◌-◌, ◌++◌, ◌∷◌, ◌∙◌, ◌⊎◌, inl, inr, ℕ, List, [], Result, Ok, Err, length, sym, ap, subst, arith, length-append}
 use Rattle.std.specs.Prelude.{IfErr, MatchResult, OnErr, OnOk, slice_get}
 use Rattle.lra_facts.specs.declared.refusal.Refusal.{Refusal}
 use Rattle.lra_facts.specs.declared.refusal.Refusal.TheVariants.{NoMemory}
 use Rattle.lra_book.specs.declared.calls.Call.{Call}
 use Rattle.lra_book.specs.declared.calls.Receipt.{Receipt}
-use Rattle.lra_book.specs.Books.{BookState, IsNotEntered}
+use Rattle.lra_book.specs.Books.{IsNotEntered}
 use Rattle.lra_book.specs.Clerks.{BookCalled, ClerkState, DeskCalled, IsEnteredBy, IsOfClerk, IsOutcome, IsRefusedBy, last_reply, reply_in}
 use Rattle.lra_book.specs.Desks.{IsCalled, Opening, PassState}
 use Rattle.lra_book.proofs.Refusals.{book_of_clerk}

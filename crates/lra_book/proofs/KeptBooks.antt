@@ -1,9 +1,8 @@
 -- What a book keeps, with one entry more and where a call isn't stored.
-use Rattle.std.proofs.Common.{◌≡◌, ◌≤◌, ◌<◌, ◌⊎◌, inl, inr, ℕ, Bool, true, false, List, [], ◌∷◌, ◌++◌, Option, Some, None, refl, sym, ap, subst, ◌∙◌, ◌&&◌, not, length, arith, length-append}
+use Rattle.std.proofs.Common.{◌≡◌, ◌≤◌, ◌<◌, ℕ, Bool, true, false, List, [], ◌∷◌, ◌++◌, None, refl, sym, ap, subst, ◌∙◌, ◌&&◌, not, length, arith, length-append}
 use Rattle.std.proofs.lemmas.Bool.Decides.{nat_tests}
 use Rattle.std.specs.Prelude.{IfSome, nat_le, nat_lt}
-use Rattle.lra_facts.specs.declared.refusal.Refusal.{Refusal}
-use Rattle.lra_facts.specs.declared.refusal.Refusal.TheVariants.{JournalFailed, NoMemory, RunFull, Stopped, TrailLost}
+use Rattle.lra_facts.specs.declared.refusal.Refusal.TheVariants.{RunFull, Stopped, TrailLost}
 use Rattle.lra_facts.specs.Refusals.{first, unless}
 use Rattle.lra_history.specs.Views.{View}
 use Rattle.lra_book.specs.declared.calls.Call.{Call}

@@ -13,5 +13,6 @@ mod RepliesOfSets
 mod SameAsItself
 mod SettledViews
 mod Stands
+mod Stops
 mod Strange
 mod Trails

@@ -1,5 +1,5 @@
 -- The refusals of a clerk's own.
-use Rattle.std.proofs.Common.{◌≡◌, ◌⊎◌, inl, inr, ℕ, List, Bool, true, false, Option, Some, None, [], ◌∷◌, subst}
+use Rattle.std.proofs.Common.{◌≡◌, inl, inr, ℕ, List, Bool, true, false, Option, Some, None, [], ◌∷◌, subst}
 use Rattle.std.specs.Prelude.{nat_le, length}
 use mathlib.Core.Bool.{not}
 use Rattle.lra_facts.specs.declared.refusal.Refusal.{Refusal}

@@ -1,8 +1,7 @@
 -- Receipts that stand in a trail.
-use Rattle.std.proofs.Common.{◌≡◌, ◌≢◌, ◌+◌, ◌++◌, ◌∷◌, ◌∙◌, ℕ, zero, suc, List, [], length, Bool, true, false, Some, None, Option, if◌then◌else◌, refl, sym, ap, subst}
+use Rattle.std.proofs.Common.{◌≡◌, ◌≢◌, ◌++◌, ◌∷◌, ◌∙◌, ℕ, zero, suc, List, [], length, Bool, true, false, Some, None, Option, if◌then◌else◌, refl, ap, subst}
 use Rattle.std.specs.Prelude.{IfSome, nat_le, slice_get}
 use mathlib.Core.Bool.{not}
-use Rattle.lra_facts.specs.declared.refusal.Refusal.{Refusal}
 use Rattle.lra_facts.specs.declared.refusal.Refusal.TheVariants.{Stopped, TrailLost}
 use Rattle.lra_facts.specs.Refusals.{first, unless}
 use Rattle.lra_history.specs.Views.{View}

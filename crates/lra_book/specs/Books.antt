@@ -1,5 +1,5 @@
 -- A book as contracts see it, and what a call of it does.
-use Rattle.std.specs.Prelude.{◌≡◌, ◌≤◌, ◌<◌, ◌⊎◌, ◌&&◌, ◌||◌, ◌++◌, ◌∷◌, ℕ, Bool, true, false, Option, Some, None, List, [], ◌+◌, IfSome, if◌then◌else◌, length, nat_le, nat_lt}
+use Rattle.std.specs.Prelude.{◌≡◌, ◌≤◌, ◌⊎◌, ◌&&◌, ◌||◌, ◌++◌, ◌∷◌, ℕ, Bool, true, false, Option, Some, None, List, [], ◌+◌, IfSome, if◌then◌else◌, length, nat_le, nat_lt}
 use mathlib.Core.Bool.{not}
 use Rattle.lra_facts.specs.declared.refusal.Refusal.{Refusal}
 use Rattle.lra_facts.specs.declared.refusal.Refusal.TheVariants.{JournalFailed, NoMemory, RunFull, Stopped, TrailLost}
@@ -8,8 +8,13 @@ use Rattle.lra_history.specs.Views.{View}
 use Rattle.lra_book.specs.declared.calls.Call.{Call}
 use Rattle.lra_book.specs.declared.calls.Entry.{Entry}
 use Rattle.lra_book.specs.declared.calls.Receipt.{Receipt}
+use Rattle.lra_book.specs.declared.calls.Reply.{Reply}
 use Rattle.sqlite_trees.specs.declared.store.Store.{Ghosts}
+use Rattle.sqlite.specs.Held.{state}
+use Rattle.sqlite.specs.Tree.{Trees}
 use Rattle.lra_journal.specs.Keeping.{IsCounted, JournalState, Keeps}
+use Rattle.lra_journal.specs.Stands.{Stands}
+use Rattle.lra_journal.specs.Tables.{IsJournal}
 use Rattle.lra_book.specs.Next.{IsNext, is_move}
 use Rattle.lra_book.specs.Trails.{LeadsTo, entry}
 
@@ -84,6 +89,11 @@ abbrev pub IsNotEntered : {S : Type 0} → (old : BookState S) → (seen : ℕ) 
 IsNotEntered old seen new asked refusal =
     ((refusal_at_once old seen asked ≡ Some refusal) × (new ≡ old))
     ⊎ ((refusal_at_once old seen asked ≡ None) × IsRefusedLate old new refusal)
+
+-- Where the journal's rows stand for the view, a stop in a call may leave rows for the view that comes next
+abbrev pub MayCommit : {S : Type 0} → Ghosts S → (old : BookState S) → Call → (now : ℕ) → Trees → Type 0
+MayCommit g old asked now db = IsJournal (state g old.journal.connection) → Stands old.me (state g old.journal.connection).now.trees old.records →
+    (reply : Reply) × (next : View) × IsNext old.me old.records asked now reply next × Stands old.me db next
 
 -- a run began: no entry, and the opening is the view
 pub record IsBegun {S : Type 0} (old new : BookState S) : Type 0 where

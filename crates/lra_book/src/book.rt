@@ -5,7 +5,7 @@ ghost use Rattle.sqlite.specs.Held.{state};
 ghost use Rattle.sqlite.specs.State.{HasCleanDisk, Survives};
 ghost use Rattle.lra_history.specs.Views.{empty_view};
 ghost use Rattle.lra_replica.specs.Replicas.{Fits, view_of};
-ghost use Rattle.lra_book.specs.Books.{IsBegun, IsEntered, IsEnded, IsLegal, IsNotBegun, IsNotEntered, IsOpened, Stays, has_room_for, moves_in, refusal_at_once};
+ghost use Rattle.lra_book.specs.Books.{IsBegun, IsEntered, IsEnded, IsLegal, IsNotBegun, IsNotEntered, IsOpened, MayCommit, Stays, has_room_for, moves_in, refusal_at_once};
 ghost use Rattle.lra_journal.specs.Broken.{IsBrokenAt};
 ghost use Rattle.lra_journal.specs.Keeping.{IsOwn, Keeps};
 ghost use Rattle.lra_journal.specs.NewStores.{IsNew};
@@ -296,6 +296,8 @@ impl<S: Alter> Book<S> {
         // Whatever comes, the journal's rows stand for the records.
         ensures rows { Keeps S.Store self.new.me self.new.journal self.new.records }
         ensures first { self.new.journal.opened ≡ self.old.journal.opened }
+        // A stop leaves what it left before, or rows for the view that comes next.
+        ensures crash { Survives (state S.Store self.old.journal.connection) (state S.Store self.new.journal.connection) (MayCommit S.Store self.old call now) }
         ensures seen { IfOk result (λ receipt. (pass.old ≤ receipt.index) × (pass.new ≡ receipt.index + 1)) }
         ensures refused { IfErr result (λ refusal. IsNotEntered self.old pass.old self.new call refusal) }
         ensures kept { OnErr result (Stays self.old self.new × (pass.new ≡ pass.old)) }

@@ -7,7 +7,10 @@ ghost use Rattle.lra_history.specs.Views.{View};
 ghost use Rattle.lra_replica.specs.Replicas.{Fits, view_of};
 ghost use Rattle.lra_peer.specs.PullBodies.{asked};
 ghost use Rattle.lra_journal.specs.Keeping.{Keeps};
-ghost use Rattle.lra_journal.specs.Stands.{IsPatchOf};
+ghost use Rattle.lra_journal.specs.Stands.{IsPatchOf, Stands};
+ghost use Rattle.lra_journal.specs.Tables.{IsJournal};
+ghost use Rattle.sqlite.specs.Held.{state};
+ghost use Rattle.sqlite.specs.State.{Survives};
 ghost use Rattle.lra_book.specs.Books.{IsStoreFault};
 ghost use Rattle.lra_book.specs.Next.{AreDuties, IsListing, IsNext, IsTakeReply, expire_reply, expired, member_reply, pull_reply, status_reply, view_expired, with_patch};
 
@@ -240,6 +243,9 @@ fn store<S: Alter>(
     ensures stored { (me : ℕ) (view : View) → Keeps S.Store me journal.old view → IfSome patch.now (IsPatchOf view) →
         OnOk result (Keeps S.Store me journal.new (with_patch patch.now view)) }
     ensures kept { (me : ℕ) (view : View) → Keeps S.Store me journal.old view → OnErr result (Keeps S.Store me journal.new view) }
+    // A stop leaves what it left before, or rows for the patched view.
+    ensures crash { Survives (state S.Store journal.old.connection) (state S.Store journal.new.connection) (λ db. IsJournal (state S.Store journal.old.connection) → (me : ℕ) (view : View) →
+        Stands me (state S.Store journal.old.connection).now.trees view → IfSome patch.now (IsPatchOf view) → Stands me db (with_patch patch.now view)) }
     ensures opened { journal.new.opened ≡ journal.old.opened }
     ensures cause { IfErr result (IsStoreFault journal.old journal.new) }
 {
@@ -262,6 +268,9 @@ pub fn carry_out<S: Alter>(
     ensures nodes { length replica.new.front ≡ length replica.old.front }
     // The journal's rows go with the replica, whatever comes.
     ensures keeps { (me : ℕ) → Keeps S.Store me journal.old (view_of replica.old) → Keeps S.Store me journal.new (view_of replica.new) }
+    // A stop leaves what it left before, or rows for what the replica holds then.
+    ensures crash { Survives (state S.Store journal.old.connection) (state S.Store journal.new.connection) (λ db. IsJournal (state S.Store journal.old.connection) → (me : ℕ) →
+        Stands me (state S.Store journal.old.connection).now.trees (view_of replica.old) → Stands me db (with_patch patch (view_of replica.old))) }
     ensures opened { journal.new.opened ≡ journal.old.opened }
     ensures cause { IfErr result (IsStoreFault journal.old journal.new) }
 {

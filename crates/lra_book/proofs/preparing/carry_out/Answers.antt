@@ -1,8 +1,10 @@
 use Rattle.std.proofs.Common.{subst, sym}
+use Rattle.sqlite.specs.Held.{state}
 use Rattle.lra_history.specs.Views.{View}
 use Rattle.lra_replica.specs.Replicas.{view_of}
 use Rattle.lra_journal.specs.Keeping.{Keeps}
 use Rattle.lra_book.proofs.FittingPatches.{fits_its_view}
+use Rattle.lra_book.proofs.Stops.{survives_more}
 use Rattle.lra_book.proofs.preparing.carry_out.Goals as goal
 
 pub returns-in-Ok-clause-keeps : goal.returns-in-Ok-clause-keeps
@@ -11,3 +13,13 @@ returns-in-Ok-clause-keeps g c me kept =
 
 pub returns-in-Err-clause-keeps : goal.returns-in-Err-clause-keeps
 returns-in-Err-clause-keeps g c me kept = c.in-Err.ensures.kept me (view_of c.args.replica.now) kept
+
+pub returns-in-Ok-clause-crash : goal.returns-in-Ok-clause-crash
+returns-in-Ok-clause-crash g c =
+    survives_more (state g.S.Store c.args.journal.now.connection) (state g.S.Store c.store.new.journal.connection) _ _
+    (λ db more was me stood. more was me (view_of c.args.replica.now) stood (fits_its_view c.args.patch c.args.replica.now c.requires)) c.store.ensures.crash
+
+pub returns-in-Err-clause-crash : goal.returns-in-Err-clause-crash
+returns-in-Err-clause-crash g c =
+    survives_more (state g.S.Store c.args.journal.now.connection) (state g.S.Store c.store.new.journal.connection) _ _
+    (λ db more was me stood. more was me (view_of c.args.replica.now) stood (fits_its_view c.args.patch c.args.replica.now c.requires)) c.store.ensures.crash

@@ -2,12 +2,16 @@ use Rattle.std.proofs.Common.{◌≡◌, ◌<◌, ◌∙◌, ◌++◌, ◌∷◌
 use Rattle.std.specs.Option.{option_map}
 use Rattle.lra_history.specs.Views.{View}
 use Rattle.lra_replica.specs.Replicas.{view_of}
+use Rattle.sqlite.specs.Held.{state}
+use Rattle.sqlite.specs.State.{Survives}
 use Rattle.lra_journal.specs.Keeping.{Keeps}
+use Rattle.lra_journal.specs.Stands.{Stands}
 use Rattle.lra_book.specs.declared.calls.Entry.{Entry}
-use Rattle.lra_book.specs.Books.{BookState, refusal_at_once}
+use Rattle.lra_book.specs.Books.{BookState, MayCommit, refusal_at_once}
 use Rattle.lra_book.specs.Next.{IsNext, with_patch}
 use Rattle.lra_book.specs.Trails.{entry}
 use Rattle.lra_book.proofs.KeptBooks.{has_room, not_stored, with_entry}
+use Rattle.lra_book.proofs.Stops.{survives_more, survives_same}
 use Rattle.lra_book.proofs.book.Book.call.Goals as goal
 
 pub invariant_of-self-in-Err-carry_out : goal.invariant_of-self-in-Err-carry_out
@@ -64,3 +68,45 @@ pub returns-clause-rows : goal.returns-clause-rows
 returns-clause-rows g c =
     let before = subst (λ (v : View). Keeps g.S.Store c.self.inside.me c.self.inside.journal v) (sym c.in-Ok.ensures.view) c.self.invariant.0.stored in
     c.carry_out.ensures.keeps c.self.inside.me before
+
+pub returns-in-Some-clause-crash : goal.returns-in-Some-clause-crash
+returns-in-Some-clause-crash g c = survives_same (state g.S.Store c.args.self.now.journal.connection) _
+
+pub returns-in-Err-clause-crash : goal.returns-in-Err-clause-crash
+returns-in-Err-clause-crash g c =
+    let now = state g.S.Store c.self.inside.journal.connection in
+    subst (λ (b : BookState g.row.S.Denot). Survives (state g.S.Store b.journal.connection) now (MayCommit g.S.Store c.args.self.now c.args.call c.args.now)) c.self.view_is (survives_same now _)
+
+pub returns-in-Err-carry_out-clause-crash : goal.returns-in-Err-carry_out-clause-crash
+returns-in-Err-carry_out-clause-crash g c =
+    let old : BookState g.row.S.Denot = record { me = c.self.inside.me; records = view_of c.self.inside.replica; journal = c.self.inside.journal; opening = option_map view_of c.self.inside.opening; trail = c.self.inside.trail.items; stopped = c.self.inside.stopped } in
+    let same = c.in-Ok.ensures.view in
+    let first = state g.S.Store c.self.inside.journal.connection in
+    let last = state g.S.Store c.carry_out.new.journal.connection in
+    let crash : Survives first last (MayCommit g.S.Store old c.args.call c.args.now) = survives_more first last _ _
+    (λ db more was stood. (
+      c.in-Ok.ready.copy.reply,
+      with_patch c.in-Ok.ready.patch (view_of c.self.inside.replica),
+      c.in-Ok.ensures.next,
+      subst (λ (v : View). Stands c.self.inside.me db (with_patch c.in-Ok.ready.patch v)) same (more was c.self.inside.me (subst (λ (v : View). Stands c.self.inside.me first.now.trees v) (sym same) stood)),
+    ))
+    c.carry_out.ensures.crash
+    in
+    subst (λ (b : BookState g.row.S.Denot). Survives (state g.S.Store b.journal.connection) last (MayCommit g.S.Store b c.args.call c.args.now)) c.self.view_is crash
+
+pub returns-clause-crash : goal.returns-clause-crash
+returns-clause-crash g c =
+    let old : BookState g.row.S.Denot = record { me = c.self.inside.me; records = view_of c.self.inside.replica; journal = c.self.inside.journal; opening = option_map view_of c.self.inside.opening; trail = c.self.inside.trail.items; stopped = c.self.inside.stopped } in
+    let same = c.in-Ok.ensures.view in
+    let first = state g.S.Store c.self.inside.journal.connection in
+    let last = state g.S.Store c.carry_out.new.journal.connection in
+    let crash : Survives first last (MayCommit g.S.Store old c.args.call c.args.now) = survives_more first last _ _
+    (λ db more was stood. (
+      c.in-Ok.ready.copy.reply,
+      with_patch c.in-Ok.ready.patch (view_of c.self.inside.replica),
+      c.in-Ok.ensures.next,
+      subst (λ (v : View). Stands c.self.inside.me db (with_patch c.in-Ok.ready.patch v)) same (more was c.self.inside.me (subst (λ (v : View). Stands c.self.inside.me first.now.trees v) (sym same) stood)),
+    ))
+    c.carry_out.ensures.crash
+    in
+    subst (λ (b : BookState g.row.S.Denot). Survives (state g.S.Store b.journal.connection) last (MayCommit g.S.Store b c.args.call c.args.now)) c.self.view_is crash
