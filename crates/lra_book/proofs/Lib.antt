@@ -9,7 +9,7 @@ mod OneCall
 mod OneNext
 mod Pulls
 mod Refusals
-mod RepliesOfSets
+pub mod RepliesOfSets
 mod SameAsItself
 mod SettledViews
 mod Stands

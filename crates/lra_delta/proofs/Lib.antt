@@ -13,9 +13,9 @@ mod FrameExamples
 mod FrameOrder
 mod FrameSizes
 pub mod FramesOfHistories
-mod Grammar
+pub mod Grammar
 mod Grown
-mod HaveSpellings
+pub mod HaveSpellings
 mod HomeLists
 mod HomeParts
 mod LawfulMembers

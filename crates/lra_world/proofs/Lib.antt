@@ -8,8 +8,8 @@ mod GrowingHistories
 mod Happening
 pub mod Moving
 pub mod OneReplicaChanged
-mod Parting
+pub mod Parting
 mod Restarting
 mod Starting
-mod StatusesRise
+pub mod StatusesRise
 mod WorldsStand

@@ -1,0 +1,62 @@
+-- A frame that a node gives can be taken.
+use Rattle.std.proofs.Common.{◌≡◌, ◌++◌, ℕ, List, [], Result, Ok, Err, refl, sym, ap, subst, Some, length}
+use Rattle.lra_id.specs.Fronts.{meet_fronts}
+use Rattle.lra_id.proofs.Pairs.{meet_below}
+use Rattle.lra_facts.specs.declared.refusal.Refusal.{Refusal}
+use Rattle.lra_history.specs.Views.{View}
+use Rattle.lra_delta.specs.Frames.{Frame, frame_of}
+use Rattle.lra_delta.specs.Grammar.{IsOfGrammar}
+use Rattle.lra_delta.specs.Rules.{IsDelta}
+use Rattle.lra_delta.specs.Spelling.{spelling}
+use Rattle.lra_delta.specs.Typed.{IsTyped}
+use Rattle.lra_delta.proofs.FrameCodes.{one_delta}
+use Rattle.lra_delta.proofs.Grammar.{grammar_law}
+use Rattle.lra_delta.proofs.HaveSpellings.{is_delta}
+use Rattle.lra_peer.specs.PullBodies.{asked}
+use Rattle.lra_world.specs.Worlds.{IsSpelled, SentFrame, State, frame_at, front_of}
+use Rattle.lra_book.specs.declared.calls.Call.TheVariants.{Pull}
+use Rattle.lra_book.specs.declared.calls.Reply.{Reply}
+use Rattle.lra_book.specs.declared.calls.Reply.TheVariants.{Gave}
+use Rattle.lra_book.specs.Next.{IsNext, pull_reply}
+use Rattle.lra_trail.specs.NodeTrails.{IsServed, IsTold}
+use Rattle.lra_trail.proofs.Entries.{asked_nodes, meet_nodes}
+use Rattle.lra_trail.proofs.OwnCommands.{current_of}
+
+-- what a frame tells is what its bytes spell
+
+pub told_spelled : (s : State) (number : ℕ) (delta : Frame) → IsDelta delta → IsTold s number delta
+    → (sent : SentFrame) × (frame_at s number ≡ Some sent) × IsSpelled s.history sent (spelling delta)
+told_spelled s number delta rules told =
+    (told.sent, told.numbered, record { view = told.view; sender = told.sender; rules = subst IsDelta told.told rules; spells = ap spelling told.told })
+
+pub spelled_told : (s : State) (number : ℕ) (sent : SentFrame) (delta : Frame) → IsDelta delta → frame_at s number ≡ Some sent → IsSpelled s.history sent (spelling delta) → IsTold s number delta
+spelled_told s number sent delta rules numbered spelled =
+    record {
+      sent = sent;
+      numbered = numbered;
+      view = spelled.view;
+      sender = spelled.sender;
+      told = (one_delta delta (frame_of spelled.view sent.base) [] [] rules spelled.rules (ap (λ (bytes : List ℕ). bytes ++ []) spelled.spells)).0;
+    }
+
+-- what is given keeps the rules of frames
+
+same_frame : (a : View) (asker : List ℕ) (delta : Frame) → Gave delta ≡ pull_reply a (Ok asker) → delta ≡ frame_of a (meet_fronts asker a.front)
+same_frame a asker delta e = ap frame_in_reply e
+  where
+    frame_in_reply : Reply → Frame
+    frame_in_reply (Gave frame) = frame
+    frame_in_reply _ = delta
+
+pub given_fits : (me now : ℕ) (s : State) (a b : View) (body : List ℕ) (delta : Frame) → IsServed me s a → IsNext me a (Pull body) now (Gave delta) b → IsTyped delta → IsDelta delta
+given_fits me now s a b body delta served next typed = by (asked (length a.front) body) refl next.0
+  where
+    by : (o : Result (List ℕ) Refusal) → asked (length a.front) body ≡ o → Gave delta ≡ pull_reply a o → IsDelta delta
+    by (Ok asker) asks e =
+        let same = same_frame a asker delta e in
+        let nodes = asked_nodes (length a.front) body asker asks in
+        is_delta delta typed
+        (subst IsOfGrammar (sym same)
+        (grammar_law s.history (front_of s me) (meet_fronts asker a.front) a served.world.lawful (current_of me s a served).closed served.holds.stands
+        (meet_nodes asker a.front nodes) (meet_below asker a.front nodes).1))
+    by (Err refusal) asks e = absurd cc

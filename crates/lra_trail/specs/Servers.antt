@@ -1,0 +1,85 @@
+-- A server at each node of the world: nothing happens but their calls.
+use Rattle.std.specs.Prelude.{◌≡◌, ◌⊎◌, ◌==◌, ℕ, List, [], ◌∷◌, if◌then◌else◌}
+use Rattle.lra_id.specs.Ids.{Id}
+use Rattle.lra_states.specs.declared.status.LraStatus.TheVariants.{Cancelled, Closed, FailedToCancel, FailedToClose}
+use Rattle.lra_history.specs.Views.{View}
+use Rattle.lra_world.specs.declared.event.Event.{Event}
+use Rattle.lra_world.specs.declared.event.Reply.{Reply}
+use Rattle.lra_world.specs.Headline.{Converges, IsAncestorCancelled, IsNode, TookTheSame}
+use Rattle.lra_world.specs.Worlds.{IsWorld, Runs, State}
+use Rattle.lra_book.specs.declared.calls.Call.TheVariants.{Status}
+use Rattle.lra_book.specs.declared.calls.Entry.{Entry}
+use Rattle.lra_book.specs.declared.calls.Reply.TheVariants.{Shown}
+use Rattle.lra_book.specs.Next.{IsNext}
+use Rattle.lra_book.specs.Trails.{LeadsTo}
+use Rattle.lra_trail.specs.NodeTrails.{Follows, IsServed, Leaves, WasSent, event_of, with_event}
+
+-- what happens next: the next entry of a node's trail, with the number of the frame where it takes one
+pub record Turn : Type 0 where
+  pub node : ℕ
+  pub entry : Entry
+  pub frame : ℕ
+
+-- the trail of a node
+abbrev pub trail_at : ℕ → List Turn → List Entry
+trail_at node [] = []
+trail_at node (turn ∷ turns) = if turn.node == node then turn.entry ∷ trail_at node turns else trail_at node turns
+
+-- all that happens in the world
+abbrev pub events_in : List Turn → List Event
+events_in [] = []
+events_in (turn ∷ turns) = with_event (event_of turn.node turn.frame turn.entry) (events_in turns)
+
+-- the turns come one after another from state s, and leave state t: each is one of a node of the world
+abbrev pub TakeTurns : State → List Turn → State → Type 0
+TakeTurns s [] t = t ≡ s
+TakeTurns s (turn ∷ turns) t =
+    IsNode s turn.node × WasSent s turn.frame turn.entry.call turn.entry.reply
+    × ((mid : State) × Follows s (event_of turn.node turn.frame turn.entry) mid × TakeTurns mid turns t)
+
+-- the replies of the world are those of the entries
+abbrev pub AreTurnReplies : State → List Turn → List Reply → Type 0
+AreTurnReplies t [] replies = replies ≡ []
+AreTurnReplies t (turn ∷ turns) replies =
+    (left : List Reply) × Leaves (event_of turn.node turn.frame turn.entry) t turn.entry.reply replies left × AreTurnReplies t turns left
+
+-- each node has the view of what it holds
+abbrev pub AreServed : State → (views : ℕ → View) → Type 0
+AreServed s views = (node : ℕ) → IsNode s node → IsServed node s (views node)
+
+-- each node's trail is legal from its view, and leads to its view at the end; and all together lead from state s to state t
+pub record AreTrails (s : State) (views : ℕ → View) (turns : List Turn) (t : State) (ends : ℕ → View) : Type 0 where
+  pub world : IsWorld s
+  pub served : AreServed s views
+  pub legal : (node : ℕ) → IsNode s node → LeadsTo node (views node) (trail_at node turns) (ends node)
+  pub taken : TakeTurns s turns t
+
+-- Then they are one run of the world, and each replay is the view of what its node holds at the end
+pub record AreOneRun (s : State) (turns : List Turn) (t : State) (ends : ℕ → View) : Type 0 where
+  pub replies : List Reply
+  pub runs : Runs s (events_in turns) replies t
+  pub same : AreTurnReplies t turns replies
+  pub served : AreServed t ends
+  pub converges : Converges s t
+
+-- What servers answer
+
+-- by its view a node answers of an LRA that it ended closed: by its own verdict it is Closed, or failed to be
+abbrev pub AnswersClosed : (node : ℕ) → View → Id → Type 0
+AnswersClosed node a l =
+    (now : ℕ) × ((b : View) × (IsNext node a (Status l) now (Shown l Closed) b ⊎ IsNext node a (Status l) now (Shown l FailedToClose) b))
+
+-- or that it ended cancelled
+abbrev pub AnswersCancelled : (node : ℕ) → View → Id → Type 0
+AnswersCancelled node a l =
+    (now : ℕ) × ((b : View) × (IsNext node a (Status l) now (Shown l Cancelled) b ⊎ IsNext node a (Status l) now (Shown l FailedToCancel) b))
+
+-- What holds of the servers' answers, whatever was called between the views and those at the end. Two nodes that took the same
+-- facts have equal views, so they answer the same. And of no LRA one node answers that it ended closed and one that it ended
+-- cancelled, the one before and the other after, unless an LRA in which it is nested was cancelled
+pub record AnswersConverge (s : State) (views : ℕ → View) (t : State) (ends : ℕ → View) : Type 0 where
+  pub equal : (one other : ℕ) → TookTheSame t one other → ends one ≡ ends other
+  pub cancelled_late : (one other : ℕ) (l : Id) → IsNode s one → IsNode t other →
+      AnswersClosed one (views one) l → AnswersCancelled other (ends other) l → IsAncestorCancelled t l
+  pub closed_late : (one other : ℕ) (l : Id) → IsNode s one → IsNode t other →
+      AnswersCancelled one (views one) l → AnswersClosed other (ends other) l → IsAncestorCancelled t l
