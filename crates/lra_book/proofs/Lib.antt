@@ -1,12 +1,15 @@
 mod Clerked
+mod EachOnce
 mod FittingPatches
 mod Frames
 mod KeptBooks
 mod Lent
+mod LostBelow
 mod NewPasses
 mod NextViews
 mod OneCall
 mod OneNext
+mod OnePage
 mod Pulls
 mod Refusals
 pub mod RepliesOfSets

@@ -11,6 +11,7 @@ ghost use Rattle.lra_journal.specs.Keeping.{IsOwn, Keeps};
 ghost use Rattle.lra_journal.specs.NewStores.{IsNew};
 ghost use Rattle.lra_journal.specs.Stands.{Stands};
 ghost use Rattle.lra_journal.specs.Tables.{IsJournal};
+ghost use Rattle.lra_book.specs.Desks.{AreSeen, IsLostBelow};
 ghost use Rattle.lra_book.specs.Looks.{lesser, look_of, lost_from};
 ghost use Rattle.lra_book.specs.Next.{IsNext, with_patch};
 ghost use Rattle.lra_book.specs.Trails.{entry, stands, tells};
@@ -300,6 +301,7 @@ impl<S: Alter> Book<S> {
         ensures crash { Survives (state S.Store self.old.journal.connection) (state S.Store self.new.journal.connection) (MayCommit S.Store self.old call now) }
         ensures seen { IfOk result (λ receipt. (pass.old ≤ receipt.index) × (pass.new ≡ receipt.index + 1)) }
         ensures refused { IfErr result (λ refusal. IsNotEntered self.old pass.old self.new call refusal) }
+        ensures lost { IfErr result (IsLostBelow pass.old) }
         ensures kept { OnErr result (Stays self.old self.new × (pass.new ≡ pass.old)) }
     {
         if let Some(refusal) = self.refusal_at_once(pass, &call) {
@@ -330,6 +332,8 @@ impl<S: Alter> Book<S> {
     pub fn look(&self, pass: &Pass, receipts: &[Receipt]) -> Result<(), Refusal>
         ensures ok { OnOk result (look_of self.now pass.now receipts.now ≡ None) }
         ensures refused { IfErr result (λ refusal. look_of self.now pass.now receipts.now ≡ Some refusal) }
+        // E21 is at a place that the pass has seen, if its receipts are of entries that it has seen.
+        ensures lost { AreSeen pass.now receipts.now → IfErr result (IsLostBelow pass.now) }
     {
         if self.stopped {
             return Err(Refusal::Stopped);

@@ -3,7 +3,7 @@ ghost use Rattle.std.specs.Prelude.{◌≡◌, ◌+◌, ◌-◌, ◌<◌, ◌≤
 ghost use Rattle.lra_facts.specs.declared.refusal.Refusal.TheVariants.{NoMemory};
 ghost use Rattle.lra_journal.specs.Keeping.{Keeps};
 ghost use Rattle.lra_book.specs.Clerks.{IsOfClerk};
-ghost use Rattle.lra_book.specs.Desks.{AreNew, HasTrail, IsCalled, first_stray, first_strange, names, new_pass, strange_of};
+ghost use Rattle.lra_book.specs.Desks.{AreNew, AreSeen, HasTrail, IsCalled, IsLostBelow, first_stray, first_strange, names, new_pass, strange_of};
 ghost use Rattle.lra_book.specs.Trails.{LeadsTo};
 
 use crate::book::{stands, tells};
@@ -37,13 +37,13 @@ pub struct DeskPass<J: Run> {
 
 impl<J: Run> Model for DeskPass<J> {
     ghost use Rattle.std.specs.Prelude.{◌≡◌, length};
-    ghost use Rattle.lra_book.specs.Desks.{PassState};
+    ghost use Rattle.lra_book.specs.Desks.{AreSeen, PassState};
 
     ghost Value = { PassState };
 
     ghost view = { λ p. record { seen = p.pass; share = p.share.amount; receipts = p.receipts.items } };
 
-    ghost invariant = { λ p. (p.share.parts ≡ 1) × (p.share.amount ≡ length p.receipts.items) };
+    ghost invariant = { λ p. (p.share.parts ≡ 1) × (p.share.amount ≡ length p.receipts.items) × AreSeen p.pass p.receipts.items };
 }
 
 /// What lies under the lock: the book, whose run is on, and the count of its calls.
@@ -85,6 +85,7 @@ impl<J: Run, S: Alter> Locked<J, S> {
         ensures counted { OnOk result (share.new.amount ≡ share.old.amount + 1) }
         ensures parts { share.new.parts ≡ share.old.parts }
         ensures kept { OnErr result ((pass.new ≡ pass.old) × (share.new.amount ≡ share.old.amount)) }
+        ensures lost { AreSeen pass.old receipts.now → IfErr result (IsLostBelow pass.old) }
         ensures refused { IfErr result IsOfClerk }
     {
         if let Err(refusal) = self.book.look(pass, receipts) {
@@ -297,6 +298,8 @@ impl<J: Run, S: Alter> Desk<J, S> {
         ensures called { OnOk result (IsCalled J.opening mine.old mine.new call now) }
         ensures kept { OnErr result (mine.new ≡ mine.old) }
         ensures refused { IfErr result IsOfClerk }
+        // E21 is at a place that the pass has seen.
+        ensures lost { IfErr result (IsLostBelow mine.old.seen) }
     {
         let DeskPass {
             pass,
@@ -357,6 +360,7 @@ impl<J: Run> DeskPass<J> {
     ) -> Result<&Receipt, Refusal>
         ensures trail { IfOk result (λ r. HasTrail J.opening (self.old.receipts ++ r.now ∷ []) call now r.now) }
         ensures refused { IfErr result IsOfClerk }
+        ensures lost { IfErr result (IsLostBelow self.old.seen) }
     {
         match desk.enter(alloc, rt, self, call, now) {
             Ok(()) => Ok(self.last()),
@@ -377,6 +381,7 @@ impl<J: Run, S: Alter> Desk<J, S> {
     ) -> Result<&'m Receipt, Refusal>
         ensures trail { IfOk result (λ r. HasTrail J.opening (mine.old.receipts ++ r.now ∷ []) call now r.now) }
         ensures refused { IfErr result IsOfClerk }
+        ensures lost { IfErr result (IsLostBelow mine.old.seen) }
     {
         mine.call(self, alloc, rt, call, now)
     }

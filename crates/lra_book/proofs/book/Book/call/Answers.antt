@@ -11,6 +11,7 @@ use Rattle.lra_book.specs.Books.{BookState, MayCommit, refusal_at_once}
 use Rattle.lra_book.specs.Next.{IsNext, with_patch}
 use Rattle.lra_book.specs.Trails.{entry}
 use Rattle.lra_book.proofs.KeptBooks.{has_room, not_stored, with_entry}
+use Rattle.lra_book.proofs.LostBelow.{at_once_lost}
 use Rattle.lra_book.proofs.Stops.{survives_more, survives_same}
 use Rattle.lra_book.proofs.book.Book.call.Goals as goal
 
@@ -110,3 +111,6 @@ returns-clause-crash g c =
     c.carry_out.ensures.crash
     in
     subst (λ (b : BookState g.row.S.Denot). Survives (state g.S.Store b.journal.connection) last (MayCommit g.S.Store b c.args.call c.args.now)) c.self.view_is crash
+
+pub returns-in-Some-clause-lost : goal.returns-in-Some-clause-lost
+returns-in-Some-clause-lost g c = at_once_lost c.args.self.now c.args.pass.now c.args.call c.in-Some.refusal (search rules)
