@@ -15,7 +15,7 @@ skips_more [] input rest more same = ap (λ (t : List ℕ). t ++ more) same
 skips_more (h ∷ heads) input rest more (middle, reads, interim, plain, skips) =
     (middle ++ more, reads_more input middle more h reads, interim, plain, skips_more heads middle rest more skips)
 
-final_more : (room : Room) (input rest more : List ℕ) (h : ResponseHead) → HasFinal room input h rest → HasFinal room (input ++ more) h (rest ++ more)
+pub final_more : (room : Room) (input rest more : List ℕ) (h : ResponseHead) → HasFinal room input h rest → HasFinal room (input ++ more) h (rest ++ more)
 final_more room input rest more h (b, last) = (
   record {
     skipped = b.skipped;

@@ -1,12 +1,10 @@
 -- Heads at the start of what was read.
-use Rattle.std.proofs.Common.{◌≡◌, ◌≢◌, ℕ, ◌+◌, ◌<◌, ◌≤◌, ◌⊎◌, inl, inr, List, [], ◌∷◌, ◌++◌, length, take, drop, sym, ◌∙◌, ap, refl, append_assoc, arith, Option, Some, None, length-append, append-nil, IfSome, subst, Bool, true, false, cond, nat_le, IsTrue, IsFalse, not, ◌&&◌, ◌||◌, ◌==◌}
+use Rattle.std.proofs.Common.{◌≡◌, ◌≢◌, ℕ, ◌+◌, ◌<◌, ◌≤◌, ◌⊎◌, inl, inr, List, [], ◌∷◌, ◌++◌, length, take, drop, sym, ◌∙◌, ap, refl, append_assoc, arith, Option, Some, length-append, append-nil, IfSome, subst, Bool, true, false, cond, nat_le, IsTrue, IsFalse, not, ◌&&◌, ◌||◌, ◌==◌}
 use Rattle.std.proofs.Math.Seq.{take-append_seam}
 use Rattle.std.proofs.lemmas.List.{take-append-le, take-append-drop, length-take, length-map}
 use Rattle.std.proofs.lemmas.Bool.Decides.{leb_tells}
 use Rattle.std.proofs.lemmas.List.Folds.{list_all-append}
 use Rattle.std.specs.List.{list_all}
-use Rattle.std.proofs.KnownBytes.{Consumes-trans}
-use Rattle.std.specs.Io.KnownBytes.{Consumes}
 use Rattle.httparse.specs.Ascii.{line_feed, space}
 use Rattle.httparse.specs.Grammar.{LineEnd, crlf, lf, print_end, RequestHead, ResponseHead, print_request, print_response}
 use Rattle.httparse.specs.Spans.{IsRequestOf, IsResponseOf, IsRequestWithin, IsResponseWithin}
@@ -17,7 +15,12 @@ use Rattle.lra_http.specs.declared.head.Kind.{Kind}
 use Rattle.lra_http.specs.declared.head.Kind.TheVariants.{Request, Response}
 use Rattle.lra_http.specs.declared.head.Step.{Step}
 use Rattle.lra_http.specs.declared.head.Step.TheVariants.{Whole, Long}
-use Rattle.lra_http.specs.Heads.{IsStep, IsHead, HasNoHead, NeverHasHead, MayBecomeHead, Exceeds, Overflows, HasHead, HasNoHeadWithin, IsHeadRead, IsNoHead, IsHeadTooLong, IsOpen}
+use Rattle.lra_http.specs.Heads.{IsStep, IsHead, HasNoHead, NeverHasHead, MayBecomeHead, Exceeds, Overflows, HasHead, HasNoHeadWithin, IsHeadWithin, IsHeadTooLong, IsOpen, RefusesHead}
+use Rattle.lra_http.specs.Faults.{Shows, Stops}
+use Rattle.lra_http.specs.Streams.{FoundEnd, GivenBytes, Gives}
+use Rattle.lra_http.specs.declared.fault.Fault.{Fault}
+use Rattle.lra_http.specs.declared.fault.Fault.TheVariants.{Cut, BadHead, HeadTooLong}
+use Rattle.lra_http.proofs.Known.{gives_more}
 
 -- ---- the two kinds as one
 
@@ -185,23 +188,46 @@ none_lacked kind false head items byte e none others other = none_unspaced kind 
 pub no_head_within : (kind : Kind) (most room : ℕ) (bytes : List ℕ) → HasNoHead kind bytes → HasNoHeadWithin kind most room bytes
 no_head_within kind most room bytes none = λ text rest lines is same fits few. none_of kind bytes text rest lines none is same
 
--- what the parser says at the end of the input
-pub at_end : (kind : Kind) (most room : ℕ) (bytes : List ℕ) → HasNoHead kind bytes → length bytes ≤ most
-    → ((most < length bytes) × IsOpen kind bytes) ⊎ (Exceeds kind room bytes × Overflows kind room bytes) → IsHeadTooLong kind most room bytes
-at_end kind most room bytes none short (inl (long, may)) = absurd (omega (arith, short, long))
-at_end kind most room bytes none short (inr (exceeds, over)) = (inr exceeds, no_head_within kind most room bytes none)
+-- ---- the faults
 
-pub bad_head : (kind : Kind) (most : ℕ) (old new : Option (List ℕ)) (head items : List ℕ) (byte : ℕ) → items ≡ head ++ byte ∷ []
-    → Consumes old new items → length head ≤ most → NeverHasHead kind items → IfSome old (IsNoHead kind most)
-bad_head kind most None new head items byte e taken short never = tt
-bad_head kind most (Some input) None head items byte e taken short never = absurd taken
-bad_head kind most (Some input) (Some left) head items byte e taken short never = record {
-  prefix = items;
-  rest = left;
-  whole = taken;
-  short = let size : length items ≡ length head + 1 = ap length e ∙ length-append head (byte ∷ []) in omega (arith, size, short);
-  never = never;
+-- at the end of the input
+pub cut_shown : (kind : Kind) (most room : ℕ) (bytes : List ℕ) → HasNoHead kind bytes → MayBecomeHead kind bytes → length bytes ≤ most
+    → Shows (most + 1) (RefusesHead kind most room) bytes Cut
+cut_shown kind most room bytes none may short = record {
+  shown = λ more nothing.
+      subst (λ (l : List ℕ). HasNoHead kind l × MayBecomeHead kind l × (length l ≤ most)) (sym (ap (λ (l : List ℕ). bytes ++ l) (nothing refl) ∙ append-nil bytes))
+      (none, may, short);
+  short = omega (arith, short);
 }
+
+pub bad_shown : (kind : Kind) (most room : ℕ) (bytes : List ℕ) → NeverHasHead kind bytes → length bytes ≤ most + 1
+    → Shows (most + 1) (RefusesHead kind most room) bytes BadHead
+bad_shown kind most room bytes never short = record {
+  shown = λ more nothing. record { prefix = bytes; rest = more; whole = refl; short = short; never = never };
+  short = short;
+}
+
+-- more field lines than there may be, whatever follows
+crowded : (kind : Kind) (most room : ℕ) (bytes more : List ℕ) → Exceeds kind room bytes → Overflows kind room bytes → IsHeadTooLong kind most room (bytes ++ more)
+crowded kind most room bytes more exceeds over = (
+  inr (exceeds_more kind room bytes more exceeds),
+  λ text rest lines is same fits few.
+      let many = over_of kind room bytes more text rest lines over is same in
+      omega (arith, many, few),
+)
+
+-- what the parser says at the end of the input
+pub at_end : (kind : Kind) (most room : ℕ) (bytes : List ℕ) → length bytes ≤ most
+    → ((most < length bytes) × IsOpen kind bytes) ⊎ (Exceeds kind room bytes × Overflows kind room bytes)
+    → Shows (most + 1) (RefusesHead kind most room) bytes HeadTooLong
+at_end kind most room bytes short (inl (long, may)) = absurd (omega (arith, short, long))
+at_end kind most room bytes short (inr (exceeds, over)) =
+    record { shown = λ more nothing. crowded kind most room bytes more exceeds over; short = omega (arith, short) }
+
+pub bad_head : (kind : Kind) (most room : ℕ) (head items : List ℕ) (byte : ℕ) → items ≡ head ++ byte ∷ []
+    → length head ≤ most → NeverHasHead kind items → Shows (most + 1) (RefusesHead kind most room) items BadHead
+bad_head kind most room head items byte e short never =
+    bad_shown kind most room items never (let size : length items ≡ length head + 1 = ap length e ∙ length-append head (byte ∷ []) in omega (arith, size, short))
 
 -- a head that ends at the last byte, and bytes that may become one
 whole_becomes : (kind : Kind) (bytes text : List ℕ) (lines : ℕ) → IsHead kind text lines → bytes ≡ text → MayBecomeHead kind bytes
@@ -217,25 +243,32 @@ becomes kind head items byte e none (inr (text, rest, lines, is, same)) =
     let all : length rest ≡ 0 = grind (arith, long, sizes) in
     whole_becomes kind items text lines is (same ∙ ap (λ (r : List ℕ). text ++ r) (no_element rest all) ∙ append-nil text)
 
-pub long_head : (kind : Kind) (most room : ℕ) (old new : Option (List ℕ)) (head items : List ℕ) (byte : ℕ) → items ≡ head ++ byte ∷ []
-    → Consumes old new items → HasNoHead kind head → length head ≤ most
-    → ((most < length items) × IsOpen kind items) ⊎ (Exceeds kind room items × Overflows kind room items) → IfSome old (IsHeadTooLong kind most room)
-long_head kind most room None new head items byte e taken none short long = tt
-long_head kind most room (Some input) None head items byte e taken none short long = absurd taken
-long_head kind most room (Some input) (Some left) head items byte e taken none short (inl (long, may)) =
-    let regroup : input ≡ head ++ (byte ∷ left) =
-    taken ∙ ap (λ (t : List ℕ). t ++ left) e ∙ append_assoc head (byte ∷ []) left in
-    let size : length items ≡ length head + 1 = ap length e ∙ length-append head (byte ∷ []) in (
-      inl (record { prefix = items; rest = left; whole = taken; long = omega (arith, size, long, short); may = becomes kind head items byte e none may }),
-      λ text rest lines is same fits few.
-          short_head kind head (byte ∷ left) text rest lines none is (sym regroup ∙ same) (omega (arith, size, long, fits)),
-    )
-long_head kind most room (Some input) (Some left) head items byte e taken none short (inr (exceeds, over)) = (
-  inr (subst (Exceeds kind room) (sym taken) (exceeds_more kind room items left exceeds)),
-  λ text rest lines is same fits few.
-      let many = over_of kind room items left text rest lines over is (sym taken ∙ same) in
-      omega (arith, many, few),
-)
+pub long_head : (kind : Kind) (most room : ℕ) (head items : List ℕ) (byte : ℕ) → items ≡ head ++ byte ∷ []
+    → HasNoHead kind head → length head ≤ most
+    → ((most < length items) × IsOpen kind items) ⊎ (Exceeds kind room items × Overflows kind room items)
+    → Shows (most + 1) (RefusesHead kind most room) items HeadTooLong
+long_head kind most room head items byte e none short (inl (long, may)) =
+    let size : length items ≡ length head + 1 = ap length e ∙ length-append head (byte ∷ []) in
+    record {
+      shown = λ more nothing.
+          let regroup : items ++ more ≡ head ++ (byte ∷ more) =
+          ap (λ (t : List ℕ). t ++ more) e ∙ append_assoc head (byte ∷ []) more in (
+            inl (record { prefix = items; rest = more; whole = refl; long = omega (arith, size, long, short); may = becomes kind head items byte e none may }),
+            λ text rest lines is same fits few.
+                short_head kind head (byte ∷ more) text rest lines none is (sym regroup ∙ same) (omega (arith, size, long, fits)),
+          );
+      short = omega (arith, size, short);
+    }
+long_head kind most room head items byte e none short (inr (exceeds, over)) = record {
+  shown = λ more nothing. crowded kind most room items more exceeds over;
+  short = let size : length items ≡ length head + 1 = ap length e ∙ length-append head (byte ∷ []) in omega (arith, size, short);
+}
+
+-- where the head stops behind these bytes
+pub stops : (kind : Kind) (most room : ℕ) (old new : GivenBytes) (bytes : List ℕ) (fault : Fault) → Gives old new bytes
+    → Shows (most + 1) (RefusesHead kind most room) bytes fault → (fault ≡ Cut → FoundEnd new)
+    → Stops old new (Shows (most + 1) (RefusesHead kind most room)) fault
+stops kind most room old new bytes fault gives is ended = record { bytes = bytes; gives = gives; is = is; ended = ended }
 
 -- the parser's spans of a whole head
 pub request_whole : (room : ℕ) (bytes : List ℕ) (headers : List HeaderSpan) (spans : RequestSpans) → length headers ≡ room
@@ -262,15 +295,15 @@ response_whole room bytes headers spans size (h, at) within =
       omega (arith, size, count, length-take spans.headers headers),
     )
 
-pub whole_head : (kind : Kind) (most room : ℕ) (old new : Option (List ℕ)) (head items : List ℕ) (byte : ℕ) → items ≡ head ++ byte ∷ []
-    → Consumes old new items → HasNoHead kind head → HasHead kind room items × (length items ≤ most) → IsHeadRead kind most room old new items
-whole_head kind most room old new head items byte e taken none ((text, rest, lines, is, same, few), fits) =
+pub whole_head : (kind : Kind) (most room : ℕ) (head items : List ℕ) (byte : ℕ) → items ≡ head ++ byte ∷ []
+    → HasNoHead kind head → HasHead kind room items × (length items ≤ most) → IsHeadWithin kind most room items
+whole_head kind most room head items byte e none ((text, rest, lines, is, same, few), fits) =
     let sizes : length head + 1 ≡ length text + length rest =
     sym (length-append head (byte ∷ [])) ∙ ap length (sym e ∙ same) ∙ length-append text rest in
     let long : length text ≤ length head → ⊥ = λ le. short_head kind head (byte ∷ []) text rest lines none is (sym e ∙ same) le in
     let all : length rest ≡ 0 = grind (arith, long, sizes) in
     let exact : items ≡ text = same ∙ ap (λ (r : List ℕ). text ++ r) (no_element rest all) ∙ append-nil text in
-    (taken, record { lines = lines; head = subst (λ (t : List ℕ). IsHead kind t lines) (sym exact) is; short = fits; few = few })
+    record { lines = lines; head = subst (λ (t : List ℕ). IsHead kind t lines) (sym exact) is; short = fits; few = few }
 
 pub whole_step : (kind : Kind) (most room : ℕ) (bytes : List ℕ) (step : Step) → step ≡ cond (nat_le (length bytes) most) Whole Long
     → HasHead kind room bytes → IsStep kind most room bytes step
@@ -282,9 +315,9 @@ whole_step kind most room bytes step e has =
     whole_by (inl (t, le)) = rw (e, t) (has, le)
     whole_by (inr (f, lt)) = rw (e, f) (inl (lt, inr (has.0, has.1, has.2, has.3, has.4)))
 
--- one more byte was taken
-pub takes_byte : (old mid new : Option (List ℕ)) (head items : List ℕ) (found : Option ℕ) (byte : ℕ) → Consumes old mid head
-    → IfSome found (λ b. Consumes mid new (b ∷ [])) → found ≡ Some byte → items ≡ head ++ byte ∷ [] → Consumes old new items
+-- one more byte was given
+pub takes_byte : (old mid new : GivenBytes) (head items : List ℕ) (found : Option ℕ) (byte : ℕ) → Gives old mid head
+    → IfSome found (λ b. Gives mid new (b ∷ [])) → found ≡ Some byte → items ≡ head ++ byte ∷ [] → Gives old new items
 takes_byte old mid new head items found byte taken next is e =
-    let last : Consumes mid new (byte ∷ []) = subst (λ (o : Option ℕ). IfSome o (λ b. Consumes mid new (b ∷ []))) is next in
-    rw e (Consumes-trans old mid new head (byte ∷ []) taken last)
+    let last : Gives mid new (byte ∷ []) = subst (λ (o : Option ℕ). IfSome o (λ b. Gives mid new (b ∷ []))) is next in
+    rw e (gives_more old mid new head (byte ∷ []) taken last)

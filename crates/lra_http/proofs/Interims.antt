@@ -1,5 +1,5 @@
 -- Interim heads before a response's final head.
-use Rattle.std.proofs.Common.{◌≡◌, ℕ, ◌+◌, inl, inr, List, [], ◌∷◌, length, Bool, true, false, sym, ◌∙◌, ap, refl, arith, Option, Some, None, subst, IsTrue, IsFalse}
+use Rattle.std.proofs.Common.{◌≡◌, ℕ, ◌+◌, inl, inr, List, [], ◌∷◌, ◌++◌, length, Bool, true, false, sym, ◌∙◌, ap, refl, arith, subst, IsTrue, IsFalse}
 use Rattle.httparse.specs.Grammar.{ResponseHead, ReadsResponse, print_response, status_code}
 use Rattle.httparse.proofs.GrammarLemmas.{response_unique}
 use Rattle.lra_http.specs.declared.fault.Fault.{Fault}
@@ -141,13 +141,17 @@ pub record Continues (left : Room) (input middle : List ℕ) : Type 0 where
   pub refuses : (fault : Fault) → RefusesHeads left middle fault → RefusesHeads head_room input fault
   pub begins : (h : ResponseHead) (rest : List ℕ) → HasFinal left middle h rest → HasFinal head_room input h rest
 
-abbrev pub Reaches : Option (List ℕ) → Option (List ℕ) → Room → Type 0
-Reaches None new left = Unit {0}
-Reaches (Some input) None left = ⊥
-Reaches (Some input) (Some middle) left = Continues left input middle
+-- the heads that were given leave this room, and what follows goes on from there
+pub record Reaches (left : Room) (given : List ℕ) : Type 0 where
+  pub continues : (more : List ℕ) → Continues left (given ++ more) more
+  pub size : length given + left.bytes ≡ 16384
 
 pub continues_more : (room left : Room) (input middle next : List ℕ) → Continues room input middle → Interim room left middle next → Continues left input next
 continues_more room left input middle next known i = record {
   refuses = λ fault h. known.refuses fault (refuses_more room left middle next i fault h);
   begins = λ h rest has. known.begins h rest (behind_more room left middle next (Begins h rest) i has.0, has.1);
 }
+
+-- nothing was given yet
+pub reaches_none : Reaches head_room []
+reaches_none = record { continues = λ more. record { refuses = λ fault h. h; begins = λ h rest has. has }; size = refl }

@@ -1,7 +1,6 @@
 -- Whole responses at the start of the input.
-use Rattle.std.proofs.Common.{◌≡◌, ℕ, ◌+◌, ◌<◌, ◌⊎◌, inl, inr, Bool, true, false, cond, List, [], ◌∷◌, ◌++◌, length, take, drop, map, sym, ◌∙◌, ap, refl, append-nil, arith, Option, Some, None, length-append, IfSome, IfErr, subst, Result, Ok, Err, codes, IsTrue, IsFalse}
+use Rattle.std.proofs.Common.{◌≡◌, ℕ, ◌+◌, ◌<◌, ◌≤◌, ◌⊎◌, inl, inr, append_assoc, Bool, true, false, cond, List, [], ◌∷◌, ◌++◌, length, take, drop, map, sym, ◌∙◌, ap, refl, append-nil, arith, length-append, IfErr, subst, Result, Ok, Err, codes, IsTrue, IsFalse}
 use Rattle.std.proofs.lemmas.Bool.Decides.{nat_tests}
-use Rattle.std.specs.Io.KnownBytes.{Consumes}
 use Rattle.httparse.specs.Grammar.{ResponseHead, ReadsResponse, print_response, status_code}
 use Rattle.httparse.specs.Spans.{header_bytes, name_and_value}
 use Rattle.httparse.specs.declared.spans.HeaderSpan.{HeaderSpan}
@@ -11,8 +10,11 @@ use Rattle.lra_http.specs.declared.fault.Fault.{Fault}
 use Rattle.lra_http.specs.declared.fault.Fault.TheVariants.{Cut, ReadFault, WriteFault, HeadTooLong, BodyTooLong, BadHead, LengthNeeded, NotOffered, NoMemory}
 use Rattle.lra_http.specs.declared.message.Response.{Response as Answer}
 use Rattle.lra_http.specs.Bodies.{RefusesBody}
+use Rattle.lra_http.specs.Faults.{Stops, Shows as ShowsPart}
+use Rattle.lra_http.specs.Streams.{GivenBytes, Gives, GivesWhat}
+use Rattle.lra_http.proofs.Known.{gives_more}
 use Rattle.lra_http.specs.HeadFields.{field_bytes, values, is_number, is_bare, without_body, stated_length, response_length}
-use Rattle.lra_http.specs.Responses.{Room, head_room, is_interim, is_switch, Skips, bytes_of, lines_of, Behind, Begins, HasFinal, stated, IsResponse, HasNoResponse, IsHopeless, IsSwitched, RefusesHeads, HasFault, Refuses, IsRead, ArePartsOf, IsFinalRead}
+use Rattle.lra_http.specs.Responses.{Room, head_room, is_interim, is_switch, Skips, bytes_of, lines_of, Behind, Begins, HasFinal, stated, IsResponse, HasNoResponse, IsHopeless, IsSwitched, RefusesHeads, HasFault, Refuses, IsMessage, IsFaultyHead, Shows, Spends, ArePartsOf, IsFinalRead}
 use Rattle.lra_http.proofs.Interims.{not_both, Interim, final_less, front_of}
 
 -- ---- an input has one final head
@@ -195,25 +197,21 @@ refuses_body limit input h rest size WriteFault has is f = absurd f
 -- ---- the reader's exits
 
 -- the final head that was read, with its parts
-record Final (limit : ℕ) (input : List ℕ) (left : Option (List ℕ)) (bytes : List ℕ) (headers : List HeaderSpan) (spans : ResponseSpans) : Type 0 where
+record Final (limit : ℕ) (given bytes : List ℕ) (headers : List HeaderSpan) (spans : ResponseSpans) : Type 0 where
   head : ResponseHead
-  rest : List ℕ
-  left_is : left ≡ Some rest
-  has : HasFinal head_room input head rest
+  has : (rest : List ℕ) → HasFinal head_room (given ++ rest) head rest
   stated_is : stated limit head ≡ response_length limit spans.code (map (header_bytes bytes) (take spans.headers headers))
   code : spans.code ≡ status_code head
   fields : map (header_bytes bytes) (take spans.headers headers) ≡ map name_and_value head.fields
 
-final_parts : (limit : ℕ) (input : List ℕ) (left : Option (List ℕ)) (bytes : List ℕ) (headers : List HeaderSpan) (spans : ResponseSpans)
-    → IsFinalRead (Some input) left bytes → ArePartsOf bytes headers spans → Final limit input left bytes headers spans
-final_parts limit input left bytes headers spans f p =
+final_parts : (limit : ℕ) (given bytes : List ℕ) (headers : List HeaderSpan) (spans : ResponseSpans)
+    → IsFinalRead given bytes → ArePartsOf bytes headers spans → Final limit given bytes headers spans
+final_parts limit given bytes headers spans f p =
     let h = p.head in
     let same = response_unique bytes f.head h [] (drop spans.len bytes) (f.valid, f.whole ∙ sym (append-nil (print_response f.head))) p.at.reads in
     record {
       head = h;
-      rest = f.first.0;
-      left_is = f.first.1;
-      has = subst (λ (k : ResponseHead). HasFinal head_room input k f.first.0) same.0 f.first.2;
+      has = λ rest. subst (λ (k : ResponseHead). HasFinal head_room (given ++ rest) k rest) same.0 (f.first rest);
       stated_is =
           ap (λ (code : ℕ). response_length limit code (map name_and_value h.fields)) (sym p.at.code)
           ∙ ap (response_length limit spans.code) (sym p.at.fields);
@@ -221,53 +219,128 @@ final_parts limit input left bytes headers spans f p =
       fields = p.at.fields;
     }
 
-pub exit_heads : (limit : ℕ) (old : Option (List ℕ)) (fault : Fault) → IfSome old (λ input. RefusesHeads head_room input fault)
-    → IfSome old (λ input. Refuses head_room limit input fault)
-exit_heads limit None fault h = tt
-exit_heads limit (Some input) fault h = refuses_heads limit input fault h
+heads_spent : (limit : ℕ) (bytes : List ℕ) (fault : Fault) → RefusesHeads head_room (bytes ++ []) fault → length bytes ≤ 16385 → Spends limit bytes fault
+heads_spent limit bytes Cut h short = omega (arith, short)
+heads_spent limit bytes BadHead h short = short
+heads_spent limit bytes HeadTooLong h short = short
+heads_spent limit bytes ReadFault h short = omega (arith, short)
+heads_spent limit bytes NoMemory h short = omega (arith, short)
+heads_spent limit bytes BodyTooLong h short = absurd h
+heads_spent limit bytes LengthNeeded h short = absurd h
+heads_spent limit bytes NotOffered h short = absurd h
+heads_spent limit bytes WriteFault h short = absurd h
 
-pub exit_fields : (limit : ℕ) (old left : Option (List ℕ)) (bytes looked : List ℕ) (headers : List HeaderSpan) (spans : ResponseSpans) (fault : Fault)
-    → IsFinalRead old left bytes → looked ≡ bytes → ArePartsOf looked headers spans
-    → response_length limit spans.code (map (header_bytes bytes) (take spans.headers headers)) ≡ Err fault → IfSome old (λ input. Refuses head_room limit input fault)
-exit_fields limit None left bytes looked headers spans fault f same p e = tt
-exit_fields limit (Some input) left bytes looked headers spans fault f same p e =
-    let final = final_parts limit input left bytes headers spans f (subst (λ (b : List ℕ). ArePartsOf b headers spans) same p) in
-    refuses_fields limit input fault (field_fault limit spans.code (map (header_bytes bytes) (take spans.headers headers)) fault e) (final.head, final.rest, final.has, final.stated_is ∙ e)
+pub exit_heads : (limit : ℕ) (old new : GivenBytes) (fault : Fault)
+    → Stops old new (ShowsPart 16385 (RefusesHeads head_room)) fault → Stops old new (Shows limit) fault
+exit_heads limit old new fault s = record {
+  bytes = s.bytes;
+  gives = s.gives;
+  is = record {
+    shown = λ more nothing. refuses_heads limit (s.bytes ++ more) fault (s.is.shown more nothing);
+    spent = heads_spent limit s.bytes fault (s.is.shown [] (λ e. refl)) s.is.short;
+  };
+  ended = s.ended;
+}
 
-pub exit_body : (limit : ℕ) (old left : Option (List ℕ)) (bytes looked : List ℕ) (headers : List HeaderSpan) (spans : ResponseSpans) (size : ℕ) (fault : Fault)
-    → IsFinalRead old left bytes → looked ≡ bytes → ArePartsOf looked headers spans
-    → response_length limit spans.code (map (header_bytes bytes) (take spans.headers headers)) ≡ Ok size
-    → IfSome left (λ rest. RefusesBody size rest fault) → IfSome old (λ input. Refuses head_room limit input fault)
-exit_body limit None left bytes looked headers spans size fault f same p e refuses = tt
-exit_body limit (Some input) left bytes looked headers spans size fault f same p e refuses =
-    let final = final_parts limit input left bytes headers spans f (subst (λ (b : List ℕ). ArePartsOf b headers spans) same p) in
-    refuses_body limit input final.head final.rest size fault final.has (final.stated_is ∙ e)
-    (subst (λ (o : Option (List ℕ)). IfSome o (λ rest. RefusesBody size rest fault)) final.left_is refuses)
+-- where the fields are at fault
 
-pub exit_taken : (limit : ℕ) (old left new : Option (List ℕ)) (bytes looked : List ℕ) (headers : List HeaderSpan) (spans : ResponseSpans) (size : ℕ) (answer : Answer) (items : List ℕ)
-    → IsFinalRead old left bytes → looked ≡ bytes → ArePartsOf looked headers spans
-    → response_length limit spans.code (map (header_bytes bytes) (take spans.headers headers)) ≡ Ok size
-    → answer.body ≡ items → length items ≡ size → Consumes left new items → answer.status ≡ spans.code
-    → map field_bytes answer.fields ≡ map (header_bytes bytes) (take spans.headers headers) → IfSome old (λ input. IsRead head_room limit input new answer)
-exit_taken limit None left new bytes looked headers spans size answer items f same p e body size_is taken code fields = tt
-exit_taken limit (Some input) left new bytes looked headers spans size answer items f same p e body size_is taken code fields =
-    let final = final_parts limit input left bytes headers spans f (subst (λ (b : List ℕ). ArePartsOf b headers spans) same p) in
-    took new final (rw body (subst (λ (o : Option (List ℕ)). Consumes o new items) final.left_is taken))
-  where
-    took : (new : Option (List ℕ)) → (final : Final limit input left bytes headers spans) → Consumes (Some final.rest) new answer.body
-        → IsRead head_room limit input new answer
-    took None final taken = absurd taken
-    took (Some more) final taken = record {
-      head = final.head;
-      rest = more;
-      whole = (
-        subst (λ (t : List ℕ). HasFinal head_room input final.head t) taken final.has,
-        final.stated_is ∙ e ∙ ap Ok (sym (ap length body ∙ size_is)),
-      );
-      left_is = refl;
-      status = code ∙ final.code;
-      fields = fields ∙ final.fields;
+no_cut : (fault : Fault) → IsFieldFault fault → fault ≡ Cut → ⊥
+no_cut fault f e = subst IsFieldFault e f
+
+fields_spent : (limit : ℕ) (bytes : List ℕ) (fault : Fault) → IsFieldFault fault → length bytes ≤ 16384 → IsFaultyHead limit bytes fault → Spends limit bytes fault
+fields_spent limit bytes NotOffered f short faulty = faulty
+fields_spent limit bytes BodyTooLong f short faulty = faulty
+fields_spent limit bytes LengthNeeded f short faulty = faulty
+fields_spent limit bytes BadHead f short faulty = omega (arith, short)
+fields_spent limit bytes Cut f short faulty = absurd f
+fields_spent limit bytes ReadFault f short faulty = absurd f
+fields_spent limit bytes HeadTooLong f short faulty = absurd f
+fields_spent limit bytes NoMemory f short faulty = absurd f
+fields_spent limit bytes WriteFault f short faulty = absurd f
+
+pub exit_fields : (limit : ℕ) (old new : GivenBytes) (bytes looked : List ℕ) (headers : List HeaderSpan) (spans : ResponseSpans) (fault : Fault)
+    → GivesWhat old new (λ given. IsFinalRead given bytes) → looked ≡ bytes → ArePartsOf looked headers spans
+    → response_length limit spans.code (map (header_bytes bytes) (take spans.headers headers)) ≡ Err fault → Stops old new (Shows limit) fault
+exit_fields limit old new bytes looked headers spans fault (given, gives, f) same p e =
+    let final = final_parts limit given bytes headers spans f (subst (λ (b : List ℕ). ArePartsOf b headers spans) same p) in
+    let is = field_fault limit spans.code (map (header_bytes bytes) (take spans.headers headers)) fault e in
+    record {
+      bytes = given;
+      gives = gives;
+      is = record {
+        shown = λ more nothing. refuses_fields limit (given ++ more) fault is (final.head, more, final.has more, final.stated_is ∙ e);
+        spent = fields_spent limit given fault is f.short
+            (final.head, subst (λ (l : List ℕ). HasFinal head_room l final.head []) (append-nil given) (final.has []), final.stated_is ∙ e);
+      };
+      ended = λ cut. absurd (no_cut fault is cut);
     }
+
+-- where the body is
+
+body_spent : (limit size : ℕ) (bytes rest : List ℕ) (fault : Fault) → RefusesBody size (rest ++ []) fault → length bytes ≤ 16384 → length rest ≤ size → size ≤ limit
+    → Spends limit (bytes ++ rest) fault
+body_spent limit size bytes rest Cut h short few fits = omega (arith, short, few, fits, length-append bytes rest)
+body_spent limit size bytes rest ReadFault h short few fits = omega (arith, short, few, fits, length-append bytes rest)
+body_spent limit size bytes rest NoMemory h short few fits = omega (arith, short, few, fits, length-append bytes rest)
+body_spent limit size bytes rest HeadTooLong h short few fits = absurd h
+body_spent limit size bytes rest BodyTooLong h short few fits = absurd h
+body_spent limit size bytes rest BadHead h short few fits = absurd h
+body_spent limit size bytes rest LengthNeeded h short few fits = absurd h
+body_spent limit size bytes rest NotOffered h short few fits = absurd h
+body_spent limit size bytes rest WriteFault h short few fits = absurd h
+
+pub exit_body : (limit : ℕ) (old mid new : GivenBytes) (bytes looked : List ℕ) (headers : List HeaderSpan) (spans : ResponseSpans) (size : ℕ) (fault : Fault)
+    → GivesWhat old mid (λ given. IsFinalRead given bytes) → looked ≡ bytes → ArePartsOf looked headers spans
+    → response_length limit spans.code (map (header_bytes bytes) (take spans.headers headers)) ≡ Ok size → size ≤ limit
+    → Stops mid new (ShowsPart size (RefusesBody size)) fault → Stops old new (Shows limit) fault
+exit_body limit old mid new bytes looked headers spans size fault (given, gives, f) same p e fits s =
+    let final = final_parts limit given bytes headers spans f (subst (λ (b : List ℕ). ArePartsOf b headers spans) same p) in
+    record {
+      bytes = given ++ s.bytes;
+      gives = gives_more old mid new given s.bytes gives s.gives;
+      is = record {
+        shown = λ more nothing.
+            subst (λ (l : List ℕ). Refuses head_room limit l fault) (sym (append_assoc given s.bytes more))
+            (refuses_body limit (given ++ (s.bytes ++ more)) final.head (s.bytes ++ more) size fault (final.has (s.bytes ++ more)) (final.stated_is ∙ e) (s.is.shown more nothing));
+        spent = body_spent limit size given s.bytes fault (s.is.shown [] (λ cut. refl)) f.short s.is.short fits;
+      };
+      ended = s.ended;
+    }
+
+-- where memory runs out behind the body
+pub exit_memory : (limit : ℕ) (old mid new : GivenBytes) (bytes items : List ℕ) (size : ℕ) (fault : Fault)
+    → GivesWhat old mid (λ given. IsFinalRead given bytes) → size ≤ limit
+    → (length items ≡ size) × Gives mid new items → fault ≡ NoMemory → Stops old new (Shows limit) fault
+exit_memory limit old mid new bytes items size fault (given, gives, f) fits (size_is, body) memory =
+    rw memory (record {
+      bytes = given ++ items;
+      gives = gives_more old mid new given items gives body;
+      is = record {
+        shown = λ more nothing. tt;
+        spent = let short = f.short in omega (arith, short, fits, size_is, length-append given items);
+      };
+      ended = λ cut. absurd (cc);
+    })
+
+pub exit_taken : (limit : ℕ) (old mid new : GivenBytes) (bytes looked : List ℕ) (headers : List HeaderSpan) (spans : ResponseSpans) (size : ℕ) (answer : Answer) (items : List ℕ)
+    → GivesWhat old mid (λ given. IsFinalRead given bytes) → looked ≡ bytes → ArePartsOf looked headers spans
+    → response_length limit spans.code (map (header_bytes bytes) (take spans.headers headers)) ≡ Ok size
+    → answer.body ≡ items → length items ≡ size → Gives mid new items → answer.status ≡ spans.code
+    → map field_bytes answer.fields ≡ map (header_bytes bytes) (take spans.headers headers) → GivesWhat old new (λ whole. IsMessage limit whole answer)
+exit_taken limit old mid new bytes looked headers spans size answer items (given, gives, f) same p e body size_is taken code fields =
+    let final = final_parts limit given bytes headers spans f (subst (λ (b : List ℕ). ArePartsOf b headers spans) same p) in (
+      given ++ items,
+      gives_more old mid new given items gives taken,
+      record {
+        head = final.head;
+        whole = (
+          subst (λ (t : List ℕ). HasFinal head_room (given ++ items) final.head t) (sym (append-nil answer.body ∙ body)) (final.has items),
+          final.stated_is ∙ e ∙ ap Ok (sym (ap length body ∙ size_is)),
+        );
+        status = code ∙ final.code;
+        fields = fields ∙ final.fields;
+      },
+    )
 
 -- ---- a whole response is never refused
 
@@ -278,7 +351,7 @@ no_field_fault limit input fault h body rest (k, p, has, is) whole =
     let clash : Err fault ≡ Ok (length body) = sym is ∙ ap (stated limit) same.0 ∙ whole.1 in
     absurd (cc)
 
-no_fault : (limit : ℕ) (input : List ℕ) (fault : Fault) (h : ResponseHead) (body rest : List ℕ) → Refuses head_room limit input fault
+pub no_fault : (limit : ℕ) (input : List ℕ) (fault : Fault) (h : ResponseHead) (body rest : List ℕ) → Refuses head_room limit input fault
     → IsResponse head_room limit input h body rest → (fault ≡ ReadFault) ⊎ (fault ≡ NoMemory)
 no_fault limit input Cut h body rest (none, b) whole = absurd (none h body rest whole)
 no_fault limit input BadHead h body rest (inl (inl b)) whole = absurd (not_hopeless head_room input h (body ++ rest) b whole.0)
@@ -291,8 +364,3 @@ no_fault limit input LengthNeeded h body rest f whole = absurd (no_field_fault l
 no_fault limit input WriteFault h body rest f whole = absurd f
 no_fault limit input ReadFault h body rest f whole = inl refl
 no_fault limit input NoMemory h body rest f whole = inr refl
-
-pub exit_found : (limit : ℕ) (old : Option (List ℕ)) (fault : Fault) → IfSome old (λ input. Refuses head_room limit input fault)
-    → IfSome old (λ input. (h : ResponseHead) (body rest : List ℕ) → IsResponse head_room limit input h body rest → (fault ≡ ReadFault) ⊎ (fault ≡ NoMemory))
-exit_found limit None fault h = tt
-exit_found limit (Some input) fault refuses = λ h body rest whole. no_fault limit input fault h body rest refuses whole

@@ -1,6 +1,5 @@
 -- Whole requests at the start of the input.
-use Rattle.std.proofs.Common.{◌≡◌, ℕ, ◌+◌, ◌<◌, ◌⊎◌, inl, inr, Bool, true, false, cond, List, [], ◌∷◌, ◌++◌, length, take, drop, map, sym, ◌∙◌, ap, refl, append-nil, arith, Option, Some, None, length-append, IfSome, IfErr, subst, Result, Ok, Err, codes}
-use Rattle.std.specs.Io.KnownBytes.{Consumes}
+use Rattle.std.proofs.Common.{◌≡◌, ℕ, ◌+◌, ◌<◌, ◌≤◌, ◌⊎◌, inl, inr, append_assoc, Bool, true, false, cond, List, [], ◌∷◌, ◌++◌, length, take, drop, map, sym, ◌∙◌, ap, refl, append-nil, arith, length-append, IfErr, subst, Result, Ok, Err, codes}
 use Rattle.httparse.specs.Grammar.{RequestHead, ReadsRequest, print_request}
 use Rattle.httparse.specs.Spans.{IsRequestOf, IsRequestWithin, header_bytes, span_bytes, name_and_value}
 use Rattle.httparse.specs.declared.spans.HeaderSpan.{HeaderSpan}
@@ -12,8 +11,11 @@ use Rattle.lra_http.specs.declared.head.Kind.TheVariants.{Request}
 use Rattle.lra_http.specs.declared.message.Request.{Request as Question}
 use Rattle.lra_http.specs.Bodies.{RefusesBody}
 use Rattle.lra_http.specs.HeadFields.{field_bytes, values, is_number, asked_length, request_length}
-use Rattle.lra_http.specs.Heads.{IsHead, IsHeadRead, RefusesHead}
-use Rattle.lra_http.specs.Requests.{stated, HasHead, HasFault, HasNoRequest, IsRequest, Refuses, IsRead, ArePartsOf}
+use Rattle.lra_http.specs.Faults.{Stops, Shows as ShowsPart}
+use Rattle.lra_http.specs.Heads.{IsHead, IsHeadWithin, RefusesHead}
+use Rattle.lra_http.specs.Streams.{GivenBytes, Gives, GivesWhat}
+use Rattle.lra_http.proofs.Known.{gives_more}
+use Rattle.lra_http.specs.Requests.{stated, HasHead, HasFault, HasNoRequest, IsRequest, IsMessage, IsFaultyHead, Refuses, Shows, Spends, ArePartsOf}
 
 -- the parser's spans of bytes that are a head
 pub parts_are : (bytes : List ℕ) (headers : List HeaderSpan) (spans : RequestSpans) (lines : ℕ) → IsHead Request bytes lines
@@ -103,20 +105,17 @@ refuses_body limit input h rest size WriteFault has is f = absurd f
 -- ---- the reader's exits
 
 -- the head that was read, with its parts
-record First (limit : ℕ) (input : List ℕ) (left : Option (List ℕ)) (bytes : List ℕ) (headers : List HeaderSpan) (spans : RequestSpans) : Type 0 where
+record First (limit : ℕ) (bytes more : List ℕ) (headers : List HeaderSpan) (spans : RequestSpans) : Type 0 where
   head : RequestHead
-  rest : List ℕ
-  left_is : left ≡ Some rest
-  has : HasHead input head rest
+  has : HasHead (bytes ++ more) head more
   stated_is : stated limit head ≡ request_length limit spans.version (map (header_bytes bytes) (take spans.headers headers))
   method : span_bytes bytes spans.method ≡ head.method
   target : span_bytes bytes spans.path ≡ head.target
   fields : map (header_bytes bytes) (take spans.headers headers) ≡ map name_and_value head.fields
 
-first_parts : (limit : ℕ) (input : List ℕ) (left : Option (List ℕ)) (bytes : List ℕ) (headers : List HeaderSpan) (spans : RequestSpans)
-    → IsHeadRead Request 16384 64 (Some input) left bytes → ArePartsOf bytes headers spans → First limit input left bytes headers spans
-first_parts limit input None bytes headers spans (taken, read) p = absurd taken
-first_parts limit input (Some rest) bytes headers spans (taken, read) p =
+first_parts : (limit : ℕ) (bytes more : List ℕ) (headers : List HeaderSpan) (spans : RequestSpans)
+    → IsHeadWithin Request 16384 64 bytes → ArePartsOf bytes headers spans → First limit bytes more headers spans
+first_parts limit bytes more headers spans read p =
     let h = p.head in
     let k = read.head.0 in
     let same = request_unique bytes k h [] (drop spans.len bytes) (read.head.1, read.head.2 ∙ sym (append-nil (print_request k))) p.at.reads in
@@ -125,10 +124,8 @@ first_parts limit input (Some rest) bytes headers spans (taken, read) p =
     let size : length bytes ≡ length (print_request h) = ap length p.whole in
     record {
       head = h;
-      rest = rest;
-      left_is = refl;
       has = record {
-        reads = (p.at.reads.0, taken ∙ ap (λ (t : List ℕ). t ++ rest) p.whole);
+        reads = (p.at.reads.0, ap (λ (t : List ℕ). t ++ more) p.whole);
         bytes = let short = read.short in omega (arith, size, short);
         lines = let few = read.few in omega (arith, few, count, lines);
       };
@@ -140,56 +137,147 @@ first_parts limit input (Some rest) bytes headers spans (taken, read) p =
       fields = p.at.fields;
     }
 
-pub exit_head : (limit : ℕ) (old : Option (List ℕ)) (fault : Fault) → IfSome old (λ input. RefusesHead Request 16384 64 input fault)
-    → IfSome old (λ input. Refuses limit input fault)
-exit_head limit None fault h = tt
-exit_head limit (Some input) fault h = refuses_head limit input fault h
+-- where the head is at fault
 
-pub exit_fields : (limit : ℕ) (old left : Option (List ℕ)) (bytes looked : List ℕ) (headers : List HeaderSpan) (spans : RequestSpans) (fault : Fault)
-    → IsHeadRead Request 16384 64 old left bytes → looked ≡ bytes → ArePartsOf looked headers spans
-    → request_length limit spans.version (map (header_bytes bytes) (take spans.headers headers)) ≡ Err fault → IfSome old (λ input. Refuses limit input fault)
-exit_fields limit None left bytes looked headers spans fault f same p e = tt
-exit_fields limit (Some input) left bytes looked headers spans fault f same p e =
-    let first = first_parts limit input left bytes headers spans f (subst (λ (b : List ℕ). ArePartsOf b headers spans) same p) in
-    refuses_fields limit input fault (field_fault limit spans.version (map (header_bytes bytes) (take spans.headers headers)) fault e)
-    (first.head, first.rest, first.has, first.stated_is ∙ e)
+head_spent : (limit : ℕ) (bytes : List ℕ) (fault : Fault) → RefusesHead Request 16384 64 (bytes ++ []) fault → length bytes ≤ 16385
+    → (fault ≡ Cut → length bytes ≤ 16384) → Spends limit bytes fault
+head_spent limit bytes Cut h short cut = let few = cut refl in omega (arith, few)
+head_spent limit bytes BadHead h short cut = short
+head_spent limit bytes HeadTooLong h short cut = short
+head_spent limit bytes ReadFault h short cut = omega (arith, short)
+head_spent limit bytes NoMemory h short cut = omega (arith, short)
+head_spent limit bytes BodyTooLong h short cut = absurd h
+head_spent limit bytes LengthNeeded h short cut = absurd h
+head_spent limit bytes NotOffered h short cut = absurd h
+head_spent limit bytes WriteFault h short cut = absurd h
 
-pub exit_body : (limit : ℕ) (old left : Option (List ℕ)) (bytes looked : List ℕ) (headers : List HeaderSpan) (spans : RequestSpans) (size : ℕ) (fault : Fault)
-    → IsHeadRead Request 16384 64 old left bytes → looked ≡ bytes → ArePartsOf looked headers spans
-    → request_length limit spans.version (map (header_bytes bytes) (take spans.headers headers)) ≡ Ok size
-    → IfSome left (λ rest. RefusesBody size rest fault) → IfSome old (λ input. Refuses limit input fault)
-exit_body limit None left bytes looked headers spans size fault f same p e refuses = tt
-exit_body limit (Some input) left bytes looked headers spans size fault f same p e refuses =
-    let first = first_parts limit input left bytes headers spans f (subst (λ (b : List ℕ). ArePartsOf b headers spans) same p) in
-    refuses_body limit input first.head first.rest size fault first.has (first.stated_is ∙ e)
-    (subst (λ (o : Option (List ℕ)). IfSome o (λ rest. RefusesBody size rest fault)) first.left_is refuses)
+cut_short : (bytes : List ℕ) (fault : Fault) → RefusesHead Request 16384 64 (bytes ++ []) fault → fault ≡ Cut → length bytes ≤ 16384
+cut_short bytes fault h e =
+    let cut : RefusesHead Request 16384 64 (bytes ++ []) Cut = subst (RefusesHead Request 16384 64 (bytes ++ [])) e h in
+    let short = cut.2 in omega (arith, short, length-append bytes [])
 
-pub exit_taken : (limit : ℕ) (old left new : Option (List ℕ)) (bytes looked : List ℕ) (headers : List HeaderSpan) (spans : RequestSpans) (size : ℕ) (question : Question) (items : List ℕ)
-    → IsHeadRead Request 16384 64 old left bytes → looked ≡ bytes → ArePartsOf looked headers spans
-    → request_length limit spans.version (map (header_bytes bytes) (take spans.headers headers)) ≡ Ok size
-    → question.body ≡ items → length items ≡ size → Consumes left new items
-    → question.method ≡ span_bytes bytes spans.method → question.target ≡ span_bytes bytes spans.path
-    → map field_bytes question.fields ≡ map (header_bytes bytes) (take spans.headers headers) → IfSome old (λ input. IsRead limit input new question)
-exit_taken limit None left new bytes looked headers spans size question items f same p e body size_is taken method target fields = tt
-exit_taken limit (Some input) left new bytes looked headers spans size question items f same p e body size_is taken method target fields =
-    let first = first_parts limit input left bytes headers spans f (subst (λ (b : List ℕ). ArePartsOf b headers spans) same p) in
-    took new first (rw body (subst (λ (o : Option (List ℕ)). Consumes o new items) first.left_is taken))
-  where
-    took : (new : Option (List ℕ)) → (first : First limit input left bytes headers spans) → Consumes (Some first.rest) new question.body
-        → IsRead limit input new question
-    took None first taken = absurd taken
-    took (Some more) first taken = record {
-      head = first.head;
-      rest = more;
-      whole = (
-        subst (λ (t : List ℕ). HasHead input first.head t) taken first.has,
-        first.stated_is ∙ e ∙ ap Ok (sym (ap length body ∙ size_is)),
-      );
-      left_is = refl;
-      method = method ∙ first.method;
-      target = target ∙ first.target;
-      fields = fields ∙ first.fields;
+pub exit_head : (limit : ℕ) (old new : GivenBytes) (fault : Fault)
+    → Stops old new (ShowsPart 16385 (RefusesHead Request 16384 64)) fault → Stops old new (Shows limit) fault
+exit_head limit old new fault s =
+    let first = s.is.shown [] (λ e. refl) in
+    record {
+      bytes = s.bytes;
+      gives = s.gives;
+      is = record {
+        shown = λ more nothing. refuses_head limit (s.bytes ++ more) fault (s.is.shown more nothing);
+        spent = head_spent limit s.bytes fault first s.is.short (cut_short s.bytes fault first);
+      };
+      ended = s.ended;
     }
+
+-- where its fields are
+
+no_cut : (fault : Fault) → IsFieldFault fault → fault ≡ Cut → ⊥
+no_cut fault f e = subst IsFieldFault e f
+
+fields_spent : (limit : ℕ) (bytes : List ℕ) (fault : Fault) → IsFieldFault fault → IsFaultyHead limit bytes fault → Spends limit bytes fault
+fields_spent limit bytes NotOffered f faulty = faulty
+fields_spent limit bytes BodyTooLong f faulty = faulty
+fields_spent limit bytes BadHead f (h, has, e) =
+    let short = has.bytes in let whole : length bytes ≡ length (print_request h ++ []) = ap length has.reads.1 in
+    omega (arith, short, whole, length-append (print_request h) [])
+fields_spent limit bytes LengthNeeded f faulty = absurd f
+fields_spent limit bytes Cut f faulty = absurd f
+fields_spent limit bytes ReadFault f faulty = absurd f
+fields_spent limit bytes HeadTooLong f faulty = absurd f
+fields_spent limit bytes NoMemory f faulty = absurd f
+fields_spent limit bytes WriteFault f faulty = absurd f
+
+pub exit_fields : (limit : ℕ) (old new : GivenBytes) (bytes looked : List ℕ) (headers : List HeaderSpan) (spans : RequestSpans) (fault : Fault)
+    → Gives old new bytes × IsHeadWithin Request 16384 64 bytes → looked ≡ bytes → ArePartsOf looked headers spans
+    → request_length limit spans.version (map (header_bytes bytes) (take spans.headers headers)) ≡ Err fault → Stops old new (Shows limit) fault
+exit_fields limit old new bytes looked headers spans fault (gives, read) same p e =
+    let parts = subst (λ (b : List ℕ). ArePartsOf b headers spans) same p in
+    let is = field_fault limit spans.version (map (header_bytes bytes) (take spans.headers headers)) fault e in
+    let alone = first_parts limit bytes [] headers spans read parts in
+    record {
+      bytes = bytes;
+      gives = gives;
+      is = record {
+        shown = λ more nothing.
+            let first = first_parts limit bytes more headers spans read parts in
+            refuses_fields limit (bytes ++ more) fault is (first.head, more, first.has, first.stated_is ∙ e);
+        spent = fields_spent limit bytes fault is
+            (alone.head, subst (λ (l : List ℕ). HasHead l alone.head []) (append-nil bytes) alone.has, alone.stated_is ∙ e);
+      };
+      ended = λ cut. absurd (no_cut fault is cut);
+    }
+
+-- where the body is
+
+body_spent : (limit size : ℕ) (bytes rest : List ℕ) (fault : Fault) → RefusesBody size (rest ++ []) fault → length bytes ≤ 16384 → length rest ≤ size → size ≤ limit
+    → Spends limit (bytes ++ rest) fault
+body_spent limit size bytes rest Cut h short few fits = omega (arith, short, few, fits, length-append bytes rest)
+body_spent limit size bytes rest ReadFault h short few fits = omega (arith, short, few, fits, length-append bytes rest)
+body_spent limit size bytes rest NoMemory h short few fits = omega (arith, short, few, fits, length-append bytes rest)
+body_spent limit size bytes rest HeadTooLong h short few fits = absurd h
+body_spent limit size bytes rest BodyTooLong h short few fits = absurd h
+body_spent limit size bytes rest BadHead h short few fits = absurd h
+body_spent limit size bytes rest LengthNeeded h short few fits = absurd h
+body_spent limit size bytes rest NotOffered h short few fits = absurd h
+body_spent limit size bytes rest WriteFault h short few fits = absurd h
+
+pub exit_body : (limit : ℕ) (old mid new : GivenBytes) (bytes looked : List ℕ) (headers : List HeaderSpan) (spans : RequestSpans) (size : ℕ) (fault : Fault)
+    → Gives old mid bytes × IsHeadWithin Request 16384 64 bytes → looked ≡ bytes → ArePartsOf looked headers spans
+    → request_length limit spans.version (map (header_bytes bytes) (take spans.headers headers)) ≡ Ok size → size ≤ limit
+    → Stops mid new (ShowsPart size (RefusesBody size)) fault → Stops old new (Shows limit) fault
+exit_body limit old mid new bytes looked headers spans size fault (gives, read) same p e fits s =
+    let parts = subst (λ (b : List ℕ). ArePartsOf b headers spans) same p in
+    record {
+      bytes = bytes ++ s.bytes;
+      gives = gives_more old mid new bytes s.bytes gives s.gives;
+      is = record {
+        shown = λ more nothing.
+            let first = first_parts limit bytes (s.bytes ++ more) headers spans read parts in
+            subst (λ (l : List ℕ). Refuses limit l fault) (sym (append_assoc bytes s.bytes more))
+            (refuses_body limit (bytes ++ (s.bytes ++ more)) first.head (s.bytes ++ more) size fault first.has (first.stated_is ∙ e) (s.is.shown more nothing));
+        spent = body_spent limit size bytes s.bytes fault (s.is.shown [] (λ cut. refl)) read.short s.is.short fits;
+      };
+      ended = s.ended;
+    }
+
+-- where memory runs out behind the body
+pub exit_memory : (limit : ℕ) (old mid new : GivenBytes) (bytes items : List ℕ) (size : ℕ) (fault : Fault)
+    → Gives old mid bytes × IsHeadWithin Request 16384 64 bytes → size ≤ limit
+    → (length items ≡ size) × Gives mid new items → fault ≡ NoMemory → Stops old new (Shows limit) fault
+exit_memory limit old mid new bytes items size fault (gives, read) fits (size_is, body) memory =
+    rw memory (record {
+      bytes = bytes ++ items;
+      gives = gives_more old mid new bytes items gives body;
+      is = record {
+        shown = λ more nothing. tt;
+        spent = let short = read.short in omega (arith, short, fits, size_is, length-append bytes items);
+      };
+      ended = λ cut. absurd (cc);
+    })
+
+pub exit_taken : (limit : ℕ) (old mid new : GivenBytes) (bytes looked : List ℕ) (headers : List HeaderSpan) (spans : RequestSpans) (size : ℕ) (question : Question) (items : List ℕ)
+    → Gives old mid bytes × IsHeadWithin Request 16384 64 bytes → looked ≡ bytes → ArePartsOf looked headers spans
+    → request_length limit spans.version (map (header_bytes bytes) (take spans.headers headers)) ≡ Ok size
+    → question.body ≡ items → length items ≡ size → Gives mid new items
+    → question.method ≡ span_bytes bytes spans.method → question.target ≡ span_bytes bytes spans.path
+    → map field_bytes question.fields ≡ map (header_bytes bytes) (take spans.headers headers)
+    → GivesWhat old new (λ whole. IsMessage limit whole question)
+exit_taken limit old mid new bytes looked headers spans size question items (gives, read) same p e body size_is taken method target fields =
+    let first = first_parts limit bytes items headers spans read (subst (λ (b : List ℕ). ArePartsOf b headers spans) same p) in (
+      bytes ++ items,
+      gives_more old mid new bytes items gives taken,
+      record {
+        head = first.head;
+        whole = (
+          subst (λ (t : List ℕ). HasHead (bytes ++ items) first.head t) (sym (append-nil question.body ∙ body)) first.has,
+          first.stated_is ∙ e ∙ ap Ok (sym (ap length body ∙ size_is)),
+        );
+        method = method ∙ first.method;
+        target = target ∙ first.target;
+        fields = fields ∙ first.fields;
+      },
+    )
 
 -- ---- a whole request is never refused
 
@@ -199,7 +287,7 @@ clash limit input fault h body rest (k, more, has, is) whole =
     let both : Err fault ≡ Ok (length body) = sym is ∙ ap (stated limit) same.0 ∙ whole.1 in
     absurd (cc)
 
-no_fault : (limit : ℕ) (input : List ℕ) (fault : Fault) (h : RequestHead) (body rest : List ℕ) → Refuses limit input fault
+pub no_fault : (limit : ℕ) (input : List ℕ) (fault : Fault) (h : RequestHead) (body rest : List ℕ) → Refuses limit input fault
     → IsRequest limit input h body rest → (fault ≡ ReadFault) ⊎ (fault ≡ NoMemory)
 no_fault limit input Cut h body rest (none, b) whole = absurd (none h body rest whole)
 no_fault limit input BadHead h body rest (inl n) whole =
@@ -213,8 +301,3 @@ no_fault limit input LengthNeeded h body rest f whole = absurd f
 no_fault limit input WriteFault h body rest f whole = absurd f
 no_fault limit input ReadFault h body rest f whole = inl refl
 no_fault limit input NoMemory h body rest f whole = inr refl
-
-pub exit_found : (limit : ℕ) (old : Option (List ℕ)) (fault : Fault) → IfSome old (λ input. Refuses limit input fault)
-    → IfSome old (λ input. (h : RequestHead) (body rest : List ℕ) → IsRequest limit input h body rest → (fault ≡ ReadFault) ⊎ (fault ≡ NoMemory))
-exit_found limit None fault h = tt
-exit_found limit (Some input) fault refuses = λ h body rest whole. no_fault limit input fault h body rest refuses whole

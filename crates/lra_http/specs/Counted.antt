@@ -1,12 +1,22 @@
--- A reader or a writer, and how its calls came out so far.
-use Rattle.std.specs.Prelude.{ℕ}
+-- A reader or a writer, the bytes that went through it, and how its calls came out so far.
+use Rattle.std.specs.Prelude.{ℕ, List, []}
+use Rattle.lra_http.specs.Streams.{Calls, no_calls}
 
-pub record Counted (I : Type 0) : Type 0 where
-  pub inner : I
-  pub made : ℕ
-  pub failed : ℕ
-  pub interrupted : ℕ
+pub record Reader (R : Type 0) : Type 0 where
+  pub inner : R
+  pub given : List ℕ
+  pub ended : ℕ
+  pub calls : Calls
+
+pub record Writer (W : Type 0) : Type 0 where
+  pub inner : W
+  pub taken : List ℕ
+  pub flushed : List ℕ
+  pub calls : Calls
 
 -- no call was made so far
-abbrev pub uncalled : {I : Type 0} → I → Counted I
-uncalled inner = record { inner = inner; made = 0; failed = 0; interrupted = 0 }
+abbrev pub unread : {R : Type 0} → R → Reader R
+unread reader = record { inner = reader; given = []; ended = 0; calls = no_calls }
+
+abbrev pub unwritten : {W : Type 0} → W → Writer W
+unwritten writer = record { inner = writer; taken = []; flushed = []; calls = no_calls }

@@ -1,6 +1,5 @@
 -- Heads of messages of either kind, as texts at the start of some bytes.
-use Rattle.std.specs.Prelude.{◌≡◌, ℕ, ◌+◌, ◌<◌, ◌≤◌, ◌⊎◌, ◌≢◌, IsTrue, Bool, true, false, List, ◌++◌, length, Option}
-use Rattle.std.specs.Io.KnownBytes.{Consumes}
+use Rattle.std.specs.Prelude.{◌≡◌, ℕ, ◌+◌, ◌<◌, ◌≤◌, ◌⊎◌, ◌≢◌, IsTrue, Bool, true, false, List, ◌++◌, length}
 use Rattle.httparse.specs.Ascii.{line_feed}
 use Rattle.httparse.specs.Grammar.{RequestHead, ResponseHead, IsRequestHead, IsResponseHead, print_request, print_response, HasNoRequest, HasNoResponse, NeverHasRequest, NeverHasResponse, MayBecomeRequest, MayBecomeResponse}
 use Rattle.httparse.specs.Spans.{RequestExceeds, RequestOverflows, ResponseExceeds, ResponseOverflows}
@@ -82,9 +81,6 @@ pub record IsHeadWithin (kind : Kind) (most room : ℕ) (bytes : List ℕ) : Typ
   pub head : IsHead kind bytes lines
   pub short : length bytes ≤ most
   pub few : lines ≤ room
-
-abbrev pub IsHeadRead : Kind → ℕ → ℕ → Option (List ℕ) → Option (List ℕ) → List ℕ → Type 0
-IsHeadRead kind most room old new bytes = Consumes old new bytes × IsHeadWithin kind most room bytes
 
 -- a prefix of the input, at most one byte longer than a head may be, that no bytes can make a head
 pub record IsNoHead (kind : Kind) (most : ℕ) (input : List ℕ) : Type 0 where

@@ -1,5 +1,5 @@
 -- A whole request: a head, and the body that its fields state.
-use Rattle.std.specs.Prelude.{◌≡◌, ℕ, ◌<◌, ◌≤◌, ◌⊎◌, List, ◌++◌, length, map, Option, Some, Result, Ok, Err}
+use Rattle.std.specs.Prelude.{◌≡◌, ℕ, ◌+◌, ◌<◌, ◌≤◌, ◌⊎◌, List, [], ◌++◌, length, map, Result, Ok, Err}
 use Rattle.httparse.specs.Grammar.{RequestHead, ReadsRequest, NeverHasRequest, EndsInTarget, print_request}
 use Rattle.httparse.specs.Spans.{name_and_value, IsRequestAt, IsRequestWithin}
 use Rattle.httparse.specs.declared.spans.HeaderSpan.{HeaderSpan}
@@ -54,15 +54,34 @@ Refuses limit input NoMemory = Unit {0}
 abbrev pub IsTextSoFar : List ℕ → Type 0
 IsTextSoFar input = (prefix rest : List ℕ) → input ≡ prefix ++ rest → EndsInTarget prefix → ¬ (NeverHasRequest prefix)
 
--- the input began with this whole request, and the rest is left
-pub record IsRead (limit : ℕ) (input : List ℕ) (left : Option (List ℕ)) (question : Question) : Type 0 where
+-- the bytes are this whole request, and no byte more
+pub record IsMessage (limit : ℕ) (bytes : List ℕ) (question : Question) : Type 0 where
   pub head : RequestHead
-  pub rest : List ℕ
-  pub whole : IsRequest limit input head question.body rest
-  pub left_is : left ≡ Some rest
+  pub whole : IsRequest limit bytes head question.body []
   pub method : question.method ≡ head.method
   pub target : question.target ≡ head.target
   pub fields : map field_bytes question.fields ≡ map name_and_value head.fields
+
+-- the bytes are a head, and its fields have this fault
+abbrev pub IsFaultyHead : ℕ → List ℕ → Fault → Type 0
+IsFaultyHead limit bytes fault = (h : RequestHead) × HasHead bytes h [] × (stated limit h ≡ Err fault)
+
+-- what was given before each fault: of the head at most a byte more than it may have, and none of a body that isn't wanted
+abbrev pub Spends : ℕ → List ℕ → Fault → Type 0
+Spends limit bytes BadHead = length bytes ≤ most_bytes + 1
+Spends limit bytes HeadTooLong = length bytes ≤ most_bytes + 1
+Spends limit bytes BodyTooLong = IsFaultyHead limit bytes BodyTooLong
+Spends limit bytes NotOffered = IsFaultyHead limit bytes NotOffered
+Spends limit bytes Cut = length bytes ≤ most_bytes + limit
+Spends limit bytes ReadFault = length bytes ≤ most_bytes + 1 + limit
+Spends limit bytes NoMemory = length bytes ≤ most_bytes + 1 + limit
+Spends limit bytes LengthNeeded = ⊥
+Spends limit bytes WriteFault = ⊥
+
+-- the bytes show the fault, whatever follows them, and are no more than it takes; behind a cut nothing follows
+pub record Shows (limit : ℕ) (bytes : List ℕ) (fault : Fault) : Type 0 where
+  pub shown : (more : List ℕ) → (fault ≡ Cut → more ≡ []) → Refuses limit (bytes ++ more) fault
+  pub spent : Spends limit bytes fault
 
 -- the bytes are a head, whose parts the spans cover
 pub record ArePartsOf (bytes : List ℕ) (headers : List HeaderSpan) (spans : RequestSpans) : Type 0 where

@@ -1,5 +1,5 @@
 -- A whole response: skipped interim heads, a final head, and the body that its fields state.
-use Rattle.std.specs.Prelude.{◌≡◌, ℕ, ◌+◌, ◌<◌, ◌≤◌, ◌⊎◌, List, [], ◌∷◌, ◌++◌, length, map, Bool, ◌==◌, ◌&&◌, nat_lt, nat_le, Option, Some, IfSome, Result, Ok, Err, IsTrue, IsFalse}
+use Rattle.std.specs.Prelude.{◌≡◌, ℕ, ◌+◌, ◌<◌, ◌≤◌, ◌⊎◌, List, [], ◌∷◌, ◌++◌, length, map, Bool, ◌==◌, ◌&&◌, nat_lt, nat_le, Result, Ok, Err, IsTrue, IsFalse}
 use Rattle.httparse.specs.Grammar.{ResponseHead, IsResponseHead, ReadsResponse, MayBecomeResponse, print_response, status_code}
 use Rattle.httparse.specs.Spans.{name_and_value, IsResponseAt, IsResponseWithin}
 use Rattle.httparse.specs.declared.spans.HeaderSpan.{HeaderSpan}
@@ -136,14 +136,33 @@ Refuses room limit input WriteFault = ⊥
 Refuses room limit input ReadFault = Unit {0}
 Refuses room limit input NoMemory = Unit {0}
 
--- the input began with this whole response, and the rest is left
-pub record IsRead (room : Room) (limit : ℕ) (input : List ℕ) (left : Option (List ℕ)) (answer : Answer) : Type 0 where
+-- the bytes are this whole response, and no byte more
+pub record IsMessage (limit : ℕ) (bytes : List ℕ) (answer : Answer) : Type 0 where
   pub head : ResponseHead
-  pub rest : List ℕ
-  pub whole : IsResponse room limit input head answer.body rest
-  pub left_is : left ≡ Some rest
+  pub whole : IsResponse head_room limit bytes head answer.body []
   pub status : answer.status ≡ status_code head
   pub fields : map field_bytes answer.fields ≡ map name_and_value head.fields
+
+-- the bytes are skipped heads and a final one, whose fields have this fault
+abbrev pub IsFaultyHead : ℕ → List ℕ → Fault → Type 0
+IsFaultyHead limit bytes fault = (h : ResponseHead) × HasFinal head_room bytes h [] × (stated limit h ≡ Err fault)
+
+-- what was given before each fault: of the heads at most a byte more than they may have, and none of a body that isn't wanted
+abbrev pub Spends : ℕ → List ℕ → Fault → Type 0
+Spends limit bytes BadHead = length bytes ≤ most_bytes + 1
+Spends limit bytes HeadTooLong = length bytes ≤ most_bytes + 1
+Spends limit bytes BodyTooLong = IsFaultyHead limit bytes BodyTooLong
+Spends limit bytes NotOffered = IsFaultyHead limit bytes NotOffered
+Spends limit bytes LengthNeeded = IsFaultyHead limit bytes LengthNeeded
+Spends limit bytes Cut = length bytes ≤ most_bytes + 1 + limit
+Spends limit bytes ReadFault = length bytes ≤ most_bytes + 1 + limit
+Spends limit bytes NoMemory = length bytes ≤ most_bytes + 1 + limit
+Spends limit bytes WriteFault = ⊥
+
+-- the bytes show the fault, whatever follows them, and are no more than it takes; behind a cut nothing follows
+pub record Shows (limit : ℕ) (bytes : List ℕ) (fault : Fault) : Type 0 where
+  pub shown : (more : List ℕ) → (fault ≡ Cut → more ≡ []) → Refuses head_room limit (bytes ++ more) fault
+  pub spent : Spends limit bytes fault
 
 -- ---- what the reader's parts give
 
@@ -155,10 +174,11 @@ pub record ArePartsOf (bytes : List ℕ) (headers : List HeaderSpan) (spans : Re
   pub whole : bytes ≡ print_response head
   pub count : spans.headers ≡ length head.fields
 
--- the final head was taken
-pub record IsFinalRead (old new : Option (List ℕ)) (bytes : List ℕ) : Type 0 where
+-- what was given is skipped heads and then the final one, which is these bytes
+pub record IsFinalRead (given bytes : List ℕ) : Type 0 where
   pub head : ResponseHead
   pub valid : IsResponseHead head
   pub whole : bytes ≡ print_response head
   pub few : length head.fields ≤ most_lines
-  pub first : IfSome old (λ input. (rest : List ℕ) × (new ≡ Some rest) × HasFinal head_room input head rest)
+  pub first : (rest : List ℕ) → HasFinal head_room (given ++ rest) head rest
+  pub short : length given ≤ most_bytes

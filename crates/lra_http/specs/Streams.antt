@@ -1,8 +1,75 @@
--- What one call of a source or a sink came to, and why many of them ended in a fault.
-use Rattle.std.specs.Prelude.{◌≡◌, ℕ, ◌+◌, ◌<◌, ◌⊎◌, List, ◌++◌, Option, Result, Ok, Err}
-use Rattle.std.specs.Io.KnownBytes.{Appends}
+-- What a source has given and a sink has taken, how their calls came out, and why many of them ended in a fault.
+use Rattle.std.specs.Prelude.{◌≡◌, ℕ, ◌+◌, ◌<◌, ◌≤◌, ◌⊎◌, List, [], ◌++◌, length, take, Option, Result, Ok, Err, MatchResult}
+use Rattle.std.specs.Io.KnownBytes.{Appends, Consumes, IsAtEnd}
 use Rattle.lra_http.specs.declared.CallError.{CallError}
 use Rattle.lra_http.specs.declared.CallError.TheVariants.{Interrupted, Failed}
+use Rattle.lra_http.specs.declared.fault.Fault.{Fault}
+use Rattle.lra_http.specs.declared.fault.Fault.TheVariants.{Cut, ReadFault, WriteFault, HeadTooLong, BodyTooLong, BadHead, LengthNeeded, NotOffered, NoMemory}
+
+-- ---- bytes
+
+-- the bytes that a source has given so far, 1 where its last call found the end, and the bytes that are left, where they are known
+pub record GivenBytes : Type 0 where
+  pub given : List ℕ
+  pub ended : ℕ
+  pub left : Option (List ℕ)
+
+-- the bytes that a sink has taken so far, those of them that it has passed on, and those that it holds, where they are known
+pub record TakenBytes : Type 0 where
+  pub taken : List ℕ
+  pub flushed : List ℕ
+  pub written : Option (List ℕ)
+
+-- all that was taken was passed on
+abbrev pub IsFlushed : TakenBytes → Type 0
+IsFlushed sink = sink.flushed ≡ sink.taken
+
+-- just these bytes were given
+pub record Gives (old new : GivenBytes) (bytes : List ℕ) : Type 0 where
+  pub given : new.given ≡ old.given ++ bytes
+  pub left : Consumes old.left new.left bytes
+
+-- just these bytes were taken
+pub record Takes (old new : TakenBytes) (bytes : List ℕ) : Type 0 where
+  pub taken : new.taken ≡ old.taken ++ bytes
+  pub written : Appends old.written new.written bytes
+
+-- the last call found the end
+abbrev pub FoundEnd : GivenBytes → Type 0
+FoundEnd source = (source.ended ≡ 1) × IsAtEnd source.left
+
+-- what was given is so
+abbrev pub GivesWhat : GivenBytes → GivenBytes → (List ℕ → Type 0) → Type 0
+GivesWhat old new Is = (bytes : List ℕ) × Gives old new bytes × Is bytes
+
+-- a prefix of the bytes was taken
+abbrev pub TakesPart : TakenBytes → TakenBytes → List ℕ → Type 0
+TakesPart old new bytes = (prefix rest : List ℕ) × (bytes ≡ prefix ++ rest) × Takes old new prefix
+
+-- one call gave as many bytes as it says, none only where it found the end or had no room, and nothing where it gave up
+abbrev pub CallGives : {E : Type 0} → GivenBytes → GivenBytes → Result ℕ E → List ℕ → Type 0
+CallGives old new result buffer =
+    MatchResult result (λ n. Gives old new (take n buffer) × (n ≡ 0 → 0 < length buffer → FoundEnd new)) (λ _. Gives old new [])
+
+-- a call that gave some bytes, or gave up, found no end
+abbrev pub FoundNoEnd : {E : Type 0} → GivenBytes → Result ℕ E → Type 0
+FoundNoEnd new result = MatchResult result (λ n. 0 < n → new.ended ≡ 0) (λ _. new.ended ≡ 0)
+
+-- one call took as many bytes as it says, and nothing where it gave up
+abbrev pub CallTakes : {E : Type 0} → TakenBytes → TakenBytes → Result ℕ E → List ℕ → Type 0
+CallTakes old new result bytes = MatchResult result (λ n. Takes old new (take n bytes)) (λ _. Takes old new [])
+
+-- ---- calls
+
+-- how many calls were made so far, how many of them failed, how many were interrupted, and 1 where the last one failed
+pub record Calls : Type 0 where
+  pub made : ℕ
+  pub failed : ℕ
+  pub interrupted : ℕ
+  pub last_failed : ℕ
+
+abbrev pub no_calls : Calls
+no_calls = record { made = 0; failed = 0; interrupted = 0; last_failed = 0 }
 
 -- 1 for a call that failed, and 0 for one that succeeded or was interrupted
 abbrev pub failed_calls : {A : Type 0} → Result A CallError → ℕ
@@ -16,19 +83,69 @@ interrupted_calls (Ok n) = 0
 interrupted_calls (Err Interrupted) = 1
 interrupted_calls (Err Failed) = 0
 
+-- one call more was made, which came out so
+pub record OneMore {A : Type 0} (old new : Calls) (result : Result A CallError) : Type 0 where
+  pub made : new.made ≡ old.made + 1
+  pub failed : new.failed ≡ old.failed + failed_calls result
+  pub interrupted : new.interrupted ≡ old.interrupted + interrupted_calls result
+  pub last_failed : new.last_failed ≡ failed_calls result
+
 -- so many interrupted calls in one message are a fault
 abbrev pub most_interrupted : ℕ
 most_interrupted = 1024
 
--- a call failed, or the message has met its most interrupted ones
-abbrev pub HasCause : (failed_before failed_after interrupted : ℕ) → Type 0
-HasCause failed_before failed_after interrupted = (failed_before < failed_after) ⊎ (interrupted ≡ most_interrupted)
+-- no call failed, those of the message that were interrupted, of which so many came before, are fewer than the most, and
+-- apart from them at most so many were made
+pub record AllWell (most before : ℕ) (old new : Calls) : Type 0 where
+  pub none_failed : new.failed ≡ old.failed
+  pub few_interrupted : new.interrupted + before < old.interrupted + most_interrupted
+  pub few : new.made + old.interrupted ≤ old.made + most + new.interrupted
 
--- known bytes grow by a prefix of bs
-abbrev pub AppendsPart : Option (List ℕ) → Option (List ℕ) → List ℕ → Type 0
-AppendsPart old new bs = (prefix rest : List ℕ) × (bs ≡ prefix ++ rest) × Appends old new prefix
+-- the last call failed, and no other did; or it was interrupted, and was one too many
+abbrev pub HasCause : (before : ℕ) (old new : Calls) → Type 0
+HasCause before old new =
+    ((new.failed ≡ old.failed + 1) × (new.last_failed ≡ 1) × (new.interrupted + before < old.interrupted + most_interrupted))
+    ⊎ ((new.failed ≡ old.failed) × (new.interrupted + before ≡ old.interrupted + most_interrupted))
 
--- a call failed, or the interrupted ones of the message are the most that there may be
-abbrev pub IsLost : (failed_before failed_after interrupted_before interrupted_after : ℕ) → Type 0
-IsLost failed_before failed_after interrupted_before interrupted_after =
-    (failed_before < failed_after) ⊎ (interrupted_after ≡ interrupted_before + most_interrupted)
+-- a fault of the stream has its cause, and apart from the interrupted calls at most so many were made
+pub record IsLost (most before : ℕ) (old new : Calls) : Type 0 where
+  pub cause : HasCause before old new
+  pub few : new.made + old.interrupted ≤ old.made + most + new.interrupted
+
+-- how the calls came out where the stream alone can be at fault
+abbrev pub Streams : {A E : Type 0} → (most before : ℕ) → Calls → Calls → Result A E → Type 0
+Streams most before old new result = MatchResult result (λ _. AllWell most before old new) (λ _. IsLost most before old new)
+
+-- P holds of a read fault, Q of each other, and there is no write fault
+abbrev pub OnReadFault : (P Q : Type 0) → Fault → Type 0
+OnReadFault P Q ReadFault = P
+OnReadFault P Q WriteFault = ⊥
+OnReadFault P Q Cut = Q
+OnReadFault P Q BadHead = Q
+OnReadFault P Q HeadTooLong = Q
+OnReadFault P Q BodyTooLong = Q
+OnReadFault P Q LengthNeeded = Q
+OnReadFault P Q NotOffered = Q
+OnReadFault P Q NoMemory = Q
+
+-- how the calls came out of which a message was read
+abbrev pub Reads : {A : Type 0} → (most before : ℕ) → Calls → Calls → Result A Fault → Type 0
+Reads most before old new result =
+    MatchResult result (λ _. AllWell most before old new) (OnReadFault (IsLost most before old new) (AllWell most before old new))
+
+-- P holds of a write fault, Q where memory was refused, and there is no other fault
+abbrev pub OnWriteFault : (P Q : Type 0) → Fault → Type 0
+OnWriteFault P Q WriteFault = P
+OnWriteFault P Q NoMemory = Q
+OnWriteFault P Q ReadFault = ⊥
+OnWriteFault P Q Cut = ⊥
+OnWriteFault P Q BadHead = ⊥
+OnWriteFault P Q HeadTooLong = ⊥
+OnWriteFault P Q BodyTooLong = ⊥
+OnWriteFault P Q LengthNeeded = ⊥
+OnWriteFault P Q NotOffered = ⊥
+
+-- how the calls came out by which so many bytes were to be written: none was made where memory was refused
+abbrev pub Writes : {A : Type 0} → (most : ℕ) → Calls → Calls → (Unchanged : Type 0) → Result A Fault → Type 0
+Writes most old new Unchanged result =
+    MatchResult result (λ _. AllWell most 0 old new) (OnWriteFault (IsLost most 0 old new) Unchanged)

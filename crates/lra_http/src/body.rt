@@ -1,9 +1,8 @@
 // The body of a message, read in pieces.
-ghost use Rattle.std.specs.Prelude.{◌≡◌, ◌≢◌, ℕ, ◌+◌, ◌<◌, ◌≤◌, List, ◌++◌, length, take, IfOk, IfErr, IfSome, OnOk, OnErr};
-ghost use Rattle.std.specs.Io.KnownBytes.{Consumes, IsAtEnd, ReadConsumes};
-ghost use Rattle.lra_http.specs.Streams.{HasCause, most_interrupted};
+ghost use Rattle.std.specs.Prelude.{◌≡◌, ℕ, ◌+◌, ◌<◌, ◌≤◌, List, ◌++◌, length, IfOk, IfErr, OnOk};
+ghost use Rattle.lra_http.specs.Streams.{CallGives, Gives, Reads, Streams, most_interrupted};
 ghost use Rattle.lra_http.specs.Bodies.{RefusesBody};
-ghost use Rattle.lra_http.specs.declared.fault.Fault.TheVariants.{Cut, ReadFault, WriteFault};
+ghost use Rattle.lra_http.specs.Faults.{Shows, Stops};
 
 use crate::{CallError, Fault, MOST_INTERRUPTED, Source};
 use std::alloc::Global;
@@ -20,11 +19,10 @@ fn read_piece<S: Source>(
 ) -> Result<usize, crate::ReadFault>
     requires { interrupted.old < most_interrupted }
     ensures bound { IfOk result (λ n. n ≤ length buffer.new) }
-    ensures bytes { ReadConsumes (S.left source.old) (S.left source.new) result buffer.new }
-    ensures counted { S.interrupted source.new + interrupted.old ≡ S.interrupted source.old + interrupted.new }
+    ensures bytes { CallGives (S.stream source.old) (S.stream source.new) result buffer.new }
+    ensures streams { Streams 1 interrupted.old (S.calls source.old) (S.calls source.new) result }
+    ensures counted { (S.calls source.new).interrupted + interrupted.old ≡ (S.calls source.old).interrupted + interrupted.new }
     ensures below { OnOk result (interrupted.new < most_interrupted) }
-    ensures none_failed { OnOk result (S.failed source.new ≡ S.failed source.old) }
-    ensures fault { OnErr result (HasCause (S.failed source.old) (S.failed source.new) interrupted.new) }
 {
     while *interrupted < MOST_INTERRUPTED {
         match source.read_some(buffer) {
@@ -46,14 +44,11 @@ fn take_piece<S: Source>(
     requires below { interrupted.old < most_interrupted }
     requires some { 0 < most }
     ensures ok { OnOk result ((piece : List ℕ) × (body.new.items ≡ body.old.items ++ piece) × (0 < length piece)
-        × (length piece ≤ most) × Consumes (S.left source.old) (S.left source.new) piece) }
-    ensures fault { IfErr result (λ fault. IfSome (S.left source.old) (λ input. RefusesBody 1 input fault)) }
-    ensures ended { IfErr result (λ fault. fault ≡ Cut → IfSome (S.left source.old) (λ _. IsAtEnd (S.left source.new))) }
-    ensures counted { S.interrupted source.new + interrupted.old ≡ S.interrupted source.old + interrupted.new }
+        × (length piece ≤ most) × Gives (S.stream source.old) (S.stream source.new) piece) }
+    ensures fault { IfErr result (Stops (S.stream source.old) (S.stream source.new) (Shows most (RefusesBody 1))) }
+    ensures streams { Reads 1 interrupted.old (S.calls source.old) (S.calls source.new) result }
+    ensures counted { (S.calls source.new).interrupted + interrupted.old ≡ (S.calls source.old).interrupted + interrupted.new }
     ensures below { OnOk result (interrupted.new < most_interrupted) }
-    ensures none_failed { OnOk result (S.failed source.new ≡ S.failed source.old) }
-    ensures read_fault { IfErr result (λ fault. fault ≡ ReadFault → HasCause (S.failed source.old) (S.failed source.new) interrupted.new) }
-    ensures of_reading { IfErr result (λ fault. fault ≢ WriteFault) }
 {
     let mut piece = [0; 512];
     let room = most.min(512);
@@ -73,14 +68,11 @@ pub fn read_body<S: Source>(
     interrupted: &mut u16,
 ) -> Result<Vec<u8>, Fault>
     requires below { interrupted.old < most_interrupted }
-    ensures ok { IfOk result (λ body. (length body.items ≡ size) × Consumes (S.left source.old) (S.left source.new) body.items) }
-    ensures fault { IfErr result (λ fault. IfSome (S.left source.old) (λ input. RefusesBody size input fault)) }
-    ensures ended { IfErr result (λ fault. fault ≡ Cut → IfSome (S.left source.old) (λ _. IsAtEnd (S.left source.new))) }
-    ensures counted { S.interrupted source.new + interrupted.old ≡ S.interrupted source.old + interrupted.new }
+    ensures ok { IfOk result (λ body. (length body.items ≡ size) × Gives (S.stream source.old) (S.stream source.new) body.items) }
+    ensures fault { IfErr result (Stops (S.stream source.old) (S.stream source.new) (Shows size (RefusesBody size))) }
+    ensures streams { Reads size interrupted.old (S.calls source.old) (S.calls source.new) result }
+    ensures counted { (S.calls source.new).interrupted + interrupted.old ≡ (S.calls source.old).interrupted + interrupted.new }
     ensures below { OnOk result (interrupted.new < most_interrupted) }
-    ensures none_failed { OnOk result (S.failed source.new ≡ S.failed source.old) }
-    ensures read_fault { IfErr result (λ fault. fault ≡ ReadFault → HasCause (S.failed source.old) (S.failed source.new) interrupted.new) }
-    ensures of_reading { IfErr result (λ fault. fault ≢ WriteFault) }
 {
     let mut body = Vec::new(alloc);
     while body.len() < size {

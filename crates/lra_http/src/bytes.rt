@@ -1,7 +1,6 @@
 // Bytes over any source and sink, with the bound on interrupted calls.
-ghost use Rattle.std.specs.Prelude.{◌≡◌, ℕ, ◌+◌, ◌<◌, ◌≤◌, [], ◌∷◌, length, take, IfOk, IfSome, IfNone, OnOk, OnErr};
-ghost use Rattle.std.specs.Io.KnownBytes.{Appends, Consumes, Keeps, IsAtEnd};
-ghost use Rattle.lra_http.specs.Streams.{AppendsPart, HasCause, most_interrupted};
+ghost use Rattle.std.specs.Prelude.{◌≡◌, ℕ, ◌+◌, ◌<◌, [], ◌∷◌, length, IfOk, IfSome, IfNone, OnOk, OnErr};
+ghost use Rattle.lra_http.specs.Streams.{FoundEnd, Gives, IsFlushed, Streams, Takes, TakesPart, most_interrupted};
 
 use crate::{CallError, Sink, Source};
 
@@ -24,12 +23,11 @@ pub fn write_all<W: Sink>(
     interrupted: &mut u16,
 ) -> Result<(), WriteFault>
     requires { interrupted.old < most_interrupted }
-    ensures ok { OnOk result (Appends (W.written sink.old) (W.written sink.new) bytes.now) }
-    ensures part { OnErr result (AppendsPart (W.written sink.old) (W.written sink.new) bytes.now) }
-    ensures counted { W.interrupted sink.new + interrupted.old ≡ W.interrupted sink.old + interrupted.new }
+    ensures ok { OnOk result (Takes (W.stream sink.old) (W.stream sink.new) bytes.now) }
+    ensures part { OnErr result (TakesPart (W.stream sink.old) (W.stream sink.new) bytes.now) }
+    ensures streams { Streams (length bytes.now) interrupted.old (W.calls sink.old) (W.calls sink.new) result }
+    ensures counted { (W.calls sink.new).interrupted + interrupted.old ≡ (W.calls sink.old).interrupted + interrupted.new }
     ensures below { OnOk result (interrupted.new < most_interrupted) }
-    ensures none_failed { OnOk result (W.failed sink.new ≡ W.failed sink.old) }
-    ensures fault { OnErr result (HasCause (W.failed sink.old) (W.failed sink.new) interrupted.new) }
 {
     let mut done = 0;
     while done < bytes.len() {
@@ -47,18 +45,36 @@ pub fn write_all<W: Sink>(
     Ok(())
 }
 
+/// Passes on what the sink has taken. `interrupted` counts the interrupted calls of the message.
+pub fn flush<W: Sink>(sink: &mut W, interrupted: &mut u16) -> Result<(), WriteFault>
+    requires { interrupted.old < most_interrupted }
+    ensures none { Takes (W.stream sink.old) (W.stream sink.new) [] }
+    ensures all { OnOk result (IsFlushed (W.stream sink.new)) }
+    ensures streams { Streams 1 interrupted.old (W.calls sink.old) (W.calls sink.new) result }
+    ensures counted { (W.calls sink.new).interrupted + interrupted.old ≡ (W.calls sink.old).interrupted + interrupted.new }
+    ensures below { OnOk result (interrupted.new < most_interrupted) }
+{
+    while *interrupted != MOST_INTERRUPTED {
+        match sink.flush() {
+            Ok(()) => return Ok(()),
+            Err(CallError::Interrupted) => *interrupted += 1,
+            Err(CallError::Failed) => return Err(WriteFault),
+        }
+    }
+    Err(WriteFault)
+}
+
 /// The next byte, or `None` at the end. It reads no byte more. `interrupted` counts the interrupted calls of the message
 /// that the byte belongs to, and is handed on from one byte of it to the next. A fault leaves the bytes as they were.
 pub fn read_byte<R: Source>(source: &mut R, interrupted: &mut u16) -> Result<Option<u8>, ReadFault>
     requires { interrupted.old < most_interrupted }
-    ensures some { IfOk result (λ byte. IfSome byte (λ b. Consumes (R.left source.old) (R.left source.new) (b ∷ []))) }
-    ensures end { IfOk result (λ byte. IfNone byte (IsAtEnd (R.left source.old) × Keeps (R.left source.old) (R.left source.new))) }
-    ensures err { OnErr result (Keeps (R.left source.old) (R.left source.new)) }
-    ensures called { R.calls source.old < R.calls source.new }
-    ensures counted { R.interrupted source.new + interrupted.old ≡ R.interrupted source.old + interrupted.new }
+    ensures some { IfOk result (λ byte. IfSome byte (λ b. Gives (R.stream source.old) (R.stream source.new) (b ∷ []))) }
+    ensures end { IfOk result (λ byte. IfNone byte (Gives (R.stream source.old) (R.stream source.new) [] × FoundEnd (R.stream source.new))) }
+    ensures err { OnErr result (Gives (R.stream source.old) (R.stream source.new) []) }
+    ensures streams { Streams 1 interrupted.old (R.calls source.old) (R.calls source.new) result }
+    ensures called { (R.calls source.old).made < (R.calls source.new).made }
+    ensures counted { (R.calls source.new).interrupted + interrupted.old ≡ (R.calls source.old).interrupted + interrupted.new }
     ensures below { OnOk result (interrupted.new < most_interrupted) }
-    ensures none_failed { OnOk result (R.failed source.new ≡ R.failed source.old) }
-    ensures fault { OnErr result (HasCause (R.failed source.old) (R.failed source.new) interrupted.new) }
 {
     let mut buffer = [0u8; 1];
     while *interrupted < MOST_INTERRUPTED {

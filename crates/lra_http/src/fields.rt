@@ -94,6 +94,7 @@ pub fn response_size(
 ) -> Result<usize, Fault>
     requires within { All (IsHeaderWithin (length bytes.now)) headers.now }
     requires limit { limit < 2 ^ 31 }
+    ensures bound { IfOk result (λ size. size ≤ limit) }
     ensures length { result ≡ response_length limit code (map (header_bytes bytes.now) headers.now) }
     ensures status { IfOk result (λ _. 100 ≤ code) }
     ensures of_reading { IfErr result (λ fault. fault ≢ WriteFault) }
@@ -125,6 +126,7 @@ pub fn request_size(
 ) -> Result<usize, Fault>
     requires within { All (IsHeaderWithin (length bytes.now)) headers.now }
     requires limit { limit < 2 ^ 31 }
+    ensures bound { IfOk result (λ size. size ≤ limit) }
     ensures length { result ≡ request_length limit minor (map (header_bytes bytes.now) headers.now) }
     ensures of_reading { IfErr result (λ fault. fault ≢ WriteFault) }
 {

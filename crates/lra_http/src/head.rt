@@ -1,10 +1,10 @@
 // The head of a message of either kind, read one byte at a time.
-ghost use Rattle.std.specs.Prelude.{◌≡◌, ◌≢◌, ℕ, ◌+◌, ◌<◌, ◌≤◌, List, length, IfOk, IfErr, IfSome, OnOk, ◌==◌, ◌||◌, if◌then◌else◌};
-ghost use Rattle.std.specs.Io.KnownBytes.{IsAtEnd};
+ghost use Rattle.std.specs.Prelude.{◌≡◌, ◌≢◌, ◌+◌, ◌<◌, ◌≤◌, length, IfOk, IfErr, OnOk, ◌==◌, ◌||◌, if◌then◌else◌};
 ghost use Rattle.httparse.specs.Ascii.{space};
-ghost use Rattle.lra_http.specs.Streams.{HasCause, most_interrupted};
-ghost use Rattle.lra_http.specs.Heads.{IsStep, HasNoHead, MayLack, IsHeadRead, RefusesHead, most_bytes};
-ghost use Rattle.lra_http.specs.declared.fault.Fault.TheVariants.{Cut, ReadFault, WriteFault};
+ghost use Rattle.lra_http.specs.Streams.{AllWell, Gives, Reads, most_interrupted};
+ghost use Rattle.lra_http.specs.Faults.{Shows, Stops};
+ghost use Rattle.lra_http.specs.Heads.{IsStep, HasNoHead, MayLack, IsHeadWithin, RefusesHead, most_bytes};
+ghost use Rattle.lra_http.specs.declared.fault.Fault.TheVariants.{ReadFault, WriteFault};
 
 use crate::{Fault, Source, read_byte};
 use httparse::spans::{HeaderSpan, parse_request, parse_response};
@@ -94,7 +94,7 @@ fn is_due(spaced: bool, byte: u8, size: usize, most: usize) -> bool
 fn fault_at_end(kind: Kind, bytes: &[u8], headers: &mut [HeaderSpan], most: usize) -> Fault
     requires none { HasNoHead kind bytes.now }
     requires most { length bytes.now ≤ most }
-    ensures refuses { RefusesHead kind most (length headers.old) bytes.now result }
+    ensures shown { Shows (most + 1) (RefusesHead kind most (length headers.old)) bytes.now result }
     ensures read { result ≢ ReadFault }
     ensures write { result ≢ WriteFault }
 {
@@ -117,14 +117,13 @@ pub fn read_head<S: Source>(
 ) -> Result<Vec<u8>, Fault>
     requires below { interrupted.old < most_interrupted }
     requires most { most ≤ most_bytes }
-    ensures head { IfOk result (λ head. IsHeadRead kind most (length headers.old) (S.left source.old) (S.left source.new) head.items) }
-    ensures fault { IfErr result (λ fault. IfSome (S.left source.old) (λ input. RefusesHead kind most (length headers.old) input fault)) }
-    ensures ended { IfErr result (λ fault. fault ≡ Cut → IfSome (S.left source.old) (λ _. IsAtEnd (S.left source.new))) }
+    ensures head { IfOk result (λ head. Gives (S.stream source.old) (S.stream source.new) head.items × IsHeadWithin kind most (length headers.old) head.items) }
+    ensures fault { IfErr result (Stops (S.stream source.old) (S.stream source.new) (Shows (most + 1) (RefusesHead kind most (length headers.old)))) }
+    ensures streams { Reads (most + 1) interrupted.old (S.calls source.old) (S.calls source.new) result }
+    // A call for each byte.
+    ensures each { IfOk result (λ head. AllWell (length head.items) interrupted.old (S.calls source.old) (S.calls source.new)) }
+    ensures counted { (S.calls source.new).interrupted + interrupted.old ≡ (S.calls source.old).interrupted + interrupted.new }
     ensures below { OnOk result (interrupted.new < most_interrupted) }
-    ensures counted { S.interrupted source.new + interrupted.old ≡ S.interrupted source.old + interrupted.new }
-    ensures none_failed { OnOk result (S.failed source.new ≡ S.failed source.old) }
-    ensures read_fault { IfErr result (λ fault. fault ≡ ReadFault → HasCause (S.failed source.old) (S.failed source.new) interrupted.new) }
-    ensures of_reading { IfErr result (λ fault. fault ≢ WriteFault) }
 {
     let mut head = Vec::new(alloc);
     let mut spaced = false;

@@ -1,17 +1,20 @@
 // What follows of the definitions alone.
-ghost use Rattle.std.specs.Prelude.{◌≡◌, ◌<◌, ◌++◌, [], ◌∷◌, ℕ, List, length, map};
+ghost use Rattle.std.specs.Prelude.{◌≡◌, ◌<◌, ◌⊎◌, ◌++◌, [], ◌∷◌, ℕ, List, length, map, IfSome, Some};
 ghost use Rattle.httparse.specs.Grammar.{RequestHead, ResponseHead, status_code};
 ghost use Rattle.httparse.specs.Spans.{name_and_value};
-ghost use Rattle.lra_http.specs.Faults.{IsOfBytes};
+ghost use Rattle.lra_http.specs.Faults.{IsOfBytes, Stops};
 ghost use Rattle.lra_http.specs.HeadFields.{field_bytes};
 ghost use Rattle.lra_http.specs.Heads.{Exceeds, most_lines};
-ghost use Rattle.lra_http.specs.Requests.{IsRequest, IsTextSoFar, Refuses as RefusesRequest};
-ghost use Rattle.lra_http.specs.Responses.{Behind, HasNoResponse, IsCrowded, IsResponse, Refuses as RefusesResponse, head_room};
+ghost use Rattle.lra_http.specs.Requests.{IsMessage as IsRequestRead, IsRequest, IsTextSoFar, Refuses as RefusesRequest, Shows as ShowsRequest};
+ghost use Rattle.lra_http.specs.Responses.{Behind, HasNoResponse, IsCrowded, IsMessage as IsResponseRead, IsResponse, Refuses as RefusesResponse, Shows as ShowsResponse, head_room};
 ghost use Rattle.lra_http.specs.MessageTexts.{request_text, response_text};
 ghost use Rattle.lra_http.specs.WholeMessages.{IsSound, IsSoundCall, host_field};
+ghost use Rattle.lra_http.specs.Streams.{GivenBytes, GivesWhat};
 ghost use Rattle.lra_http.specs.declared.fault.Fault.{Fault as TheFault};
+ghost use Rattle.lra_http.specs.declared.fault.Fault.TheVariants.{NoMemory, ReadFault};
 ghost use Rattle.lra_http.specs.declared.head.Kind.TheVariants.{Request as OfRequest};
 ghost use Rattle.lra_http.specs.declared.message.CallRequest.{CallRequest as TheCall};
+ghost use Rattle.lra_http.specs.declared.message.Request.{Request as TheRequest};
 ghost use Rattle.lra_http.specs.declared.message.Response.{Response as TheResponse};
 
 /// An input of a request has one fault that lies in its bytes, save where more than 64 field lines came, or where what came
@@ -46,4 +49,38 @@ pub fn a_written_response_is_whole()
     ensures { (limit : ℕ) (r : TheResponse) (rest : List ℕ) → IsSound limit r
         → (h : ResponseHead) × IsResponse head_room limit (response_text r ++ rest) h r.body rest
         × (status_code h ≡ r.status) × (map name_and_value h.fields ≡ map field_bytes r.fields) }
+{}
+
+/// Where the bytes that are left are known, a request that is read stood at their start, and what was behind it is left.
+pub fn a_request_is_taken_off()
+    ensures { (limit : ℕ) (old new : GivenBytes) (r : TheRequest) → GivesWhat old new (λ bytes. IsRequestRead limit bytes r)
+        → IfSome old.left (λ input. (rest : List ℕ) × ((h : RequestHead) × IsRequest limit input h r.body rest) × (new.left ≡ Some rest)) }
+{}
+
+/// Where they are known, a fault is one of theirs.
+pub fn a_fault_is_of_the_request()
+    ensures { (limit : ℕ) (old new : GivenBytes) (fault : TheFault) → Stops old new (ShowsRequest limit) fault → IfSome old.left (λ input. RefusesRequest limit input fault) }
+{}
+
+/// Where they are known and begin with a whole request, it is read, unless a call fails or memory runs out.
+pub fn a_whole_request_is_read()
+    ensures { (limit : ℕ) (old new : GivenBytes) (fault : TheFault) → Stops old new (ShowsRequest limit) fault
+        → IfSome old.left (λ input. (h : RequestHead) (body rest : List ℕ) → IsRequest limit input h body rest → (fault ≡ ReadFault) ⊎ (fault ≡ NoMemory)) }
+{}
+
+/// The same of a response that is read.
+pub fn a_response_is_taken_off()
+    ensures { (limit : ℕ) (old new : GivenBytes) (r : TheResponse) → GivesWhat old new (λ bytes. IsResponseRead limit bytes r)
+        → IfSome old.left (λ input. (rest : List ℕ) × ((h : ResponseHead) × IsResponse head_room limit input h r.body rest) × (new.left ≡ Some rest)) }
+{}
+
+/// The same of the faults of a response.
+pub fn a_fault_is_of_the_response()
+    ensures { (limit : ℕ) (old new : GivenBytes) (fault : TheFault) → Stops old new (ShowsResponse limit) fault → IfSome old.left (λ input. RefusesResponse head_room limit input fault) }
+{}
+
+/// The same of a whole response.
+pub fn a_whole_response_is_read()
+    ensures { (limit : ℕ) (old new : GivenBytes) (fault : TheFault) → Stops old new (ShowsResponse limit) fault
+        → IfSome old.left (λ input. (h : ResponseHead) (body rest : List ℕ) → IsResponse head_room limit input h body rest → (fault ≡ ReadFault) ⊎ (fault ≡ NoMemory)) }
 {}

@@ -8,6 +8,7 @@ mod fault;
 mod fields;
 mod head;
 pub mod laws;
+mod log;
 mod message;
 mod over;
 mod request;
@@ -16,12 +17,11 @@ mod response;
 mod tests;
 mod text;
 
-ghost use Rattle.std.specs.Prelude.{◌≡◌, ℕ, ◌+◌, ◌≤◌, List, Option, length, IfOk};
-ghost use Rattle.std.specs.Io.KnownBytes.{ReadConsumes, WriteAppends};
-ghost use Rattle.lra_http.specs.Streams.{failed_calls, interrupted_calls};
+ghost use Rattle.std.specs.Prelude.{◌≡◌, ◌≤◌, [], length, IfOk, OnOk};
+ghost use Rattle.lra_http.specs.Streams.{CallGives, Calls, CallTakes, FoundNoEnd, GivenBytes, IsFlushed, OneMore, TakenBytes, Takes};
 
 pub use body::BODY_LIMIT;
-pub use bytes::{MOST_INTERRUPTED, ReadFault, WriteFault, read_byte, write_all};
+pub use bytes::{MOST_INTERRUPTED, ReadFault, WriteFault, flush, read_byte, write_all};
 pub use count::Count;
 pub use fault::Fault;
 pub use head::{HEAD_LIMIT, LINE_LIMIT};
@@ -42,49 +42,40 @@ pub enum CallError {
 
 /// What bytes are read from, one call at a time.
 pub trait Source {
-    /// The bytes that are left, where they are known.
-    ghost left: { Self → Option (List ℕ) };
+    /// The bytes that it has given so far, whether its last call found the end, and the bytes that are left, where they are known.
+    ghost stream: { Self → GivenBytes };
 
-    /// How many calls were made so far.
-    ghost calls: { Self → ℕ };
-
-    /// How many of them failed, interrupted ones apart.
-    ghost failed: { Self → ℕ };
-
-    /// How many of them were interrupted.
-    ghost interrupted: { Self → ℕ };
+    /// How its calls came out so far.
+    ghost calls: { Self → Calls };
 
     /// Reads at most as many bytes as fit, and none only at the end or where none fits. A call that is interrupted or
-    /// fails leaves the bytes as they were.
+    /// fails gives none.
     fn read_some(&mut self, buffer: &mut [u8]) -> Result<usize, CallError>
         ensures bound { IfOk result (λ n. n ≤ length buffer.new) }
-        ensures bytes { ReadConsumes (left self.old) (left self.new) result buffer.new }
-        ensures calls { calls self.new ≡ calls self.old + 1 }
-        ensures failed { failed self.new ≡ failed self.old + failed_calls result }
-        ensures interrupted { interrupted self.new ≡ interrupted self.old + interrupted_calls result };
+        ensures bytes { CallGives (stream self.old) (stream self.new) result buffer.new }
+        ensures no_end { FoundNoEnd (stream self.new) result }
+        ensures calls { OneMore (calls self.old) (calls self.new) result };
 }
 
 /// What bytes are written to, one call at a time.
 pub trait Sink {
-    /// The bytes that were written, where they are known.
-    ghost written: { Self → Option (List ℕ) };
+    /// The bytes that it has taken so far, those of them that it has passed on, and those that it holds, where they are known.
+    ghost stream: { Self → TakenBytes };
 
-    /// How many calls were made so far.
-    ghost calls: { Self → ℕ };
-
-    /// How many of them failed, interrupted ones apart.
-    ghost failed: { Self → ℕ };
-
-    /// How many of them were interrupted.
-    ghost interrupted: { Self → ℕ };
+    /// How its calls came out so far.
+    ghost calls: { Self → Calls };
 
     /// Writes some bytes from the start of `bytes`, at least one if there is any, and says how many. A call that takes
-    /// none of some bytes counts as failed. One that is interrupted or fails writes nothing.
+    /// none of some bytes counts as failed. One that is interrupted or fails takes none.
     fn write_some(&mut self, bytes: &[u8]) -> Result<usize, CallError>
         ensures bound { IfOk result (λ n. n ≤ length bytes.now) }
         ensures some { IfOk result (λ n. n ≡ 0 → length bytes.now ≡ 0) }
-        ensures bytes { WriteAppends (written self.old) (written self.new) result bytes.now }
-        ensures calls { calls self.new ≡ calls self.old + 1 }
-        ensures failed { failed self.new ≡ failed self.old + failed_calls result }
-        ensures interrupted { interrupted self.new ≡ interrupted self.old + interrupted_calls result };
+        ensures bytes { CallTakes (stream self.old) (stream self.new) result bytes.now }
+        ensures calls { OneMore (calls self.old) (calls self.new) result };
+
+    /// Passes on what it has taken so far. A call that is interrupted or fails may have passed on some of it.
+    fn flush(&mut self) -> Result<(), CallError>
+        ensures none { Takes (stream self.old) (stream self.new) [] }
+        ensures all { OnOk result (IsFlushed (stream self.new)) }
+        ensures calls { OneMore (calls self.old) (calls self.new) result };
 }

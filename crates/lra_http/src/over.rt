@@ -1,12 +1,14 @@
 // Sources and sinks over std's readers and writers.
-ghost use Rattle.std.specs.Prelude.{◌≡◌, ◌+◌, ◌&&◌, ◌==◌, ◌↔◌, Err, Ok, if◌then◌else◌, nat_lt};
-ghost use Rattle.lra_http.specs.Counted.{uncalled};
+ghost use Rattle.std.specs.Prelude.{◌≡◌, ◌+◌, ◌&&◌, ◌==◌, ◌↔◌, [], Err, Ok, if◌then◌else◌, nat_lt};
+ghost use Rattle.lra_http.specs.Counted.{unread, unwritten};
 ghost use Rattle.lra_http.specs.Streams.{failed_calls, interrupted_calls};
 
 use crate::count::Count;
+use crate::log::Log;
 use crate::{CallError, Sink, Source};
 use std::io::{ErrorKind, Read, Write};
 use std::marker::Model;
+use std::snapshot::Snapshot;
 
 /// How the calls of a source or a sink came out so far.
 #[derive(Drop)]
@@ -14,6 +16,7 @@ struct Calls {
     made: Count,
     failed: Count,
     interrupted: Count,
+    last_failed: Count,
 }
 
 impl Calls {
@@ -21,25 +24,32 @@ impl Calls {
         ensures made { result.made ≡ 0 }
         ensures failed { result.failed ≡ 0 }
         ensures interrupted { result.interrupted ≡ 0 }
+        ensures last_failed { result.last_failed ≡ 0 }
     {
         Calls {
             made: Count::zero(),
             failed: Count::zero(),
             interrupted: Count::zero(),
+            last_failed: Count::zero(),
         }
     }
 
     /// Counts a call that came out so.
-    fn count(&mut self, outcome: &Result<usize, CallError>)
+    fn count<T>(&mut self, outcome: &Result<T, CallError>)
         ensures made { self.new.made ≡ self.old.made + 1 }
         ensures failed { self.new.failed ≡ self.old.failed + failed_calls outcome.now }
         ensures interrupted { self.new.interrupted ≡ self.old.interrupted + interrupted_calls outcome.now }
+        ensures last_failed { self.new.last_failed ≡ failed_calls outcome.now }
     {
         self.made = self.made.next();
+        self.last_failed = Count::zero();
         match outcome {
             Ok(_) => {}
             Err(CallError::Interrupted) => self.interrupted = self.interrupted.next(),
-            Err(CallError::Failed) => self.failed = self.failed.next(),
+            Err(CallError::Failed) => {
+                self.failed = self.failed.next();
+                self.last_failed = Count::zero().next();
+            }
         }
     }
 }
@@ -71,43 +81,50 @@ fn taken(count: usize, given: usize) -> Result<usize, CallError>
 #[derive(Drop)]
 pub struct OverRead<R> {
     reader: R,
+    given: Log,
+    ended: Count,
     calls: Calls,
 }
 
 impl<R> Model for OverRead<R> {
-    ghost use Rattle.lra_http.specs.Counted.{Counted};
+    ghost use Rattle.lra_http.specs.Counted.{Reader};
 
-    ghost Value = { Counted R };
+    ghost Value = { Reader R };
 
-    ghost view = { λ a. record { inner = a.reader; made = a.calls.made; failed = a.calls.failed; interrupted = a.calls.interrupted } };
+    ghost view = { λ a. record { inner = a.reader; given = a.given; ended = a.ended; calls = record { made = a.calls.made; failed = a.calls.failed; interrupted = a.calls.interrupted; last_failed = a.calls.last_failed } } };
 }
 
 impl<R: Read> OverRead<R> {
     /// Reads from this reader. No call was made so far.
     pub fn new(reader: R) -> OverRead<R>
-        ensures { result ≡ uncalled reader }
+        ensures { result ≡ unread reader }
     {
         OverRead {
             reader,
+            given: Log::new(),
+            ended: Count::zero(),
             calls: Calls::none(),
         }
     }
 }
 
 impl<R: Read> Source for OverRead<R> {
-    ghost left = { λ r. R.remaining r.inner };
+    ghost stream = { λ r. record { given = r.given; ended = r.ended; left = R.remaining r.inner } };
 
-    ghost calls = { λ r. r.made };
-
-    ghost failed = { λ r. r.failed };
-
-    ghost interrupted = { λ r. r.interrupted };
+    ghost calls = { λ r. r.calls };
 
     fn read_some(&mut self, buffer: &mut [u8]) -> Result<usize, CallError> {
         let outcome = match self.reader.read(buffer) {
             Ok(n) => Ok(n),
             Err(error) => Err(call_error(error.kind())),
         };
+        self.ended = Count::zero();
+        if let Ok(n) = outcome {
+            self.given.extend(&buffer[..n]);
+            if n == 0 && !buffer.is_empty() {
+                self.ended = Count::zero().next();
+            }
+        }
         self.calls.count(&outcome);
         outcome
     }
@@ -117,24 +134,28 @@ impl<R: Read> Source for OverRead<R> {
 #[derive(Drop)]
 pub struct OverWrite<W> {
     writer: W,
+    taken: Log,
+    flushed: Snapshot<Log>,
     calls: Calls,
 }
 
 impl<W> Model for OverWrite<W> {
-    ghost use Rattle.lra_http.specs.Counted.{Counted};
+    ghost use Rattle.lra_http.specs.Counted.{Writer};
 
-    ghost Value = { Counted W };
+    ghost Value = { Writer W };
 
-    ghost view = { λ a. record { inner = a.writer; made = a.calls.made; failed = a.calls.failed; interrupted = a.calls.interrupted } };
+    ghost view = { λ a. record { inner = a.writer; taken = a.taken; flushed = a.flushed.value; calls = record { made = a.calls.made; failed = a.calls.failed; interrupted = a.calls.interrupted; last_failed = a.calls.last_failed } } };
 }
 
 impl<W: Write> OverWrite<W> {
     /// Writes to this writer. No call was made so far.
     pub fn new(writer: W) -> OverWrite<W>
-        ensures { result ≡ uncalled writer }
+        ensures { result ≡ unwritten writer }
     {
         OverWrite {
             writer,
+            taken: Log::new(),
+            flushed: Snapshot::of(&Log::new()),
             calls: Calls::none(),
         }
     }
@@ -148,19 +169,30 @@ impl<W: Write> OverWrite<W> {
 }
 
 impl<W: Write> Sink for OverWrite<W> {
-    ghost written = { λ w. W.contents w.inner };
+    ghost stream = { λ w. record { taken = w.taken; flushed = w.flushed; written = W.contents w.inner } };
 
-    ghost calls = { λ w. w.made };
-
-    ghost failed = { λ w. w.failed };
-
-    ghost interrupted = { λ w. w.interrupted };
+    ghost calls = { λ w. w.calls };
 
     fn write_some(&mut self, bytes: &[u8]) -> Result<usize, CallError> {
         let outcome = match self.writer.write(bytes) {
             Ok(count) => taken(count, bytes.len()),
             Err(error) => Err(call_error(error.kind())),
         };
+        if let Ok(n) = outcome {
+            self.taken.extend(&bytes[..n]);
+        }
+        self.calls.count(&outcome);
+        outcome
+    }
+
+    fn flush(&mut self) -> Result<(), CallError> {
+        let outcome = match self.writer.flush() {
+            Ok(()) => Ok(()),
+            Err(error) => Err(call_error(error.kind())),
+        };
+        if outcome.is_ok() {
+            self.flushed = Snapshot::of(&self.taken);
+        }
         self.calls.count(&outcome);
         outcome
     }

@@ -1,12 +1,12 @@
 // A whole request.
-ghost use Rattle.std.specs.Prelude.{◌≡◌, ◌≢◌, ◌⊎◌, ℕ, ◌+◌, ◌<◌, ◌≤◌, ◌^◌, List, length, IfOk, IfErr, IfSome, OnOk, IsUtf8, codes, map, option_map};
-ghost use Rattle.std.specs.Io.KnownBytes.{IsAtEnd};
-ghost use Rattle.httparse.specs.Grammar.{IsToken, RequestHead};
-ghost use Rattle.lra_http.specs.Streams.{IsLost, most_interrupted};
+ghost use Rattle.std.specs.Prelude.{◌≡◌, ℕ, ◌+◌, ◌<◌, ◌≤◌, ◌^◌, length, IfOk, IfErr, IsUtf8, codes, map, option_map};
+ghost use Rattle.httparse.specs.Grammar.{IsToken};
+ghost use Rattle.lra_http.specs.Streams.{GivesWhat, Reads};
+ghost use Rattle.lra_http.specs.Faults.{Stops};
 ghost use Rattle.lra_http.specs.HeadFields.{field_bytes, first_value};
-ghost use Rattle.lra_http.specs.Heads.{IsHead};
-ghost use Rattle.lra_http.specs.Requests.{IsRequest, IsRead, Refuses, ArePartsOf};
-ghost use Rattle.lra_http.specs.declared.fault.Fault.TheVariants.{Cut, NoMemory, ReadFault, WriteFault};
+ghost use Rattle.lra_http.specs.Heads.{IsHead, most_bytes};
+ghost use Rattle.lra_http.specs.Requests.{IsMessage, Shows, ArePartsOf};
+ghost use Rattle.lra_http.specs.declared.fault.Fault.TheVariants.{NoMemory};
 ghost use Rattle.lra_http.specs.declared.head.Kind.TheVariants.{Request as OfRequest};
 
 use crate::body::read_body;
@@ -74,21 +74,12 @@ pub fn read_request<S: Source>(
     limit: usize,
 ) -> Result<Request, Fault>
     requires limit { limit < 2 ^ 31 }
-    // What is taken is one whole request, and no byte more.
-    ensures message { IfOk result (λ request. IfSome (S.left source.old) (λ input. IsRead limit input (S.left source.new) request)) }
-    // Where each fault comes.
-    ensures fault { IfErr result (λ fault. IfSome (S.left source.old) (λ input. Refuses limit input fault)) }
-    ensures ended { IfErr result (λ fault. fault ≡ Cut → IfSome (S.left source.old) (λ _. IsAtEnd (S.left source.new))) }
-    // A whole request is taken, unless a read fails or memory runs out.
-    ensures found { IfSome (S.left source.old) (λ input. (h : RequestHead) (body rest : List ℕ) → IsRequest limit input h body rest
-        → IfErr result (λ fault. (fault ≡ ReadFault) ⊎ (fault ≡ NoMemory))) }
-    // A read fault comes only where a call failed, or 1,024 were interrupted.
-    ensures read_fault { IfErr result (λ fault. fault ≡ ReadFault
-        → IsLost (S.failed source.old) (S.failed source.new) (S.interrupted source.old) (S.interrupted source.new)) }
-    // Whatever the source tells of its bytes, no write is to blame.
-    ensures of_reading { IfErr result (λ fault. fault ≢ WriteFault) }
-    ensures none_failed { OnOk result (S.failed source.new ≡ S.failed source.old) }
-    ensures few_interrupted { OnOk result (S.interrupted source.new < S.interrupted source.old + most_interrupted) }
+    // What is given is one whole request, and no byte more.
+    ensures message { IfOk result (λ request. GivesWhat (S.stream source.old) (S.stream source.new) (λ bytes. IsMessage limit bytes request)) }
+    // What is given before each fault shows it, whatever follows.
+    ensures fault { IfErr result (Stops (S.stream source.old) (S.stream source.new) (Shows limit)) }
+    // A read fault has its cause, no call follows one that failed, and there are at most so many.
+    ensures streams { Reads (most_bytes + 1 + limit) 0 (S.calls source.old) (S.calls source.new) result }
 {
     let mut interrupted = 0;
     let mut headers = [EMPTY_HEADER_SPAN; LINE_LIMIT];

@@ -1,12 +1,10 @@
 // A whole response.
-ghost use Rattle.std.specs.Prelude.{◌≡◌, ◌≢◌, ◌⊎◌, ℕ, ◌+◌, ◌<◌, ◌≤◌, ◌^◌, List, length, IfOk, IfErr, IfSome, OnOk};
-ghost use Rattle.std.specs.Io.KnownBytes.{IsAtEnd};
+ghost use Rattle.std.specs.Prelude.{◌≡◌, ℕ, ◌+◌, ◌<◌, ◌≤◌, ◌^◌, length, IfOk, IfErr, OnOk};
 ghost use Rattle.http.specs.StatusCode.{IsStatusCode};
-ghost use Rattle.httparse.specs.Grammar.{ResponseHead};
-ghost use Rattle.lra_http.specs.Streams.{HasCause, IsLost, most_interrupted};
-ghost use Rattle.lra_http.specs.Heads.{IsHead};
-ghost use Rattle.lra_http.specs.Responses.{head_room, is_interim, IsResponse, IsRead, Refuses, RefusesHeads, ArePartsOf, IsFinalRead};
-ghost use Rattle.lra_http.specs.declared.fault.Fault.TheVariants.{Cut, NoMemory, ReadFault, WriteFault};
+ghost use Rattle.lra_http.specs.Streams.{GivesWhat, Reads, most_interrupted};
+ghost use Rattle.lra_http.specs.Faults.{Stops, Shows as ShowsPart};
+ghost use Rattle.lra_http.specs.Heads.{IsHead, most_bytes};
+ghost use Rattle.lra_http.specs.Responses.{head_room, is_interim, IsMessage, RefusesHeads, Shows, ArePartsOf, IsFinalRead};
 ghost use Rattle.lra_http.specs.declared.head.Kind.TheVariants.{Response as OfResponse};
 
 use crate::body::read_body;
@@ -54,14 +52,11 @@ fn read_final_head<S: Source>(
     interrupted: &mut u16,
 ) -> Result<Vec<u8>, Fault>
     requires below { interrupted.old < most_interrupted }
-    ensures head { IfOk result (λ head. IsFinalRead (S.left source.old) (S.left source.new) head.items) }
-    ensures fault { IfErr result (λ fault. IfSome (S.left source.old) (λ input. RefusesHeads head_room input fault)) }
-    ensures ended { IfErr result (λ fault. fault ≡ Cut → IfSome (S.left source.old) (λ _. IsAtEnd (S.left source.new))) }
-    ensures counted { S.interrupted source.new + interrupted.old ≡ S.interrupted source.old + interrupted.new }
+    ensures head { IfOk result (λ head. GivesWhat (S.stream source.old) (S.stream source.new) (λ given. IsFinalRead given head.items)) }
+    ensures fault { IfErr result (Stops (S.stream source.old) (S.stream source.new) (ShowsPart (most_bytes + 1) (RefusesHeads head_room))) }
+    ensures streams { Reads (most_bytes + 1) interrupted.old (S.calls source.old) (S.calls source.new) result }
+    ensures counted { (S.calls source.new).interrupted + interrupted.old ≡ (S.calls source.old).interrupted + interrupted.new }
     ensures below { OnOk result (interrupted.new < most_interrupted) }
-    ensures none_failed { OnOk result (S.failed source.new ≡ S.failed source.old) }
-    ensures read_fault { IfErr result (λ fault. fault ≡ ReadFault → HasCause (S.failed source.old) (S.failed source.new) interrupted.new) }
-    ensures of_reading { IfErr result (λ fault. fault ≢ WriteFault) }
 {
     let mut headers = [EMPTY_HEADER_SPAN; LINE_LIMIT];
     let mut most = HEAD_LIMIT;
@@ -96,21 +91,12 @@ pub fn read_response<S: Source>(
     limit: usize,
 ) -> Result<Response, Fault>
     requires limit { limit < 2 ^ 31 }
-    // What is taken is one whole response, and no byte more.
-    ensures message { IfOk result (λ response. IfSome (S.left source.old) (λ input. IsRead head_room limit input (S.left source.new) response)) }
-    // Where each fault comes.
-    ensures fault { IfErr result (λ fault. IfSome (S.left source.old) (λ input. Refuses head_room limit input fault)) }
-    ensures ended { IfErr result (λ fault. fault ≡ Cut → IfSome (S.left source.old) (λ _. IsAtEnd (S.left source.new))) }
-    // A whole response is taken, unless a read fails or memory runs out.
-    ensures found { IfSome (S.left source.old) (λ input. (h : ResponseHead) (body rest : List ℕ) → IsResponse head_room limit input h body rest
-        → IfErr result (λ fault. (fault ≡ ReadFault) ⊎ (fault ≡ NoMemory))) }
-    // A read fault comes only where a call failed, or 1,024 were interrupted.
-    ensures read_fault { IfErr result (λ fault. fault ≡ ReadFault
-        → IsLost (S.failed source.old) (S.failed source.new) (S.interrupted source.old) (S.interrupted source.new)) }
-    // Whatever the source tells of its bytes, no write is to blame.
-    ensures of_reading { IfErr result (λ fault. fault ≢ WriteFault) }
-    ensures none_failed { OnOk result (S.failed source.new ≡ S.failed source.old) }
-    ensures few_interrupted { OnOk result (S.interrupted source.new < S.interrupted source.old + most_interrupted) }
+    // What is given is one whole response, and no byte more.
+    ensures message { IfOk result (λ response. GivesWhat (S.stream source.old) (S.stream source.new) (λ bytes. IsMessage limit bytes response)) }
+    // What is given before each fault shows it, whatever follows.
+    ensures fault { IfErr result (Stops (S.stream source.old) (S.stream source.new) (Shows limit)) }
+    // A read fault has its cause, no call follows one that failed, and there are at most so many.
+    ensures streams { Reads (most_bytes + 1 + limit) 0 (S.calls source.old) (S.calls source.new) result }
 {
     let mut interrupted = 0;
     let head = read_final_head(alloc, source, &mut interrupted)?;

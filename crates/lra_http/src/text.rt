@@ -1,11 +1,9 @@
 // The texts of messages, and writing them.
-ghost use Rattle.std.specs.Prelude.{◌≡◌, ◌⊎◌, ℕ, ◌+◌, ◌<◌, ◌++◌, List, [], IfOk, IfErr, OnOk, OnErr};
-ghost use Rattle.std.specs.Io.KnownBytes.{Appends, Keeps};
-ghost use Rattle.lra_http.specs.Streams.{AppendsPart, IsLost, most_interrupted};
+ghost use Rattle.std.specs.Prelude.{◌≡◌, ◌+◌, ◌++◌, length, IfOk, OnOk, OnErr};
+ghost use Rattle.lra_http.specs.Streams.{IsFlushed, Streams, Takes, TakesPart, Writes};
 ghost use Rattle.lra_http.specs.MessageTexts.{field_line, field_lines, host_line, phrase, request_head, request_line, request_text, response_head, response_text, status_line};
-ghost use Rattle.lra_http.specs.declared.fault.Fault.TheVariants.{NoMemory, WriteFault as OnWrite};
 
-use crate::{CallRequest, Fault, Field, Response, Sink, Text, WriteFault, write_all};
+use crate::{CallRequest, Fault, Field, Response, Sink, Text, WriteFault, flush, write_all};
 use http::StatusCode;
 use std::alloc::{AllocError, Global};
 
@@ -91,17 +89,16 @@ fn head_of_request(alloc: Global, request: &CallRequest) -> Result<Vec<u8>, Allo
     Ok(text)
 }
 
-/// Writes a head and a body as one message, or a prefix of them before a fault.
+/// Writes a head and a body as one message and passes them on, or writes a prefix of them before a fault.
 fn write_parts<W: Sink>(sink: &mut W, head: &[u8], body: &[u8]) -> Result<(), WriteFault>
-    ensures ok { OnOk result (Appends (W.written sink.old) (W.written sink.new) (head.now ++ body.now)) }
-    ensures part { OnErr result (AppendsPart (W.written sink.old) (W.written sink.new) (head.now ++ body.now)) }
-    ensures none_failed { OnOk result (W.failed sink.new ≡ W.failed sink.old) }
-    ensures few_interrupted { OnOk result (W.interrupted sink.new < W.interrupted sink.old + most_interrupted) }
-    ensures fault { OnErr result (IsLost (W.failed sink.old) (W.failed sink.new) (W.interrupted sink.old) (W.interrupted sink.new)) }
+    ensures ok { OnOk result (Takes (W.stream sink.old) (W.stream sink.new) (head.now ++ body.now) × IsFlushed (W.stream sink.new)) }
+    ensures part { OnErr result (TakesPart (W.stream sink.old) (W.stream sink.new) (head.now ++ body.now)) }
+    ensures streams { Streams (length (head.now ++ body.now) + 1) 0 (W.calls sink.old) (W.calls sink.new) result }
 {
     let mut interrupted = 0;
     write_all(sink, head, &mut interrupted)?;
-    write_all(sink, body, &mut interrupted)
+    write_all(sink, body, &mut interrupted)?;
+    flush(sink, &mut interrupted)
 }
 
 /// Writes a response: its text, or a prefix of it before a fault. The length of the body stands in the text
@@ -111,16 +108,11 @@ pub fn write_response<W: Sink>(
     sink: &mut W,
     response: &Response,
 ) -> Result<(), Fault>
-    ensures ok { OnOk result (Appends (W.written sink.old) (W.written sink.new) (response_text response.now)) }
-    ensures part { OnErr result (AppendsPart (W.written sink.old) (W.written sink.new) (response_text response.now)) }
-    ensures cause { IfErr result (λ fault. (fault ≡ OnWrite) ⊎ (fault ≡ NoMemory)) }
-    // Where the memory is refused nothing was written.
-    ensures memory { IfErr result (λ fault. fault ≡ NoMemory → sink.new ≡ sink.old) }
-    // A write fault comes only where a call failed, or 1,024 were interrupted.
-    ensures write_fault { IfErr result (λ fault. fault ≡ OnWrite
-        → IsLost (W.failed sink.old) (W.failed sink.new) (W.interrupted sink.old) (W.interrupted sink.new)) }
-    ensures none_failed { OnOk result (W.failed sink.new ≡ W.failed sink.old) }
-    ensures few_interrupted { OnOk result (W.interrupted sink.new < W.interrupted sink.old + most_interrupted) }
+    // All of the text was taken and passed on, or before a fault a prefix of it was taken.
+    ensures ok { OnOk result (Takes (W.stream sink.old) (W.stream sink.new) (response_text response.now) × IsFlushed (W.stream sink.new)) }
+    ensures part { OnErr result (TakesPart (W.stream sink.old) (W.stream sink.new) (response_text response.now)) }
+    // A write fault has its cause, and where the memory is refused no call was made.
+    ensures streams { Writes (length (response_text response.now) + 1) (W.calls sink.old) (W.calls sink.new) (sink.new ≡ sink.old) result }
 {
     let head = head_of_response(alloc, response)?;
     write_parts(sink, &head, response.body.as_slice())?;
@@ -134,16 +126,11 @@ pub fn write_request<W: Sink>(
     sink: &mut W,
     request: &CallRequest,
 ) -> Result<(), Fault>
-    ensures ok { OnOk result (Appends (W.written sink.old) (W.written sink.new) (request_text request.now)) }
-    ensures part { OnErr result (AppendsPart (W.written sink.old) (W.written sink.new) (request_text request.now)) }
-    ensures cause { IfErr result (λ fault. (fault ≡ OnWrite) ⊎ (fault ≡ NoMemory)) }
-    // Where the memory is refused nothing was written.
-    ensures memory { IfErr result (λ fault. fault ≡ NoMemory → sink.new ≡ sink.old) }
-    // A write fault comes only where a call failed, or 1,024 were interrupted.
-    ensures write_fault { IfErr result (λ fault. fault ≡ OnWrite
-        → IsLost (W.failed sink.old) (W.failed sink.new) (W.interrupted sink.old) (W.interrupted sink.new)) }
-    ensures none_failed { OnOk result (W.failed sink.new ≡ W.failed sink.old) }
-    ensures few_interrupted { OnOk result (W.interrupted sink.new < W.interrupted sink.old + most_interrupted) }
+    // All of the text was taken and passed on, or before a fault a prefix of it was taken.
+    ensures ok { OnOk result (Takes (W.stream sink.old) (W.stream sink.new) (request_text request.now) × IsFlushed (W.stream sink.new)) }
+    ensures part { OnErr result (TakesPart (W.stream sink.old) (W.stream sink.new) (request_text request.now)) }
+    // A write fault has its cause, and where the memory is refused no call was made.
+    ensures streams { Writes (length (request_text request.now) + 1) (W.calls sink.old) (W.calls sink.new) (sink.new ≡ sink.old) result }
 {
     let head = head_of_request(alloc, request)?;
     write_parts(sink, &head, request.body.as_slice())?;

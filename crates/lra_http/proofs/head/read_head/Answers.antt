@@ -1,18 +1,19 @@
 use Rattle.std.proofs.Common.{rules, arith, refl}
 use Rattle.std.proofs.lemmas.Grind.{common_steps}
-use Rattle.std.proofs.KnownBytes.{Consumes-nil}
-use Rattle.lra_http.proofs.Heads.{nothing, none_lacked, unspaced_more, bad_head, long_head, whole_head, takes_byte}
+use Rattle.lra_http.proofs.Calling.{well_none}
+use Rattle.lra_http.proofs.Known.{gives_none}
+use Rattle.lra_http.proofs.Heads.{nothing, none_lacked, unspaced_more, bad_head, long_head, whole_head, takes_byte, stops}
 use Rattle.lra_http.proofs.head.read_head.Goals as goal
 
 pub loop-head-init : goal.loop-head-init
 loop-head-init g c = record {
   below = c.requires.below;
-  taken = rw c.new-head.ensures.items (Consumes-nil _);
+  taken = rw c.new-head.ensures.items (gives_none _);
   none = rw c.new-head.ensures.items (nothing _);
   others = rw c.new-head.ensures.items (λ none. refl);
   short = rw c.new-head.ensures.items (omega arith);
   counted = omega arith;
-  none_failed = search rules;
+  well = rw c.new-head.ensures.items (well_none _ _ c.requires.below);
 }
 
 pub loop-head-preserved : goal.loop-head-preserved
@@ -24,23 +25,22 @@ loop-head-preserved g c = record {
   others = unspaced_more _ _ _ _ _ c.is_spaced-spaced.ensures c.in_ok-push.ensures.items c.loop-head.invariant.others;
   short = grind (arith, common_steps);
   counted = grind (arith, common_steps);
-  none_failed = grind (arith, common_steps);
+  well = search rules;
 }
 
 pub returns-in-Whole-clause-head : goal.returns-in-Whole-clause-head
-returns-in-Whole-clause-head g c =
-    whole_head _ _ _ _ _ _ _ _ c.in_ok-push.ensures.items
-    (takes_byte _ _ _ _ _ _ _ c.loop-head.invariant.taken c.in_ok-byte.ensures.some c.in-Some.is c.in_ok-push.ensures.items)
-    c.loop-head.invariant.none (rw (c.deref-then-is_due.ensures.value, c.loop-head.auto.headers) at c.in-Whole.ensures)
+returns-in-Whole-clause-head g c = (
+  takes_byte _ _ _ _ _ _ _ c.loop-head.invariant.taken c.in_ok-byte.ensures.some c.in-Some.is c.in_ok-push.ensures.items,
+  whole_head _ _ _ _ _ _ c.in_ok-push.ensures.items c.loop-head.invariant.none (rw (c.deref-then-is_due.ensures.value, c.loop-head.auto.headers) at c.in-Whole.ensures),
+)
 
 pub returns-in-Bad-clause-fault : goal.returns-in-Bad-clause-fault
 returns-in-Bad-clause-fault g c =
-    bad_head _ _ _ _ _ _ _ c.in_ok-push.ensures.items
-    (takes_byte _ _ _ _ _ _ _ c.loop-head.invariant.taken c.in_ok-byte.ensures.some c.in-Some.is c.in_ok-push.ensures.items)
-    c.loop-head.invariant.short (rw c.deref-then-is_due.ensures.value at c.in-Bad.ensures)
+    stops _ _ _ _ _ _ _ (takes_byte _ _ _ _ _ _ _ c.loop-head.invariant.taken c.in_ok-byte.ensures.some c.in-Some.is c.in_ok-push.ensures.items)
+    (bad_head _ _ _ _ _ _ c.in_ok-push.ensures.items c.loop-head.invariant.short (rw c.deref-then-is_due.ensures.value at c.in-Bad.ensures)) (λ e. absurd (cc))
 
 pub returns-in-Long-clause-fault : goal.returns-in-Long-clause-fault
 returns-in-Long-clause-fault g c =
-    long_head _ _ _ _ _ _ _ _ c.in_ok-push.ensures.items
-    (takes_byte _ _ _ _ _ _ _ c.loop-head.invariant.taken c.in_ok-byte.ensures.some c.in-Some.is c.in_ok-push.ensures.items)
-    c.loop-head.invariant.none c.loop-head.invariant.short (rw (c.deref-then-is_due.ensures.value, c.loop-head.auto.headers) at c.in-Long.ensures)
+    stops _ _ _ _ _ _ _ (takes_byte _ _ _ _ _ _ _ c.loop-head.invariant.taken c.in_ok-byte.ensures.some c.in-Some.is c.in_ok-push.ensures.items)
+    (long_head _ _ _ _ _ _ c.in_ok-push.ensures.items c.loop-head.invariant.none c.loop-head.invariant.short
+    (rw (c.deref-then-is_due.ensures.value, c.loop-head.auto.headers) at c.in-Long.ensures)) (λ e. absurd (cc))

@@ -1,0 +1,7 @@
+-- A list of bytes by its last one and what was before it.
+use Rattle.std.specs.Prelude.{ℕ, List, [], ◌∷◌, ◌++◌, Option, None, Some}
+use Rattle.std.specs.declared.snapshot.Snapshot.{Snapshot}
+
+abbrev pub one_byte_more : Option (Snapshot (List ℕ)) → ℕ → List ℕ
+one_byte_more None last = []
+one_byte_more (Some before) last = before.value ++ last ∷ []
