@@ -1,10 +1,23 @@
 -- what came of a call
-use Rattle.std.proofs.Common.{◌≡◌, ◌⊎◌, inl, inr, ℕ, List, [], sym, refl, Option, Some, None, IfSome}
-use Rattle.std.proofs.lemmas.List.{append-nil}
-use Rattle.std.specs.Io.KnownBytes.{Appends}
-use Rattle.lra_http.specs.Streams.{AppendsPart}
+use Rattle.std.proofs.Common.{◌≡◌, ◌≢◌, ◌⊎◌, inl, inr, ℕ, List, refl, Option, Some, None, IfSome}
 use Rattle.lra_http.specs.declared.fault.Fault.{Fault}
 use Rattle.lra_http.specs.declared.fault.Fault.TheVariants.{Cut, ReadFault, WriteFault, HeadTooLong, BodyTooLong, BadHead, LengthNeeded, NotOffered, NoMemory}
+use Rattle.lra_http.specs.Responses.{HasNoResponse, IsResponse, head_room}
+use Rattle.lra_http.specs.Streams.{AllWell, Calls, GivenBytes, IsLost, OnReadFault, OnWriteFault}
+use Rattle.lra_http.proofs.Left.{response_found}
+use Rattle.lra_callback.specs.OneCall.{IsUnanswered, answer_limit, answer_reads}
+
+-- of the faults of writing all but want of memory are write faults
+pub write_lost : (P Q : Type 0) (fault : Fault) → OnWriteFault P Q fault → fault ≢ NoMemory → P
+write_lost P Q WriteFault h not = h
+write_lost P Q NoMemory h not = absurd (not refl)
+write_lost P Q ReadFault h not = absurd h
+write_lost P Q Cut h not = absurd h
+write_lost P Q BadHead h not = absurd h
+write_lost P Q HeadTooLong h not = absurd h
+write_lost P Q BodyTooLong h not = absurd h
+write_lost P Q LengthNeeded h not = absurd h
+write_lost P Q NotOffered h not = absurd h
 
 -- where a whole message P is refused for these two faults alone, any other fault tells that there is none
 none_there : {H : Type 0} (P : List ℕ → H → List ℕ → List ℕ → Type 0) (old : Option (List ℕ)) (fault : Fault)
@@ -17,19 +30,21 @@ none_there P (Some input) fault found read memory = λ h body rest whole. elim (
 ]
 
 -- why nothing was read
-pub not_read : {H : Type 0} (P : List ℕ → H → List ℕ → List ℕ → Type 0) (old : Option (List ℕ)) (fault : Fault) (Cause : Type 0)
+not_read : {H : Type 0} (P : List ℕ → H → List ℕ → List ℕ → Type 0) (old : Option (List ℕ)) (fault : Fault) (Lost Well : Type 0)
     → IfSome old (λ input. (h : H) (body rest : List ℕ) → P input h body rest → (fault ≡ ReadFault) ⊎ (fault ≡ NoMemory))
-    → (fault ≡ ReadFault → Cause) → (fault ≡ NoMemory → ⊥) → Cause ⊎ IfSome old (λ input. (h : H) (body rest : List ℕ) → P input h body rest → ⊥)
-not_read P old ReadFault Cause found read memory = inl (read refl)
-not_read P old NoMemory Cause found read memory = absurd (memory refl)
-not_read P old Cut Cause found read memory = inr (none_there P old Cut found (λ e. absurd (cc)) memory)
-not_read P old WriteFault Cause found read memory = inr (none_there P old WriteFault found (λ e. absurd (cc)) memory)
-not_read P old HeadTooLong Cause found read memory = inr (none_there P old HeadTooLong found (λ e. absurd (cc)) memory)
-not_read P old BodyTooLong Cause found read memory = inr (none_there P old BodyTooLong found (λ e. absurd (cc)) memory)
-not_read P old BadHead Cause found read memory = inr (none_there P old BadHead found (λ e. absurd (cc)) memory)
-not_read P old LengthNeeded Cause found read memory = inr (none_there P old LengthNeeded found (λ e. absurd (cc)) memory)
-not_read P old NotOffered Cause found read memory = inr (none_there P old NotOffered found (λ e. absurd (cc)) memory)
+    → OnReadFault Lost Well fault → fault ≢ NoMemory → Lost ⊎ IfSome old (λ input. (h : H) (body rest : List ℕ) → P input h body rest → ⊥)
+not_read P old ReadFault Lost Well found calls memory = inl calls
+not_read P old NoMemory Lost Well found calls memory = absurd (memory refl)
+not_read P old WriteFault Lost Well found calls memory = absurd calls
+not_read P old Cut Lost Well found calls memory = inr (none_there P old Cut found (λ e. absurd (cc)) memory)
+not_read P old HeadTooLong Lost Well found calls memory = inr (none_there P old HeadTooLong found (λ e. absurd (cc)) memory)
+not_read P old BodyTooLong Lost Well found calls memory = inr (none_there P old BodyTooLong found (λ e. absurd (cc)) memory)
+not_read P old BadHead Lost Well found calls memory = inr (none_there P old BadHead found (λ e. absurd (cc)) memory)
+not_read P old LengthNeeded Lost Well found calls memory = inr (none_there P old LengthNeeded found (λ e. absurd (cc)) memory)
+not_read P old NotOffered Lost Well found calls memory = inr (none_there P old NotOffered found (λ e. absurd (cc)) memory)
 
--- the whole is a prefix of itself
-pub whole_part : (old new : Option (List ℕ)) (bs : List ℕ) → Appends old new bs → AppendsPart old new bs
-whole_part old new bs h = (bs, [], sym (append-nil bs), h)
+pub broken_so : (old new : GivenBytes) (before after : Calls) → IsUnanswered old new before after
+    → IsLost answer_reads 0 before after ⊎ IfSome old.left (HasNoResponse head_room answer_limit)
+broken_so old new before after (fault, memory, stops, calls) =
+    not_read (IsResponse head_room answer_limit) old.left fault (IsLost answer_reads 0 before after) (AllWell answer_reads 0 before after)
+    (response_found answer_limit old new fault stops) calls memory

@@ -1,8 +1,13 @@
 -- What comes of one call over a connection.
-use Rattle.std.specs.Prelude.{◌≡◌, ℕ, List, Option, IfSome}
+use Rattle.std.specs.Prelude.{◌≡◌, ◌≢◌, ℕ, ◌+◌, List, length}
 use Rattle.http.specs.StatusCode.{IsStatusCode}
+use Rattle.lra_http.specs.declared.fault.Fault.{Fault}
+use Rattle.lra_http.specs.declared.fault.Fault.TheVariants.{NoMemory}
 use Rattle.lra_http.specs.declared.message.Response.{Response}
-use Rattle.lra_http.specs.Responses.{IsRead, head_room}
+use Rattle.lra_http.specs.Faults.{Stops}
+use Rattle.lra_http.specs.Heads.{most_bytes}
+use Rattle.lra_http.specs.Responses.{IsMessage, Shows}
+use Rattle.lra_http.specs.Streams.{AllWell, Calls, GivenBytes, GivesWhat, IsFlushed, IsLost, OnReadFault, TakenBytes, Takes, TakesPart}
 use Rattle.lra_callback.specs.declared.answer.Answer.{Answer}
 use Rattle.lra_callback.specs.declared.answer.Answer.TheVariants.{Code, Broken}
 
@@ -15,17 +20,40 @@ pub record Ends (R W : Type 0) : Type 0 where
 abbrev pub answer_limit : ℕ
 answer_limit = 65536
 
--- the bytes began with a whole response with this code and this body, and what is behind it is left
-pub record HasAnswered (input : List ℕ) (left : Option (List ℕ)) (code : ℕ) (body : List ℕ) : Type 0 where
+-- the most reads of an answer, apart from the interrupted ones
+abbrev pub answer_reads : ℕ
+answer_reads = most_bytes + 1 + answer_limit
+
+-- the bytes are a whole response with this code and this body, and no byte more
+pub record HasAnswered (bytes : List ℕ) (code : ℕ) (body : List ℕ) : Type 0 where
   pub response : Response
-  pub taken : IsRead head_room answer_limit input left response
+  pub whole : IsMessage answer_limit bytes response
   pub code_is : code ≡ response.status
   pub body_is : body ≡ response.body
 
--- a code and its body are those of the response with which the bytes began, where these are known
-abbrev pub IsCodeOf : (old new : Option (List ℕ)) → Answer → Type 0
-IsCodeOf old new (Code code body) = IfSome old (λ input. HasAnswered input new code body)
+-- a code and its body are those of the response that was given
+abbrev pub IsCodeOf : (old new : GivenBytes) → Answer → Type 0
+IsCodeOf old new (Code code body) = GivesWhat old new (λ bytes. HasAnswered bytes code body)
 IsCodeOf old new Broken = Unit {0}
+
+-- what was given shows why there is no whole response, or a read failed
+abbrev pub IsUnanswered : (old new : GivenBytes) (before after : Calls) → Type 0
+IsUnanswered old new before after =
+    (fault : Fault) × (fault ≢ NoMemory) × Stops old new (Shows answer_limit) fault
+    × OnReadFault (IsLost answer_reads 0 before after) (AllWell answer_reads 0 before after) fault
+
+-- what was given tells the answer, and so the reads came out
+abbrev pub IsTold : (old new : GivenBytes) (before after : Calls) → Answer → Type 0
+IsTold old new before after (Code code body) = IsCodeOf old new (Code code body) × AllWell answer_reads 0 before after
+IsTold old new before after Broken = IsUnanswered old new before after
+
+-- all of the request was taken and passed on, and no write failed
+abbrev pub IsSent : (old new : TakenBytes) (before after : Calls) → List ℕ → Type 0
+IsSent old new before after text = Takes old new text × IsFlushed new × AllWell (length text + 1) 0 before after
+
+-- a write failed, before which a part of the request was taken
+abbrev pub IsUnsent : (old new : TakenBytes) (before after : Calls) → List ℕ → Type 0
+IsUnsent old new before after text = TakesPart old new text × IsLost (length text + 1) 0 before after
 
 abbrev pub IsBroken : Answer → Type 0
 IsBroken (Code code body) = ⊥

@@ -1,12 +1,10 @@
 // One call over a connection: a request is written, and its answer read.
-ghost use Rattle.std.specs.Prelude.{◌≡◌, ◌⊎◌, ◌+◌, ◌<◌, IfOk, IfSome, OnErr};
-ghost use Rattle.std.specs.Io.KnownBytes.{Appends};
-ghost use Rattle.lra_http.specs.Responses.{HasNoResponse, head_room};
-ghost use Rattle.lra_http.specs.Streams.{AppendsPart, IsLost, most_interrupted};
+ghost use Rattle.std.specs.Prelude.{◌≡◌, ◌⊎◌, IfOk, OnErr};
+ghost use Rattle.lra_http.specs.Streams.{AllWell};
 ghost use Rattle.lra_http.specs.MessageTexts.{request_text};
 ghost use Rattle.lra_http.specs.declared.message.CallRequest.{CallRequest as TheRequest};
 ghost use Rattle.lra_callback.specs.declared.answer.Answer.{Answer as TheAnswer};
-ghost use Rattle.lra_callback.specs.OneCall.{IsBroken, IsCodeOf, IsOfStatus, answer_limit};
+ghost use Rattle.lra_callback.specs.OneCall.{IsBroken, IsOfStatus, IsSent, IsTold, IsUnsent, answer_reads};
 
 use crate::Answer;
 use lra_http::{BODY_LIMIT, CallRequest, Fault, Sink, Source, read_response, write_request};
@@ -47,12 +45,8 @@ impl<R, W> Model for NetCaller<R, W> {
 
 /// Reads the answer.
 fn receive<R: Source>(alloc: Global, reader: &mut R) -> Result<Answer, NoMemory>
-    ensures code { IfOk result (IsCodeOf (R.left reader.old) (R.left reader.new)) }
-    ensures broken { IfOk result (λ answer. IsBroken answer
-        → IsLost (R.failed reader.old) (R.failed reader.new) (R.interrupted reader.old) (R.interrupted reader.new)
-        ⊎ IfSome (R.left reader.old) (HasNoResponse head_room answer_limit)) }
-    ensures none_failed { IfOk result (λ answer. IsBroken answer ⊎ (R.failed reader.new ≡ R.failed reader.old)) }
-    ensures few_interrupted { IfOk result (λ answer. IsBroken answer ⊎ (R.interrupted reader.new < R.interrupted reader.old + most_interrupted)) }
+    ensures told { IfOk result (IsTold (R.stream reader.old) (R.stream reader.new) (R.calls reader.old) (R.calls reader.new)) }
+    ensures memory { OnErr result (AllWell answer_reads 0 (R.calls reader.old) (R.calls reader.new)) }
     ensures status { IfOk result IsOfStatus }
 {
     match read_response(alloc, reader, BODY_LIMIT) {
@@ -84,29 +78,18 @@ impl<R: Source, W: Sink> NetCaller<R, W> {
     /// Writes a request, and reads its answer, with a body of at most 65,536 bytes. The answer is `Broken` where a write or a
     /// read fails, or no whole response comes. Errors: want of memory.
     pub fn ask(&mut self, alloc: Global, request: &CallRequest) -> Result<Answer, NoMemory>
-        // A code and a body are those of the whole response with which the reader's bytes began, and the rest is left.
-        ensures code { IfOk result (IsCodeOf (R.left self.old.reader) (R.left self.new.reader)) }
-        // They come behind the whole request.
-        ensures written { IfOk result (λ answer. IsBroken answer
-            ⊎ Appends (W.written self.old.writer) (W.written self.new.writer) (request_text request.now)) }
-        ensures part { AppendsPart (W.written self.old.writer) (W.written self.new.writer) (request_text request.now) }
-        // The answer is broken only where a write failed, and then nothing was read; or where the whole request was written,
-        // and a read failed or no whole response came.
-        ensures broken { IfOk result (λ answer. IsBroken answer
-            → (IsLost (W.failed self.old.writer) (W.failed self.new.writer) (W.interrupted self.old.writer) (W.interrupted self.new.writer)
+        // The answer is broken where a write failed, and then nothing was read. Else the whole request was written and passed
+        // on, and what was given since the call tells the answer: a code and a body are those of the whole response that was
+        // given, and no byte more; or what was given shows why no whole response came, or a read failed.
+        ensures told { IfOk result (λ answer.
+            (IsBroken answer × IsUnsent (W.stream self.old.writer) (W.stream self.new.writer) (W.calls self.old.writer) (W.calls self.new.writer) (request_text request.now)
             × (self.new.reader ≡ self.old.reader))
-            ⊎ (Appends (W.written self.old.writer) (W.written self.new.writer) (request_text request.now)
-            × (IsLost (R.failed self.old.reader) (R.failed self.new.reader) (R.interrupted self.old.reader) (R.interrupted self.new.reader)
-            ⊎ IfSome (R.left self.old.reader) (HasNoResponse head_room answer_limit)))) }
-        // Where the memory is refused nothing was written or read, or the whole request was written.
+            ⊎ (IsSent (W.stream self.old.writer) (W.stream self.new.writer) (W.calls self.old.writer) (W.calls self.new.writer) (request_text request.now)
+            × IsTold (R.stream self.old.reader) (R.stream self.new.reader) (R.calls self.old.reader) (R.calls self.new.reader) answer)) }
+        // Where the memory is refused nothing was written or read, or the whole request was written; and no call failed.
         ensures memory { OnErr result ((self.new ≡ self.old)
-            ⊎ Appends (W.written self.old.writer) (W.written self.new.writer) (request_text request.now)) }
-        // Behind a code no call failed, and fewer than 1,024 writes and 1,024 reads were interrupted.
-        ensures none_failed { IfOk result (λ answer. IsBroken answer
-            ⊎ ((W.failed self.new.writer ≡ W.failed self.old.writer) × (R.failed self.new.reader ≡ R.failed self.old.reader))) }
-        ensures few_interrupted { IfOk result (λ answer. IsBroken answer
-            ⊎ ((W.interrupted self.new.writer < W.interrupted self.old.writer + most_interrupted)
-            × (R.interrupted self.new.reader < R.interrupted self.old.reader + most_interrupted))) }
+            ⊎ (IsSent (W.stream self.old.writer) (W.stream self.new.writer) (W.calls self.old.writer) (W.calls self.new.writer) (request_text request.now)
+            × AllWell answer_reads 0 (R.calls self.old.reader) (R.calls self.new.reader))) }
         ensures status { IfOk result IsOfStatus }
     {
         match write_request(alloc, &mut self.writer, request) {
@@ -120,15 +103,12 @@ impl<R: Source, W: Sink> NetCaller<R, W> {
 }
 
 impl<R: Source, W: Sink> Caller for NetCaller<R, W> {
-    // The clauses of `ask`: what a code is of, that it comes behind the whole request, and where an answer is broken.
-    ghost answered = { λ old new request answer. IsCodeOf (R.left old.reader) (R.left new.reader) answer
-        × (IsBroken answer ⊎ Appends (W.written old.writer) (W.written new.writer) (request_text request))
-        × (IsBroken answer
-        → (IsLost (W.failed old.writer) (W.failed new.writer) (W.interrupted old.writer) (W.interrupted new.writer)
+    // The clause `told` of `ask`.
+    ghost answered = { λ old new request answer.
+        (IsBroken answer × IsUnsent (W.stream old.writer) (W.stream new.writer) (W.calls old.writer) (W.calls new.writer) (request_text request)
         × (new.reader ≡ old.reader))
-        ⊎ (Appends (W.written old.writer) (W.written new.writer) (request_text request)
-        × (IsLost (R.failed old.reader) (R.failed new.reader) (R.interrupted old.reader) (R.interrupted new.reader)
-        ⊎ IfSome (R.left old.reader) (HasNoResponse head_room answer_limit)))) };
+        ⊎ (IsSent (W.stream old.writer) (W.stream new.writer) (W.calls old.writer) (W.calls new.writer) (request_text request)
+        × IsTold (R.stream old.reader) (R.stream new.reader) (R.calls old.reader) (R.calls new.reader) answer) };
 
     fn call(&mut self, alloc: Global, request: &CallRequest) -> Result<Answer, NoMemory> {
         self.ask(alloc, request)

@@ -1,12 +1,11 @@
 -- what was read of a slice is what reading all of it gives
 use Rattle.std.proofs.Common.{◌≡◌, ℕ, ◌≤◌, List, [], length, take, drop, Option, Some, Result, Ok, Err, sym, ap, ◌∙◌, arith, inl, inr}
 use Rattle.std.specs.Prelude.{IfErr}
-use Rattle.lra_http.specs.Streams.{HasCause}
 use Rattle.std.proofs.lemmas.List.{take-append-drop}
 use Rattle.lra_delta.specs.declared.input.Stop.{Stop}
 use Rattle.lra_delta.specs.declared.input.Stop.TheVariants.{Fault, Cut, ReadFault, Memory}
 use Rattle.lra_delta.specs.FrameFields.{Gives, Read, Rest, value_of}
-use Rattle.lra_delta.specs.Seen.{Seen, Start, Answers, Whole, HasReason, Begins, Standing, of_slice, telling}
+use Rattle.lra_delta.specs.Seen.{Seen, Start, Answers, Whole, HasCause, HasReason, Begins, Standing, of_slice, telling}
 
 abbrev some : List ℕ → Option (List ℕ)
 some xs = Some xs

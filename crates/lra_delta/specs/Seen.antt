@@ -1,7 +1,7 @@
 -- what is known of an input, and what a reading of it says
-use Rattle.std.specs.Prelude.{◌≡◌, ◌+◌, ◌<◌, ◌≤◌, ℕ, min, List, ◌++◌, length, take, drop, Option, None, Some, Result, Ok, Err, IfOk, IfErr}
+use Rattle.std.specs.Prelude.{◌≡◌, ◌⊎◌, ◌+◌, ◌<◌, ◌≤◌, ℕ, min, List, ◌++◌, length, take, drop, Option, None, Some, Result, Ok, Err, IfOk, IfErr}
 use Rattle.std.specs.Borrow.{GName}
-use Rattle.lra_http.specs.Streams.{HasCause, most_interrupted}
+use Rattle.lra_http.specs.Streams.{most_interrupted}
 use Rattle.lra_delta.specs.declared.input.Stop.{Stop}
 use Rattle.lra_delta.specs.declared.input.Stop.TheVariants.{Fault, Cut, ReadFault, Memory}
 use Rattle.lra_delta.specs.FrameFields.{Rest, Read, Gives, value_of}
@@ -54,6 +54,10 @@ IsAll (Some xs) bytes = xs ≡ bytes
 -- no field has more bytes
 abbrev pub widest : ℕ
 widest = 128
+
+-- a call failed, or the message has met its most interrupted ones
+abbrev pub HasCause : (failed_before failed_after interrupted : ℕ) → Type 0
+HasCause failed_before failed_after interrupted = (failed_before < failed_after) ⊎ (interrupted ≡ most_interrupted)
 
 -- What a stop has as its cause. A fault comes before any byte behind its field is taken.
 abbrev pub HasReason : Stop → Seen → Type 0
