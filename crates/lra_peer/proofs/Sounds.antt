@@ -1,5 +1,5 @@
 -- A written response whose body is a frame.
-use Rattle.std.proofs.Common.{◌≡◌, ◌∙◌, ℕ, List, ◌++◌, Some, refl, subst}
+use Rattle.std.proofs.Common.{◌≡◌, ◌∙◌, ℕ, List, [], ◌++◌, append-nil, subst}
 use Rattle.lra_http.specs.declared.message.Response.{Response}
 use Rattle.lra_http.specs.Responses.{IsResponse, head_room}
 use Rattle.lra_http.specs.MessageTexts.{response_text}
@@ -9,14 +9,13 @@ use Rattle.lra_delta.specs.Frames.{Frame}
 use Rattle.lra_delta.specs.Spelling.{spelling}
 use Rattle.lra_peer.specs.PullAnswers.{IsAnswer, frame_limit}
 
-pub written_frame : (r : Response) (frame : Frame) (rest : List ℕ) → IsSound frame_limit r → r.status ≡ 200 → r.body ≡ spelling frame
-    → IsAnswer (response_text r ++ rest) (Some rest) 200 (spelling frame)
-written_frame r frame rest sound status body =
-    let whole = whole_response frame_limit r rest sound in
+pub written_frame : (r : Response) (frame : Frame) → IsSound frame_limit r → r.status ≡ 200 → r.body ≡ spelling frame
+    → IsAnswer (response_text r) 200 (spelling frame)
+written_frame r frame sound status body =
+    let whole = whole_response frame_limit r [] sound in
     record {
       head = whole.0;
-      rest = rest;
-      whole = subst (λ (text : List ℕ). IsResponse head_room frame_limit (response_text r ++ rest) whole.0 text rest) body whole.1;
+      whole = subst (λ (bytes : List ℕ). IsResponse head_room frame_limit bytes whole.0 (spelling frame) []) (append-nil (response_text r))
+          (subst (λ (text : List ℕ). IsResponse head_room frame_limit (response_text r ++ []) whole.0 text []) body whole.1);
       status_is = whole.2 ∙ status;
-      left_is = refl;
     }

@@ -1,5 +1,5 @@
 // Laws of pulls: each function does nothing, and its contract is the law.
-ghost use Rattle.std.specs.Prelude.{◌≡◌, ◌++◌, ◌≤◌, ℕ, List, Ok, Some, codes, length};
+ghost use Rattle.std.specs.Prelude.{◌≡◌, ◌++◌, ◌≤◌, ℕ, List, Ok, codes, length};
 ghost use Rattle.httparse.specs.Grammar.{RequestHead};
 ghost use Rattle.lra_id.specs.Fronts.{IsBelow, join_fronts};
 ghost use Rattle.lra_history.specs.Histories.{History, IsClosed, IsLawful, facts};
@@ -42,6 +42,6 @@ pub fn a_pull_is_a_whole_request()
 /// The text of a response with status 200, whose body spells a frame and whose fields are plain and state its length, is an
 /// answer from which a pull takes that frame.
 pub fn a_written_frame_is_an_answer()
-    ensures { (r : TheResponse) (frame : Frame) (rest : List ℕ) → IsSound frame_limit r → r.status ≡ 200 → r.body ≡ spelling frame →
-        IsAnswer (response_text r ++ rest) (Some rest) 200 (spelling frame) }
+    ensures { (r : TheResponse) (frame : Frame) → IsSound frame_limit r → r.status ≡ 200 → r.body ≡ spelling frame →
+        IsAnswer (response_text r) 200 (spelling frame) }
 {}

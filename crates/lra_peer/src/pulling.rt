@@ -1,15 +1,13 @@
 // Asking another node for what is lacked here.
-ghost use Rattle.std.specs.Prelude.{◌≡◌, ◌⊎◌, ℕ, ◌+◌, ◌<◌, List, Option, IfErr, IfOk, IfSome, MatchResult, OnOk};
-ghost use Rattle.std.specs.Io.KnownBytes.{Appends, IsAtEnd};
+ghost use Rattle.std.specs.Prelude.{◌≡◌, ◌⊎◌, ◌++◌, List, ℕ, IfErr, IfOk, IfSome, MatchResult};
 ghost use Rattle.lra_delta.specs.Frames.{Frame};
 ghost use Rattle.lra_delta.specs.Rules.{IsDelta};
 ghost use Rattle.lra_delta.specs.Spelling.{spelling};
-ghost use Rattle.lra_http.specs.Responses.{IsRead, Refuses, head_room};
-ghost use Rattle.lra_http.specs.Streams.{IsLost, most_interrupted};
-ghost use Rattle.lra_http.specs.declared.fault.Fault.TheVariants.{Cut, NoMemory, ReadFault, WriteFault};
-ghost use Rattle.lra_peer.specs.PullAnswers.{IsAnswer, IsOfStreams, IsSent, IsSentBy, RefusesPull, WhereRead, frame_limit};
+ghost use Rattle.lra_http.specs.Faults.{Stops};
+ghost use Rattle.lra_http.specs.Responses.{IsMessage, Shows};
+ghost use Rattle.lra_http.specs.Streams.{AllWell, GivesWhat, IsLost, OnReadFault};
+ghost use Rattle.lra_peer.specs.PullAnswers.{IsAnswer, IsOfStreams, IsSent, IsUnsent, IsUnsentBy, StopsPull, TellsDelta, frame_limit, pull_reads};
 ghost use Rattle.lra_peer.specs.Texts.{pull_text};
-ghost use Rattle.lra_peer.specs.declared.error.PullError.TheVariants.{Fault as OfHttp};
 
 use crate::PullError;
 use crate::answer::{FRAME_LIMIT, delta_of};
@@ -26,21 +24,16 @@ fn exchange<R: Source, W: Sink>(
     writer: &mut W,
     front: &Front,
 ) -> Result<Response, Fault>
-    ensures written { OnOk result (Appends (W.written writer.old) (W.written writer.new) (pull_text front.now)) }
-    ensures sent { IfErr result (λ fault. IsSent (W.written writer.old) (W.written writer.new) (pull_text front.now) fault) }
-    ensures message { IfOk result (λ response. IfSome (R.left reader.old) (λ input. IsRead head_room frame_limit input (R.left reader.new) response)) }
-    ensures fault { IfErr result (λ fault. IfSome (R.left reader.old) (λ input. (fault ≡ WriteFault) ⊎ Refuses head_room frame_limit input fault)) }
-    ensures ended { IfErr result (λ fault. fault ≡ Cut → IfSome (R.left reader.old) (λ _. IsAtEnd (R.left reader.new))) }
-    ensures unread { IfErr result (λ fault. fault ≡ WriteFault → reader.new ≡ reader.old) }
-    ensures write_fault { IfErr result (λ fault. fault ≡ WriteFault
-        → IsLost (W.failed writer.old) (W.failed writer.new) (W.interrupted writer.old) (W.interrupted writer.new)) }
-    ensures memory { IfErr result (λ fault. fault ≡ NoMemory
-        → ((writer.new ≡ writer.old) × (reader.new ≡ reader.old)) ⊎ Appends (W.written writer.old) (W.written writer.new) (pull_text front.now)) }
-    ensures read_fault { IfErr result (λ fault. fault ≡ ReadFault
-        → IsLost (R.failed reader.old) (R.failed reader.new) (R.interrupted reader.old) (R.interrupted reader.new)) }
-    ensures none_failed { OnOk result ((R.failed reader.new ≡ R.failed reader.old) × (W.failed writer.new ≡ W.failed writer.old)) }
-    ensures few_interrupted { OnOk result ((R.interrupted reader.new < R.interrupted reader.old + most_interrupted)
-        × (W.interrupted writer.new < W.interrupted writer.old + most_interrupted)) }
+    ensures message { IfOk result (λ response.
+        IsSent (W.stream writer.old) (W.stream writer.new) (W.calls writer.old) (W.calls writer.new) (pull_text front.now)
+        × GivesWhat (R.stream reader.old) (R.stream reader.new) (λ bytes. IsMessage frame_limit bytes response)
+        × AllWell pull_reads 0 (R.calls reader.old) (R.calls reader.new)) }
+    ensures fault { IfErr result (λ fault.
+        IsUnsent (W.stream writer.old) (W.stream writer.new) (W.calls writer.old) (W.calls writer.new) (pull_text front.now)
+        (reader.new ≡ reader.old) ((writer.new ≡ writer.old) × (reader.new ≡ reader.old)) fault
+        ⊎ (IsSent (W.stream writer.old) (W.stream writer.new) (W.calls writer.old) (W.calls writer.new) (pull_text front.now)
+        × Stops (R.stream reader.old) (R.stream reader.new) (Shows frame_limit) fault
+        × OnReadFault (IsLost pull_reads 0 (R.calls reader.old) (R.calls reader.new)) (AllWell pull_reads 0 (R.calls reader.old) (R.calls reader.new)) fault)) }
 {
     let request = pull_request(alloc, front)?;
     write_request(alloc, writer, &request)?;
@@ -58,31 +51,22 @@ pub fn pull<R: Source, W: Sink>(
     writer: &mut W,
     front: &Front,
 ) -> Result<Delta, PullError>
-    // The whole request was written; or a prefix of it, where a write failed; or nothing, where memory ran out before.
-    ensures written { OnOk result (Appends (W.written writer.old) (W.written writer.new) (pull_text front.now)) }
-    ensures sent { IfErr result (λ error. IsSentBy (W.written writer.old) (W.written writer.new) (pull_text front.now) error) }
-    // What is taken is one whole response with status 200, whose body spells the delta, and no byte more.
-    ensures message { IfOk result (λ delta. IsDelta delta × IfSome (R.left reader.old) (λ input. IsAnswer input (R.left reader.new) 200 (spelling delta))) }
-    // Where each error comes.
-    ensures error { IfErr result (λ error. IfSome (R.left reader.old) (λ input. RefusesPull input (R.left reader.new) error)) }
-    ensures ended { IfErr result (λ error. error ≡ OfHttp Cut → IfSome (R.left reader.old) (λ _. IsAtEnd (R.left reader.new))) }
-    // Where a whole response with status 200 and a frame stands, that frame is taken, unless a call fails or memory runs out.
-    ensures found { IfSome (R.left reader.old) (λ input. (left : Option (List ℕ)) (frame : Frame) → IsDelta frame → IsAnswer input left 200 (spelling frame)
-        → MatchResult result (λ delta. delta ≡ frame) IsOfStreams) }
-    // Where the request is not written, nothing is read.
-    ensures unread { IfErr result (λ error. error ≡ OfHttp WriteFault → reader.new ≡ reader.old) }
-    // Where memory ran out and not the whole request was written, nothing was written or read.
-    ensures memory { IfErr result (λ error. error ≡ OfHttp NoMemory
-        → ((writer.new ≡ writer.old) × (reader.new ≡ reader.old)) ⊎ Appends (W.written writer.old) (W.written writer.new) (pull_text front.now)) }
-    // Such a fault comes only where a call failed, or 1,024 were interrupted.
-    ensures write_fault { IfErr result (λ error. error ≡ OfHttp WriteFault
-        → IsLost (W.failed writer.old) (W.failed writer.new) (W.interrupted writer.old) (W.interrupted writer.new)) }
-    ensures read_fault { IfErr result (λ error. error ≡ OfHttp ReadFault
-        → IsLost (R.failed reader.old) (R.failed reader.new) (R.interrupted reader.old) (R.interrupted reader.new)) }
-    // Behind a whole answer no call failed, and fewer than 1,024 writes and 1,024 reads were interrupted.
-    ensures none_failed { WhereRead result ((R.failed reader.new ≡ R.failed reader.old) × (W.failed writer.new ≡ W.failed writer.old)) }
-    ensures few_interrupted { WhereRead result ((R.interrupted reader.new < R.interrupted reader.old + most_interrupted)
-        × (W.interrupted writer.new < W.interrupted writer.old + most_interrupted)) }
+    // The whole request was written and passed on. What was given since is one whole response with status 200, whose body spells
+    // the delta, and no byte more. No call failed.
+    ensures message { IfOk result (λ delta.
+        IsSent (W.stream writer.old) (W.stream writer.new) (W.calls writer.old) (W.calls writer.new) (pull_text front.now)
+        × TellsDelta (R.stream reader.old) (R.stream reader.new) (R.calls reader.old) (R.calls reader.new) delta) }
+    // Where each error comes: a prefix of the request was written, where a write failed, or nothing, where memory ran out before,
+    // and then nothing was read; or all of it was, and what was given tells why there is no delta, or a read failed.
+    ensures error { IfErr result (λ error.
+        IsUnsentBy (W.stream writer.old) (W.stream writer.new) (W.calls writer.old) (W.calls writer.new) (pull_text front.now)
+        (reader.new ≡ reader.old) ((writer.new ≡ writer.old) × (reader.new ≡ reader.old)) error
+        ⊎ (IsSent (W.stream writer.old) (W.stream writer.new) (W.calls writer.old) (W.calls writer.new) (pull_text front.now)
+        × StopsPull (R.stream reader.old) (R.stream reader.new) (R.calls reader.old) (R.calls reader.new) error)) }
+    // Where the bytes that are left are known, and a whole response with status 200 and a frame stands at their start, that frame
+    // is taken, unless a call fails or memory runs out.
+    ensures found { IfSome (R.stream reader.old).left (λ input. (bytes rest : List ℕ) (frame : Frame) → input ≡ bytes ++ rest
+        → IsDelta frame → IsAnswer bytes 200 (spelling frame) → MatchResult result (λ delta. delta ≡ frame) IsOfStreams) }
 {
     match exchange(alloc, reader, writer, front) {
         Ok(response) => delta_of(alloc, &response),
