@@ -1,6 +1,7 @@
 mod Answering
 mod Bases
 mod DecimalNumbers
+mod KnownInputs
 mod LineReadings
 mod MemberWords
 mod OneAskALine

@@ -1,39 +1,40 @@
 -- How far the reading of a line has come.
-use Rattle.std.proofs.Common.{◌≡◌, ℕ, ◌<◌, ◌≤◌, ◌==◌, true, false, List, [], ◌∷◌, ◌++◌, Option, None, Some, length, take, ap, sym, subst, ◌∙◌, append_assoc, arith}
+use Rattle.std.proofs.Common.{◌≡◌, ℕ, ◌<◌, ◌≤◌, ◌==◌, true, false, List, [], ◌∷◌, ◌++◌, length, take, ap, sym, refl, subst, ◌∙◌, arith}
 use Rattle.std.proofs.lemmas.List.{append-nil, take_all, length-take, length-append, take-append-le}
-use Rattle.std.specs.Io.KnownBytes.{Consumes, Keeps, IsAtEnd}
+use Rattle.lra_http.specs.Streams.{FoundEnd, GivenBytes, Gives, GivesWhat}
+use Rattle.lra_http.proofs.Known.{gives_more, gives_none}
 use Rattle.lra_node.specs.LineParts.{HasNone}
-use Rattle.lra_node.specs.Scripts.{ReadsLine}
+use Rattle.lra_node.specs.ScriptEnds.{ReadsLine, ReadsPart}
 use Rattle.lra_node.proofs.Splits.{HasNone-push}
 
--- of what was left a part of a line was read, of which so much is kept
-abbrev pub IsReading : List ℕ → Option (List ℕ) → Option (List ℕ) → Type 0
-IsReading kept None now = Unit {0}
-IsReading kept (Some left) None = ⊥
-IsReading kept (Some left) (Some now) = (part : List ℕ) × (kept ≡ take 4097 part) × HasNone 10 part × (left ≡ part ++ now)
+-- a part of a line was given, of which so much is kept
+abbrev pub IsReading : List ℕ → GivenBytes → GivenBytes → Type 0
+IsReading kept old now = GivesWhat old now (λ part. (kept ≡ take 4097 part) × HasNone 10 part)
 
-pub reading_byte : (kept more : List ℕ) (left now next : Option (List ℕ)) (b : ℕ) → IsReading kept left now → Consumes now next (b ∷ []) → (b == 10) ≡ false
-    → ((part : List ℕ) → kept ≡ take 4097 part → more ≡ take 4097 (part ++ b ∷ [])) → IsReading more left next
-reading_byte kept more None now next b r took other keeps = tt
-reading_byte kept more (Some left) None next b r took other keeps = absurd r
-reading_byte kept more (Some left) (Some now) None b r took other keeps = absurd took
-reading_byte kept more (Some left) (Some now) (Some next) b (part, is, none, had) took other keeps =
-    (part ++ b ∷ [], keeps part is, HasNone-push 10 part b none other, had ∙ ap (λ (l : List ℕ). part ++ l) took ∙ sym (append_assoc part (b ∷ []) next))
+pub reading_none : (old : GivenBytes) → IsReading [] old old
+reading_none old = ([], gives_none old, (refl, tt))
 
-pub reading_line : (kept : List ℕ) (left now next : Option (List ℕ)) → IsReading kept left now → Consumes now next (10 ∷ []) → ReadsLine true kept left next
-reading_line kept None now next r took = tt
-reading_line kept (Some left) None next r took = absurd r
-reading_line kept (Some left) (Some now) None r took = absurd took
-reading_line kept (Some left) (Some now) (Some next) (part, is, none, had) took =
-    (part, is, none, had ∙ ap (λ (l : List ℕ). part ++ l) took)
+pub reading_byte : (kept more : List ℕ) (old now next : GivenBytes) (b : ℕ) → IsReading kept old now → Gives now next (b ∷ []) → (b == 10) ≡ false
+    → ((part : List ℕ) → kept ≡ take 4097 part → more ≡ take 4097 (part ++ b ∷ [])) → IsReading more old next
+reading_byte kept more old now next b (part, gave, (is, none)) gives other keeps =
+    (part ++ b ∷ [], gives_more old now next part (b ∷ []) gave gives, (keeps part is, HasNone-push 10 part b none other))
 
-pub reading_end : (kept : List ℕ) (left now next : Option (List ℕ)) → IsReading kept left now → IsAtEnd now → Keeps now next → ReadsLine false kept left next
-reading_end kept None now next r end kept_it = tt
-reading_end kept (Some left) None next r end kept_it = absurd r
-reading_end kept (Some left) (Some now) None r end kept_it = absurd kept_it
-reading_end kept (Some left) (Some now) (Some next) (part, is, none, had) end kept_it =
-    let whole : left ≡ part = had ∙ ap (λ (l : List ℕ). part ++ l) end ∙ append-nil part in
-    (is ∙ ap (take 4097) (sym whole), subst (HasNone 10) (sym whole) none, kept_it ∙ end)
+pub reading_line : (kept : List ℕ) (old now next : GivenBytes) → IsReading kept old now → Gives now next (10 ∷ []) → ReadsLine true kept old next
+reading_line kept old now next (part, gave, (is, none)) gives =
+    (part ++ 10 ∷ [], gives_more old now next part (10 ∷ []) gave gives, (part, is, none, refl))
+
+-- the call that gave nothing more
+same_part : (old now next : GivenBytes) (part : List ℕ) → Gives old now part → Gives now next [] → Gives old next part
+same_part old now next part gave gives = subst (λ (l : List ℕ). Gives old next l) (append-nil part) (gives_more old now next part [] gave gives)
+
+pub reading_end : (kept : List ℕ) (old now next : GivenBytes) → IsReading kept old now → Gives now next [] × FoundEnd next → ReadsLine false kept old next
+reading_end kept old now next (part, gave, (is, none)) (gives, ended) = ((part, same_part old now next part gave gives, (is, none)), ended)
+
+pub reading_stopped : (kept : List ℕ) (old now next : GivenBytes) → IsReading kept old now → Gives now next [] → ReadsPart old next
+reading_stopped kept old now next (part, gave, (is, none)) gives = (part, same_part old now next part gave gives, none)
+
+pub reading_left : (kept : List ℕ) (old now : GivenBytes) → IsReading kept old now → ReadsPart old now
+reading_left kept old now (part, gave, (is, none)) = (part, gave, none)
 
 -- one more byte is kept, where there is room
 pub keep_more : (kept part : List ℕ) (b : ℕ) → length kept < 4097 → kept ≡ take 4097 part → kept ++ b ∷ [] ≡ take 4097 (part ++ b ∷ [])

@@ -4,4 +4,5 @@ pub mod CallLines
 pub mod Joins
 pub mod LineParts
 pub mod NodeHoldings
+pub mod ScriptEnds
 pub mod Scripts

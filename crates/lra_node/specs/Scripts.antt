@@ -1,5 +1,5 @@
--- The script: what its lines print, one after another, and what it says of a run that ends in a fault.
-use Rattle.std.specs.Prelude.{◌≡◌, ℕ, ◌+◌, ◌-◌, ◌*◌, ◌^◌, ◌<◌, ◌≤◌, ◌⊎◌, List, [], ◌∷◌, ◌++◌, length, take, codes, zero, suc, Option, None, Some, Result, Ok, Err, Bool, true, false}
+-- The script: what its lines print, one after another.
+use Rattle.std.specs.Prelude.{◌≡◌, ℕ, ◌<◌, ◌≤◌, ◌⊎◌, List, [], ◌∷◌, ◌++◌, length, codes, zero, suc, Option, None, Some, Result, Ok, Err}
 use Rattle.std.specs.Fmt.{decimal}
 use Rattle.lra_id.specs.Fronts.{front_text}
 use Rattle.lra_id.specs.Ids.{Id, id_text, text_of}
@@ -20,7 +20,7 @@ use Rattle.lra_world.specs.declared.event.Reply.{Reply}
 use Rattle.lra_world.specs.declared.event.Reply.TheVariants.{Answered, Sent, Took, Restarted, Expired, Quiet, Refused}
 use Rattle.lra_world.specs.Headline.{member_at, shown_at}
 use Rattle.lra_world.specs.Machines.{IsWorldOf, Machine}
-use Rattle.lra_world.specs.Worlds.{State, Steps, after_command, front_of, reply_at, set_of, start}
+use Rattle.lra_world.specs.Worlds.{State, Steps, after_command, front_of, reply_at, set_of}
 use Rattle.lra_callback.specs.declared.answer.Answer.{Answer}
 use Rattle.lra_callback.specs.declared.answer.Heard.{Heard}
 use Rattle.lra_callback.specs.declared.answer.Kind.{Kind}
@@ -28,12 +28,10 @@ use Rattle.lra_callback.specs.declared.duty.Duty.{Duty}
 use Rattle.lra_callback.specs.Answers.{heard_of}
 use Rattle.lra_callback.specs.CallDuties.{IsDuty, comes_first}
 use Rattle.lra_callback.specs.CallWords.{heard_name}
-use Rattle.lra_http.specs.Streams.{most_interrupted}
 use Rattle.lra_node.specs.declared.ask.Ask.{Ask}
 use Rattle.lra_node.specs.declared.ask.Ask.TheVariants.{Enter, Tick, Send, Deliver, Restart, Show, Member, Duties, Hear, Front, Same, Text, Read}
 use Rattle.lra_node.specs.Asks.{Spells}
 use Rattle.lra_node.specs.CallLines.{act_asked, command_of, duties_text}
-use Rattle.lra_node.specs.LineParts.{HasNone, lines_of}
 use Rattle.lra_node.specs.NodeHoldings.{AreComing}
 
 -- a line of at most so many bytes is read
@@ -196,46 +194,3 @@ TextInRoom nodes s lines out = TextOfLines (AnswersInRoom nodes) s lines out
 -- a line, and that what it prints was written so, in a world that stands for the state after it
 abbrev pub Prints : ℕ → State → List ℕ → Machine → (List ℕ → Type 0) → Type 0
 Prints nodes s line world was_written = (out : List ℕ) × WasAnswered nodes s line out world × was_written out
-
--- What a whole script has written, where the bytes of its input are known: the text of its lines from the start, or, after
--- a fault, a prefix of such a text. `was_written` says which.
-abbrev pub WritesText : ℕ → (List ℕ → Type 0) → Option (List ℕ) → Type 0
-WritesText nodes was_written None = Unit {0}
-WritesText nodes was_written (Some input) = (out : List ℕ) × ScriptText nodes (start nodes) (lines_of input) out × was_written out
-
--- Of what is left the first line was read, and of it so much is kept that a line too long shows. `more` tells whether a
--- line feed ended it: then lines follow, and else nothing is left.
-abbrev pub ReadsLine : Bool → List ℕ → Option (List ℕ) → Option (List ℕ) → Type 0
-ReadsLine more kept None next = Unit {0}
-ReadsLine more kept (Some left) None = ⊥
-ReadsLine true kept (Some left) (Some next) = (line : List ℕ) × (kept ≡ take (most_in_line + 1) line) × HasNone 10 line × (left ≡ line ++ 10 ∷ next)
-ReadsLine false kept (Some left) (Some next) = (kept ≡ take (most_in_line + 1) left) × HasNone 10 left × (next ≡ [])
-
--- of what is left a part of the first line was read
-abbrev pub ReadsPart : Option (List ℕ) → Option (List ℕ) → Type 0
-ReadsPart None next = Unit {0}
-ReadsPart (Some left) None = ⊥
-ReadsPart (Some left) (Some next) = (part : List ℕ) × HasNone 10 part × (left ≡ part ++ next)
-
--- What a script has written where its input broke off: the text of all lines that were read whole. Of what was taken of
--- the input the last line, `cut`, was not. `was_written` says of the text that it was.
-abbrev pub AnswersWhole : ℕ → (List ℕ → Type 0) → Option (List ℕ) → Option (List ℕ) → Type 0
-AnswersWhole nodes was_written None left = Unit {0}
-AnswersWhole nodes was_written (Some input) None = ⊥
-AnswersWhole nodes was_written (Some input) (Some left) =
-    (taken cut out : List ℕ) × (whole : List (List ℕ)) × (input ≡ taken ++ left) × (lines_of taken ≡ whole ++ cut ∷ []) × ScriptText nodes (start nodes) whole out × was_written out
-
--- where the input is known, fewer calls than make a fault were interrupted for each of its lines
-abbrev pub IsFewALine : Option (List ℕ) → (before after : ℕ) → Type 0
-IsFewALine None before after = Unit {0}
-IsFewALine (Some input) before after = after ≤ before + (most_interrupted - 1) * length (lines_of input)
-
--- known bytes were read to their end
-abbrev pub ReadsToEnd : Option (List ℕ) → Option (List ℕ) → Type 0
-ReadsToEnd None new = Unit {0}
-ReadsToEnd (Some left) None = ⊥
-ReadsToEnd (Some left) (Some new) = new ≡ []
-
--- so many bytes are read at most
-abbrev pub most_reads : ℕ
-most_reads = 2 ^ 64 - 1

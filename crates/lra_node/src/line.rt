@@ -1,7 +1,6 @@
 // Reading a line.
-ghost use Rattle.std.specs.Prelude.{◌≡◌, ◌<◌, ◌≤◌, ◌+◌, ◌⊎◌, ℕ, List, [], ◌∷◌, ◌++◌, take, vec_capacity, IfOk, OnOk, OnErr};
-ghost use Rattle.lra_http.specs.Streams.{most_interrupted};
-ghost use Rattle.lra_node.specs.Scripts.{ReadsLine, ReadsPart};
+ghost use Rattle.std.specs.Prelude.{◌≡◌, ◌<◌, ◌≤◌, ◌+◌, ℕ, List, [], ◌∷◌, ◌++◌, take, vec_capacity, IfOk, OnOk, OnErr};
+ghost use Rattle.lra_node.specs.ScriptEnds.{LineReads, ReadsLine, ReadsPart};
 
 use lra_http::{ReadFault, Source, read_byte};
 
@@ -21,14 +20,11 @@ pub fn read_line<R: Source>(
 ) -> Result<bool, ReadFault>
     requires { 4097 ≤ vec_capacity line.old }
     ensures room { 4097 ≤ vec_capacity line.new }
-    ensures read { IfOk result (λ more. ReadsLine more line.new.items (R.left reader.old) (R.left reader.new)) }
-    ensures cut { OnErr result (ReadsPart (R.left reader.old) (R.left reader.new)) }
-    ensures none_failed { OnOk result (R.failed reader.new ≡ R.failed reader.old) }
-    ensures counted { R.interrupted reader.old ≤ R.interrupted reader.new }
-    ensures few { OnOk result (R.interrupted reader.new < R.interrupted reader.old + most_interrupted) }
+    ensures read { IfOk result (λ more. ReadsLine more line.new.items (R.stream reader.old) (R.stream reader.new)) }
+    ensures cut { OnErr result (ReadsPart (R.stream reader.old) (R.stream reader.new)) }
+    ensures streams { LineReads (R.calls reader.old) (R.calls reader.new) reads_left.new result }
     ensures fewer { OnOk result (reads_left.new < reads_left.old) }
-    ensures spent { R.calls reader.old + reads_left.old ≤ R.calls reader.new + reads_left.new }
-    ensures fault { OnErr result ((R.failed reader.old < R.failed reader.new) ⊎ (R.interrupted reader.new ≡ R.interrupted reader.old + most_interrupted) ⊎ (reads_left.new ≡ 0)) }
+    ensures spent { (R.calls reader.old).made + reads_left.old ≤ (R.calls reader.new).made + reads_left.new }
 {
     line.clear();
     let mut interrupted = 0;

@@ -1,14 +1,14 @@
 // The script, over any source and sink.
-ghost use Rattle.std.specs.Prelude.{◌≡◌, ◌≤◌, ◌<◌, ◌+◌, ◌⊎◌, length, OnOk, OnErr};
-ghost use Rattle.std.specs.Io.KnownBytes.{Appends};
-ghost use Rattle.lra_http.specs.Streams.{AppendsPart, most_interrupted};
+ghost use Rattle.std.specs.Prelude.{◌≡◌, ◌≤◌, length, IfErr, OnOk, OnErr};
+ghost use Rattle.lra_http.specs.Streams.{TakesPart};
 ghost use Rattle.lra_world.specs.Machines.{IsWorldOf};
 ghost use Rattle.lra_world.specs.Worlds.{State};
-ghost use Rattle.lra_node.specs.Scripts.{AnswersWhole, IsFewALine, Prints, ReadsToEnd, WritesText, most_reads};
+ghost use Rattle.lra_node.specs.ScriptEnds.{AnswersWhole, HasCause, HasRun, IsPut, LineCalls, WritesPart};
+ghost use Rattle.lra_node.specs.Scripts.{Prints};
 
 use crate::answer::answer;
 use crate::line::{KEPT_OF_LINE, read_line};
-use lra_http::{Sink, Source, WriteFault, write_all};
+use lra_http::{Sink, Source, WriteFault, flush, write_all};
 use lra_world::World;
 use std::alloc::Global;
 
@@ -34,22 +34,17 @@ pub fn script<R: Source, W: Sink>(
     requires some { 1 ≤ nodes }
     requires few { nodes ≤ 8 }
 
-    // What is written is the text of what is read; after a fault it is a prefix of it. After a read fault every line that
-    // was read whole is answered whole.
-    ensures text { OnOk result (WritesText nodes (Appends (W.written writer.old) (W.written writer.new)) (R.left reader.old)) }
-    ensures part { OnErr result (WritesText nodes (AppendsPart (W.written writer.old) (W.written writer.new)) (R.left reader.old)) }
-    ensures whole { result ≡ Err ScriptFault.Read → AnswersWhole nodes (Appends (W.written writer.old) (W.written writer.new)) (R.left reader.old) (R.left reader.new) }
-    ensures end { OnOk result (ReadsToEnd (R.left reader.old) (R.left reader.new)) }
-
-    // No call failed, and of interrupted ones there were fewer than 1,024 a line.
-    ensures none_failed { OnOk result ((R.failed reader.new ≡ R.failed reader.old) × (W.failed writer.new ≡ W.failed writer.old)) }
-    ensures few_reads { OnOk result (IsFewALine (R.left reader.old) (R.interrupted reader.old) (R.interrupted reader.new)) }
-    ensures few_writes { OnOk result (IsFewALine (R.left reader.old) (W.interrupted writer.old) (W.interrupted writer.new)) }
-
-    // Each fault has its cause.
-    ensures read_fault { result ≡ Err ScriptFault.Read → (R.failed reader.old < R.failed reader.new) ⊎ (R.interrupted reader.old + most_interrupted ≤ R.interrupted reader.new) ⊎ (R.calls reader.old + most_reads ≤ R.calls reader.new) }
-    ensures write_fault { result ≡ Err ScriptFault.Write → (W.failed writer.old < W.failed writer.new) ⊎ (W.interrupted writer.old + most_interrupted ≤ W.interrupted writer.new) }
-    ensures no_memory { result ≡ Err ScriptFault.NoMemory → (R.calls reader.new ≡ R.calls reader.old) × (W.calls writer.new ≡ W.calls writer.old) }
+    // What was written and passed on is the text of what was given, to its end. No call failed, and of interrupted ones there
+    // were fewer than 1,024 a line.
+    ensures text { OnOk result (HasRun nodes (R.stream reader.old) (R.stream reader.new) (W.stream writer.old) (W.stream writer.new)
+        (R.calls reader.old) (R.calls reader.new) (W.calls writer.old) (W.calls writer.new)) }
+    // After a fault what was written is a prefix of that text, whatever follows what was given. After a read fault every line
+    // that was given whole is answered whole.
+    ensures part { OnErr result (WritesPart nodes (R.stream reader.old) (R.stream reader.new) (W.stream writer.old) (W.stream writer.new)) }
+    ensures whole { result ≡ Err ScriptFault.Read → AnswersWhole nodes (R.stream reader.old) (R.stream reader.new) (W.stream writer.old) (W.stream writer.new) }
+    // Each fault has its cause, and no call follows one that failed.
+    ensures streams { IfErr result (HasCause (R.calls reader.old) (R.calls reader.new) (W.calls writer.old) (W.calls writer.new)
+        ((reader.new ≡ reader.old) × (writer.new ≡ writer.old))) }
 {
     let Ok(mut line) = Vec::with_capacity(alloc, KEPT_OF_LINE) else {
         return Err(ScriptFault::NoMemory);
@@ -81,16 +76,23 @@ fn print_line<W: Sink>(
 ) -> Result<(), WriteFault>
     requires few { nodes ≤ 8 }
     requires nodes { length world.old.replicas ≡ nodes }
-    ensures ok { (s : State) → IsWorldOf s world.old → OnOk result (Prints nodes s line.now world.new (Appends (W.written writer.old) (W.written writer.new))) }
-    ensures err { (s : State) → IsWorldOf s world.old → OnErr result (Prints nodes s line.now world.new (AppendsPart (W.written writer.old) (W.written writer.new))) }
-    ensures none_failed { OnOk result (W.failed writer.new ≡ W.failed writer.old) }
-    ensures counted { W.interrupted writer.old ≤ W.interrupted writer.new }
-    ensures few { OnOk result (W.interrupted writer.new < W.interrupted writer.old + most_interrupted) }
-    ensures fault { OnErr result ((W.failed writer.old < W.failed writer.new) ⊎ (W.interrupted writer.new ≡ W.interrupted writer.old + most_interrupted)) }
+    ensures ok { (s : State) → IsWorldOf s world.old → OnOk result (Prints nodes s line.now world.new (IsPut (W.stream writer.old) (W.stream writer.new))) }
+    ensures err { (s : State) → IsWorldOf s world.old → OnErr result (Prints nodes s line.now world.new (TakesPart (W.stream writer.old) (W.stream writer.new))) }
+    ensures streams { LineCalls (W.calls writer.old) (W.calls writer.new) result }
+{
+    match answer(alloc, world, line, nodes) {
+        Ok(text) => put(writer, text.as_bytes()),
+        Err(_) => put(writer, b"refused E17 NoMemory\n"),
+    }
+}
+
+/// Writes a text and passes it on, or writes a prefix of it before a fault: one message.
+fn put<W: Sink>(writer: &mut W, text: &[u8]) -> Result<(), WriteFault>
+    ensures ok { OnOk result (IsPut (W.stream writer.old) (W.stream writer.new) text.now) }
+    ensures part { OnErr result (TakesPart (W.stream writer.old) (W.stream writer.new) text.now) }
+    ensures streams { LineCalls (W.calls writer.old) (W.calls writer.new) result }
 {
     let mut interrupted = 0;
-    match answer(alloc, world, line, nodes) {
-        Ok(text) => write_all(writer, text.as_bytes(), &mut interrupted),
-        Err(_) => write_all(writer, b"refused E17 NoMemory\n", &mut interrupted),
-    }
+    write_all(writer, text, &mut interrupted)?;
+    flush(writer, &mut interrupted)
 }

@@ -1,20 +1,18 @@
 use Rattle.std.proofs.Common.{ℕ, [], ◌∷◌, ◌∙◌, sym, subst, arith}
-use Rattle.std.specs.Io.KnownBytes.{Consumes}
-use Rattle.lra_node.proofs.LineReadings.{reading_byte, reading_line, reading_end}
+use Rattle.lra_http.specs.Streams.{Gives}
+use Rattle.lra_node.proofs.LineReadings.{reading_byte, reading_end, reading_line}
 use Rattle.lra_node.proofs.Splits.{differs}
 use Rattle.lra_node.proofs.line.read_line.Goals as goal
 
 pub returns-in-Some-eq10-clause-read : goal.returns-in-Some-eq10-clause-read
 returns-in-Some-eq10-clause-read g c =
-    let left = g.R.Source.left in
-    let P : ℕ → Type 0 = λ b. Consumes (left c.bytes.reader) (left c.read_byte.new.source) (b ∷ []) in
-    let took = subst P (sym c.in-Some-eq10.field-0-is ∙ c.in-Some-eq10.field-0-test) (rw c.in-Some-eq10.is at c.in-Ok.ensures.some) in
-    reading_line _ _ _ _ c.bytes.invariant.reading took
+    let stream = g.R.Source.stream in
+    let P : ℕ → Type 0 = λ b. Gives (stream c.bytes.reader) (stream c.read_byte.new.source) (b ∷ []) in
+    let gave = subst P (sym c.in-Some-eq10.field-0-is ∙ c.in-Some-eq10.field-0-test) (rw c.in-Some-eq10.is at c.in-Ok.ensures.some) in
+    reading_line _ _ _ _ c.bytes.invariant.reading gave
 
 pub returns-in-None-clause-read : goal.returns-in-None-clause-read
-returns-in-None-clause-read g c =
-    let end = rw c.in-None.is at c.in-Ok.ensures.end in
-    reading_end _ _ _ _ c.bytes.invariant.reading end.0 end.1
+returns-in-None-clause-read g c = reading_end _ _ _ _ c.bytes.invariant.reading (rw c.in-None.is at c.in-Ok.ensures.end)
 
 pub bytes-preserved : goal.bytes-preserved
 bytes-preserved g c = record {
@@ -23,7 +21,7 @@ bytes-preserved g c = record {
   room = c.keep.ensures.room;
   below = omega (arith, c.in-Ok.ensures.below);
   counted = omega (arith, c.in-Ok.ensures.counted, c.bytes.invariant.counted);
-  none_failed = c.in-Ok.ensures.none_failed ∙ c.bytes.invariant.none_failed;
+  none_failed = c.in-Ok.ensures.streams.none_failed ∙ c.bytes.invariant.none_failed;
   spent = omega (arith, c.in-Ok.ensures.called, c.bytes.invariant.spent);
   fewer = omega arith;
 }
