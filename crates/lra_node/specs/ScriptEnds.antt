@@ -1,6 +1,6 @@
 -- How a script ends: what it was given, what it has written of it, and how the calls came out.
 use Rattle.std.specs.Prelude.{◌≡◌, ℕ, ◌+◌, ◌-◌, ◌*◌, ◌^◌, ◌≤◌, ◌⊎◌, List, [], ◌∷◌, ◌++◌, length, take, Bool, true, false, Result, MatchResult}
-use Rattle.lra_http.specs.Streams.{Calls, FoundEnd, GivenBytes, Gives, GivesWhat, IsFlushed, TakenBytes, Takes, TakesPart, most_interrupted}
+use Rattle.lra_http.specs.Streams.{Calls, FoundEnd, GivenBytes, Gives, GivesWhat, HasCause, IsFlushed, TakenBytes, Takes, TakesPart, most_interrupted}
 use Rattle.lra_world.specs.Worlds.{start}
 use Rattle.lra_node.specs.declared.script.ScriptFault.{ScriptFault}
 use Rattle.lra_node.specs.declared.script.ScriptFault.TheVariants.{Read, Write, NoMemory}
@@ -15,33 +15,33 @@ pub record WentWell (lines : ℕ) (before after : Calls) : Type 0 where
   pub counted : before.interrupted ≤ after.interrupted
   pub few : after.interrupted ≤ before.interrupted + (most_interrupted - 1) * lines
 
+-- how the calls of one line came out: a fault has its cause
+abbrev pub LineCalls : {A E : Type 0} → Calls → Calls → Result A E → Type 0
+LineCalls before after result = MatchResult result (λ _. WentWell 1 before after) (λ _. HasCause 0 before after)
+
+-- the same of reads, of which so many may still be made
+abbrev pub LineReads : {A E : Type 0} → Calls → Calls → ℕ → Result A E → Type 0
+LineReads before after reads_left result =
+    MatchResult result (λ _. WentWell 1 before after) (λ _. HasCause 0 before after ⊎ ((after.failed ≡ before.failed) × (reads_left ≡ 0)))
+
 -- the last call failed, and no other did; or as many were interrupted as make a fault
 abbrev pub IsStopped : Calls → Calls → Type 0
 IsStopped before after =
     ((after.failed ≡ before.failed + 1) × (after.last_failed ≡ 1))
     ⊎ ((after.failed ≡ before.failed) × (before.interrupted + most_interrupted ≤ after.interrupted))
 
--- how the calls of one line came out
-abbrev pub LineCalls : {A E : Type 0} → Calls → Calls → Result A E → Type 0
-LineCalls before after result = MatchResult result (λ _. WentWell 1 before after) (λ _. IsStopped before after)
-
--- the same of reads, of which so many may still be made
-abbrev pub LineReads : {A E : Type 0} → Calls → Calls → ℕ → Result A E → Type 0
-LineReads before after reads_left result =
-    MatchResult result (λ _. WentWell 1 before after) (λ _. IsStopped before after ⊎ ((after.failed ≡ before.failed) × (reads_left ≡ 0)))
-
 -- so many bytes are read at most
 abbrev pub most_reads : ℕ
 most_reads = 2 ^ 64 - 1
 
 -- the cause of each fault of a script: of the other side no call failed, and where there was no memory none was made
-abbrev pub HasCause : (reads_before reads writes_before writes : Calls) → (untouched : Type 0) → ScriptFault → Type 0
-HasCause reads_before reads writes_before writes untouched Read =
+abbrev pub HasStopped : (reads_before reads writes_before writes : Calls) → (untouched : Type 0) → ScriptFault → Type 0
+HasStopped reads_before reads writes_before writes untouched Read =
     (IsStopped reads_before reads ⊎ ((reads.failed ≡ reads_before.failed) × (reads_before.made + most_reads ≤ reads.made)))
     × (writes.failed ≡ writes_before.failed)
-HasCause reads_before reads writes_before writes untouched Write =
+HasStopped reads_before reads writes_before writes untouched Write =
     IsStopped writes_before writes × (reads.failed ≡ reads_before.failed)
-HasCause reads_before reads writes_before writes untouched NoMemory = untouched
+HasStopped reads_before reads writes_before writes untouched NoMemory = untouched
 
 -- ---- lines
 

@@ -3,7 +3,7 @@ ghost use Rattle.std.specs.Prelude.{◌≡◌, ◌≤◌, length, IfErr, OnOk, O
 ghost use Rattle.lra_http.specs.Streams.{TakesPart};
 ghost use Rattle.lra_world.specs.Machines.{IsWorldOf};
 ghost use Rattle.lra_world.specs.Worlds.{State};
-ghost use Rattle.lra_node.specs.ScriptEnds.{AnswersWhole, HasCause, HasRun, IsPut, LineCalls, WritesPart};
+ghost use Rattle.lra_node.specs.ScriptEnds.{AnswersWhole, HasRun, HasStopped, IsPut, LineCalls, WritesPart};
 ghost use Rattle.lra_node.specs.Scripts.{Prints};
 
 use crate::answer::answer;
@@ -43,7 +43,7 @@ pub fn script<R: Source, W: Sink>(
     ensures part { OnErr result (WritesPart nodes (R.stream reader.old) (R.stream reader.new) (W.stream writer.old) (W.stream writer.new)) }
     ensures whole { result ≡ Err ScriptFault.Read → AnswersWhole nodes (R.stream reader.old) (R.stream reader.new) (W.stream writer.old) (W.stream writer.new) }
     // Each fault has its cause, and no call follows one that failed.
-    ensures streams { IfErr result (HasCause (R.calls reader.old) (R.calls reader.new) (W.calls writer.old) (W.calls writer.new)
+    ensures streams { IfErr result (HasStopped (R.calls reader.old) (R.calls reader.new) (W.calls writer.old) (W.calls writer.new)
         ((reader.new ≡ reader.old) × (writer.new ≡ writer.old))) }
 {
     let Ok(mut line) = Vec::with_capacity(alloc, KEPT_OF_LINE) else {

@@ -4,7 +4,7 @@ use lra_http::{OverRead, OverWrite};
 use std::io;
 use std::io::{Read, Write};
 
-/// Gives its bytes one at a time, each after so many interruptions, and fails where it is cut.
+/// Gives its bytes one at a time, each line after so many interruptions, fails once where it is cut, and then goes on.
 #[derive(Drop)]
 struct Halting<'a> {
     bytes: &'a [u8],
@@ -16,6 +16,7 @@ struct Halting<'a> {
 impl<'a> Read for Halting<'a> {
     fn read(&mut self, buf: &mut [u8]) -> io::Result<usize> {
         if self.cut == Some(self.bytes.len()) {
+            self.cut = None;
             return Err(io::ErrorKind::Other.into());
         }
         if self.left > 0 {
@@ -113,5 +114,68 @@ fn a_writer_that_fails_in_mid_stream(rt: HostRuntime) {
             writer.into_inner().bytes.as_slice() == &output[..room],
             "{room}"
         );
+    }
+}
+
+/// Takes all bytes, passes them on so many times, and then fails once.
+#[derive(Drop)]
+struct Stalling {
+    bytes: Vec<u8>,
+    flushes: u16,
+    failed: bool,
+    again: bool,
+}
+
+impl Stalling {
+    fn turn(&mut self) {
+        if self.failed {
+            self.again = true;
+        }
+    }
+}
+
+impl Write for Stalling {
+    fn write(&mut self, buf: &[u8]) -> io::Result<usize> {
+        self.turn();
+        self.bytes.extend_from_slice(buf)?;
+        Ok(buf.len())
+    }
+
+    fn flush(&mut self) -> io::Result<()> {
+        self.turn();
+        if self.flushes == 0 && !self.failed {
+            self.failed = true;
+            return Err(io::ErrorKind::BrokenPipe.into());
+        }
+        self.flushes = self.flushes.saturating_sub(1);
+        Ok(())
+    }
+}
+
+// What each line prints is passed on before the next line is read, and behind a failure no call is made.
+#[test]
+fn a_writer_that_passes_nothing_on(rt: HostRuntime) {
+    let outputs: [&[u8]; 3] = [
+        b"began 1.1\n",
+        b"began 1.1\nClosed\n",
+        b"began 1.1\nClosed\n",
+    ];
+    let mut flushes = 0;
+    for output in outputs {
+        let mut reader = OverRead::new(b"begin 1 0\nclose 1 1.1\n".as_slice());
+        let mut writer = OverWrite::new(Stalling {
+            bytes: Vec::new(rt.alloc()),
+            flushes,
+            failed: false,
+            again: false,
+        });
+        assert_eq!(rt;
+            script(rt.alloc(), &mut reader, &mut writer, 1),
+            Err(ScriptFault::Write)
+        );
+        let stalling = writer.into_inner();
+        assert!(rt; stalling.failed && !stalling.again, "{flushes}");
+        assert!(rt; stalling.bytes.as_slice() == output, "{flushes}");
+        flushes = flushes.saturating_add(1);
     }
 }
