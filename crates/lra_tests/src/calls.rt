@@ -13,16 +13,16 @@ use std::io::{ErrorKind, Read, Write};
 use std::test::Fail;
 
 /// The request to complete for the one participant of 1.1.
-const COMPLETE: &str = "PUT /k HTTP/1.1\r\nHost: p\r\n\
+pub(crate) const COMPLETE: &str = "PUT /k HTTP/1.1\r\nHost: p\r\n\
     Long-Running-Action: urn:uuid:00000000-0000-8001-8000-000000000001\r\n\
     Long-Running-Action-Recovery: /lra/00000000-0000-8001-8000-000000000001/member/1\r\n\
     Content-Length: 0\r\nConnection: close\r\n\r\n";
 
 /// The answer of one that completed, 38 bytes.
-const DONE: &[u8] = b"HTTP/1.1 200 OK\r\nContent-Length: 0\r\n\r\n";
+pub(crate) const DONE: &[u8] = b"HTTP/1.1 200 OK\r\nContent-Length: 0\r\n\r\n";
 
 /// The answer of one that is asked for its status, behind an interim head.
-const COMPLETED: &[u8] =
+pub(crate) const COMPLETED: &[u8] =
     b"HTTP/1.1 100 Continue\r\n\r\nHTTP/1.1 200 OK\r\nContent-Length: 11\r\n\r\n\"Completed\"";
 
 /// The request for the first duty of node 1.
@@ -39,7 +39,7 @@ fn first_request(alloc: Global, replica: &Replica) -> Result<CallRequest, Fail> 
 }
 
 /// The request whose text is `COMPLETE`.
-fn completion(alloc: Global) -> Result<CallRequest, Fail> {
+pub(crate) fn completion(alloc: Global) -> Result<CallRequest, Fail> {
     let mut replica = Replica::new(alloc, 1)?;
     begin(alloc, &mut replica, None)?;
     join(alloc, &mut replica, 1, K, None, None)?;

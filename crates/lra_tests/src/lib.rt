@@ -12,3 +12,5 @@ mod duties;
 mod facts;
 #[cfg(test)]
 mod forest;
+#[cfg(test)]
+mod once;
