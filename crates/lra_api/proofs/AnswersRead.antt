@@ -1,0 +1,450 @@
+-- The text of an answer is one whole response again.
+use Rattle.std.proofs.Common.{◌≡◌, ◌<◌, ◌≤◌, ◌+◌, ◌*◌, ◌^◌, ◌&&◌, ℕ, Bool, true, false, IsTrue, List, [], ◌∷◌, ◌++◌, codes, length, map, reverse, refl, arith, if◌then◌else◌, nat_lt, Result, Ok}
+use Rattle.std.specs.Fmt.{decimal}
+use Rattle.std.specs.List.{list_all}
+use Rattle.std.specs.Char.{is_ascii_digit}
+use Rattle.std.specs.Str.Parse.{AllDigits}
+use Rattle.std.proofs.lemmas.Bool.{le-ltb}
+use Rattle.std.proofs.lemmas.Bool.Decides.{nat_tests}
+use Rattle.std.proofs.lemmas.Fmt.{decimal_is_IsNumeral, decimal_nonempty, length-decimal-le}
+use Rattle.std.proofs.lemmas.List.{length-append, reverse-reverse}
+use Rattle.std.proofs.lemmas.List.Elements.{All-append, All-cons, All-from_get_or, All-from_recursion, All-head, All-nil, All-weaker}
+use Rattle.std.proofs.lemmas.List.Sums.{AllPass-from_list_all}
+use Rattle.std.proofs.lemmas.Str.Parse.{digit_from_value}
+use Rattle.httparse.specs.Grammar.{AllPass, is_ows, is_token_byte, is_value_byte, skip_ows, trim_ows}
+use Rattle.httparse.proofs.TrimLemmas.{AllPass-reverse}
+use Rattle.uuid.specs.Text.{hex_digit, is_hyphen_place, digit_place, nibble, lower}
+use Rattle.uuid.proofs.TextLemmas.{by_index_at, by_index_length, nibble_small}
+use Rattle.lra_id.specs.Ids.{Id, layout, text_of}
+use Rattle.lra_http.specs.declared.fault.Fault.{Fault}
+use Rattle.lra_http.specs.declared.message.Field.{Field}
+use Rattle.lra_http.specs.declared.message.Response.{Response}
+use Rattle.lra_http.specs.HeadFields.{field_bytes, is_bare, is_number, length_in, response_length}
+use Rattle.lra_http.specs.MessageTexts.{field_line, field_lines, line_end, phrase, response_head, status_line}
+use Rattle.lra_http.specs.WholeMessages.{IsPlain, IsSound}
+use Rattle.lra_http.specs.declared.fault.Fault.TheVariants as fault
+use Rattle.lra_http.specs.Faults.{fault_name}
+use Rattle.lra_http.proofs.WholeMessages.{whole_response}
+use Rattle.lra_states.specs.declared.status.LraStatus.TheVariants.{Active}
+use Rattle.lra_facts.specs.declared.refusal.Refusal.{Refusal}
+use Rattle.lra_facts.specs.declared.refusal.Refusal.TheVariants.{BadText, UnknownLra, NotHeld, NotHome, UnknownMember, NotActive, NotDue, NotEnded, NotRoot, StillToForget, MembersFull, DepthFull, LrasFull, NumbersSpent, Gap, BadFrame, NoMemory, JournalFailed, Stopped, RunFull, TrailLost, Strange}
+use Rattle.lra_facts.specs.RefusalTexts.{refusal_text}
+use Rattle.lra_history.specs.declared.command.CommandReply.{CommandReply}
+use Rattle.lra_history.specs.declared.command.CommandReply.TheVariants as command
+use Rattle.lra_delta.specs.Spelling.{spelling}
+use Rattle.lra_book.specs.declared.calls.Reply.{Reply}
+use Rattle.lra_book.specs.declared.calls.Reply.TheVariants as reply
+use Rattle.lra_api.specs.declared.routing.Unrouted.{Unrouted}
+use Rattle.lra_api.specs.declared.routing.Unrouted.TheVariants as unrouted
+use Rattle.lra_api.specs.declared.table.Place.{Place}
+use Rattle.lra_api.specs.declared.table.Place.TheVariants as place
+use Rattle.lra_api.specs.Table.{allowed}
+use Rattle.lra_api.specs.Wholes.{IsNumbered, IsNumberedCommand, IsWhole}
+use Rattle.lra_api.specs.declared.answers.FieldName.{FieldName}
+use Rattle.lra_api.specs.declared.answers.FieldName.TheVariants.{Allow, Action, Recovery, ContentType, ContentLength, Connection}
+use Rattle.lra_api.specs.Answers.{answer_of, bare, closing, code_of, command_answer, fault_answer, fault_code, field, field_name, json, of_length, of_type, refusal_answer, unrouted_answer, with_body}
+use Rattle.lra_api.specs.Texts.{join_body, member_body, page_body, recovery_path, refusal_body, status_body, urn}
+
+-- Values that can be seen: no white space, no control byte, and ASCII alone
+
+abbrev pub seen : ℕ → Bool
+seen b = nat_lt 32 b && nat_lt b 127
+
+seen_passes : (b : ℕ) → IsTrue (seen b) → IsTrue (is_value_byte b)
+seen_passes b h = grind (arith, nat_tests)
+
+seen_stands : (b : ℕ) → IsTrue (seen b) → is_ows b ≡ false
+seen_stands b h = grind (arith, nat_tests)
+
+skip_seen : (v : List ℕ) → AllPass seen v → skip_ows v ≡ v
+skip_seen [] h = refl
+skip_seen (b ∷ bs) h = rw (seen_stands b (All-head (λ x. IsTrue (seen x)) b bs h)) refl
+
+trim_seen : (v : List ℕ) → AllPass seen v → trim_ows v ≡ v
+unfolding trim_ows
+trim_seen v h = rw (skip_seen v h, skip_seen (reverse v) (AllPass-reverse seen v h), reverse-reverse) refl
+
+plain_seen : (name value : List ℕ) → 0 < length name → list_all is_token_byte name ≡ true → AllPass seen value → IsPlain (record { name = name; value = value })
+plain_seen name value some token h = record {
+  name = (some, AllPass-from_list_all is_token_byte name token);
+  value = All-weaker (λ x. IsTrue (seen x)) (λ x. IsTrue (is_value_byte x)) seen_passes value h;
+  trimmed = trim_seen value h;
+}
+
+-- a field of an answer with such a value
+field_plain : (name : FieldName) (value : List ℕ) → AllPass seen value → IsPlain (field name value)
+unfolding is_token_byte
+field_plain Allow value h = plain_seen (field_name Allow) value (omega arith) refl h
+field_plain Action value h = plain_seen (field_name Action) value (omega arith) refl h
+field_plain Recovery value h = plain_seen (field_name Recovery) value (omega arith) refl h
+field_plain ContentType value h = plain_seen (field_name ContentType) value (omega arith) refl h
+field_plain ContentLength value h = plain_seen (field_name ContentLength) value (omega arith) refl h
+field_plain Connection value h = plain_seen (field_name Connection) value (omega arith) refl h
+
+literal_seen : (v : List ℕ) → list_all seen v ≡ true → AllPass seen v
+literal_seen v h = AllPass-from_list_all seen v h
+
+-- Ids and numbers
+
+seen_if : (b : Bool) (x y : ℕ) → IsTrue (seen x) → IsTrue (seen y) → IsTrue (seen (if b then x else y))
+seen_if true x y p q = p
+seen_if false x y p q = q
+
+hex_seen : (d : ℕ) → d < 16 → IsTrue (seen (hex_digit lower d))
+hex_seen d h = grind (arith, nat_tests)
+
+abbrev digit_at : List ℕ → ℕ → ℕ
+digit_at bytes k = if is_hyphen_place k then 45 else hex_digit lower (nibble bytes (digit_place k))
+
+id_seen : (id : Id) → AllPass seen (text_of id)
+id_seen id =
+    All-from_get_or (λ x. IsTrue (seen x)) (text_of id) 0 (λ i inside.
+    rw (by_index_at 36 (digit_at (layout id)) i 0 (rw (by_index_length 36 (digit_at (layout id))) at inside))
+    (seen_if (is_hyphen_place i) 45 (hex_digit lower (nibble (layout id) (digit_place i))) refl
+    (hex_seen (nibble (layout id) (digit_place i)) (nibble_small (layout id) (digit_place i)))))
+
+digits_seen : (ds : List ℕ) → AllDigits 10 ds → AllPass seen ds
+digits_seen [] h = All-nil (λ x. IsTrue (seen x))
+digits_seen (c ∷ cs) h =
+    let at = digit_from_value c h.0 in
+    All-cons (λ x. IsTrue (seen x)) c cs (grind (arith, nat_tests)) (digits_seen cs h.1)
+
+digits_pass : (ds : List ℕ) → AllDigits 10 ds → list_all is_ascii_digit ds ≡ true
+digits_pass [] h = refl
+digits_pass (c ∷ cs) h =
+    let at = digit_from_value c h.0 in
+    let first : is_ascii_digit c ≡ true = grind (arith, nat_tests) in
+    rw (first, digits_pass cs h.1) refl
+
+decimal_seen : (n : ℕ) → n < 2 ^ 64 → AllPass seen (decimal n)
+decimal_seen n fits = digits_seen (decimal n) (decimal_is_IsNumeral n fits).0.1
+
+number_of : (n : ℕ) → n < 2 ^ 64 → is_number (decimal n) ≡ true
+number_of n fits =
+    let some : nat_lt 0 (length (decimal n)) ≡ true = let more = decimal_nonempty n fits in grind (arith, nat_tests) in
+    rw (some, digits_pass (decimal n) (decimal_is_IsNumeral n fits).0.1) refl
+
+abbrev sized : ℕ → Result ℕ Fault
+sized n = Ok n
+
+length_is : (limit n : ℕ) → n < 2 ^ 64 → n ≤ limit → length_in limit (decimal n) ≡ sized n
+length_is limit n fits low = rw (number_of n fits, (decimal_is_IsNumeral n fits).1, le-ltb limit n low) refl
+
+-- Heads of few bytes
+
+abbrev Short : List Field → Type 0
+Short [] = Unit {0}
+Short (f ∷ fs) = (length f.name + length f.value ≤ 300) × Short fs
+
+line_length : (f : Field) → length (field_line f) ≡ length f.name + length f.value + 4
+line_length f =
+    let one = length-append f.name (codes ": " ++ (f.value ++ line_end)) in
+    let two = length-append f.value line_end in
+    omega (arith, one, two)
+
+lines_short : (fs : List Field) → Short fs → length (field_lines fs) ≤ 304 * length fs
+lines_short [] h = omega arith
+lines_short (f ∷ fs) h =
+    let one = length-append (field_line f) (field_lines fs) in
+    let rest = lines_short fs h.1 in
+    let line = line_length f in
+    let few = h.0 in
+    omega (arith, one, rest, line, few)
+
+head_short : (r : Response) → length (status_line r.status) ≤ 100 → Short r.fields → length r.fields ≤ 4 → length (response_head r) ≤ 16384
+head_short r status short few =
+    let one = length-append (status_line r.status) (field_lines r.fields ++ line_end) in
+    let two = length-append (field_lines r.fields) line_end in
+    let lines = lines_short r.fields short in
+    omega (arith, one, two, lines, status, few)
+
+-- Codes of answers with a body
+
+pub record IsCode (code : ℕ) : Type 0 where
+  pub final : 200 ≤ code
+  pub status : code < 1000
+  pub low : nat_lt code 100 ≡ false
+  pub bodied : is_bare code ≡ false
+  pub short : length (status_line code) ≤ 100
+
+-- a field that may stand before those of the body
+abbrev pub IsFirst : FieldName → Type 0
+IsFirst Allow = Unit {0}
+IsFirst Action = Unit {0}
+IsFirst Recovery = Unit {0}
+IsFirst ContentType = ⊥
+IsFirst ContentLength = ⊥
+IsFirst Connection = ⊥
+
+close_plain : IsPlain closing
+close_plain = field_plain Connection (codes "close") (literal_seen (codes "close") refl)
+
+size_plain : (n : ℕ) → n < 2 ^ 64 → IsPlain (field ContentLength (decimal n))
+size_plain n fits = field_plain ContentLength (decimal n) (decimal_seen n fits)
+
+size_short : (n : ℕ) → n < 2 ^ 64 → length (decimal n) ≤ 20
+size_short n fits = length-decimal-le 20 n (omega arith) (omega arith) fits
+
+pub sound_with : (limit code : ℕ) (kind body : List ℕ) → IsCode code → AllPass seen kind → length kind ≤ 100 → length body < 2 ^ 64 → length body ≤ limit
+    → IsSound limit (with_body code [] kind body)
+sound_with limit code kind body right clear few fits low =
+    let size = size_short (length body) fits in
+    record {
+      final = right.final;
+      status = right.status;
+      fields = All-from_recursion IsPlain (of_type kind ∷ of_length body ∷ closing ∷ []) (field_plain ContentType kind clear, (size_plain (length body) fits, (close_plain, tt)));
+      stated = rw (right.low, right.bodied) (length_is limit (length body) fits low);
+      short = head_short (with_body code [] kind body) right.short (omega (arith, few), (omega (arith, size), (omega arith, tt))) (omega arith);
+      few = omega arith;
+    }
+
+pub sound_behind : (limit code : ℕ) (name : FieldName) (value kind body : List ℕ) → IsFirst name → IsPlain (field name value) → length value ≤ 200
+    → IsCode code → AllPass seen kind → length kind ≤ 100 → length body < 2 ^ 64 → length body ≤ limit
+    → IsSound limit (with_body code (field name value ∷ []) kind body)
+sound_behind limit code name value kind body first plain little right clear few fits low =
+    let size = size_short (length body) fits in
+    record {
+      final = right.final;
+      status = right.status;
+      fields = All-from_recursion IsPlain (field name value ∷ of_type kind ∷ of_length body ∷ closing ∷ [])
+          (plain, (field_plain ContentType kind clear, (size_plain (length body) fits, (close_plain, tt))));
+      stated = stated_behind name first;
+      short = head_short (with_body code (field name value ∷ []) kind body) right.short (name_short name, (omega (arith, few), (omega (arith, size), (omega arith, tt)))) (omega arith);
+      few = omega arith;
+    }
+  where
+    stated_behind : (name : FieldName) → IsFirst name
+        → response_length limit code (map field_bytes (field name value ∷ of_type kind ∷ of_length body ∷ closing ∷ [])) ≡ sized (length body)
+    stated_behind Allow f = rw (right.low, right.bodied) (length_is limit (length body) fits low)
+    stated_behind Action f = rw (right.low, right.bodied) (length_is limit (length body) fits low)
+    stated_behind Recovery f = rw (right.low, right.bodied) (length_is limit (length body) fits low)
+    stated_behind ContentType f = absurd f
+    stated_behind ContentLength f = absurd f
+    stated_behind Connection f = absurd f
+
+    name_short : (name : FieldName) → length (field_name name) + length value ≤ 300
+    name_short Allow = omega (arith, little)
+    name_short Action = omega (arith, little)
+    name_short Recovery = omega (arith, little)
+    name_short ContentType = omega (arith, little)
+    name_short ContentLength = omega (arith, little)
+    name_short Connection = omega (arith, little)
+
+pub sound_bare : (limit : ℕ) → IsSound limit (bare 204)
+unfolding phrase
+sound_bare limit = record {
+  final = omega arith;
+  status = omega arith;
+  fields = All-from_recursion IsPlain (closing ∷ []) (close_plain, tt);
+  stated = refl;
+  short = omega arith;
+  few = omega arith;
+}
+
+code_200 : IsCode 200
+unfolding phrase
+code_200 = record { final = omega arith; status = omega arith; low = refl; bodied = refl; short = omega arith }
+
+code_201 : IsCode 201
+unfolding phrase
+code_201 = record { final = omega arith; status = omega arith; low = refl; bodied = refl; short = omega arith }
+
+code_400 : IsCode 400
+unfolding phrase
+code_400 = record { final = omega arith; status = omega arith; low = refl; bodied = refl; short = omega arith }
+
+code_404 : IsCode 404
+unfolding phrase
+code_404 = record { final = omega arith; status = omega arith; low = refl; bodied = refl; short = omega arith }
+
+code_405 : IsCode 405
+unfolding phrase
+code_405 = record { final = omega arith; status = omega arith; low = refl; bodied = refl; short = omega arith }
+
+code_409 : IsCode 409
+unfolding phrase
+code_409 = record { final = omega arith; status = omega arith; low = refl; bodied = refl; short = omega arith }
+
+code_410 : IsCode 410
+unfolding phrase
+code_410 = record { final = omega arith; status = omega arith; low = refl; bodied = refl; short = omega arith }
+
+code_411 : IsCode 411
+unfolding phrase
+code_411 = record { final = omega arith; status = omega arith; low = refl; bodied = refl; short = omega arith }
+
+code_412 : IsCode 412
+unfolding phrase
+code_412 = record { final = omega arith; status = omega arith; low = refl; bodied = refl; short = omega arith }
+
+code_413 : IsCode 413
+unfolding phrase
+code_413 = record { final = omega arith; status = omega arith; low = refl; bodied = refl; short = omega arith }
+
+code_421 : IsCode 421
+unfolding phrase
+code_421 = record { final = omega arith; status = omega arith; low = refl; bodied = refl; short = omega arith }
+
+code_431 : IsCode 431
+unfolding phrase
+code_431 = record { final = omega arith; status = omega arith; low = refl; bodied = refl; short = omega arith }
+
+code_501 : IsCode 501
+unfolding phrase
+code_501 = record { final = omega arith; status = omega arith; low = refl; bodied = refl; short = omega arith }
+
+code_503 : IsCode 503
+unfolding phrase
+code_503 = record { final = omega arith; status = omega arith; low = refl; bodied = refl; short = omega arith }
+
+refusal_code : (refusal : Refusal) → IsCode (code_of refusal)
+refusal_code BadText = code_400
+refusal_code UnknownLra = code_404
+refusal_code NotHeld = code_410
+refusal_code (NotHome home) = code_421
+refusal_code UnknownMember = code_404
+refusal_code (NotActive status) = code_412
+refusal_code (NotDue status) = code_409
+refusal_code (NotEnded status) = code_409
+refusal_code NotRoot = code_409
+refusal_code (StillToForget id member) = code_409
+refusal_code MembersFull = code_503
+refusal_code DepthFull = code_503
+refusal_code LrasFull = code_503
+refusal_code NumbersSpent = code_503
+refusal_code (Gap front) = code_503
+refusal_code (BadFrame place) = code_400
+refusal_code NoMemory = code_503
+refusal_code JournalFailed = code_503
+refusal_code Stopped = code_503
+refusal_code RunFull = code_503
+refusal_code (TrailLost number) = code_503
+refusal_code (Strange place) = code_503
+
+fault_right : (f : Fault) → IsCode (fault_code f)
+fault_right fault.BadHead = code_400
+fault_right fault.BodyTooLong = code_413
+fault_right fault.HeadTooLong = code_431
+fault_right fault.NotOffered = code_501
+fault_right fault.LengthNeeded = code_411
+fault_right fault.Cut = code_400
+fault_right fault.ReadFault = code_400
+fault_right fault.WriteFault = code_400
+fault_right fault.NoMemory = code_400
+
+-- Values of fields
+
+urn_seen : (id : Id) → AllPass seen (urn id)
+unfolding urn
+urn_seen id = All-append (λ x. IsTrue (seen x)) (codes "urn:uuid:") (text_of id) (literal_seen (codes "urn:uuid:") refl) (id_seen id)
+
+urn_short : (id : Id) → length (urn id) ≤ 200
+unfolding urn
+urn_short id =
+    let long : length (text_of id) ≡ 36 = by_index_length 36 (digit_at (layout id)) in
+    omega (arith, long)
+
+path_seen : (id : Id) (m : ℕ) → m < 2 ^ 64 → AllPass seen (recovery_path id m)
+unfolding recovery_path
+path_seen id m fits =
+    All-append (λ x. IsTrue (seen x)) (codes "/lra/") _ (literal_seen (codes "/lra/") refl)
+    (All-append (λ x. IsTrue (seen x)) (text_of id) _ (id_seen id)
+    (All-append (λ x. IsTrue (seen x)) (codes "/member/") _ (literal_seen (codes "/member/") refl) (decimal_seen m fits)))
+
+path_short : (id : Id) (m : ℕ) → m < 2 ^ 64 → length (recovery_path id m) ≤ 200
+unfolding recovery_path
+path_short id m fits =
+    let long : length (text_of id) ≡ 36 = by_index_length 36 (digit_at (layout id)) in
+    let size = size_short m fits in
+    let whole = length-append (text_of id) (codes "/member/" ++ decimal m) in
+    omega (arith, long, size, whole)
+
+-- Answers
+
+sound_json : (limit code : ℕ) (body : List ℕ) → IsCode code → limit < 2 ^ 64 → length body ≤ limit → IsSound limit (json code [] body)
+sound_json limit code body right fits low =
+    sound_with limit code (codes "application/json") body right (literal_seen (codes "application/json") refl) (omega arith) (omega (arith, low, fits)) low
+
+sound_first : (limit code : ℕ) (name : FieldName) (value body : List ℕ) → IsFirst name → IsPlain (field name value) → length value ≤ 200 → IsCode code
+    → limit < 2 ^ 64 → length body ≤ limit → IsSound limit (json code (field name value ∷ []) body)
+sound_first limit code name value body first plain few right fits low =
+    sound_behind limit code name value (codes "application/json") body first plain few right (literal_seen (codes "application/json") refl) (omega arith)
+    (omega (arith, low, fits)) low
+
+sound_refusal : (limit : ℕ) (refusal : Refusal) → limit < 2 ^ 64 → length (refusal_answer refusal).body ≤ limit → IsSound limit (refusal_answer refusal)
+sound_refusal limit refusal fits low = sound_json limit (code_of refusal) (refusal_body (refusal_text refusal)) (refusal_code refusal) fits low
+
+sound_command : (limit : ℕ) (r : CommandReply) → limit < 2 ^ 64 → IsNumberedCommand r → length (command_answer r).body ≤ limit → IsSound limit (command_answer r)
+sound_command limit (command.Began id m) fits small low =
+    sound_first limit 201 Action (urn id) (status_body id Active) tt (field_plain Action (urn id) (urn_seen id)) (urn_short id) code_201 fits low
+sound_command limit (command.Joined id m) fits small low =
+    sound_first limit 200 Recovery (recovery_path id m) (join_body id m) tt (field_plain Recovery (recovery_path id m) (path_seen id m small)) (path_short id m small) code_200 fits low
+sound_command limit (command.Decided id status) fits small low = sound_json limit 200 (status_body id status) code_200 fits low
+sound_command limit command.Left fits small low = sound_bare limit
+sound_command limit command.Reported fits small low = sound_bare limit
+sound_command limit command.Known fits small low = sound_bare limit
+sound_command limit command.Forgotten fits small low = sound_bare limit
+sound_command limit command.Purged fits small low = sound_bare limit
+sound_command limit (command.Refused refusal) fits small low = sound_refusal limit refusal fits low
+
+sound_reply : (limit : ℕ) (r : Reply) → limit < 2 ^ 64 → IsNumbered r → length (answer_of r).body ≤ limit → IsSound limit (answer_of r)
+sound_reply limit (reply.Command r) fits small low = sound_command limit r fits small low
+sound_reply limit reply.Took fits small low = sound_bare limit
+sound_reply limit (reply.Gave delta) fits small low =
+    sound_with limit 200 (codes "application/octet-stream") (spelling delta) code_200 (literal_seen (codes "application/octet-stream") refl) (omega arith)
+    (omega (arith, low, fits)) low
+sound_reply limit (reply.Shown id status) fits small low = sound_json limit 200 (status_body id status) code_200 fits low
+sound_reply limit (reply.ShownMember id m status) fits small low = sound_json limit 200 (member_body id m status) code_200 fits low
+sound_reply limit (reply.Listed page) fits small low = sound_json limit 200 (page_body page) code_200 fits low
+sound_reply limit (reply.Due duties) fits small low = sound_bare limit
+sound_reply limit (reply.Expired id) fits small low = sound_bare limit
+sound_reply limit reply.Quiet fits small low = sound_bare limit
+sound_reply limit (reply.Refused refusal) fits small low = sound_refusal limit refusal fits low
+
+pub reply_whole : (limit : ℕ) (r : Reply) (rest : List ℕ) → limit < 2 ^ 64 → IsNumbered r → length (answer_of r).body ≤ limit → IsWhole limit (answer_of r) rest
+reply_whole limit r rest fits small low = whole_response limit (answer_of r) rest (sound_reply limit r fits small low)
+
+pub fault_whole : (limit : ℕ) (f : Fault) (rest : List ℕ) → limit < 2 ^ 64 → length (fault_answer f).body ≤ limit → IsWhole limit (fault_answer f) rest
+fault_whole limit f rest fits low =
+    whole_response limit (fault_answer f) rest (sound_json limit (fault_code f) (refusal_body (fault_name f)) (fault_right f) fits low)
+
+-- the methods of a path as a field
+listed_plain : (value : List ℕ) → list_all is_value_byte value ≡ true → trim_ows value ≡ value → IsPlain (field Allow value)
+unfolding is_token_byte
+listed_plain value passes trimmed = record {
+  name = (omega arith, AllPass-from_list_all is_token_byte (codes "Allow") refl);
+  value = AllPass-from_list_all is_value_byte value passes;
+  trimmed = trimmed;
+}
+
+allowed_plain : (p : Place) → IsPlain (field Allow (allowed p))
+unfolding trim_ows
+allowed_plain place.Lras = listed_plain (allowed place.Lras) refl refl
+allowed_plain place.Lra = listed_plain (allowed place.Lra) refl refl
+allowed_plain place.Join = listed_plain (allowed place.Join) refl refl
+allowed_plain place.Close = listed_plain (allowed place.Close) refl refl
+allowed_plain place.Cancel = listed_plain (allowed place.Cancel) refl refl
+allowed_plain place.Member = listed_plain (allowed place.Member) refl refl
+allowed_plain place.Leave = listed_plain (allowed place.Leave) refl refl
+allowed_plain place.Report = listed_plain (allowed place.Report) refl refl
+allowed_plain place.Pull = listed_plain (allowed place.Pull) refl refl
+
+allowed_short : (p : Place) → length (allowed p) ≤ 200
+allowed_short place.Lras = omega arith
+allowed_short place.Lra = omega arith
+allowed_short place.Join = omega arith
+allowed_short place.Close = omega arith
+allowed_short place.Cancel = omega arith
+allowed_short place.Member = omega arith
+allowed_short place.Leave = omega arith
+allowed_short place.Report = omega arith
+allowed_short place.Pull = omega arith
+
+sound_unrouted : (limit : ℕ) (u : Unrouted) → limit < 2 ^ 64 → length (unrouted_answer u).body ≤ limit → IsSound limit (unrouted_answer u)
+sound_unrouted limit unrouted.NoPath fits low = sound_json limit 404 (refusal_body (codes "NoPath")) code_404 fits low
+sound_unrouted limit (unrouted.NoMethod p) fits low =
+    sound_first limit 405 Allow (allowed p) (refusal_body (codes "NoMethod")) tt (allowed_plain p) (allowed_short p) code_405 fits low
+sound_unrouted limit (unrouted.Refused refusal) fits low = sound_refusal limit refusal fits low
+
+pub unrouted_whole : (limit : ℕ) (u : Unrouted) (rest : List ℕ) → limit < 2 ^ 64 → length (unrouted_answer u).body ≤ limit → IsWhole limit (unrouted_answer u) rest
+unrouted_whole limit u rest fits low = whole_response limit (unrouted_answer u) rest (sound_unrouted limit u fits low)

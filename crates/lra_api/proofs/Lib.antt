@@ -1,0 +1,6 @@
+mod AnswersRead
+mod Bodies
+mod Ids
+mod ReadBack
+mod Routes
+mod Sent

@@ -1,0 +1,56 @@
+-- What was written, by what the writing of a response came to.
+use Rattle.std.specs.Prelude.{⊤}
+use Rattle.std.proofs.Common.{◌≡◌, ◌+◌, ◌<◌, length, length-append, ap, arith, inl, inr, List, None, Result, Ok, Err, OnOk, OnErr, subst}
+use Rattle.lra_facts.specs.declared.refusal.Refusal.{Refusal}
+use Rattle.lra_facts.specs.declared.refusal.Refusal.TheVariants.{NoMemory}
+use Rattle.lra_http.specs.MessageTexts.{response_text}
+use Rattle.lra_http.specs.declared.Sink.{Ghosts as OfSink}
+use Rattle.lra_http.specs.Streams.{IsFlushed, Takes, TakesPart, Writes}
+use Rattle.lra_http.specs.declared.fault.Fault.{Fault}
+use Rattle.lra_http.specs.declared.fault.Fault.TheVariants as fault
+use Rattle.lra_http.specs.declared.message.Response.{Response}
+use Rattle.lra_api.specs.Answers.{answer_of, refusal_answer}
+use Rattle.lra_api.specs.Serving.{Ends, EndsNoMemory, ServesCall, ServesRequest, WritesNoMemory}
+use Rattle.lra_api.specs.Streams.{Sends, SendsPart}
+use Rattle.lra_api.specs.declared.routing.Unrouted.{Unrouted}
+use Rattle.lra_book.specs.declared.calls.Call.{Call}
+use Rattle.lra_book.specs.declared.calls.Receipt.{Receipt}
+use Rattle.lra_book.specs.declared.calls.Reply.{Reply}
+use Rattle.lra_book.specs.Clerks.{IsOutcome}
+use Rattle.lra_api.specs.declared.serving.ServeError.{ServeError}
+
+-- the writing of E17's text, however it came out
+pub no_memory_written : {W : Type 0} (sink : OfSink W) (old new : W) (response : Response) (r : Result ⊤ Fault)
+    → response ≡ refusal_answer NoMemory
+    → OnOk r (Takes (sink.stream old) (sink.stream new) (response_text response) × IsFlushed (sink.stream new))
+    → OnErr r (TakesPart (sink.stream old) (sink.stream new) (response_text response))
+    → Writes (length (response_text response) + 1) (sink.calls old) (sink.calls new) (new ≡ old) r
+    → WritesNoMemory sink old new
+no_memory_written sink old new response (Ok u) is ok part streams =
+    inr (inl (subst (λ (x : Response). Sends sink old new (response_text x)) is (ok.0, ok.1, streams)))
+no_memory_written sink old new response (Err fault.WriteFault) is ok part streams =
+    inr (inr (subst (λ (x : Response). SendsPart sink old new (response_text x)) is (streams, part)))
+no_memory_written sink old new response (Err fault.NoMemory) is ok part streams = inl streams
+no_memory_written sink old new response (Err fault.ReadFault) is ok part streams = absurd streams
+no_memory_written sink old new response (Err fault.Cut) is ok part streams = absurd streams
+no_memory_written sink old new response (Err fault.BadHead) is ok part streams = absurd streams
+no_memory_written sink old new response (Err fault.HeadTooLong) is ok part streams = absurd streams
+no_memory_written sink old new response (Err fault.BodyTooLong) is ok part streams = absurd streams
+no_memory_written sink old new response (Err fault.LengthNeeded) is ok part streams = absurd streams
+no_memory_written sink old new response (Err fault.NotOffered) is ok part streams = absurd streams
+
+-- where the memory was refused before any call, it doesn't matter what was asked for
+pub no_memory_served : {W : Type 0} (same : Type 0) (makes : Call → Result Reply Refusal → Type 0) (sink : OfSink W) (old new : W)
+    (right : Result Call Unrouted) (result : Result ⊤ ServeError)
+    → same → EndsNoMemory sink old new result → ServesRequest same makes sink old new right result
+no_memory_served same makes sink old new (Ok call) result s ends = inr (s, ends)
+no_memory_served same makes sink old new (Err u) result s ends = (s, inr (inr ends))
+
+-- a list with one more at its end isn't empty
+pub one_more_some : (old new : List Receipt) (call : Call) (reply : Reply) → IsOutcome old new call (Ok reply) → 0 < length new
+one_more_some old new call reply (index, e) = let n = ap length e in omega (arith, length-append {A = Receipt}, n)
+
+-- the answer to what came of a call
+pub replied : {W : Type 0} (makes : Result Reply Refusal → Type 0) (sink : OfSink W) (old new : W) (seen reply : Reply) (result : Result ⊤ ServeError)
+    → makes (Ok reply) → seen ≡ reply → Ends sink old new (answer_of seen) None result → ServesCall makes sink old new result
+replied makes sink old new seen reply result made is ends = (Ok reply, made, subst (λ (r : Reply). Ends sink old new (answer_of r) None result) is ends)

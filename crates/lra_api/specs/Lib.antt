@@ -1,0 +1,10 @@
+pub mod Answers
+pub mod Bodies
+pub mod Names
+pub mod Paths
+pub mod Routes
+pub mod Serving
+pub mod Streams
+pub mod Table
+pub mod Texts
+pub mod Wholes

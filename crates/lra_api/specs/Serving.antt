@@ -1,0 +1,90 @@
+-- What one request over a connection comes to.
+use Rattle.std.specs.Prelude.{◌≡◌, ◌⊎◌, ⊤, ℕ, Option, Some, None, Result, Ok, Err}
+use Rattle.lra_facts.specs.declared.refusal.Refusal.{Refusal}
+use Rattle.lra_facts.specs.declared.refusal.Refusal.TheVariants.{NoMemory}
+use Rattle.lra_http.specs.MessageTexts.{response_text}
+use Rattle.lra_http.specs.declared.Sink.{Ghosts as OfSink}
+use Rattle.lra_http.specs.declared.fault.Fault.{Fault}
+use Rattle.lra_http.specs.declared.fault.Fault.TheVariants as fault
+use Rattle.lra_http.specs.declared.message.Request.{Request}
+use Rattle.lra_http.specs.declared.message.Response.{Response}
+use Rattle.lra_book.specs.Clerks.{IsOutcome}
+use Rattle.lra_book.specs.declared.calls.Call.{Call}
+use Rattle.lra_book.specs.declared.clerk.Clerk.{Ghosts as OfClerk}
+use Rattle.lra_book.specs.declared.calls.Reply.{Reply}
+use Rattle.lra_api.specs.declared.routing.Unrouted.{Unrouted}
+use Rattle.lra_api.specs.declared.serving.ServeError.{ServeError}
+use Rattle.lra_api.specs.declared.serving.ServeError.TheVariants.{Refused, Cut, ReadFault, WriteFault}
+use Rattle.lra_api.specs.Answers.{answer_of, fault_answer, refusal_answer, unrouted_answer}
+use Rattle.lra_api.specs.Routes.{routed}
+use Rattle.lra_api.specs.Streams.{Sends, SendsNothing, SendsPart}
+
+-- the text of E17 was written, or a part of it where a write failed, or nothing
+abbrev pub WritesNoMemory : {W : Type 0} → OfSink W → (old new : W) → Type 0
+WritesNoMemory sink old new =
+    SendsNothing old new
+    ⊎ (Sends sink old new (response_text (refusal_answer NoMemory))
+    ⊎ SendsPart sink old new (response_text (refusal_answer NoMemory)))
+
+-- the memory was refused: that is told, whatever of it was written
+abbrev pub EndsNoMemory : {W : Type 0} → OfSink W → (old new : W) → Result ⊤ ServeError → Type 0
+EndsNoMemory sink old new result = (result ≡ Err (Refused NoMemory)) × WritesNoMemory sink old new
+
+-- what is told behind a whole answer, and where a write failed: a refusal goes before that
+abbrev pub told : Option Refusal → Result ⊤ ServeError
+told None = Ok tt
+told (Some refusal) = Err (Refused refusal)
+
+abbrev pub told_if_lost : Option Refusal → Result ⊤ ServeError
+told_if_lost None = Err WriteFault
+told_if_lost (Some refusal) = Err (Refused refusal)
+
+-- the text of an answer was written, or a part of it where a write failed; or the memory was refused
+abbrev pub Ends : {W : Type 0} → OfSink W → (old new : W) → Response → Option Refusal → Result ⊤ ServeError → Type 0
+Ends sink old new response refusal result =
+    ((result ≡ told refusal) × Sends sink old new (response_text response))
+    ⊎ (((result ≡ told_if_lost refusal) × SendsPart sink old new (response_text response))
+    ⊎ EndsNoMemory sink old new result)
+
+-- Serving. `same`: no call is made. `makes`: this call is made, once, and this comes of it
+
+-- one call of a clerk, and its receipt
+abbrev pub Makes : {C : Type 0} → OfClerk C → (old new : C) → (now : ℕ) → Call → Result Reply Refusal → Type 0
+Makes clerk old new now call outcome = IsOutcome (clerk.receipts old) (clerk.receipts new) call outcome × clerk.called old new call now outcome
+
+-- the answer to what comes of a call, and the refusal behind it
+abbrev pub answer_to : Result Reply Refusal → Response
+answer_to (Ok reply) = answer_of reply
+answer_to (Err refusal) = refusal_answer refusal
+
+abbrev pub refusal_in : Result Reply Refusal → Option Refusal
+refusal_in (Ok reply) = None
+refusal_in (Err refusal) = Some refusal
+
+-- a call is made, and the answer to what comes of it is written
+abbrev pub ServesCall : {W : Type 0} → (makes : Result Reply Refusal → Type 0) → OfSink W → (old new : W) → Result ⊤ ServeError → Type 0
+ServesCall makes sink old new result =
+    (outcome : Result Reply Refusal) × makes outcome × Ends sink old new (answer_to outcome) (refusal_in outcome) result
+
+-- a request is served that asks for this call, or for none
+abbrev pub ServesRequest : {W : Type 0} → (same : Type 0) → (makes : Call → Result Reply Refusal → Type 0) → OfSink W → (old new : W) → Result Call Unrouted → Result ⊤ ServeError → Type 0
+ServesRequest same makes sink old new (Ok call) result =
+    ServesCall (makes call) sink old new result ⊎ (same × EndsNoMemory sink old new result)
+ServesRequest same makes sink old new (Err unrouted) result =
+    same × Ends sink old new (unrouted_answer unrouted) None result
+
+-- what is no whole request is served: nothing is written where the input ended or a read failed
+abbrev pub ServesFault : {W : Type 0} → OfSink W → (old new : W) → Fault → Result ⊤ ServeError → Type 0
+ServesFault sink old new fault.Cut result = (result ≡ Err Cut) × SendsNothing old new
+ServesFault sink old new fault.ReadFault result = (result ≡ Err ReadFault) × SendsNothing old new
+ServesFault sink old new fault.NoMemory result = EndsNoMemory sink old new result
+ServesFault sink old new fault.WriteFault result = ⊥
+ServesFault sink old new fault.BadHead result = Ends sink old new (fault_answer fault.BadHead) None result
+ServesFault sink old new fault.BodyTooLong result = Ends sink old new (fault_answer fault.BodyTooLong) None result
+ServesFault sink old new fault.HeadTooLong result = Ends sink old new (fault_answer fault.HeadTooLong) None result
+ServesFault sink old new fault.LengthNeeded result = Ends sink old new (fault_answer fault.LengthNeeded) None result
+ServesFault sink old new fault.NotOffered result = Ends sink old new (fault_answer fault.NotOffered) None result
+
+abbrev pub Serves : {W : Type 0} → (same : Type 0) → (makes : Call → Result Reply Refusal → Type 0) → OfSink W → (old new : W) → (now : ℕ) → Result Request Fault → Result ⊤ ServeError → Type 0
+Serves same makes sink old new now (Ok request) result = ServesRequest same makes sink old new (routed now request) result
+Serves same makes sink old new now (Err f) result = same × ServesFault sink old new f result

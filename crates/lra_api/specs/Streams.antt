@@ -1,0 +1,42 @@
+-- What was read from a source and written to a sink: the words of streams stand here alone.
+use Rattle.std.specs.Prelude.{◌≡◌, ◌+◌, ℕ, List, Result, Ok, Err, length}
+use Rattle.lra_http.specs.declared.Sink.{Ghosts as OfSink}
+use Rattle.lra_http.specs.declared.Source.{Ghosts as OfSource}
+use Rattle.lra_http.specs.declared.fault.Fault.{Fault}
+use Rattle.lra_http.specs.declared.message.Request.{Request}
+use Rattle.lra_http.specs.Requests.{IsMessage, Shows}
+use Rattle.lra_http.specs.Faults.{Stops}
+use Rattle.lra_http.specs.Streams.{AllWell, GivesWhat, IsFlushed, IsLost, Reads, Takes, TakesPart}
+
+-- Reading
+
+-- the most bytes of a request's body
+abbrev pub body_limit : ℕ
+body_limit = 65536
+
+-- the most calls that take bytes of a request: a head that is too long is told at its last byte but one
+abbrev pub most_reads : ℕ
+most_reads = 16385 + body_limit
+
+-- What was given is one whole request, and no byte more; or it shows a fault, whatever follows. And a fault of the stream has its
+-- cause, no call follows one that failed, and there are at most so many
+abbrev pub IsReading : {R : Type 0} → OfSource R → (old new : R) → Result Request Fault → Type 0
+IsReading source old new (Ok request) =
+    GivesWhat (source.stream old) (source.stream new) (λ bytes. IsMessage body_limit bytes request) × AllWell most_reads 0 (source.calls old) (source.calls new)
+IsReading source old new (Err f) =
+    Stops (source.stream old) (source.stream new) (Shows body_limit) f × Reads {A = Request} most_reads 0 (source.calls old) (source.calls new) (Err f)
+
+-- Writing
+
+-- no call was made
+abbrev pub SendsNothing : {W : Type 0} → (old new : W) → Type 0
+SendsNothing old new = new ≡ old
+
+-- a text was written and passed on, and no call failed
+abbrev pub Sends : {W : Type 0} → OfSink W → (old new : W) → List ℕ → Type 0
+Sends sink old new text =
+    Takes (sink.stream old) (sink.stream new) text × IsFlushed (sink.stream new) × AllWell (length text + 1) 0 (sink.calls old) (sink.calls new)
+
+-- a write failed, or 1,024 were interrupted, and a prefix of a text was written
+abbrev pub SendsPart : {W : Type 0} → OfSink W → (old new : W) → List ℕ → Type 0
+SendsPart sink old new text = IsLost (length text + 1) 0 (sink.calls old) (sink.calls new) × TakesPart (sink.stream old) (sink.stream new) text

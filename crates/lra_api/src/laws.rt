@@ -1,0 +1,32 @@
+// What follows of the definitions alone.
+ghost use Rattle.std.specs.Prelude.{◌≡◌, ◌<◌, ◌≤◌, ◌^◌, ℕ, List, length};
+ghost use Rattle.lra_id.specs.Ids.{Id, IsId};
+ghost use Rattle.lra_states.specs.declared.status.LraStatus.{LraStatus as TheLraStatus};
+ghost use Rattle.lra_states.specs.declared.status.MemberStatus.{MemberStatus as TheMemberStatus};
+ghost use Rattle.lra_http.specs.declared.fault.Fault.{Fault as TheFault};
+ghost use Rattle.lra_book.specs.declared.calls.Reply.{Reply as TheReply};
+ghost use Rattle.lra_api.specs.declared.routing.Unrouted.{Unrouted as TheUnrouted};
+ghost use Rattle.lra_api.specs.Answers.{answer_of, begun, fault_answer, found, joined, shown, unrouted_answer};
+ghost use Rattle.lra_api.specs.Texts.{member_body};
+ghost use Rattle.lra_api.specs.Wholes.{IsNumbered, IsWhole};
+
+/// What a client reads of an answer, its status, fields and body, tells it all that was replied: of which LRA it tells, what
+/// that shows, and which member number was given. Of a participant it tells the LRA and what the participant shows, to one that
+/// knows for which number it asked.
+pub fn an_answer_tells_its_reply()
+    ensures begun { (a b : Id) → IsId a → IsId b → begun a ≡ begun b → a ≡ b }
+    ensures joined { (a b : Id) (m n : ℕ) → IsId a → IsId b → m < 2 ^ 64 → n < 2 ^ 64 → joined a m ≡ joined b n → (a ≡ b) × (m ≡ n) }
+    ensures shown { (a b : Id) (x y : TheLraStatus) → IsId a → IsId b → shown a x ≡ shown b y → (a ≡ b) × (x ≡ y) }
+    ensures member { (a b : Id) (m : ℕ) (x y : TheMemberStatus) → IsId a → IsId b → found (member_body a m x) ≡ found (member_body b m y) → (a ≡ b) × (x ≡ y) }
+{}
+
+/// The text of each answer is one whole response with its status, fields and body, for any reader whose limit on bodies is at
+/// least the body's length, and whatever follows it.
+pub fn an_answer_is_a_whole_response()
+    ensures reply { (limit : ℕ) (r : TheReply) (rest : List ℕ) → limit < 2 ^ 64 → IsNumbered r → length (answer_of r).body ≤ limit →
+        IsWhole limit (answer_of r) rest }
+    ensures unrouted { (limit : ℕ) (u : TheUnrouted) (rest : List ℕ) → limit < 2 ^ 64 → length (unrouted_answer u).body ≤ limit →
+        IsWhole limit (unrouted_answer u) rest }
+    ensures fault { (limit : ℕ) (f : TheFault) (rest : List ℕ) → limit < 2 ^ 64 → length (fault_answer f).body ≤ limit →
+        IsWhole limit (fault_answer f) rest }
+{}

@@ -1,0 +1,17 @@
+//! The HTTP interface of a node: a request is read, the call that it asks for is made, and its answer is written.
+#![tactic(auto)]
+
+mod answers;
+mod json;
+pub mod laws;
+mod names;
+mod path;
+mod routing;
+mod serving;
+mod table;
+mod text;
+
+pub use answers::answer;
+pub use routing::{Unrouted, route};
+pub use serving::{ServeError, serve_one};
+pub use table::Place;

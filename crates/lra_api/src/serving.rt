@@ -1,0 +1,218 @@
+// One request over a connection, from its first byte to the last of its answer.
+ghost use Rattle.std.specs.Prelude.{◌≡◌, ◌≢◌, Result, None, Some, IfOk};
+ghost use Rattle.lra_http.specs.declared.fault.Fault.{Fault as TheFault};
+ghost use Rattle.lra_http.specs.declared.fault.Fault.TheVariants.{WriteFault as OnWrite};
+ghost use Rattle.lra_http.specs.declared.message.Request.{Request as TheRequest};
+ghost use Rattle.lra_http.specs.declared.message.Response.{Response as TheResponse};
+ghost use Rattle.lra_api.specs.Answers.{answer_of, fault_answer, refusal_answer, unrouted_answer};
+ghost use Rattle.lra_api.specs.Routes.{routed};
+ghost use Rattle.lra_api.specs.Serving.{Ends, EndsNoMemory, Makes, Serves, ServesCall, ServesFault, ServesRequest, WritesNoMemory, told, told_if_lost};
+ghost use Rattle.lra_api.specs.Streams.{IsReading};
+
+use crate::answers::{answer, fault_answer, refusal_answer, unrouted_answer};
+use crate::routing::{Unrouted, route};
+use lra_book::{Call, Clerk, Reply};
+use lra_facts::Refusal;
+use lra_http::{BODY_LIMIT, Fault, Request, Response, Sink, Source, read_request, write_response};
+use std::alloc::{AllocError, Global};
+
+/// Why a request was not served as it was asked.
+#[derive(Clone, Copy, Debug, PartialEq, Eq)]
+pub enum ServeError {
+    /// The clerk refused the call, E17 to E21; or E17: the memory was refused here.
+    Refused(Refusal),
+    /// The input ended before the request did.
+    Cut,
+    /// A read failed, or 1,024 were interrupted.
+    ReadFault,
+    /// A write failed, or 1,024 were interrupted.
+    WriteFault,
+}
+
+/// Writes that the memory was refused, if there is enough for that.
+fn write_no_memory<W: Sink>(alloc: Global, writer: &mut W)
+    ensures { WritesNoMemory W.Sink writer.old writer.new }
+{
+    let Ok(response) = refusal_answer(alloc, Refusal::NoMemory) else {
+        return;
+    };
+    let _written = write_response(alloc, writer, &response);
+}
+
+/// Tells that the memory was refused, and writes that, if there is enough for it.
+fn end_no_memory<W: Sink>(alloc: Global, writer: &mut W) -> Result<(), ServeError>
+    ensures { EndsNoMemory W.Sink writer.old writer.new result }
+{
+    write_no_memory(alloc, writer);
+    Err(ServeError::Refused(Refusal::NoMemory))
+}
+
+/// What is told behind a whole answer.
+fn told(refusal: Option<Refusal>) -> Result<(), ServeError>
+    ensures { result ≡ told refusal }
+{
+    match refusal {
+        Some(refusal) => Err(ServeError::Refused(refusal)),
+        None => Ok(()),
+    }
+}
+
+/// What is told where a write failed: a refusal goes before that.
+fn told_if_lost(refusal: Option<Refusal>) -> Result<(), ServeError>
+    ensures { result ≡ told_if_lost refusal }
+{
+    match refusal {
+        Some(refusal) => Err(ServeError::Refused(refusal)),
+        None => Err(ServeError::WriteFault),
+    }
+}
+
+/// Writes an answer, and tells the refusal behind it, if there is one.
+fn end_with<W: Sink>(
+    alloc: Global,
+    writer: &mut W,
+    response: &Response,
+    refusal: Option<Refusal>,
+) -> Result<(), ServeError>
+    ensures { Ends W.Sink writer.old writer.new response.now refusal result }
+{
+    match write_response(alloc, writer, response) {
+        Ok(()) => told(refusal),
+        Err(fault) => {
+            if fault == Fault::NoMemory {
+                return end_no_memory(alloc, writer);
+            }
+            told_if_lost(refusal)
+        }
+    }
+}
+
+/// Writes an answer, if there was memory to make it, and tells the refusal behind it, if there is one.
+fn end<W: Sink>(
+    alloc: Global,
+    writer: &mut W,
+    made: Result<Response, AllocError>,
+    refusal: Option<Refusal>,
+) -> Result<(), ServeError>
+    ensures { (right : TheResponse) → IfOk made (λ response. response ≡ right) →
+        Ends W.Sink writer.old writer.new right refusal result }
+{
+    match made {
+        Ok(response) => end_with(alloc, writer, &response, refusal),
+        Err(_) => end_no_memory(alloc, writer),
+    }
+}
+
+/// Writes the answer to a call that the clerk refused.
+fn end_refused<W: Sink>(alloc: Global, writer: &mut W, refusal: &Refusal) -> Result<(), ServeError>
+    ensures { Ends W.Sink writer.old writer.new (refusal_answer refusal.now) (Some refusal.now) result }
+{
+    let made = refusal_answer(alloc, *refusal);
+    end(alloc, writer, made, Some(*refusal))
+}
+
+/// Writes the answer to a reply.
+fn end_replied<W: Sink>(alloc: Global, writer: &mut W, reply: &Reply) -> Result<(), ServeError>
+    ensures { Ends W.Sink writer.old writer.new (answer_of reply.now) None result }
+{
+    let made = answer(alloc, reply);
+    end(alloc, writer, made, None)
+}
+
+/// Makes a call, and writes the answer to what comes of it.
+fn serve_call<W: Sink, C: Clerk>(
+    alloc: Global,
+    writer: &mut W,
+    clerk: &mut C,
+    call: Call,
+    now: u64,
+) -> Result<(), ServeError>
+    ensures { ServesCall (Makes C.Clerk clerk.old clerk.new now call) W.Sink writer.old writer.new result }
+{
+    match clerk.call(alloc, call, now) {
+        Ok(()) => end_replied(alloc, writer, clerk.reply()),
+        Err(refusal) => end_refused(alloc, writer, &refusal),
+    }
+}
+
+/// Writes the answer to a request that asks for no call.
+fn end_unrouted<W: Sink>(
+    alloc: Global,
+    writer: &mut W,
+    unrouted: Unrouted,
+) -> Result<(), ServeError>
+    ensures { Ends W.Sink writer.old writer.new (unrouted_answer unrouted) None result }
+{
+    let made = unrouted_answer(alloc, unrouted);
+    end(alloc, writer, made, None)
+}
+
+/// Makes the call that a request asks for, if it asks for one, and writes the answer.
+fn serve_request<W: Sink, C: Clerk>(
+    alloc: Global,
+    writer: &mut W,
+    clerk: &mut C,
+    request: &Request,
+    now: u64,
+) -> Result<(), ServeError>
+    ensures { ServesRequest (clerk.new ≡ clerk.old) (Makes C.Clerk clerk.old clerk.new now) W.Sink writer.old writer.new (routed now request.now) result }
+{
+    match route(alloc, request, now) {
+        Ok(call) => serve_call(alloc, writer, clerk, call, now),
+        Err(unrouted) => {
+            if unrouted == Unrouted::Refused(Refusal::NoMemory) {
+                return end_no_memory(alloc, writer);
+            }
+            end_unrouted(alloc, writer, unrouted)
+        }
+    }
+}
+
+/// Writes the answer to what is no whole request.
+fn end_fault<W: Sink>(alloc: Global, writer: &mut W, fault: Fault) -> Result<(), ServeError>
+    ensures { Ends W.Sink writer.old writer.new (fault_answer fault) None result }
+{
+    let made = fault_answer(alloc, fault);
+    end(alloc, writer, made, None)
+}
+
+/// Writes the answer to what is no whole request, if anything is still to be written.
+fn serve_fault<W: Sink>(alloc: Global, writer: &mut W, fault: Fault) -> Result<(), ServeError>
+    requires { fault ≢ OnWrite }
+    ensures { ServesFault W.Sink writer.old writer.new fault result }
+{
+    match fault {
+        Fault::Cut => Err(ServeError::Cut),
+        Fault::ReadFault => Err(ServeError::ReadFault),
+        Fault::WriteFault => unreachable!(),
+        Fault::NoMemory => end_no_memory(alloc, writer),
+        Fault::BadHead => end_fault(alloc, writer, Fault::BadHead),
+        Fault::BodyTooLong => end_fault(alloc, writer, Fault::BodyTooLong),
+        Fault::HeadTooLong => end_fault(alloc, writer, Fault::HeadTooLong),
+        Fault::LengthNeeded => end_fault(alloc, writer, Fault::LengthNeeded),
+        Fault::NotOffered => end_fault(alloc, writer, Fault::NotOffered),
+    }
+}
+
+/// Reads one request, makes the call that it asks for, and writes one answer. Errors: the clerk's own refusals, E17 to E21,
+/// which are written too and go before a fault of writing; `Cut` and `ReadFault`, behind which nothing is written; `WriteFault`,
+/// before which a prefix of the answer was; and E17 where the memory is refused here: a call that was made then stands.
+pub fn serve_one<R: Source, W: Sink, C: Clerk>(
+    alloc: Global,
+    reader: &mut R,
+    writer: &mut W,
+    clerk: &mut C,
+    now: u64,
+) -> Result<(), ServeError>
+    // What was read is a whole request, or its fault. Of a request that asks for a call, that call is made at this moment, once,
+    // and the text of the answer to its reply or refusal is written; else none is made, and the text of the answer to what is wrong
+    // is written.
+    ensures served { (read : Result TheRequest TheFault)
+        × IsReading R.Source reader.old reader.new read
+        × Serves (clerk.new ≡ clerk.old) (Makes C.Clerk clerk.old clerk.new now) W.Sink writer.old writer.new now read result }
+{
+    match read_request(alloc, reader, BODY_LIMIT) {
+        Ok(request) => serve_request(alloc, writer, clerk, &request, now),
+        Err(fault) => serve_fault(alloc, writer, fault),
+    }
+}
