@@ -72,61 +72,35 @@ fn refusals_that_hold_nothing(rt: HostRuntime) -> Result<(), Fail> {
     Ok(())
 }
 
-/// Refusals that hold something.
-fn holding() -> Result<[Told; 9], Fail> {
+#[test]
+fn refusals_that_hold_a_status_or_a_name(rt: HostRuntime) -> Result<(), Fail> {
+    let alloc = rt.alloc();
     let me = NodeId::new(2)?;
-    let id = LraId::new(me, 7)?;
-    Ok([
-        (
-            Refusal::NotHome(me),
-            "421 Misdirected Request",
-            "E4 NotHome 2",
-        ),
-        (
-            Refusal::NotActive(LraStatus::FailedToClose),
-            "412 Precondition Failed",
-            "E6 NotActive FailedToClose",
-        ),
-        (
-            Refusal::NotDue(LraStatus::Active),
-            "409 Conflict",
-            "E7 NotDue Active",
-        ),
-        (
-            Refusal::NotEnded(LraStatus::Closing),
-            "409 Conflict",
-            "E8 NotEnded Closing",
-        ),
-        (
-            Refusal::StillToForget(id, 32),
-            "409 Conflict",
-            "E10 StillToForget 2.7 32",
-        ),
-        (
-            Refusal::Gap(Front::zero(2)),
-            "503 Service Unavailable",
-            "E15 Gap 0 0",
-        ),
-        (Refusal::BadFrame(65), "400 Bad Request", "E16 BadFrame 65"),
-        (
-            Refusal::TrailLost(3),
-            "503 Service Unavailable",
-            "E21 TrailLost 3",
-        ),
-        (
-            Refusal::Strange(4),
-            "503 Service Unavailable",
-            "E22 Strange 4",
-        ),
-    ])
+    let away = Refusal::NotHome(me);
+    assert!(rt; is_told(alloc, away, "421 Misdirected Request", "E4 NotHome 2")?);
+    let failed = Refusal::NotActive(LraStatus::FailedToClose);
+    let text = "E6 NotActive FailedToClose";
+    assert!(rt; is_told(alloc, failed, "412 Precondition Failed", text)?);
+    let active = Refusal::NotDue(LraStatus::Active);
+    assert!(rt; is_told(alloc, active, "409 Conflict", "E7 NotDue Active")?);
+    let closing = Refusal::NotEnded(LraStatus::Closing);
+    assert!(rt; is_told(alloc, closing, "409 Conflict", "E8 NotEnded Closing")?);
+    let owed = Refusal::StillToForget(LraId::new(me, 7)?, 32);
+    assert!(rt; is_told(alloc, owed, "409 Conflict", "E10 StillToForget 2.7 32")?);
+    Ok(())
 }
 
 #[test]
-fn refusals_that_hold_something(rt: HostRuntime) -> Result<(), Fail> {
+fn refusals_that_hold_a_front_or_a_place(rt: HostRuntime) -> Result<(), Fail> {
     let alloc = rt.alloc();
-    for (refusal, status, text) in holding()? {
-        assert!(rt; is_told(alloc, refusal, status, text)?, "{text}");
-    }
+    let gap = Refusal::Gap(Front::zero(2));
+    assert!(rt; is_told(alloc, gap, "503 Service Unavailable", "E15 Gap 0 0")?);
+    let bad = Refusal::BadFrame(65);
+    assert!(rt; is_told(alloc, bad, "400 Bad Request", "E16 BadFrame 65")?);
+    let lost = Refusal::TrailLost(3);
+    assert!(rt; is_told(alloc, lost, "503 Service Unavailable", "E21 TrailLost 3")?);
+    let strange = Refusal::Strange(4);
+    assert!(rt; is_told(alloc, strange, "503 Service Unavailable", "E22 Strange 4")?);
     Ok(())
 }
 
