@@ -7,7 +7,7 @@ use Rattle.lra_facts.specs.Refusals.{first, unless}
 use Rattle.lra_history.specs.Views.{View}
 use Rattle.lra_book.specs.declared.calls.Call.{Call}
 use Rattle.lra_book.specs.declared.calls.Entry.{Entry}
-use Rattle.lra_book.specs.Books.{BookState, IsBook, has_room_for, refusal_at_once}
+use Rattle.lra_book.specs.Books.{BookState, IsBook, refusal_at_once}
 use Rattle.sqlite_trees.specs.declared.store.Store.{Ghosts}
 use Rattle.lra_journal.specs.Keeping.{JournalState, Keeps}
 use Rattle.lra_book.specs.Next.{IsNext}
@@ -35,14 +35,7 @@ not_stored g old b k stopped is same keeps =
       few = is.few;
     }
 
--- a call that nothing refuses at once: the book isn't stopped, and there is room for an entry
-pub not_stopped : {S : Type 0} (book : BookState S) (seen : ℕ) (asked : Call) → refusal_at_once book seen asked ≡ None → book.stopped ≡ false
-not_stopped book seen asked free = by book.stopped refl free
-  where
-    by : (b : Bool) → book.stopped ≡ b → first (unless (not b) Stopped ∷ unless (nat_le seen (length book.trail)) (TrailLost (length book.trail)) ∷ unless (has_room_for book.trail asked) RunFull ∷ []) ≡ None → book.stopped ≡ false
-    by true e free = absurd cc
-    by false e free = e
-
+-- where nothing refuses a call at once, there is room for an entry
 pub has_room : {S : Type 0} (book : BookState S) (seen : ℕ) (asked : Call) → refusal_at_once book seen asked ≡ None → length book.trail < 1024
 has_room book seen asked free = by (not book.stopped) (nat_le seen (length book.trail)) (nat_lt (length book.trail) 1024) _ refl free
   where

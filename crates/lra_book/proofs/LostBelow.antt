@@ -1,15 +1,15 @@
 -- Where a trail is said to be lost, it is at a place that the pass has seen.
-use Rattle.std.proofs.Common.{◌≡◌, ◌<◌, ◌≤◌, ◌+◌, ◌++◌, inl, inr, ℕ, Bool, true, false, List, [], ◌∷◌, Option, Some, None, if◌then◌else◌, length, refl, subst, arith}
+use Rattle.std.proofs.Common.{◌≡◌, ◌<◌, ◌≤◌, ◌+◌, ◌++◌, ℕ, Bool, true, false, List, [], ◌∷◌, Option, Some, None, if◌then◌else◌, length, refl, subst, arith}
 use Rattle.std.proofs.lemmas.Bool.Decides.{nat_tests}
 use Rattle.std.specs.Prelude.{nat_le, nat_lt}
 use mathlib.Core.Bool.{not}
 use Rattle.lra_facts.specs.declared.refusal.Refusal.{Refusal}
-use Rattle.lra_facts.specs.declared.refusal.Refusal.TheVariants.{JournalFailed, NoMemory, RunFull, Stopped, TrailLost}
+use Rattle.lra_facts.specs.declared.refusal.Refusal.TheVariants.{RunFull, Stopped, TrailLost}
 use Rattle.lra_facts.specs.Refusals.{first, unless}
 use Rattle.lra_book.specs.declared.calls.Call.{Call}
 use Rattle.lra_book.specs.declared.calls.Entry.{Entry}
 use Rattle.lra_book.specs.declared.calls.Receipt.{Receipt}
-use Rattle.lra_book.specs.Books.{BookState, IsNotEntered, IsRefusedLate, has_room_for, refusal_at_once}
+use Rattle.lra_book.specs.Books.{BookState, has_room_for, refusal_at_once}
 use Rattle.lra_book.specs.Desks.{AreSeen, IsLostBelow}
 use Rattle.lra_book.specs.Looks.{lesser, look_of, lost, lost_from}
 use Rattle.lra_book.specs.Trails.{stands}
@@ -74,14 +74,3 @@ at_once_lost book seen asked r is = by (not book.stopped) (nat_le seen (length b
     by true false e s is = the_same seen r (TrailLost (length book.trail)) (short seen (length book.trail) e) is
     by true true e false is = the_same seen r RunFull tt is
     by true true e true is = absurd cc
-
-late_lost : {S : Type 0} (old new : BookState S) (seen : ℕ) (r : Refusal) → IsRefusedLate old new r → IsLostBelow seen r
-late_lost old new seen NoMemory late = tt
-late_lost old new seen JournalFailed late = tt
-late_lost old new seen _ late = absurd late
-
--- A call
-
-pub call_lost : {S : Type 0} (old new : BookState S) (seen : ℕ) (asked : Call) (r : Refusal) → IsNotEntered old seen new asked r → IsLostBelow seen r
-call_lost old new seen asked r (inl once) = at_once_lost old seen asked r once.0
-call_lost old new seen asked r (inr late) = late_lost old new seen r late.1
