@@ -1,6 +1,7 @@
 mod Answering
 mod Bases
 mod DecimalNumbers
+mod FourWords
 mod KnownInputs
 mod LineReadings
 mod MemberWords

@@ -1,5 +1,5 @@
 -- What the program's arguments ask for.
-use Rattle.std.specs.Prelude.{◌≡◌, ℕ, List, [], ◌∷◌, codes}
+use Rattle.std.specs.Prelude.{◌≡◌, ◌≤◌, ℕ, List, [], ◌∷◌, codes}
 use Rattle.std.specs.Fmt.{decimal}
 use Rattle.lra_node.specs.Asks.{IsNodeOf}
 
@@ -10,3 +10,11 @@ asked_words nodes = codes "script" ∷ decimal nodes ∷ []
 -- words ask for a script of so many nodes, 1 to 8
 abbrev pub AskScript : List (List ℕ) → ℕ → Type 0
 AskScript words nodes = IsNodeOf 8 nodes × (words ≡ asked_words nodes)
+
+-- a server of so many nodes, of which the first listens at this port, with their journals in a folder
+abbrev pub server_words : (nodes port : ℕ) → List ℕ → List (List ℕ)
+server_words nodes port folder = codes "serve" ∷ decimal nodes ∷ decimal port ∷ folder ∷ []
+
+-- words ask for such a server, of 1 to 8 nodes, at a port that all of them can have and that asks for no privilege
+abbrev pub AskServer : List (List ℕ) → (nodes port : ℕ) → List ℕ → Type 0
+AskServer words nodes port folder = IsNodeOf 8 nodes × (1024 ≤ port) × (port ≤ 65528) × (words ≡ server_words nodes port folder)

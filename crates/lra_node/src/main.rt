@@ -16,24 +16,42 @@ mod telling;
 mod tests;
 mod words;
 
-ghost use Rattle.std.specs.Prelude.{◌≡◌, ℕ, MatchOption, OnErr, OnOk, map, string_bytes};
-ghost use Rattle.lra_node.specs.Arguments.{AskScript};
+ghost use Rattle.std.specs.Prelude.{◌≡◌, ℕ, List, MatchOption, OnErr, OnOk, map, string_bytes};
+ghost use Rattle.lra_node.specs.Arguments.{AskScript, AskServer};
 
+use log::sink::Console;
+use log::{Level, Logged};
 use lra_http::{OverRead, OverWrite};
 use lra_id::MOST_NODES;
-use number::node_of;
+use lra_server::{Folder, serve};
+use number::{code_of, node_of};
 use script::{ScriptFault, script};
+use std::fs::File;
 use std::process::ExitCode;
 use std::{env, io};
 
 const USAGE: &str = "usage: lra_node script N | serve N PORT DIR";
 
-/// Runs the script over standard input. It ends with 0 at the end of the input, with 1 after a fault or where memory was
-/// wanting at the start, and with 2, and the usage, where the arguments ask for something else.
+/// The least port of a first node.
+const FIRST_PORT: u16 = 1_024;
+
+/// The greatest: eight nodes have their ports behind it.
+const LAST_PORT: u16 = 65_528;
+
+/// Runs the script over standard input, or a server until standard input ends. A script ends with 0 at the end of the input, and
+/// with 1 after a fault or where memory was wanting at the start; a server as `serve` says. Where the arguments ask for something
+/// else it ends with 2, and the usage.
 fn main(rt: HostRuntime) -> ExitCode {
     let Ok(words) = arguments(&rt) else {
         return ExitCode::from(1);
     };
+    if let Some((nodes, port)) = asked_server(&words) {
+        let _held = (hold(&rt), hold(&rt), hold(&rt));
+        let logged = Logged::new(&rt, Level::Warn, Console(&rt));
+        let folder = folder_of(rt, words);
+        let (alloc, input) = (rt.alloc(), rt.reader());
+        return ExitCode::from(serve(&rt, &logged, rt, alloc, nodes, port, &folder, input));
+    }
     let outcome = if let Some(nodes) = asked_nodes(&words) {
         let mut reader = OverRead::new(rt.reader());
         let mut writer = OverWrite::new(io::writer(&rt));
@@ -52,6 +70,36 @@ fn arguments(rt: &HostRuntime) -> io::Result<Vec<String>> {
         words.push(word)?;
     }
     Ok(words)
+}
+
+/// Opens nothing, so that no connection gets the number of a standard stream that was closed before the start: what is written to
+/// standard error would go to a client.
+fn hold(rt: &HostRuntime) -> Option<File> {
+    File::open(rt, "/dev/null").ok()
+}
+
+/// The folder that the last word names.
+fn folder_of(rt: HostRuntime, mut words: Vec<String>) -> Folder {
+    Folder::new(rt, words.pop().unwrap_or(String::new(rt.alloc())))
+}
+
+/// How many nodes a server is to have, and at which port the first is to listen, where the arguments ask for a server.
+fn asked_server(words: &[String]) -> Option<(u8, u16)>
+    ensures { MatchOption result ((nodes port : ℕ) (folder : List ℕ) → AskServer (map string_bytes words.now) nodes port folder → ⊥)
+        (λ asked. (folder : List ℕ) × AskServer (map string_bytes words.now) asked.0 asked.1 folder) }
+{
+    let [command, count, first, _folder] = words else {
+        return None;
+    };
+    if command.as_str() != "serve" {
+        return None;
+    }
+    let last = node_of(count.as_bytes(), MOST_NODES)?;
+    let port = code_of(first.as_bytes())?;
+    if port < FIRST_PORT || port > LAST_PORT {
+        return None;
+    }
+    Some((last.number(), port))
 }
 
 /// How many nodes a script is to have, where the arguments ask for a script.

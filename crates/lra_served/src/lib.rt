@@ -1,0 +1,10 @@
+//! Tests of the server by its public calls: nodes on loopback that answer, call a participant and pull from one another, and two
+//! workers at one desk. They stand here since a crate is proved twice where it has tests.
+#![tactic(auto)]
+
+#[cfg(test)]
+mod loopback;
+#[cfg(test)]
+mod nodes;
+#[cfg(test)]
+mod workers;

@@ -1,0 +1,127 @@
+// Nodes on loopback.
+
+use crate::loopback::{InMemory, Until, address, answers, comes_to, stopped, take_part};
+use log::sink::Console;
+use log::{Level, Log, Logged};
+use lra_server::serve;
+use std::alloc::Global;
+use std::net::{Net, TcpListener, TcpStream};
+use std::sync::atomic::{AtomicU64, Ordering};
+use std::sync::{Arc, Wait};
+use std::test::Fail;
+use std::thread::{Threads, join};
+use std::time::Clock;
+
+/// Where the nodes of the first test listen, and its participant.
+const PORT: u16 = 18_470;
+
+const PARTICIPANT: u16 = 18_477;
+
+const BEGIN: &str = "POST /lra HTTP/1.1\r\nHost: p\r\nContent-Length: 2\r\n\r\n{}";
+
+const BEGUN: &str =
+    "HTTP/1.1 201 Created\r\nLong-Running-Action: urn:uuid:00000000-0000-8001-8000-000000000001\r\nContent-Type: application/json\r\nContent-Length: 64\r\nConnection: close\r\n\r\n{\"lra\":\"00000000-0000-8001-8000-000000000001\",\"status\":\"Active\"}";
+
+const JOIN: &str =
+    "PUT /lra/00000000-0000-8001-8000-000000000001/join HTTP/1.1\r\nHost: p\r\nContent-Length: 79\r\n\r\n{\"compensate\":\"http://127.0.0.1:18477/c\",\"complete\":\"http://127.0.0.1:18477/k\"}";
+
+const JOINED: &str =
+    "HTTP/1.1 200 OK\r\nLong-Running-Action-Recovery: /lra/00000000-0000-8001-8000-000000000001/member/1\r\nContent-Type: application/json\r\nContent-Length: 76\r\nConnection: close\r\n\r\n{\"member\":1,\"recovery\":\"/lra/00000000-0000-8001-8000-000000000001/member/1\"}";
+
+const CLOSE: &str =
+    "PUT /lra/00000000-0000-8001-8000-000000000001/close HTTP/1.1\r\nHost: p\r\nContent-Length: 0\r\n\r\n";
+
+const CLOSING: &str =
+    "HTTP/1.1 200 OK\r\nContent-Type: application/json\r\nContent-Length: 65\r\nConnection: close\r\n\r\n{\"lra\":\"00000000-0000-8001-8000-000000000001\",\"status\":\"Closing\"}";
+
+const STATUS: &str = "GET /lra/00000000-0000-8001-8000-000000000001 HTTP/1.1\r\nHost: p\r\n\r\n";
+
+const CLOSED: &str =
+    "HTTP/1.1 200 OK\r\nContent-Type: application/json\r\nContent-Length: 64\r\nConnection: close\r\n\r\n{\"lra\":\"00000000-0000-8001-8000-000000000001\",\"status\":\"Closed\"}";
+
+/// An error where something isn't so.
+fn needs(is_so: bool, what: &str) -> Result<(), Fail> {
+    if is_so { Ok(()) } else { Err(Fail::new(what)) }
+}
+
+/// Begins an LRA at node 1, has a participant join, closes it, and waits until node 2 shows it closed; while four connections say
+/// nothing and two have sent half a request.
+fn visit<R: Net<Listener = TcpListener, Stream = TcpStream> + Clock>(rt: &R) -> Result<(), Fail> {
+    let participant = TcpListener::bind(rt, address(PARTICIPANT))?;
+    needs(comes_to(rt, PORT, BEGIN, BEGUN)?, "no LRA was begun")?;
+    let _silent = (
+        stopped(rt, PORT, "")?,
+        stopped(rt, PORT, "")?,
+        stopped(rt, PORT, "")?,
+        stopped(rt, PORT, "")?,
+    );
+    let _half = (
+        stopped(rt, PORT, "GET /lra HT")?,
+        stopped(rt, PORT, "GET /lra HT")?,
+    );
+    needs(answers(rt, PORT, JOIN, JOINED)?, "nobody joined")?;
+    needs(answers(rt, PORT, CLOSE, CLOSING)?, "it isn't closing")?;
+    needs(take_part(rt, &participant)?, "nobody was called")?;
+    needs(comes_to(rt, PORT, STATUS, CLOSED)?, "node 1 shows it open")?;
+    needs(
+        comes_to(rt, PORT + 1, STATUS, CLOSED)?,
+        "node 2 shows it open",
+    )
+}
+
+/// Two nodes serve until the visit is over.
+fn two_serve<R, L, H>(rt: &R, log: &L, host: H, clock: H, alloc: Global) -> Result<u8, Fail>
+where
+    R: Threads + Wait + Clock + Net<Listener = TcpListener, Stream = TcpStream> + Eprint + Sync,
+    L: Log + Sync,
+    H: Wait + Clock + Send + Drop + 'static,
+{
+    let over = Arc::new(alloc, AtomicU64::new(0))?;
+    let input = Until {
+        clock,
+        over: Arc::try_clone(&over)?,
+    };
+    let stores = InMemory { alloc };
+    let (status, visited) = join(
+        rt,
+        || serve(rt, log, host, alloc, 2, PORT, &stores, input),
+        || {
+            let visited = visit(rt);
+            over.store(1, Ordering::SeqCst);
+            visited
+        },
+    );
+    visited?;
+    Ok(status)
+}
+
+#[test]
+fn two_nodes_on_loopback(rt: HostRuntime) -> Result<(), Fail> {
+    let logged = Logged::new(&rt, Level::Warn, Console(&rt));
+    let status = two_serve(&rt, &logged, rt, rt, rt.alloc())?;
+    assert_eq!(&rt; status, 0);
+    Ok(())
+}
+
+#[test]
+fn a_port_in_use(rt: HostRuntime) -> Result<(), Fail> {
+    let alloc = rt.alloc();
+    let _taken = TcpListener::bind(&rt, address(18_491))?;
+    let logged = Logged::new(&rt, Level::Warn, Console(&rt));
+    let input = Until {
+        clock: rt,
+        over: Arc::new(alloc, AtomicU64::new(1))?,
+    };
+    let status = serve(
+        &rt,
+        &logged,
+        rt,
+        alloc,
+        2,
+        18_490,
+        &InMemory { alloc },
+        input,
+    );
+    assert_eq!(&rt; status, 1);
+    Ok(())
+}

@@ -1,0 +1,106 @@
+// The thread that pulls from the other nodes in turn. It outlives the runs of its node.
+
+use crate::address::address_of;
+use crate::guest::set_slices;
+use crate::node::Node;
+use crate::patient::{Haste, Patient};
+use lra_delta::Delta;
+use lra_http::{OverRead, OverWrite};
+use lra_id::Front;
+use lra_peer::pull;
+use std::alloc::Global;
+use std::io::BufReader;
+use std::net::{Net, TcpListener, TcpStream};
+use std::sync::Wait;
+use std::time::{Clock, Duration};
+
+/// How long another node may take to answer, in milliseconds.
+const PATIENCE: u64 = 10_000;
+
+/// How long it may take to be reached, in milliseconds.
+const REACH: u64 = 1_000;
+
+/// How long a round over all other nodes takes at least where something is new, in milliseconds.
+const SHORT_ROUND: u64 = 500;
+
+/// How long it takes at rest, in milliseconds.
+const LONG_ROUND: u64 = 5_000;
+
+/// How many bytes are read at once.
+const BUFFER: usize = 4096;
+
+/// What another node has beyond a front.
+fn pull_from<R: Wait + Clock + Net<Listener = TcpListener, Stream = TcpStream>>(
+    rt: &R,
+    alloc: Global,
+    node: &Node,
+    other: u8,
+    front: &Front,
+) -> Option<Delta> {
+    let address = address_of(node.first_port, other);
+    let stream = TcpStream::connect_timeout(rt, &address, Duration::from_millis(REACH)).ok()?;
+    set_slices(&stream).ok()?;
+    let half = stream.try_clone().ok()?;
+    let (haste, patience) = (Haste::WithProgram, Duration::from_millis(PATIENCE));
+    let reader = Patient::new(rt, &node.signal, haste, stream, patience);
+    let writer = Patient::new(rt, &node.signal, haste, half, patience);
+    let buffered = BufReader::with_capacity(alloc, BUFFER, reader).ok()?;
+    let (mut reader, mut writer) = (OverRead::new(buffered), OverWrite::new(writer));
+    pull(alloc, &mut reader, &mut writer, front).ok()
+}
+
+/// Pulls from another node, and hands over what is new. It says whether anything is.
+fn pull_one<R: Wait + Clock + Net<Listener = TcpListener, Stream = TcpStream>>(
+    rt: &R,
+    alloc: Global,
+    node: &Node,
+    other: u8,
+) -> bool {
+    let front = node.post.front(rt);
+    let Some(delta) = pull_from(rt, alloc, node, other, &front) else {
+        return false;
+    };
+    let told = delta.front();
+    if told.nodes() != front.nodes() || told.below(&front) {
+        return false;
+    }
+    node.post.put_delta(rt, delta);
+    true
+}
+
+/// How long a pause after a pull is, in milliseconds, by how long a round is to take.
+fn pause_of(node: &Node, round: u64) -> Duration {
+    let others = u64::from(node.nodes.saturating_sub(1)).max(1);
+    Duration::from_millis(round.checked_div(others).unwrap_or(round))
+}
+
+/// The node after this one, save the one that asks.
+fn next_other(node: &Node, other: u8) -> u8 {
+    let next = if other >= node.nodes { 1 } else { other + 1 };
+    if next != node.number {
+        return next;
+    }
+    if next >= node.nodes { 1 } else { next + 1 }
+}
+
+/// Pulls from the other nodes in turn, until the program is to end: each about twice a second while something is new, every five
+/// seconds at rest.
+pub fn pull_in_turn<R: Wait + Clock + Net<Listener = TcpListener, Stream = TcpStream>>(
+    rt: &R,
+    alloc: Global,
+    node: &Node,
+) {
+    let mut other = node.number;
+    let mut round = SHORT_ROUND;
+    for _ in rt.forever() {
+        if node.post.sleep(rt, pause_of(node, round)) {
+            return;
+        }
+        other = next_other(node, other);
+        round = if pull_one(rt, alloc, node, other) {
+            SHORT_ROUND
+        } else {
+            round.saturating_mul(2).min(LONG_ROUND)
+        };
+    }
+}

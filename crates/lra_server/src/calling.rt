@@ -1,0 +1,102 @@
+// The threads that call participants. They outlive the runs of their node.
+ghost use Rattle.std.specs.Iterator.{IsFinite};
+
+use crate::guest::set_slices;
+use crate::node::Node;
+use crate::patient::{Haste, Patient};
+use lra_callback::{Answer, Duty, Heard, NetCaller, hear, request_of};
+use lra_http::{OverRead, OverWrite};
+use std::alloc::Global;
+use std::io;
+use std::io::{BufReader, Error, ErrorKind};
+use std::net::{Net, SocketAddr, TcpListener, TcpStream, ToSocketAddrs};
+use std::sync::Wait;
+use std::time::{Clock, Duration};
+use url::{Host, Url};
+
+/// How long a participant may take to be reached, to take its request, and to answer, in milliseconds each.
+const PATIENCE: u64 = 10_000;
+
+/// How many bytes are read at once.
+const BUFFER: usize = 4096;
+
+/// The first of some addresses that answers.
+fn connect_to_one<R: Net<Stream = TcpStream>, A: Iterator<Item = SocketAddr>>(
+    rt: &R,
+    addresses: A,
+) -> io::Result<TcpStream>
+    requires { A.can_next addresses × IsFinite (A.remaining addresses) }
+{
+    let mut last = Error::from(ErrorKind::NotFound);
+    for address in addresses {
+        match TcpStream::connect_timeout(rt, &address, Duration::from_millis(PATIENCE)) {
+            Ok(stream) => return Ok(stream),
+            Err(error) => last = error,
+        }
+    }
+    Err(last)
+}
+
+/// A connection to the host of a link.
+fn connect<R: Net<Stream = TcpStream>>(rt: &R, url: &Url) -> io::Result<TcpStream> {
+    let port = url.port_or_known_default().unwrap_or(80);
+    match url.host() {
+        Some(Host::Domain(name)) => connect_to_one(rt, (name, port).to_socket_addrs(rt)?),
+        Some(Host::Ipv4(address)) => connect_to_one(rt, (address, port).to_socket_addrs(rt)?),
+        Some(Host::Ipv6(address)) => connect_to_one(rt, (address, port).to_socket_addrs(rt)?),
+        None => Err(Error::from(ErrorKind::NotFound)),
+    }
+}
+
+/// Calls a participant over a connection.
+fn ask<R: Wait + Clock>(
+    rt: &R,
+    alloc: Global,
+    node: &Node,
+    duty: &Duty,
+    stream: TcpStream,
+) -> Option<Answer> {
+    set_slices(&stream).ok()?;
+    let other = stream.try_clone().ok()?;
+    let (haste, patience) = (Haste::WithProgram, Duration::from_millis(PATIENCE));
+    let reader = Patient::new(rt, &node.signal, haste, stream, patience);
+    let writer = Patient::new(rt, &node.signal, haste, other, patience);
+    let buffered = BufReader::with_capacity(alloc, BUFFER, reader).ok()?;
+    let request = request_of(alloc, duty).ok()?;
+    let mut caller = NetCaller::new(OverRead::new(buffered), OverWrite::new(writer));
+    caller.ask(alloc, &request).ok()
+}
+
+/// Calls a participant, and tells what is heard. Where it can't be reached, or memory is wanting, it is to be called again.
+fn call_one<R: Wait + Clock + Net<Listener = TcpListener, Stream = TcpStream>>(
+    rt: &R,
+    alloc: Global,
+    node: &Node,
+    duty: &Duty,
+) -> Heard {
+    let Ok(url) = Url::parse(alloc, duty.link.as_str()) else {
+        return Heard::Again;
+    };
+    let Ok(stream) = connect(rt, &url) else {
+        return Heard::Again;
+    };
+    match ask(rt, alloc, node, duty, stream) {
+        Some(answer) => hear(duty.act, duty.kind, &answer),
+        None => Heard::Again,
+    }
+}
+
+/// Calls participants, one after another, until the program is to end.
+pub fn call_out<R: Wait + Clock + Net<Listener = TcpListener, Stream = TcpStream>>(
+    rt: &R,
+    alloc: Global,
+    node: &Node,
+) {
+    for _ in rt.forever() {
+        let Some(duty) = node.post.next_duty(rt) else {
+            return;
+        };
+        let heard = call_one(rt, alloc, node, &duty);
+        node.post.tell(rt, duty, heard);
+    }
+}

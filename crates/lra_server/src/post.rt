@@ -1,0 +1,342 @@
+// What the threads that call and pull hand to the thread that enters, and what it hands to them. It outlives the runs of a node,
+// so a participant that is slow to answer holds up no run.
+
+ghost use Rattle.std.specs.Prelude.{◌≤◌};
+
+use lra_callback::{Duties, Duty, Heard};
+use lra_delta::Delta;
+use lra_id::{Front, LraId};
+use lra_states::Outcome;
+use std::alloc::{AllocError, Global};
+use std::collections::VecDeque;
+use std::sync::{Condvar, CondvarTimeouts, Mutex, Wait};
+use std::time::{Clock, Duration};
+
+/// How often deadlines are looked at, in milliseconds.
+const TICK: u64 = 500;
+
+/// The first pause before a participant is called again, in milliseconds.
+const FIRST_PAUSE: u64 = 250;
+
+/// The longest, in milliseconds.
+const LAST_PAUSE: u64 = 30_000;
+
+/// What was heard of a participant that was called for a duty.
+#[derive(Drop)]
+pub struct Letter {
+    pub duty: Duty,
+    pub heard: Heard,
+}
+
+/// What the thread that enters does next.
+#[derive(Drop)]
+pub enum Task {
+    /// Enter what was heard.
+    Enter(Letter),
+    /// Take what another node told.
+    Take(Delta),
+    /// Ask which participants are to be called.
+    Ask,
+    /// Look for a deadline that has passed.
+    Tick,
+    /// Look whether the run is over.
+    Rest,
+}
+
+/// A participant that is being called, or is called again only after a pause.
+#[derive(Drop)]
+struct Slip {
+    id: LraId,
+    member: u8,
+    pause: u64,
+    /// When it may be called again; none while it is called.
+    until: Option<Duration>,
+    /// Whether it was to be called when that was last asked.
+    due: bool,
+}
+
+impl Slip {
+    /// Of a duty that is called from here on.
+    fn of(duty: &Duty) -> Slip {
+        Slip {
+            id: duty.id,
+            member: duty.member,
+            pause: 0,
+            until: None,
+            due: true,
+        }
+    }
+
+    /// Has it pause, longer than the last time.
+    fn pause_from(&mut self, now: Duration) {
+        let pause = self.pause.saturating_mul(2).clamp(FIRST_PAUSE, LAST_PAUSE);
+        self.pause = pause;
+        self.until = Some(now.saturating_add(Duration::from_millis(pause)));
+    }
+
+    fn is_of(&self, duty: &Duty) -> bool {
+        self.id == duty.id && self.member == duty.member
+    }
+
+    /// Whether it may be called again.
+    fn is_over(&self, now: Duration) -> bool {
+        match self.until {
+            Some(until) => until <= now,
+            None => false,
+        }
+    }
+}
+
+// What lies under the lock.
+#[derive(Drop)]
+struct Mail {
+    due: VecDeque<Duty>,
+    slips: Vec<Slip>,
+    letters: VecDeque<Letter>,
+    delta: Option<Delta>,
+    front: Front,
+    stirred: bool,
+    /// Whether something is to be asked again for want of memory.
+    lost: bool,
+    ticks_at: Duration,
+    ended: bool,
+}
+
+impl Mail {
+    /// Whether it is to be asked who is to be called: something happened, or a pause is over.
+    fn is_to_ask(&self, now: Duration) -> bool {
+        self.stirred || self.slips.iter().any(|slip| slip.is_over(now))
+    }
+
+    /// Whether the thread that enters has something to do.
+    fn has_task(&self, now: Duration) -> bool {
+        self.ticks_at <= now
+            || !self.letters.is_empty()
+            || self.delta.is_some()
+            || self.is_to_ask(now)
+    }
+
+    /// Whether a duty's participant may be called now, and isn't called or in a pause. It counts as called from here on.
+    fn may_call(&mut self, duty: &Duty, now: Duration) -> Result<bool, AllocError> {
+        for slip in self.slips.iter_mut() {
+            if slip.is_of(duty) {
+                slip.due = true;
+                if !slip.is_over(now) {
+                    return Ok(false);
+                }
+                slip.until = None;
+                return Ok(true);
+            }
+        }
+        match self.slips.push(Slip::of(duty)) {
+            Ok(()) => Ok(true),
+            Err(_) => Err(AllocError),
+        }
+    }
+
+    /// Hands a duty to those who call, unless its participant is called now or pauses. One for which there is no memory waits for
+    /// the next time that it is asked.
+    fn put_due(&mut self, duty: Duty, now: Duration) {
+        match self.may_call(&duty, now) {
+            Ok(true) => {
+                if let Err(refused) = self.due.push_back(duty) {
+                    self.drop_slip(&refused.value);
+                    self.lost = true;
+                }
+            }
+            Ok(false) => {}
+            Err(_) => self.lost = true,
+        }
+    }
+
+    /// Has a participant wait before it is called again, each time longer.
+    fn pause(&mut self, duty: &Duty, now: Duration) {
+        for slip in self.slips.iter_mut() {
+            if slip.is_of(duty) {
+                slip.pause_from(now);
+            }
+        }
+    }
+
+    /// Puts a letter last. One for which there is no memory is lost, and the participant is called again.
+    fn put_letter(&mut self, letter: Letter) {
+        if let Err(refused) = self.letters.push_back(letter) {
+            self.drop_slip(&refused.value.duty);
+            self.lost = true;
+        }
+    }
+
+    /// Forgets that a participant was called.
+    fn drop_slip(&mut self, duty: &Duty) {
+        self.slips.retain(|slip| !slip.is_of(duty));
+    }
+}
+
+/// What the threads of a node hand to one another.
+#[derive(Drop)]
+pub struct Post {
+    mail: Mutex<Mail>,
+    /// Wakes the thread that enters.
+    came: Condvar,
+    /// Wakes those who call and pull.
+    due: Condvar,
+}
+
+impl Post {
+    /// With nothing in it. Of the node's own front nothing is known yet.
+    pub fn new(alloc: Global, nodes: u8) -> Post
+        requires { (1 ≤ nodes) × (nodes ≤ 8) }
+    {
+        Post {
+            mail: Mutex::new(Mail {
+                due: VecDeque::new(alloc),
+                slips: Vec::new(alloc),
+                letters: VecDeque::new(alloc),
+                delta: None,
+                front: Front::zero(usize::from(nodes)),
+                stirred: true,
+                lost: false,
+                ticks_at: Duration::from_millis(0),
+                ended: false,
+            }),
+            came: Condvar::new(),
+            due: Condvar::new(),
+        }
+    }
+
+    /// Tells that other participants may be to be called.
+    pub fn stir<R: Wait>(&self, rt: &R) {
+        self.mail.lock(rt).stirred = true;
+        self.came.notify_all();
+    }
+
+    /// Wakes the thread that enters.
+    pub fn wake<R: Wait>(&self, rt: &R) {
+        let _mail = self.mail.lock(rt);
+        self.came.notify_all();
+    }
+
+    /// Ends the threads that call and pull.
+    pub fn end<R: Wait>(&self, rt: &R) {
+        self.mail.lock(rt).ended = true;
+        self.came.notify_all();
+        self.due.notify_all();
+    }
+
+    /// Tells how many facts of each node this one has at least.
+    pub fn learn<R: Wait>(&self, rt: &R, front: &Front) {
+        let mut mail = self.mail.lock(rt);
+        if mail.front.nodes() == front.nodes() {
+            mail.front = mail.front.join(front);
+        }
+    }
+
+    /// How many facts of each node this one has at least.
+    pub fn front<R: Wait>(&self, rt: &R) -> Front {
+        self.mail.lock(rt).front
+    }
+
+    /// What the thread that enters does next. It waits for half a second at most.
+    pub fn next<R: Wait + Clock>(&self, rt: &R) -> Task {
+        let now = rt.monotonic().unwrap_or(Duration::from_millis(0));
+        let mut mail = self.mail.lock(rt);
+        if !mail.has_task(now) {
+            let rest = mail.ticks_at.saturating_sub(now);
+            let (waited, _) = self
+                .came
+                .wait_timeout(rt, mail, rest.min(Duration::from_millis(FIRST_PAUSE)));
+            mail = waited;
+        }
+        if mail.ticks_at <= now {
+            mail.ticks_at = now.saturating_add(Duration::from_millis(TICK));
+            mail.stirred = mail.stirred || mail.lost;
+            mail.lost = false;
+            return Task::Tick;
+        }
+        if let Some(letter) = mail.letters.pop_front() {
+            return Task::Enter(letter);
+        }
+        if let Some(delta) = mail.delta.take() {
+            return Task::Take(delta);
+        }
+        if mail.is_to_ask(now) {
+            mail.stirred = false;
+            return Task::Ask;
+        }
+        Task::Rest
+    }
+
+    /// Hands those who are to be called to the threads that call. Who is no longer among them is forgotten, unless it is called now.
+    pub fn put_duties<R: Wait + Clock>(&self, rt: &R, duties: Duties) {
+        let now = rt.monotonic().unwrap_or(Duration::from_millis(0));
+        let mut mail = self.mail.lock(rt);
+        for slip in mail.slips.iter_mut() {
+            slip.due = false;
+        }
+        for duty in duties.into_vec() {
+            mail.put_due(duty, now);
+        }
+        mail.slips.retain(|slip| slip.due || slip.until.is_none());
+        self.due.notify_all();
+    }
+
+    /// A participant that is to be called. It waits for one, and gives none once the program is to end.
+    pub fn next_duty<R: Wait>(&self, rt: &R) -> Option<Duty> {
+        let mut mail = self.due.wait_while(rt, self.mail.lock(rt), |mail| {
+            mail.due.is_empty() && !mail.ended
+        });
+        if mail.ended {
+            return None;
+        }
+        mail.due.pop_front()
+    }
+
+    /// Tells what was heard of a participant. One that is to be called again pauses first.
+    pub fn tell<R: Wait + Clock>(&self, rt: &R, duty: Duty, heard: Heard) {
+        let now = rt.monotonic().unwrap_or(Duration::from_millis(0));
+        let mut mail = self.mail.lock(rt);
+        match heard {
+            Heard::Again => mail.pause(&duty, now),
+            Heard::Told(_) | Heard::Forgotten => mail.put_letter(Letter { duty, heard }),
+        }
+        self.came.notify_all();
+    }
+
+    /// Has deadlines looked at once more at once.
+    pub fn tick<R: Wait>(&self, rt: &R) {
+        self.mail.lock(rt).ticks_at = Duration::from_millis(0);
+    }
+
+    /// Puts a letter back that couldn't be entered now.
+    pub fn put_back<R: Wait>(&self, rt: &R, letter: Letter) {
+        self.mail.lock(rt).put_letter(letter);
+    }
+
+    /// Tells that what was heard is entered. A participant that is busy is called again after a pause.
+    pub fn is_entered<R: Wait + Clock>(&self, rt: &R, letter: &Letter) {
+        let now = rt.monotonic().unwrap_or(Duration::from_millis(0));
+        let mut mail = self.mail.lock(rt);
+        match letter.heard {
+            Heard::Told(Outcome::Busy) => mail.pause(&letter.duty, now),
+            _ => mail.drop_slip(&letter.duty),
+        }
+        mail.stirred = true;
+    }
+
+    /// Hands over what another node told, unless something waits already.
+    pub fn put_delta<R: Wait>(&self, rt: &R, delta: Delta) {
+        let mut mail = self.mail.lock(rt);
+        if mail.delta.is_none() {
+            mail.delta = Some(delta);
+            self.came.notify_all();
+        }
+    }
+
+    /// Waits so long, or until the program is to end. It says whether it is to end.
+    pub fn sleep<R: Wait + Clock>(&self, rt: &R, time: Duration) -> bool {
+        let (mail, _) = self
+            .due
+            .wait_timeout_while(rt, self.mail.lock(rt), time, |mail| !mail.ended);
+        mail.ended
+    }
+}

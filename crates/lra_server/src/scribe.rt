@@ -1,0 +1,173 @@
+// The thread that enters what the others hear, in each run of a node.
+
+use crate::node::Node;
+use crate::post::{Letter, Task};
+use crate::signal::Over;
+use crate::taken::moment;
+use crate::working::ending_by;
+use lra_book::{Call, Clerk, Reply};
+use lra_callback::{Duties, Heard};
+use lra_delta::Delta;
+use lra_facts::Refusal;
+use lra_history::Command;
+use std::alloc::Global;
+use std::net::{Net, TcpListener, TcpStream};
+use std::sync::Wait;
+use std::thread;
+use std::time::{Clock, Duration};
+
+/// How long it rests where memory is wanting, in milliseconds.
+const REST: u64 = 20;
+
+/// The command that enters what was heard.
+fn command_of(letter: &Letter) -> Option<Command> {
+    let (id, member) = (letter.duty.id, letter.duty.member);
+    match letter.heard {
+        Heard::Told(outcome) => Some(Command::Report {
+            id,
+            member,
+            act: letter.duty.act,
+            outcome,
+        }),
+        Heard::Forgotten => Some(Command::Forgot { id, member }),
+        Heard::Again => None,
+    }
+}
+
+/// Enters what was heard. A letter that the clerk refuses goes back.
+fn enter<R: Wait + Clock, C: Clerk>(
+    rt: &R,
+    alloc: Global,
+    node: &Node,
+    clerk: &mut C,
+    letter: Letter,
+) -> Result<(), Refusal> {
+    let Some(command) = command_of(&letter) else {
+        return Ok(());
+    };
+    match clerk.call(alloc, Call::Command(command), moment(rt)) {
+        Ok(()) => {
+            node.post.is_entered(rt, &letter);
+            Ok(())
+        }
+        Err(refusal) => {
+            node.post.put_back(rt, letter);
+            Err(refusal)
+        }
+    }
+}
+
+/// Whether what another node told was taken.
+fn is_taken(reply: &Reply) -> bool {
+    matches!(reply, Reply::Took)
+}
+
+/// Whether an LRA was cancelled since its deadline had passed.
+fn is_expired(reply: &Reply) -> bool {
+    matches!(reply, Reply::Expired(_))
+}
+
+/// Takes what another node told.
+fn take<R: Wait + Clock, C: Clerk>(
+    rt: &R,
+    alloc: Global,
+    node: &Node,
+    clerk: &mut C,
+    delta: Delta,
+) -> Result<(), Refusal> {
+    let front = delta.front();
+    clerk.call(alloc, Call::Take(delta), moment(rt))?;
+    if is_taken(clerk.reply()) {
+        node.post.learn(rt, &front);
+    }
+    Ok(())
+}
+
+/// The participants that are to be called, by a reply.
+fn duties_of(reply: &Reply) -> Result<Option<Duties>, Refusal> {
+    match reply {
+        Reply::Due(duties) => match duties.clone() {
+            Ok(duties) => Ok(Some(duties)),
+            Err(_) => Err(Refusal::NoMemory),
+        },
+        _ => Ok(None),
+    }
+}
+
+/// Asks who is to be called.
+fn ask<R: Wait + Clock, C: Clerk>(
+    rt: &R,
+    alloc: Global,
+    node: &Node,
+    clerk: &mut C,
+) -> Result<(), Refusal> {
+    clerk.call(alloc, Call::Duties, moment(rt))?;
+    if let Some(duties) = duties_of(clerk.reply())? {
+        node.post.put_duties(rt, duties);
+    }
+    Ok(())
+}
+
+/// Cancels an LRA whose deadline has passed, if there is one, and then looks for the next.
+fn expire<R: Wait + Clock, C: Clerk>(
+    rt: &R,
+    alloc: Global,
+    node: &Node,
+    clerk: &mut C,
+) -> Result<(), Refusal> {
+    clerk.call(alloc, Call::Expire, moment(rt))?;
+    if is_expired(clerk.reply()) {
+        node.post.tick(rt);
+    }
+    Ok(())
+}
+
+/// Does what is to be done next.
+fn attend<R: Wait + Clock, C: Clerk>(
+    rt: &R,
+    alloc: Global,
+    node: &Node,
+    clerk: &mut C,
+) -> Result<(), Refusal> {
+    match node.post.next(rt) {
+        Task::Enter(letter) => enter(rt, alloc, node, clerk, letter),
+        Task::Take(delta) => take(rt, alloc, node, clerk, delta),
+        Task::Ask => match ask(rt, alloc, node, clerk) {
+            Ok(()) => Ok(()),
+            Err(refusal) => {
+                node.post.stir(rt);
+                Err(refusal)
+            }
+        },
+        Task::Tick => expire(rt, alloc, node, clerk),
+        Task::Rest => Ok(()),
+    }
+}
+
+/// Ends the run where a refusal does, and rests for a moment where memory is wanting.
+fn rest<R: Wait + Clock + Net<Listener = TcpListener, Stream = TcpStream>>(
+    rt: &R,
+    node: &Node,
+    refusal: Refusal,
+) {
+    match ending_by(refusal) {
+        Some(refusal) => node.end_run(rt, Over::by(refusal)),
+        None => thread::sleep(rt, Duration::from_millis(REST)),
+    }
+}
+
+/// Enters what the threads that call and pull hear, and looks for deadlines, until the run is over. It gives the clerk back.
+pub fn enter_all<
+    R: Wait + Clock + Net<Listener = TcpListener, Stream = TcpStream>,
+    C: Clerk + Drop,
+>(rt: &R, alloc: Global, node: &Node, mut clerk: C) -> C {
+    for _ in rt.forever() {
+        if node.signal.over(rt).is_some() {
+            return clerk;
+        }
+        if let Err(refusal) = attend(rt, alloc, node, &mut clerk) {
+            rest(rt, node, refusal);
+        }
+    }
+    unreachable!()
+}

@@ -1,0 +1,272 @@
+// All nodes of a program.
+ghost use Rattle.std.specs.Prelude.{◌≡◌, ◌≤◌, None};
+
+use crate::Stores;
+use crate::address::port_of;
+use crate::begun::{Begun, begun_by};
+use crate::ends::{End, Ends, drain};
+use crate::node::{Failure, Life, Node, life_of, live, open_book};
+use crate::signal::Over;
+use log::Log;
+use lra_book::Book;
+use sqlite::Alter;
+use std::alloc::{AllocError, Global};
+use std::io::Read;
+use std::net::{Net, TcpListener, TcpStream};
+use std::sync::{Arc, Wait};
+use std::thread;
+use std::thread::{Scope, Threads};
+use std::time::Clock;
+
+/// What stands on standard error where the program can't go on.
+#[derive(Clone, Copy, PartialEq, Eq, Debug)]
+enum Trouble {
+    Journal(u8),
+    Run(u8),
+    Port(u16),
+}
+
+/// Tells what can't be had.
+fn tell<R: Eprint>(rt: &R, trouble: Trouble) {
+    let _ = match trouble {
+        Trouble::Journal(number) => eprintln!(rt; "journal {}", number),
+        Trouble::Run(number) => eprintln!(rt; "run {}", number),
+        Trouble::Port(port) => eprintln!(rt; "port {}", port),
+    };
+}
+
+/// A book on which no run is on.
+#[derive(Drop)]
+struct Shut<S: Alter + Drop> {
+    book: Book<S>,
+    ghost shut: { book.opening ≡ None },
+}
+
+/// The books of all nodes, or the first node whose journal can't be opened.
+fn books_of<S: Stores>(
+    alloc: Global,
+    nodes: &[Node],
+    stores: &S,
+) -> Result<Vec<Shut<S::Store>>, Trouble> {
+    let mut books = Vec::new(alloc);
+    for node in nodes {
+        let Some(book) = open_book(alloc, stores, node) else {
+            return Err(Trouble::Journal(node.number));
+        };
+        if books.push(Shut { book }).is_err() {
+            return Err(Trouble::Run(node.number));
+        }
+    }
+    Ok(books)
+}
+
+/// All books with a run on, or the first node whose run can't be started.
+fn begun_of<S: Alter + Drop>(alloc: Global, books: Vec<Shut<S>>) -> Result<Vec<Begun<S>>, Trouble> {
+    let mut begun = Vec::new(alloc);
+    let mut number = 0u8;
+    for shut in books {
+        number = number.saturating_add(1);
+        let Shut { book } = shut;
+        let Some(next) = begun_by(alloc, book) else {
+            return Err(Trouble::Run(number));
+        };
+        if begun.push(next).is_err() {
+            return Err(Trouble::Run(number));
+        }
+    }
+    Ok(begun)
+}
+
+/// The lives of all nodes, or the first port that can't be bound.
+fn lives_of<R: Net<Listener = TcpListener, Stream = TcpStream>, S: Alter + Drop>(
+    rt: &R,
+    alloc: Global,
+    nodes: &[Node],
+    books: Vec<Begun<S>>,
+) -> Result<Vec<Life<S>>, Trouble> {
+    let mut lives = Vec::new(alloc);
+    for (node, begun) in nodes.iter().zip(books) {
+        let Some(life) = life_of(rt, node, begun) else {
+            return Err(Trouble::Port(port_of(node.first_port, node.number)));
+        };
+        if lives.push(life).is_err() {
+            return Err(Trouble::Run(node.number));
+        }
+    }
+    Ok(lives)
+}
+
+/// What the nodes share with their threads.
+fn nodes_of(alloc: Global, nodes: u8, port: u16) -> Result<Vec<Node>, AllocError>
+    requires { (1 ≤ nodes) × (nodes ≤ 8) }
+{
+    let mut all = Vec::new(alloc);
+    for number in 1..=nodes {
+        all.push(Node::new(alloc, number, nodes, port))?;
+    }
+    Ok(all)
+}
+
+/// Lives, and tells a failure.
+fn live_and_tell<R, L, S: Stores + Sync>(
+    rt: &R,
+    log: &L,
+    alloc: Global,
+    node: &Node,
+    stores: &S,
+    life: Life<S::Store>,
+    ends: &Ends,
+)
+where
+    R: Threads + Wait + Clock + Net<Listener = TcpListener, Stream = TcpStream> + Eprint + Sync,
+    L: Log + Sync,
+{
+    if let Err(failure) = live(rt, log, alloc, node, stores, life) {
+        match failure {
+            Failure::Journal => tell(rt, Trouble::Journal(node.number)),
+            Failure::Run => tell(rt, Trouble::Run(node.number)),
+        }
+        ends.tell(rt, End::Failed);
+    }
+}
+
+/// Starts the thread of a node. Where none can be had it tells the end.
+fn start<'s, E, R, L, S: Stores + Sync + 's>(
+    scope: &Scope<'s, E>,
+    rt: &'s R,
+    log: &'s L,
+    alloc: Global,
+    node: &'s Node,
+    stores: &'s S,
+    life: Life<S::Store>,
+    ends: &'s Ends,
+)
+where
+    R: Threads + Wait + Clock + Net<Listener = TcpListener, Stream = TcpStream> + Eprint + Sync,
+    L: Log + Sync,
+{
+    if scope
+        .spawn(move || live_and_tell(rt, log, alloc, node, stores, life, ends))
+        .is_err()
+    {
+        tell(rt, Trouble::Run(node.number));
+        ends.tell(rt, End::Failed);
+    }
+}
+
+/// Starts the threads of all nodes.
+fn start_all<'s, E, R, L, S: Stores + Sync + 's>(
+    scope: &Scope<'s, E>,
+    rt: &'s R,
+    log: &'s L,
+    alloc: Global,
+    nodes: &'s [Node],
+    stores: &'s S,
+    lives: Vec<Life<S::Store>>,
+    ends: &'s Ends,
+)
+where
+    R: Threads + Wait + Clock + Net<Listener = TcpListener, Stream = TcpStream> + Eprint + Sync,
+    L: Log + Sync,
+{
+    for (node, life) in nodes.iter().zip(lives) {
+        start(scope, rt, log, alloc, node, stores, life, ends);
+    }
+}
+
+/// The nodes' threads, until the input ends or a node fails.
+fn live_all<R, L, S: Stores + Sync>(
+    rt: &R,
+    log: &L,
+    alloc: Global,
+    nodes: &[Node],
+    stores: &S,
+    lives: Vec<Life<S::Store>>,
+    ends: &Ends,
+)
+where
+    R: Threads + Wait + Clock + Net<Listener = TcpListener, Stream = TcpStream> + Eprint + Sync,
+    L: Log + Sync,
+{
+    thread::scope(thread::scope_env(), rt, move |scope| {
+        start_all(scope, rt, log, alloc, nodes, stores, lives, ends);
+        ends.wait(rt);
+        for node in nodes {
+            node.end_run(rt, Over::Program);
+        }
+    })
+}
+
+/// Opens all journals, starts all runs, and binds all ports, in this order, by node number.
+fn begin<R: Net<Listener = TcpListener, Stream = TcpStream>, S: Stores>(
+    rt: &R,
+    alloc: Global,
+    nodes: &[Node],
+    stores: &S,
+) -> Result<Vec<Life<S::Store>>, Trouble> {
+    let books = books_of(alloc, nodes, stores)?;
+    let begun = begun_of(alloc, books)?;
+    lives_of(rt, alloc, nodes, begun)
+}
+
+/// Has a thread read the input, which tells its end.
+fn watch<R: Threads, H: Wait + Send + Drop + 'static, I: Read + Send + Drop + 'static>(
+    rt: &R,
+    alloc: Global,
+    host: H,
+    input: I,
+) -> Result<Arc<Ends>, Trouble> {
+    let Ok(ends) = Arc::new(alloc, Ends::new()) else {
+        return Err(Trouble::Run(1));
+    };
+    let Ok(theirs) = Arc::try_clone(&ends) else {
+        return Err(Trouble::Run(1));
+    };
+    if thread::spawn(rt, move || drain(&host, input, &theirs)).is_err() {
+        return Err(Trouble::Run(1));
+    }
+    Ok(ends)
+}
+
+/// Runs so many nodes, 1 to 8, whose journals lie in these stores; node I listens at the port + I - 1 of the loopback interface.
+/// It ends with 0 when the input ends, and with 1 at the first journal that can't be opened, run that can't be started, or port
+/// that can't be bound, which it tells on standard error.
+pub fn serve<R, L, H, S, I>(
+    rt: &R,
+    log: &L,
+    host: H,
+    alloc: Global,
+    nodes: u8,
+    port: u16,
+    stores: &S,
+    input: I,
+) -> u8
+where
+    R: Threads + Wait + Clock + Net<Listener = TcpListener, Stream = TcpStream> + Eprint + Sync,
+    L: Log + Sync,
+    H: Wait + Send + Drop + 'static,
+    S: Stores + Sync,
+    I: Read + Send + Drop + 'static,
+    requires nodes { (1 ≤ nodes) × (nodes ≤ 8) }
+{
+    let Ok(all) = nodes_of(alloc, nodes, port) else {
+        tell(rt, Trouble::Run(1));
+        return 1;
+    };
+    let lives = match begin(rt, alloc, &all, stores) {
+        Ok(lives) => lives,
+        Err(trouble) => {
+            tell(rt, trouble);
+            return 1;
+        }
+    };
+    let ends = match watch(rt, alloc, host, input) {
+        Ok(ends) => ends,
+        Err(trouble) => {
+            tell(rt, trouble);
+            return 1;
+        }
+    };
+    live_all(rt, log, alloc, &all, stores, lives, &ends);
+    u8::from(ends.has_failed(rt))
+}

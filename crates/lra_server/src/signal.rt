@@ -1,0 +1,90 @@
+// What tells the threads of a node that its run is over.
+
+use lra_facts::Refusal;
+use std::sync::{Condvar, Mutex, Wait};
+
+/// Why a run is over.
+#[derive(Clone, Copy, PartialEq, Eq, Debug)]
+pub enum Over {
+    /// The program is to end.
+    Program,
+    /// The run has little room left.
+    Full,
+    /// A call met E18.
+    JournalFailed,
+    /// A call met E19.
+    Stopped,
+    /// A call met E20.
+    RunFull,
+    /// A call met E21 with this number.
+    TrailLost(u64),
+    /// No thread or no memory could be had.
+    Starved,
+}
+
+impl Over {
+    /// That a call met this refusal, which ends a run.
+    pub fn by(refusal: Refusal) -> Over {
+        match refusal {
+            Refusal::JournalFailed => Over::JournalFailed,
+            Refusal::Stopped => Over::Stopped,
+            Refusal::TrailLost(number) => Over::TrailLost(number),
+            _ => Over::RunFull,
+        }
+    }
+
+    /// The refusal that a call met, if it was one.
+    pub fn refusal(self) -> Option<Refusal> {
+        match self {
+            Over::JournalFailed => Some(Refusal::JournalFailed),
+            Over::Stopped => Some(Refusal::Stopped),
+            Over::RunFull => Some(Refusal::RunFull),
+            Over::TrailLost(number) => Some(Refusal::TrailLost(number)),
+            Over::Program | Over::Full | Over::Starved => None,
+        }
+    }
+}
+
+/// Says whether the run is over, and why. It outlives the runs of its node.
+#[derive(Drop)]
+pub struct Signal {
+    over: Mutex<Option<Over>>,
+}
+
+impl Signal {
+    pub fn new() -> Signal {
+        Signal {
+            over: Mutex::new(None),
+        }
+    }
+
+    /// Ends the run, if nobody did before, and says whether it was so. The end of the program goes before each other cause.
+    pub fn end<R: Wait>(&self, rt: &R, why: Over) -> bool {
+        let mut over = self.over.lock(rt);
+        let first = over.is_none();
+        if first || why == Over::Program {
+            *over = Some(why);
+        }
+        first
+    }
+
+    /// Why the run is over, if it is.
+    pub fn over<R: Wait>(&self, rt: &R) -> Option<Over> {
+        *self.over.lock(rt)
+    }
+
+    /// Whether the program is to end.
+    pub fn has_ended<R: Wait>(&self, rt: &R) -> bool {
+        self.over(rt) == Some(Over::Program)
+    }
+
+    /// Lets the next run begin, unless the program is to end. It says whether it may begin.
+    pub fn begin<R: Wait>(&self, rt: &R) -> bool {
+        let mut over = self.over.lock(rt);
+        if *over == Some(Over::Program) {
+            return false;
+        }
+        *over = None;
+        true
+    }
+}

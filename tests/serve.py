@@ -1,0 +1,240 @@
+#!/usr/bin/env python3
+"""Tests the built server as a user meets it: python3 tests/serve.py [PROGRAM]. Standard library alone; half a minute.
+
+PROGRAM is crates/lra_node/out/lra_node, which ./coordinator builds. Each check prints a line; the status is 1 where one fails."""
+import http.client
+import http.server
+import json
+import os
+import shutil
+import socket
+import sqlite3
+import subprocess
+import sys
+import tempfile
+import threading
+import time
+
+TOP = os.path.dirname(os.path.dirname(os.path.abspath(__file__)))
+PROGRAM = sys.argv[1] if len(sys.argv) > 1 else f"{TOP}/crates/lra_node/out/lra_node"
+PORT = 18200
+failures = []
+
+
+def check(what, is_so, seen=""):
+    print(("ok      " if is_so else "FAILED  ") + what + ("" if is_so else f": {seen}"), flush=True)
+    if not is_so:
+        failures.append(what)
+
+
+class Server:
+    """Nodes in one process, over a folder."""
+
+    def __init__(self, nodes, folder, port=PORT, **how):
+        self.nodes, self.port = nodes, port
+        words = [PROGRAM, "serve", str(nodes), str(port), folder]
+        self.process = subprocess.Popen(words, stdin=subprocess.PIPE, stderr=subprocess.PIPE, **how)
+
+    def wait_until_up(self):
+        for _ in range(500):
+            if all(self.is_up(i) for i in range(self.nodes)):
+                return self
+            time.sleep(0.02)
+        raise SystemExit("the server doesn't come up")
+
+    def is_up(self, i):
+        try:
+            socket.create_connection(("127.0.0.1", self.port + i), 1).close()
+            return True
+        except OSError:
+            return False
+
+    def end(self):
+        """Ends the input, and gives the status and what stood on standard error."""
+        self.process.stdin.close()
+        self.process.wait(20)
+        return self.process.returncode, self.process.stderr.read().decode()
+
+
+def ask(method, path, body=None, node=1, port=PORT):
+    """One request; its status and body. A 503 for a run's end is asked again."""
+    for _ in range(20):
+        connection = http.client.HTTPConnection("127.0.0.1", port + node - 1, timeout=20)
+        connection.request(method, path, None if body is None else json.dumps(body))
+        answer = connection.getresponse()
+        text = answer.read()
+        connection.close()
+        if answer.status != 503:
+            return answer.status, json.loads(text) if text else None
+        time.sleep(0.01)
+    return 503, None
+
+
+def comes_to(seconds, test):
+    end = time.time() + seconds
+    while time.time() < end:
+        if test():
+            return True
+        time.sleep(0.05)
+    return False
+
+
+def status(lra, node=1):
+    answer = ask("GET", f"/lra/{lra}", node=node)[1]
+    return answer.get("status") or answer.get("refused")
+
+
+class Participant:
+    """Answers calls with what a test says, and remembers them."""
+
+    def __init__(self):
+        self.calls, self.answers = [], {}
+        outer = self
+
+        class Handler(http.server.BaseHTTPRequestHandler):
+            def answer(self):
+                self.rfile.read(int(self.headers.get("Content-Length", 0)))
+                outer.calls.append((self.command, self.path, self.headers.get("Long-Running-Action")))
+                code, body = outer.answers.get(self.path, (200, b""))
+                self.send_response(code)
+                self.send_header("Content-Length", str(len(body)))
+                self.end_headers()
+                self.wfile.write(body)
+
+            do_PUT = do_GET = do_DELETE = answer
+
+            def log_message(self, *words):
+                pass
+
+        self.server = http.server.ThreadingHTTPServer(("127.0.0.1", 0), Handler)
+        self.url = f"http://127.0.0.1:{self.server.server_port}"
+        threading.Thread(target=self.server.serve_forever, daemon=True).start()
+
+
+def three_nodes(folder):
+    server, part = Server(3, folder).wait_until_up(), Participant()
+    lra = ask("POST", "/lra", {})[1]["lra"]
+    for name in ("flight", "hotel"):
+        ask("PUT", f"/lra/{lra}/join", {"compensate": f"{part.url}/{name}/c", "complete": f"{part.url}/{name}/k"})
+    check("an LRA closes when its participants have completed", ask("PUT", f"/lra/{lra}/close")[0] == 200 and comes_to(5, lambda: status(lra) == "Closed"), status(lra))
+    check("both participants were called", sorted(c[1] for c in part.calls) == ["/flight/k", "/hotel/k"], part.calls)
+    for node in (2, 3):
+        check(f"node {node} shows it closed", comes_to(15, lambda: status(lra, node) == "Closed"), status(lra, node))
+    part.calls.clear()
+    trip = ask("POST", "/lra", {})[1]["lra"]
+    for name in ("flight", "hotel", "car"):
+        ask("PUT", f"/lra/{trip}/join", {"compensate": f"{part.url}/{name}/c"})
+    part.answers["/hotel/c"] = (503, b"")
+    ask("PUT", f"/lra/{trip}/cancel")
+    time.sleep(1.5)
+    check("one that is down is called again", [c[1] for c in part.calls].count("/hotel/c") >= 2 and status(trip) == "Cancelling", part.calls)
+    part.answers.clear()
+    check("it is compensated when that one is back", comes_to(10, lambda: status(trip) == "Cancelled"), status(trip))
+    order = [c[1] for c in part.calls]
+    check("last to first", order[0] == "/car/c" and order[-1] == "/flight/c", order)
+    late = ask("POST", "/lra", {"limit": 700})[1]["lra"]
+    check("a deadline that passes cancels", comes_to(5, lambda: status(late) == "Cancelled"), status(late))
+    foreign = ask("POST", "/lra", {}, node=2)[1]["lra"]
+    check("another node's LRA can be joined at its home alone", comes_to(15, lambda: ask("PUT", f"/lra/{foreign}/join", {"compensate": part.url}, node=1)[0] == 421))
+    stopped = socket.create_connection(("127.0.0.1", PORT))
+    stopped.sendall(b"GET /lra HT")
+    silent = [socket.create_connection(("127.0.0.1", PORT)) for _ in range(8)]
+    began = time.time()
+    check("half a request and eight silent connections hold nobody up", ask("GET", "/lra")[0] == 200 and time.time() - began < 1, time.time() - began)
+    stopped.settimeout(9)
+    check("half a request is closed after five seconds", stopped.recv(10) == b"" and time.time() - began < 8, time.time() - began)
+    long_body = socket.create_connection(("127.0.0.1", PORT))
+    try:
+        long_body.sendall(b"POST /lra HTTP/1.1\r\nHost: p\r\nContent-Length: 70000\r\n\r\n" + b"a" * 70000)
+    except OSError:
+        pass
+    long_body.settimeout(5)
+    check("a body that is too long is told so", long_body.recv(100).startswith(b"HTTP/1.1 413 "))
+    for it in silent:
+        it.close()
+    ended = server.end()
+    check("it ends with its input", ended == (0, ""), ended)
+    return lra, trip
+
+
+def restart(folder, lra, trip):
+    server = Server(3, folder).wait_until_up()
+    check("a start shows what was", (status(lra), status(trip)) == ("Closed", "Cancelled"), (status(lra), status(trip)))
+    began = ask("POST", "/lra", {})[1]["lra"]
+    server.process.kill()
+    server.process.wait()
+    server = Server(3, folder).wait_until_up()
+    check("what was answered before a kill -9 is there", status(began) == "Active", status(began))
+    server.end()
+    for i in (1, 2, 3):
+        with sqlite3.connect(f"{folder}/node-{i}.db") as database:
+            check(f"the journal of node {i} is whole", database.execute("PRAGMA integrity_check").fetchone() == ("ok",))
+
+
+def many(folder):
+    server, lost, asked = Server(1, folder).wait_until_up(), [], 5000
+    lra = ask("POST", "/lra", {})[1]["lra"]
+
+    def client(count):
+        for _ in range(count):
+            try:
+                if ask("GET", f"/lra/{lra}")[0] != 200:
+                    lost.append("status")
+            except OSError as error:
+                lost.append(repr(error))
+
+    began = time.time()
+    threads = [threading.Thread(target=client, args=(asked // 8,)) for _ in range(8)]
+    for it in threads:
+        it.start()
+    for it in threads:
+        it.join()
+    took = time.time() - began
+    check(f"{asked} requests over several runs, none lost ({asked / took:.0f} a second)", not lost, lost[:5])
+    going = threading.Thread(target=client, args=(200,))
+    going.start()
+    time.sleep(0.1)
+    ended = server.end()
+    going.join()
+    check("the input ends while requests are under way", ended == (0, ""), ended)
+
+
+def refusals(folder):
+    taken = socket.socket()
+    taken.setsockopt(socket.SOL_SOCKET, socket.SO_REUSEADDR, 1)
+    taken.bind(("127.0.0.1", PORT + 51))
+    taken.listen()
+    server = Server(2, folder, PORT + 50)
+    server.process.wait(20)
+    check("a port in use", server.end() == (1, f"port {PORT + 51}\n"))
+    taken.close()
+    server = Server(1, folder + "/none", PORT + 60)
+    server.process.wait(20)
+    check("a folder that isn't there", server.end() == (1, "journal 1\n"))
+    other = folder + "/other"
+    os.mkdir(other)
+    for file in os.listdir(folder):
+        if file.startswith("node-2.db"):
+            shutil.copy(f"{folder}/{file}", f"{other}/node-1{file[6:]}")
+    server = Server(2, other, PORT + 70)
+    server.process.wait(20)
+    check("a journal of another node", server.end() == (1, "journal 1\n"))
+    for words in ([], ["serve", "9", "8070", "."], ["serve", "1", "80", "."], ["serve", "01", "8070", "."]):
+        ran = subprocess.run([PROGRAM, *words], stdin=subprocess.DEVNULL, capture_output=True)
+        check("other arguments: " + " ".join(words), ran.returncode == 2 and ran.stderr.startswith(b"usage: "), ran)
+
+
+def main():
+    if not os.path.exists(PROGRAM):
+        raise SystemExit(f"{PROGRAM} isn't there: ./coordinator builds it")
+    with tempfile.TemporaryDirectory() as folder:
+        restart(folder, *three_nodes(folder))
+    with tempfile.TemporaryDirectory() as folder:
+        many(folder)
+    with tempfile.TemporaryDirectory() as folder:
+        refusals(folder)
+    print(f"{len(failures)} failed")
+    sys.exit(bool(failures))
+
+
+main()
