@@ -12,6 +12,7 @@ mod table;
 mod text;
 
 pub use answers::answer;
+pub use path::Paths;
 pub use routing::{Unrouted, route};
 pub use serving::{ServeError, serve_one};
 pub use table::Place;

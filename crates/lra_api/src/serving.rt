@@ -9,8 +9,9 @@ ghost use Rattle.lra_api.specs.Routes.{routed};
 ghost use Rattle.lra_api.specs.Serving.{Ends, EndsNoMemory, Makes, Serves, ServesCall, ServesFault, ServesRequest, WritesNoMemory, told, told_if_lost};
 ghost use Rattle.lra_api.specs.Streams.{IsReading};
 
+use crate::Paths;
 use crate::answers::{answer, fault_answer, refusal_answer, unrouted_answer};
-use crate::routing::{Unrouted, route};
+use crate::routing::{Unrouted, route_by};
 use lra_book::{Call, Clerk, Reply};
 use lra_facts::Refusal;
 use lra_http::{BODY_LIMIT, Fault, Request, Response, Sink, Source, read_request, write_response};
@@ -150,6 +151,7 @@ fn end_unrouted<W: Sink>(
 /// Makes the call that a request asks for, if it asks for one, and writes the answer.
 fn serve_request<W: Sink, C: Clerk>(
     alloc: Global,
+    paths: &Paths,
     writer: &mut W,
     clerk: &mut C,
     request: &Request,
@@ -157,7 +159,7 @@ fn serve_request<W: Sink, C: Clerk>(
 ) -> Result<(), ServeError>
     ensures { ServesRequest (clerk.new ≡ clerk.old) (Makes C.Clerk clerk.old clerk.new now) W.Sink writer.old writer.new (routed now request.now) result }
 {
-    match route(alloc, request, now) {
+    match route_by(alloc, paths, request, now) {
         Ok(call) => serve_call(alloc, writer, clerk, call, now),
         Err(unrouted) => {
             if unrouted == Unrouted::Refused(Refusal::NoMemory) {
@@ -194,11 +196,12 @@ fn serve_fault<W: Sink>(alloc: Global, writer: &mut W, fault: Fault) -> Result<(
     }
 }
 
-/// Reads one request, makes the call that it asks for, and writes one answer. Errors: the clerk's own refusals, E17 to E21,
+/// Reads one request, makes the call that it asks for by the table of paths, and writes one answer. Errors: the clerk's own refusals, E17 to E21,
 /// which are written too and go before a fault of writing; `Cut` and `ReadFault`, behind which nothing is written; `WriteFault`,
 /// before which a prefix of the answer was; and E17 where the memory is refused here: a call that was made then stands.
 pub fn serve_one<R: Source, W: Sink, C: Clerk>(
     alloc: Global,
+    paths: &Paths,
     reader: &mut R,
     writer: &mut W,
     clerk: &mut C,
@@ -212,7 +215,7 @@ pub fn serve_one<R: Source, W: Sink, C: Clerk>(
         × Serves (clerk.new ≡ clerk.old) (Makes C.Clerk clerk.old clerk.new now) W.Sink writer.old writer.new now read result }
 {
     match read_request(alloc, reader, BODY_LIMIT) {
-        Ok(request) => serve_request(alloc, writer, clerk, &request, now),
+        Ok(request) => serve_request(alloc, paths, writer, clerk, &request, now),
         Err(fault) => serve_fault(alloc, writer, fault),
     }
 }

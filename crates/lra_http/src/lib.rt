@@ -13,8 +13,6 @@ mod message;
 mod over;
 mod request;
 mod response;
-#[cfg(test)]
-mod tests;
 mod text;
 
 ghost use Rattle.std.specs.Prelude.{◌≡◌, ◌≤◌, [], length, IfOk, OnOk};

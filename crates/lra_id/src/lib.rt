@@ -4,8 +4,6 @@
 mod front;
 mod lra;
 mod node;
-#[cfg(test)]
-mod tests;
 
 pub use front::Front;
 pub use lra::LraId;

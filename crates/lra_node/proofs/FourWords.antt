@@ -2,7 +2,7 @@
 use Rattle.std.proofs.Common.{◌≡◌, ◌≤◌, ◌<◌, ◌^◌, ◌⊎◌, inl, inr, ℕ, List, [], ◌∷◌, ap, ◌∙◌, sym, get_or, length, map, arith}
 use Rattle.std.specs.Fmt.{decimal}
 use Rattle.lra_node.specs.Arguments.{AskServer}
-use Rattle.lra_node.proofs.DecimalNumbers.{one_number}
+use Rattle.std.proofs.lemmas.Fmt.{decimal_injective}
 
 -- a list with four elements is these four
 pub four : {X : Type 0} (xs : List X) (x y z w : X) → 4 ≤ length xs → length xs < 5 → x ≡ get_or xs 0 x → y ≡ get_or xs 1 y → z ≡ get_or xs 2 z → w ≡ get_or xs 3 w → xs ≡ x ∷ y ∷ z ∷ w ∷ []
@@ -28,5 +28,5 @@ out_of_range n port same low high (inr (_, above)) = omega (arith, same, high, a
 pub asks_none : {X : Type 0} (f : X → List ℕ) (xs : List X) (x y z w : X) (n : ℕ) → xs ≡ x ∷ y ∷ z ∷ w ∷ [] → f z ≡ decimal n → n < 2 ^ 16 → (n < 1024) ⊎ ((1024 ≤ n) × (65528 < n)) → (nodes port : ℕ) (folder : List ℕ) → AskServer (map f xs) nodes port folder → ⊥
 asks_none f xs x y z w n all is small out nodes port folder (node, low, high, asked) =
     let third : f z ≡ decimal port = ap (λ l. get_or l 2 []) (sym (ap (map f) all) ∙ asked) in
-    let same : n ≡ port = one_number (f z) n port (omega (arith, small)) (omega (arith, high)) is third in
+    let same : n ≡ port = decimal_injective n port (omega (arith, small)) (omega (arith, high)) (sym is ∙ third) in
     out_of_range n port same low high out

@@ -1,13 +1,1 @@
-mod Answering
-mod Bases
-mod DecimalNumbers
 mod FourWords
-mod KnownInputs
-mod LineReadings
-mod MemberWords
-mod OneAskALine
-mod OneTextAScript
-mod Runs
-mod Splits
-mod Steps
-mod TwoWords

@@ -1,15 +1,7 @@
--- What the program's arguments ask for.
+-- What the program's arguments ask for, beside a script.
 use Rattle.std.specs.Prelude.{◌≡◌, ◌≤◌, ℕ, List, [], ◌∷◌, codes}
 use Rattle.std.specs.Fmt.{decimal}
-use Rattle.lra_node.specs.Asks.{IsNodeOf}
-
--- a script of so many nodes
-abbrev pub asked_words : ℕ → List (List ℕ)
-asked_words nodes = codes "script" ∷ decimal nodes ∷ []
-
--- words ask for a script of so many nodes, 1 to 8
-abbrev pub AskScript : List (List ℕ) → ℕ → Type 0
-AskScript words nodes = IsNodeOf 8 nodes × (words ≡ asked_words nodes)
+use Rattle.lra_script.specs.Asks.{IsNodeOf}
 
 -- a server of so many nodes, of which the first listens at this port, with their journals in a folder
 abbrev pub server_words : (nodes port : ℕ) → List ℕ → List (List ℕ)

@@ -1,6 +1,6 @@
 // Requests that are cut or are none, calls that fail, and requests as clients write them.
 use crate::served::{answer_of, fresh, serve};
-use lra_api::{ServeError, serve_one};
+use lra_api::{Paths, ServeError, serve_one};
 use lra_http::{OverRead, OverWrite};
 use std::io;
 use std::io::{ErrorKind, Read, Write};
@@ -124,13 +124,13 @@ impl<'a> Read for Failing<'a> {
 #[test]
 fn a_read_that_fails(rt: HostRuntime) -> Result<(), Fail> {
     let alloc = rt.alloc();
-    let mut clerk = fresh(alloc)?;
+    let (mut clerk, paths) = (fresh(alloc)?, Paths::new(alloc)?);
     for size in 0..BEGIN.len() {
         let mut reader = OverRead::new(Failing {
             bytes: &BEGIN[..size],
         });
         let mut writer = OverWrite::new(Vec::new(alloc));
-        let told = serve_one(alloc, &mut reader, &mut writer, &mut clerk, 0);
+        let told = serve_one(alloc, &paths, &mut reader, &mut writer, &mut clerk, 0);
         assert_eq!(rt; told, Err(ServeError::ReadFault));
         assert!(rt; writer.into_inner().is_empty());
     }
@@ -166,6 +166,7 @@ impl Write for Full {
 #[test]
 fn a_write_that_fails(rt: HostRuntime) -> Result<(), Fail> {
     let alloc = rt.alloc();
+    let paths = Paths::new(alloc)?;
     for size in 0..=BEGUN.len() {
         let mut clerk = fresh(alloc)?;
         let full = Full {
@@ -173,7 +174,8 @@ fn a_write_that_fails(rt: HostRuntime) -> Result<(), Fail> {
             bytes: Vec::new(alloc),
         };
         let mut writer = OverWrite::new(full);
-        let told = serve_one(alloc, &mut OverRead::new(BEGIN), &mut writer, &mut clerk, 0);
+        let mut reader = OverRead::new(BEGIN);
+        let told = serve_one(alloc, &paths, &mut reader, &mut writer, &mut clerk, 0);
         let whole = size == BEGUN.len();
         assert_eq!(rt;
             told,

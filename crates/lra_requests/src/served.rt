@@ -1,8 +1,9 @@
 // Requests that clerks of books serve, from memory to memory.
 ghost use Rattle.std.specs.Prelude.{◌≤◌};
 
-use lra_api::{ServeError, serve_one};
+use lra_api::{Paths, ServeError, serve_one};
 use lra_book::{Book, BookClerk, Clerk};
+use lra_facts::Refusal;
 use lra_http::{OverRead, OverWrite};
 use lra_id::NodeId;
 use sqlite::{Connection, MemStore};
@@ -42,7 +43,11 @@ pub(crate) fn fresh(alloc: Global) -> Result<BookClerk<MemStore>, Fail> {
 /// Has a clerk serve the bytes of a request at a moment.
 pub(crate) fn serve<C: Clerk>(alloc: Global, clerk: &mut C, request: &[u8], now: u64) -> Served {
     let mut writer = OverWrite::new(Vec::new(alloc));
-    let told = serve_one(alloc, &mut OverRead::new(request), &mut writer, clerk, now);
+    let mut reader = OverRead::new(request);
+    let told = match Paths::new(alloc) {
+        Ok(paths) => serve_one(alloc, &paths, &mut reader, &mut writer, clerk, now),
+        Err(_) => Err(ServeError::Refused(Refusal::NoMemory)),
+    };
     Served {
         told,
         written: writer.into_inner(),

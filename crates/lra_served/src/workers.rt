@@ -1,11 +1,12 @@
 // Two workers at one desk, each held before its first call until the other has come there.
 ghost use Rattle.std.specs.Prelude.{◌≡◌, [], ⊤, Some};
 
+use lra_api::Paths;
 use lra_book::{Book, Desk, DeskClerk, DeskPass, Reply, Run};
 use lra_http::{OverRead, OverWrite};
 use lra_id::NodeId;
-use lra_server::{Arrivals, Connection, Gate, work};
 use lra_states::LraStatus;
+use lra_work::{Arrivals, Connection, Gate, work};
 use sqlite::{Alter, Connection as Database};
 use std::alloc::Global;
 use std::marker::Brand;
@@ -92,7 +93,10 @@ fn serve<J: Run, S: Alter, R: Wait + Clock, G: Gate>(
         texts,
         given: 0,
     };
-    let (clerk, _ending) = work(rt, alloc, &mut given, clerk, gate);
+    let Ok(paths) = Paths::new(alloc) else {
+        return clerk.into_pass();
+    };
+    let (clerk, _ending) = work(rt, alloc, &paths, &mut given, clerk, gate);
     clerk.into_pass()
 }
 

@@ -8,9 +8,10 @@ use crate::scribe::enter_all;
 use crate::seat::Seat;
 use crate::signal::Over;
 use crate::taken::Taken;
-use crate::{Open, work};
 use log::{Log, warn};
+use lra_api::Paths;
 use lra_book::{Book, Desk, DeskClerk, DeskPass, Run};
+use lra_work::{Open, work};
 use sqlite::Alter;
 use std::alloc::Global;
 use std::marker::Brand;
@@ -33,8 +34,13 @@ fn serve_all<
     J: Run,
     S: Alter + Drop,
 >(rt: &R, alloc: Global, node: &Node, clerk: DeskClerk<'_, J, S, R>) -> DeskPass<J> {
+    let Ok(paths) = Paths::new(alloc) else {
+        node.end_run(rt, Over::Starved);
+        return clerk.into_pass();
+    };
     let mut taken = Taken::new(rt, alloc, &node.queue, &node.signal);
-    let (seat, ending) = work(rt, alloc, &mut taken, Seat { rt, node, clerk }, &Open);
+    let seat = Seat { rt, node, clerk };
+    let (seat, ending) = work(rt, alloc, &paths, &mut taken, seat, &Open);
     taken.close_served();
     if let Some(refusal) = ending {
         node.end_run(rt, Over::by(refusal));

@@ -2,14 +2,11 @@
 #![tactic(auto)]
 
 mod address;
-mod arrivals;
 mod asking;
 mod begun;
 mod calling;
 mod crew;
 mod ends;
-mod gate;
-mod gated;
 mod guest;
 mod node;
 mod opening;
@@ -22,10 +19,6 @@ mod server;
 mod signal;
 mod taken;
 mod tally;
-mod working;
 
-pub use arrivals::{Arrivals, Connection};
-pub use gate::{Gate, Open};
 pub use opening::{Folder, Stores};
 pub use server::serve;
-pub use working::work;

@@ -3,8 +3,6 @@
 
 mod outcome;
 mod status;
-#[cfg(test)]
-mod tests;
 
 pub use outcome::{Act, Outcome, Verdict};
 pub use status::{LraStatus, MemberStatus};

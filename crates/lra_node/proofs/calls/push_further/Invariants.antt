@@ -1,7 +1,0 @@
-use Rattle.std.proofs.Common.{◌≡◌, ◌++◌, drop, string_bytes}
-use Rattle.lra_node.specs.CallLines.{further_text}
-use Rattle.lra_node.proofs.calls.push_further.Given as goal
-
--- with the texts of the duties that are left it comes to all
-abbrev pub invariant-loop-duty : goal.invariant-loop-duty
-invariant-loop-duty l = string_bytes l.text ++ further_text (drop l.duty-index l.duties) ≡ string_bytes l.initial.text ++ further_text l.duties

@@ -1,0 +1,12 @@
+mod Answering
+mod Bases
+mod DecimalNumbers
+mod KnownInputs
+mod LineReadings
+mod MemberWords
+mod OneAskALine
+mod OneTextAScript
+mod Runs
+mod Splits
+mod Steps
+mod TwoWords

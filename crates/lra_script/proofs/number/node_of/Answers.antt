@@ -1,0 +1,17 @@
+use Rattle.std.proofs.Common.{arith, ◌<◌, ◌^◌}
+use Rattle.lra_script.proofs.DecimalNumbers.{one_number}
+use Rattle.lra_script.proofs.number.node_of.Goals as goal
+
+pub returns-then-number-from : goal.returns-then-number-from
+returns-then-number-from c = λ node of e.
+    let number : c.in-Some.number < 2 ^ 64 = omega arith in
+    let small : node < 2 ^ 64 = omega (arith, of.1, c.requires) in
+    let same = one_number c.args.word.now c.in-Some.number node number small c.in-Some.ensures e in
+    absurd (omega (arith, same, of.1))
+
+pub returns-in-Err : goal.returns-in-Err
+returns-in-Err c = λ node of e.
+    let number : c.in-Some.number < 2 ^ 64 = omega arith in
+    let small : node < 2 ^ 64 = omega (arith, of.1, c.requires) in
+    let same = one_number c.args.word.now c.in-Some.number node number small c.in-Some.ensures e in
+    c.in-Err.ensures.exact (omega (arith, same, of.0), omega (arith, same, of.1, c.requires))

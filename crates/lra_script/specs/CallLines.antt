@@ -1,0 +1,80 @@
+-- Calls of participants: how a line spells what one answered, which act that is heard for, and how duties are printed.
+use Rattle.std.specs.Prelude.{◌≡◌, ◌<◌, ◌^◌, ◌⊎◌, ◌++◌, ℕ, List, [], ◌∷◌, Option, Some, None, Result, Ok, Err, codes}
+use Rattle.std.specs.Fmt.{decimal}
+use Rattle.lra_id.specs.Ids.{Id, id_text}
+use Rattle.lra_states.specs.declared.outcome.Act.{Act}
+use Rattle.lra_states.specs.declared.outcome.Act.TheVariants.{Complete as CompleteAct, Compensate as CompensateAct}
+use Rattle.lra_states.specs.declared.status.LraStatus.TheVariants.{Active}
+use Rattle.lra_states.specs.declared.status.MemberStatus.{MemberStatus}
+use Rattle.lra_facts.specs.declared.fact.Fact.{Fact}
+use Rattle.lra_facts.specs.declared.refusal.Refusal.{Refusal}
+use Rattle.lra_facts.specs.declared.refusal.Refusal.TheVariants.{NotDue}
+use Rattle.lra_facts.specs.Sets.{want}
+use Rattle.lra_history.specs.Replies.{member_shown}
+use Rattle.lra_history.specs.declared.command.Command.{Command}
+use Rattle.lra_history.specs.declared.command.Command.TheVariants.{Report, Forgot}
+use Rattle.lra_callback.specs.declared.answer.Answer.{Answer}
+use Rattle.lra_callback.specs.declared.answer.Answer.TheVariants.{Code, Broken}
+use Rattle.lra_callback.specs.declared.answer.Heard.{Heard}
+use Rattle.lra_callback.specs.declared.answer.Heard.TheVariants.{Told, Forgotten, Again}
+use Rattle.lra_callback.specs.declared.answer.Kind.{Kind}
+use Rattle.lra_callback.specs.declared.answer.Kind.TheVariants.{Complete, Compensate, Status, Forget}
+use Rattle.lra_callback.specs.declared.duty.Duty.{Duty}
+use Rattle.lra_callback.specs.CallDuties.{act_wanted}
+use Rattle.lra_callback.specs.CallWords.{kind_name}
+use Rattle.lra_script.specs.LineParts.{words_of}
+
+-- How a line spells an answer
+
+-- the words that are left of a line have this text behind the space before them; where no words are left there is no text
+abbrev pub IsRestOf : List (List ℕ) → List ℕ → Type 0
+IsRestOf words text = ((words ≡ []) × (text ≡ [])) ⊎ (words ≡ words_of text)
+
+-- a code in decimal, and the rest of the line as the body; or `broken`, whatever follows
+abbrev pub GivesAnswer : List (List ℕ) → Answer → Type 0
+GivesAnswer words (Code n body) = (rest : List (List ℕ)) × (words ≡ decimal n ∷ rest) × IsRestOf rest body
+GivesAnswer words Broken = (rest : List (List ℕ)) × (words ≡ codes "broken" ∷ rest)
+
+-- a code is at most 65,535
+abbrev pub IsAnswerInRange : Answer → Type 0
+IsAnswerInRange (Code n body) = n < 2 ^ 16
+IsAnswerInRange Broken = Unit {0}
+
+-- The act that an answer is heard for
+
+-- of an LRA that wants nothing, and so is Active, no act is demanded
+abbrev pub act_demanded : Option Act → Result Act Refusal
+act_demanded None = Err (NotDue Active)
+act_demanded (Some act) = Ok act
+
+-- where there is a participant to show
+abbrev pub act_where : Result MemberStatus Refusal → Result Act Refusal → Result Act Refusal
+act_where (Err r) act = Err r
+act_where (Ok status) act = act
+
+-- Over the facts S, which the front counts. Of a status it is the act that the LRA's want demands. What is heard of a forget is the same for either act
+abbrev pub act_asked : List Fact → List ℕ → Kind → Id → ℕ → Result Act Refusal
+act_asked S front Complete id m = Ok CompleteAct
+act_asked S front Compensate id m = Ok CompensateAct
+act_asked S front Status id m = act_where (member_shown S front id m) (act_demanded (act_wanted (want S id)))
+act_asked S front Forget id m = Ok CompleteAct
+
+-- what is heard is reported, or entered as forgotten; where the participant is to be called again, nothing is entered
+abbrev pub command_of : Id → ℕ → Act → Heard → Option Command
+command_of id m act (Told outcome) = Some (Report id m act outcome)
+command_of id m act Forgotten = Some (Forgot id m)
+command_of id m act Again = None
+
+-- Duties
+
+abbrev pub duty_text : Duty → List ℕ
+duty_text d = kind_name d.kind ++ (codes " " ++ (id_text d.id ++ (codes " " ++ decimal d.member)))
+
+-- those behind the first
+abbrev pub further_text : List Duty → List ℕ
+further_text [] = []
+further_text (d ∷ ds) = codes ", " ++ (duty_text d ++ further_text ds)
+
+abbrev pub duties_text : List Duty → List ℕ
+duties_text [] = codes "none"
+duties_text (d ∷ ds) = duty_text d ++ further_text ds

@@ -1,0 +1,196 @@
+-- The script: what its lines print, one after another.
+use Rattle.std.specs.Prelude.{◌≡◌, ℕ, ◌<◌, ◌≤◌, ◌⊎◌, List, [], ◌∷◌, ◌++◌, length, codes, zero, suc, Option, None, Some, Result, Ok, Err}
+use Rattle.std.specs.Fmt.{decimal}
+use Rattle.lra_id.specs.Fronts.{front_text}
+use Rattle.lra_id.specs.Ids.{Id, id_text, text_of}
+use Rattle.lra_states.specs.Names.{lra_name, member_name}
+use Rattle.lra_states.specs.declared.status.LraStatus.{LraStatus}
+use Rattle.lra_states.specs.declared.outcome.Act.{Act}
+use Rattle.lra_states.specs.declared.status.MemberStatus.{MemberStatus}
+use Rattle.lra_facts.specs.RefusalTexts.{refusal_text}
+use Rattle.lra_facts.specs.declared.refusal.Refusal.{Refusal}
+use Rattle.lra_facts.specs.declared.refusal.Refusal.TheVariants.{BadText, NoMemory}
+use Rattle.lra_forest.specs.Dues.{AreAll}
+use Rattle.lra_history.specs.declared.command.Command.{Command}
+use Rattle.lra_history.specs.declared.command.CommandReply.{CommandReply}
+use Rattle.lra_history.specs.declared.command.CommandReply.TheVariants.{Began, Joined, Left, Decided, Reported, Known, Forgotten, Purged, Refused as NotEntered}
+use Rattle.lra_world.specs.declared.event.Event.{Event}
+use Rattle.lra_world.specs.declared.event.Event.TheVariants.{Act as ActEvent, Deliver as DeliverEvent, Restart as RestartEvent, Send as SendEvent, Tick as TickEvent}
+use Rattle.lra_world.specs.declared.event.Reply.{Reply}
+use Rattle.lra_world.specs.declared.event.Reply.TheVariants.{Answered, Sent, Took, Restarted, Expired, Quiet, Refused}
+use Rattle.lra_world.specs.Headline.{member_at, shown_at}
+use Rattle.lra_world.specs.Machines.{IsWorldOf, Machine}
+use Rattle.lra_world.specs.Worlds.{State, Steps, after_command, front_of, reply_at, set_of}
+use Rattle.lra_callback.specs.declared.answer.Answer.{Answer}
+use Rattle.lra_callback.specs.declared.answer.Heard.{Heard}
+use Rattle.lra_callback.specs.declared.answer.Kind.{Kind}
+use Rattle.lra_callback.specs.declared.duty.Duty.{Duty}
+use Rattle.lra_callback.specs.Answers.{heard_of}
+use Rattle.lra_callback.specs.CallDuties.{IsDuty, comes_first}
+use Rattle.lra_callback.specs.CallWords.{heard_name}
+use Rattle.lra_script.specs.declared.ask.Ask.{Ask}
+use Rattle.lra_script.specs.declared.ask.Ask.TheVariants.{Enter, Tick, Send, Deliver, Restart, Show, Member, Duties, Hear, Front, Same, Text, Read}
+use Rattle.lra_script.specs.Asks.{Spells}
+use Rattle.lra_script.specs.CallLines.{act_asked, command_of, duties_text}
+use Rattle.lra_script.specs.NodeHoldings.{AreComing}
+
+-- a line of at most so many bytes is read
+abbrev pub most_in_line : ℕ
+most_in_line = 4096
+
+abbrev pub printed : List ℕ → List ℕ
+printed text = text ++ 10 ∷ []
+
+abbrev pub refused : Refusal → List ℕ
+refused r = printed (codes "refused " ++ refusal_text r)
+
+-- what is printed of an LRA that was begun: its member number only where it has one
+abbrev pub began_text : Id → ℕ → List ℕ
+began_text id zero = codes "began " ++ id_text id
+began_text id (suc m) = codes "began " ++ id_text id ++ codes " member " ++ decimal (suc m)
+
+-- the line that the reply to a command prints
+abbrev pub reply_line : CommandReply → List ℕ
+reply_line (Began id member) = printed (began_text id member)
+reply_line (Joined id member) = printed (codes "joined " ++ decimal member)
+reply_line Left = printed (codes "left")
+reply_line (Decided id status) = printed (lra_name status)
+reply_line Reported = printed (codes "reported")
+reply_line Known = printed (codes "known")
+reply_line Forgotten = printed (codes "forgot")
+reply_line Purged = printed (codes "purged")
+reply_line (NotEntered r) = refused r
+
+-- the line that the reply to an event prints
+abbrev pub event_line : Reply → List ℕ
+event_line (Answered reply) = reply_line reply
+event_line (Sent frame) = printed (codes "frame " ++ decimal frame)
+event_line Took = printed (codes "took")
+event_line Restarted = printed (codes "restarted")
+event_line (Expired id) = printed (codes "expired " ++ id_text id)
+event_line Quiet = printed (codes "quiet")
+event_line (Refused r) = refused r
+
+-- nothing was entered
+abbrev pub IsRefusal : CommandReply → Type 0
+IsRefusal reply = (r : Refusal) × (reply ≡ NotEntered r)
+
+-- nothing happened
+abbrev pub IsNothing : Reply → Type 0
+IsNothing (Answered reply) = IsRefusal reply
+IsNothing (Sent frame) = ⊥
+IsNothing Took = ⊥
+IsNothing Restarted = ⊥
+IsNothing (Expired id) = ⊥
+IsNothing Quiet = ⊥
+IsNothing (Refused r) = Unit {0}
+
+abbrev pub status_line : Result LraStatus Refusal → List ℕ
+status_line (Ok status) = printed (lra_name status)
+status_line (Err r) = refused r
+
+abbrev pub member_line : Result MemberStatus Refusal → List ℕ
+member_line (Ok status) = printed (member_name status)
+member_line (Err r) = refused r
+
+-- what was heard, and then what the reply to it prints; a refusal is printed alone
+abbrev pub heard_reply_line : Heard → Reply → List ℕ
+heard_reply_line heard (Answered Reported) = printed (heard_name heard ++ codes " reported")
+heard_reply_line heard (Answered Known) = printed (heard_name heard ++ codes " known")
+heard_reply_line heard (Answered Forgotten) = printed (heard_name heard ++ codes " forgot")
+heard_reply_line heard reply = event_line reply
+
+-- the line of an answer of which a node heard this, and that enters a command, or nothing
+abbrev pub heard_line : State → ℕ → Heard → Option Command → List ℕ
+heard_line s node heard None = printed (heard_name heard)
+heard_line s node heard (Some c) = heard_reply_line heard (Answered (reply_at s node c))
+
+abbrev pub after_heard : State → ℕ → Option Command → State
+after_heard s node None = s
+after_heard s node (Some c) = after_command s node c
+
+-- the line of an answer that is heard for this act, or for none, since that is refused
+abbrev pub answer_line : State → ℕ → Id → ℕ → Kind → Answer → Result Act Refusal → List ℕ
+answer_line s node id m kind answer (Err r) = refused r
+answer_line s node id m kind answer (Ok act) =
+    heard_line s node (heard_of act kind answer) (command_of id m act (heard_of act kind answer))
+
+abbrev pub after_answer : State → ℕ → Id → ℕ → Kind → Answer → Result Act Refusal → State
+after_answer s node id m kind answer (Err r) = s
+after_answer s node id m kind answer (Ok act) = after_heard s node (command_of id m act (heard_of act kind answer))
+
+-- `same` where this holds, and `differ` where it doesn't
+abbrev pub TellsSame : Type 0 → List ℕ → Type 0
+TellsSame equal out = (equal × (out ≡ printed (codes "same"))) ⊎ ((equal → ⊥) × (out ≡ printed (codes "differ")))
+
+-- in state s the event happens and leaves state t, and its reply is printed
+abbrev pub PrintsReply : State → Event → List ℕ → State → Type 0
+PrintsReply s event out t = (reply : Reply) × Steps s event reply t × (out ≡ event_line reply)
+
+-- In state s this is printed for what a line asks, and the state after it is t. Of duties the list of all is printed, in
+-- their order. Two nodes hold the same where their fronts are equal. Questions change nothing
+abbrev pub Does : State → Ask → List ℕ → State → Type 0
+Does s (Enter node command) out t = PrintsReply s (ActEvent node command) out t
+Does s (Tick node now) out t = PrintsReply s (TickEvent node now) out t
+Does s (Send node base) out t = PrintsReply s (SendEvent node base) out t
+Does s (Deliver frame node kept) out t = (count : ℕ) × AreComing s frame kept count × PrintsReply s (DeliverEvent frame node count) out t
+Does s (Restart node) out t = PrintsReply s (RestartEvent node) out t
+Does s (Show node id) out t = (out ≡ status_line (shown_at s node id)) × (t ≡ s)
+Does s (Member node id member) out t = (out ≡ member_line (member_at s node id member)) × (t ≡ s)
+Does s (Duties node) out t =
+    (duties : List Duty) × AreAll (IsDuty node (set_of s node)) (comes_first (set_of s node)) duties × (out ≡ printed (duties_text duties)) × (t ≡ s)
+Does s (Hear node id member kind answer) out t =
+    let act = act_asked (set_of s node) (front_of s node) kind id member in
+    (out ≡ answer_line s node id member kind answer act) × (t ≡ after_answer s node id member kind answer act)
+Does s (Front node) out t = (out ≡ printed (codes "front " ++ front_text (front_of s node))) × (t ≡ s)
+Does s (Same node other) out t = TellsSame (front_of s node ≡ front_of s other) out × (t ≡ s)
+Does s (Text id) out t = (out ≡ printed (text_of id)) × (t ≡ s)
+Does s (Read id) out t = (out ≡ printed (id_text id)) × (t ≡ s)
+
+-- an event happened in state s, its reply is printed, and the world stands for the state after it
+abbrev pub HasHappened : State → Event → List ℕ → Machine → Type 0
+HasHappened s event out world = (t : State) × PrintsReply s event out t × IsWorldOf t world
+
+-- what is asked was done in state s: this is printed, and the world stands for the state after it
+abbrev pub WasDone : State → Ask → List ℕ → Machine → Type 0
+WasDone s ask out world = (t : State) × Does s ask out t × IsWorldOf t world
+
+-- a line that is too long, or fits no command
+abbrev pub IsBad : ℕ → List ℕ → Type 0
+IsBad nodes line = (most_in_line < length line) ⊎ ((ask : Ask) → Spells nodes line ask → ⊥)
+
+-- a line that asks something, which is done
+abbrev pub IsDone : ℕ → State → List ℕ → List ℕ → State → Type 0
+IsDone nodes s line out t =
+    (ask : Ask) × (length line ≤ most_in_line) × Spells nodes line ask × Does s ask out t
+
+-- In state s a line prints this and leaves state t, where memory is not wanting. An empty line prints nothing.
+abbrev pub AnswersInRoom : ℕ → State → List ℕ → List ℕ → State → Type 0
+AnswersInRoom nodes s [] out t = (out ≡ []) × (t ≡ s)
+AnswersInRoom nodes s (b ∷ bs) out t = (IsBad nodes (b ∷ bs) × (out ≡ refused BadText) × (t ≡ s)) ⊎ IsDone nodes s (b ∷ bs) out t
+
+-- the same, where any line but an empty one may meet want of memory, and then nothing happened
+abbrev pub Answers : ℕ → State → List ℕ → List ℕ → State → Type 0
+Answers nodes s [] out t = (out ≡ []) × (t ≡ s)
+Answers nodes s (b ∷ bs) out t = ((out ≡ refused NoMemory) × (t ≡ s)) ⊎ AnswersInRoom nodes s (b ∷ bs) out t
+
+-- what a line prints in state s, and a world that stands for the state after it
+abbrev pub WasAnswered : ℕ → State → List ℕ → List ℕ → Machine → Type 0
+WasAnswered nodes s line out world = (t : State) × Answers nodes s line out t × IsWorldOf t world
+
+-- from state s on these lines print this, one after another, where `answers` says what a line prints
+abbrev pub TextOfLines : (State → List ℕ → List ℕ → State → Type 0) → State → List (List ℕ) → List ℕ → Type 0
+TextOfLines answers s [] out = out ≡ []
+TextOfLines answers s (line ∷ lines) out =
+    (first rest : List ℕ) × (t : State) × (out ≡ first ++ rest) × answers s line first t × TextOfLines answers t lines rest
+
+abbrev pub ScriptText : ℕ → State → List (List ℕ) → List ℕ → Type 0
+ScriptText nodes s lines out = TextOfLines (Answers nodes) s lines out
+
+-- the same, where no line meets want of memory
+abbrev pub TextInRoom : ℕ → State → List (List ℕ) → List ℕ → Type 0
+TextInRoom nodes s lines out = TextOfLines (AnswersInRoom nodes) s lines out
+
+-- a line, and that what it prints was written so, in a world that stands for the state after it
+abbrev pub Prints : ℕ → State → List ℕ → Machine → (List ℕ → Type 0) → Type 0
+Prints nodes s line world was_written = (out : List ℕ) × WasAnswered nodes s line out world × was_written out

@@ -1,0 +1,116 @@
+// What a line prints, and what it does to the world.
+ghost use Rattle.std.specs.Prelude.{◌≡◌, ◌≤◌, length, IfOk, OnErr, string_bytes};
+ghost use Rattle.lra_facts.specs.declared.refusal.Refusal.TheVariants.{NoMemory};
+ghost use Rattle.lra_world.specs.Machines.{IsWorldOf};
+ghost use Rattle.lra_world.specs.Worlds.{State};
+ghost use Rattle.lra_script.specs.declared.ask.Ask.TheVariants.{Deliver};
+ghost use Rattle.lra_script.specs.Asks.{IsInRange};
+ghost use Rattle.lra_script.specs.Scripts.{HasHappened, WasAnswered, WasDone, refused};
+ghost use Rattle.lra_script.specs.NodeHoldings.{AreComing};
+
+use crate::ask::Ask;
+use crate::asking::ask_of;
+use crate::calls::{hear_answer, show_duties};
+use crate::line::MOST_IN_LINE;
+use crate::room::Room;
+use crate::showing::{held, id_line, show, show_front, show_member, show_same, text_line};
+use crate::telling::{refusal_line, tell};
+use lra_facts::Refusal;
+use lra_history::CommandReply;
+use lra_id::NodeId;
+use lra_world::{Event, World};
+use std::alloc::{AllocError, Global};
+
+/// What a line prints, and what it does to the world of so many nodes. Want of memory is no event.
+pub fn answer(
+    alloc: Global,
+    world: &mut World,
+    line: &[u8],
+    nodes: u8,
+) -> Result<String, AllocError>
+    requires few { nodes ≤ 8 }
+    requires nodes { length world.old.replicas ≡ nodes }
+    ensures ok { (s : State) → IsWorldOf s world.old → IfOk result (λ text. WasAnswered nodes s line.now (string_bytes text) world.new) }
+    ensures err { (s : State) → IsWorldOf s world.old → OnErr result (WasAnswered nodes s line.now (refused NoMemory) world.new) }
+{
+    if line.is_empty() {
+        return Ok(String::new(alloc));
+    }
+    if line.len() > MOST_IN_LINE {
+        return refusal_line(alloc, Refusal::BadText);
+    }
+    let found = ask_of(alloc, line, nodes)?;
+    let Some(ask) = found else {
+        return refusal_line(alloc, Refusal::BadText);
+    };
+    obey(alloc, world, ask)
+}
+
+/// What is printed for what a line asks, and what that does to the world.
+fn obey(alloc: Global, world: &mut World, ask: Ask) -> Result<String, AllocError>
+    requires { IsInRange (length world.old.replicas) ask }
+    ensures ok { (s : State) → IsWorldOf s world.old → IfOk result (λ text. WasDone s ask (string_bytes text) world.new) }
+    ensures err { (s : State) → IsWorldOf s world.old → OnErr result (IsWorldOf s world.new) }
+{
+    match ask {
+        Ask::Enter { node, command } => happen(alloc, world, Event::Act { node, command }),
+        Ask::Tick { node, now } => happen(alloc, world, Event::Tick { node, now }),
+        Ask::Send { node, base } => happen(alloc, world, Event::Send { node, base }),
+        Ask::Deliver { frame, node, kept } => deliver(alloc, world, frame, node, kept),
+        Ask::Restart { node } => happen(alloc, world, Event::Restart { node }),
+        Ask::Hear {
+            node,
+            id,
+            member,
+            kind,
+            answer,
+        } => hear_answer(alloc, world, node, id, member, kind, &answer),
+        Ask::Show { node, id } => show(alloc, held(world, node), id),
+        Ask::Member { node, id, member } => show_member(alloc, held(world, node), id, member),
+        Ask::Duties { node } => show_duties(alloc, held(world, node), node),
+        Ask::Front { node } => show_front(alloc, held(world, node)),
+        Ask::Same { node, other } => show_same(alloc, held(world, node), held(world, other)),
+        Ask::Text(id) => text_line(alloc, id),
+        Ask::Read(id) => id_line(alloc, id),
+    }
+}
+
+/// Has an event happen, and tells the reply in room that was made before.
+fn happen(alloc: Global, world: &mut World, event: Event) -> Result<String, AllocError>
+    ensures ok { (s : State) → IsWorldOf s world.old → IfOk result (λ text. HasHappened s event (string_bytes text) world.new) }
+    ensures err { (s : State) → IsWorldOf s world.old → OnErr result (IsWorldOf s world.new) }
+{
+    // Without a value of this type here the toolchain's borrow checker can't build its plan for a `Reply`.
+    let _ = CommandReply::Refused(Refusal::NoMemory);
+    let room = Room::new(alloc)?;
+    match world.step(alloc, event) {
+        Ok(reply) => tell(alloc, room, reply),
+        Err(error) => Err(error),
+    }
+}
+
+/// Has a frame come to a node, or the first so many bytes of it.
+fn deliver(
+    alloc: Global,
+    world: &mut World,
+    frame: u64,
+    node: NodeId,
+    kept: Option<u64>,
+) -> Result<String, AllocError>
+    ensures ok { (s : State) → IsWorldOf s world.old → IfOk result (λ text. WasDone s (Deliver frame node kept) (string_bytes text) world.new) }
+    ensures err { (s : State) → IsWorldOf s world.old → OnErr result (IsWorldOf s world.new) }
+{
+    let frame = frame as usize;
+    let kept = bytes_coming(world, frame, kept);
+    happen(alloc, world, Event::Deliver { frame, node, kept })
+}
+
+/// How many bytes of a frame come: as many as are given, else the whole frame.
+fn bytes_coming(world: &World, frame: usize, kept: Option<u64>) -> usize
+    ensures { (s : State) → IsWorldOf s world.now → AreComing s frame kept result }
+{
+    match kept {
+        Some(kept) => kept as usize,
+        None => world.frame_len(frame).unwrap_or(0),
+    }
+}

@@ -1,0 +1,83 @@
+// Reading what a participant answered.
+ghost use Rattle.std.specs.Prelude.{◌≡◌, ◌≤◌, ◌<◌, ◌^◌, ℕ, List, ◌∷◌, codes, IfOk, MatchOption};
+ghost use Rattle.std.specs.Fmt.{decimal};
+ghost use Rattle.lra_id.specs.Ids.{Id, IsId, id_text};
+ghost use Rattle.lra_callback.specs.declared.answer.Answer.{Answer};
+ghost use Rattle.lra_callback.specs.declared.answer.Kind.{Kind};
+ghost use Rattle.lra_callback.specs.CallWords.{kind_name};
+ghost use Rattle.lra_script.specs.Asks.{IsMemberNumber, IsNodeOf, ReadsArguments};
+ghost use Rattle.lra_script.specs.CallLines.{IsAnswerInRange, GivesAnswer};
+
+use super::members::next_participant;
+use crate::ask::Ask;
+use crate::number::code_of;
+use crate::words::Words;
+use lra_callback::{Answer, Kind};
+use lra_http::Bytes;
+use lra_id::{LraId, NodeId};
+use std::alloc::{AllocError, Global};
+
+pub fn hear_of(alloc: Global, mut words: Words<'_>, nodes: u8) -> Result<Option<Ask>, AllocError>
+    requires { nodes ≤ 8 }
+    ensures { IfOk result (ReadsArguments nodes (codes "answer") words.entry) }
+{
+    let Some((node, id, member, kind)) = next_call(&mut words, nodes) else {
+        return Ok(None);
+    };
+    let Some(answer) = answer_of(alloc, words)? else {
+        return Ok(None);
+    };
+    Ok(Some(Ask::Hear {
+        node,
+        id,
+        member,
+        kind,
+        answer,
+    }))
+}
+
+/// The node, the id, the member number and the kind of call that the next four words spell.
+fn next_call(words: &mut Words<'_>, nodes: u8) -> Option<(NodeId, LraId, u8, Kind)>
+    requires { nodes ≤ 8 }
+    ensures { MatchOption result ((node : ℕ) (id : Id) (m : ℕ) (kind : Kind) (rest : List (List ℕ)) → IsNodeOf nodes node → IsId id → IsMemberNumber m → words.old ≡ decimal node ∷ id_text id ∷ decimal m ∷ kind_name kind ∷ rest → ⊥) (λ p. IsNodeOf nodes p.0 × IsId p.1 × IsMemberNumber p.2 × (words.old ≡ decimal p.0 ∷ id_text p.1 ∷ decimal p.2 ∷ kind_name p.3 ∷ words.new)) }
+{
+    let (node, id, member) = next_participant(words, nodes)?;
+    let kind = kind_of(words.next()?)?;
+    Some((node, id, member, kind))
+}
+
+/// The kind of call that a word names.
+fn kind_of(word: &[u8]) -> Option<Kind>
+    ensures { MatchOption result ((kind : Kind) → word.now ≡ kind_name kind → ⊥) (λ kind. word.now ≡ kind_name kind) }
+{
+    if word == b"complete".as_slice() {
+        return Some(Kind::Complete);
+    }
+    if word == b"compensate".as_slice() {
+        return Some(Kind::Compensate);
+    }
+    if word == b"status".as_slice() {
+        return Some(Kind::Status);
+    }
+    if word == b"forget".as_slice() {
+        return Some(Kind::Forget);
+    }
+    None
+}
+
+/// The answer that the last words of a line give: `broken`, or a code, and the rest of the line as the body.
+fn answer_of(alloc: Global, mut words: Words<'_>) -> Result<Option<Answer>, AllocError>
+    ensures { IfOk result (λ found. MatchOption found ((answer : Answer) → IsAnswerInRange answer → GivesAnswer words.entry answer → ⊥) (λ answer. IsAnswerInRange answer × GivesAnswer words.entry answer)) }
+{
+    let Some(word) = words.next() else {
+        return Ok(None);
+    };
+    if word == b"broken".as_slice() {
+        return Ok(Some(Answer::Broken));
+    }
+    let Some(code) = code_of(word) else {
+        return Ok(None);
+    };
+    let body = Bytes::new(words.rest().to_vec(alloc)?);
+    Ok(Some(Answer::Code(code, body)))
+}

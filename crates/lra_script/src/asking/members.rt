@@ -1,0 +1,120 @@
+// Reading what is asked of participants.
+ghost use Rattle.std.specs.Prelude.{◌≡◌, ◌≤◌, ℕ, List, [], ◌∷◌, codes, MatchOption};
+ghost use Rattle.std.specs.Fmt.{decimal};
+ghost use Rattle.lra_id.specs.Ids.{Id, IsId, id_text};
+ghost use Rattle.lra_states.specs.declared.outcome.Act.{Act};
+ghost use Rattle.lra_states.specs.declared.outcome.Outcome.{Outcome};
+ghost use Rattle.lra_states.specs.Names.{act_name, outcome_name};
+ghost use Rattle.lra_script.specs.Asks.{IsMemberNumber, IsNodeOf, ReadsArguments};
+
+use super::lras::next_node_and_id;
+use crate::ask::Ask;
+use crate::number::member_number_of;
+use crate::words::Words;
+use lra_history::Command;
+use lra_id::{LraId, NodeId};
+use lra_states::{Act, Outcome};
+
+pub fn leave_of(words: Words<'_>, nodes: u8) -> Option<Ask>
+    requires { nodes ≤ 8 }
+    ensures { ReadsArguments nodes (codes "leave") words.entry result }
+{
+    let (node, id, member) = participant_of(words, nodes)?;
+    let command = Command::Leave { id, member };
+    Some(Ask::Enter { node, command })
+}
+
+pub fn forgot_of(words: Words<'_>, nodes: u8) -> Option<Ask>
+    requires { nodes ≤ 8 }
+    ensures { ReadsArguments nodes (codes "forgot") words.entry result }
+{
+    let (node, id, member) = participant_of(words, nodes)?;
+    let command = Command::Forgot { id, member };
+    Some(Ask::Enter { node, command })
+}
+
+pub fn member_of(words: Words<'_>, nodes: u8) -> Option<Ask>
+    requires { nodes ≤ 8 }
+    ensures { ReadsArguments nodes (codes "member") words.entry result }
+{
+    let (node, id, member) = participant_of(words, nodes)?;
+    Some(Ask::Member { node, id, member })
+}
+
+pub fn report_of(mut words: Words<'_>, nodes: u8) -> Option<Ask>
+    requires { nodes ≤ 8 }
+    ensures { ReadsArguments nodes (codes "report") words.entry result }
+{
+    let (node, id, member) = next_participant(&mut words, nodes)?;
+    let (act, outcome) = act_and_outcome(words)?;
+    let command = Command::Report {
+        id,
+        member,
+        act,
+        outcome,
+    };
+    Some(Ask::Enter { node, command })
+}
+
+/// The node, the id and the member number that three words spell.
+fn participant_of(mut words: Words<'_>, nodes: u8) -> Option<(NodeId, LraId, u8)>
+    requires { nodes ≤ 8 }
+    ensures { MatchOption result ((node : ℕ) (id : Id) (m : ℕ) → IsNodeOf nodes node → IsId id → IsMemberNumber m → words.entry ≡ decimal node ∷ id_text id ∷ decimal m ∷ [] → ⊥) (λ p. IsNodeOf nodes p.0 × IsId p.1 × IsMemberNumber p.2 × (words.entry ≡ decimal p.0 ∷ id_text p.1 ∷ decimal p.2 ∷ [])) }
+{
+    let participant = next_participant(&mut words, nodes)?;
+    if !words.is_done() {
+        return None;
+    }
+    Some(participant)
+}
+
+/// The node, the id and the member number that the next three words spell.
+pub fn next_participant(words: &mut Words<'_>, nodes: u8) -> Option<(NodeId, LraId, u8)>
+    requires { nodes ≤ 8 }
+    ensures { MatchOption result ((node : ℕ) (id : Id) (m : ℕ) (rest : List (List ℕ)) → IsNodeOf nodes node → IsId id → IsMemberNumber m → words.old ≡ decimal node ∷ id_text id ∷ decimal m ∷ rest → ⊥) (λ p. IsNodeOf nodes p.0 × IsId p.1 × IsMemberNumber p.2 × (words.old ≡ decimal p.0 ∷ id_text p.1 ∷ decimal p.2 ∷ words.new)) }
+{
+    let (node, id) = next_node_and_id(words, nodes)?;
+    let member = member_number_of(words.next()?)?;
+    Some((node, id, member))
+}
+
+/// The act and the outcome that two words name.
+fn act_and_outcome(mut words: Words<'_>) -> Option<(Act, Outcome)>
+    ensures { MatchOption result ((act : Act) (outcome : Outcome) → words.entry ≡ act_name act ∷ outcome_name outcome ∷ [] → ⊥) (λ p. words.entry ≡ act_name p.0 ∷ outcome_name p.1 ∷ []) }
+{
+    let act = act_of(words.next()?)?;
+    let outcome = outcome_of(words.next()?)?;
+    if !words.is_done() {
+        return None;
+    }
+    Some((act, outcome))
+}
+
+/// The act that a word names.
+fn act_of(word: &[u8]) -> Option<Act>
+    ensures { MatchOption result ((act : Act) → word.now ≡ act_name act → ⊥) (λ act. word.now ≡ act_name act) }
+{
+    if word == b"complete".as_slice() {
+        return Some(Act::Complete);
+    }
+    if word == b"compensate".as_slice() {
+        return Some(Act::Compensate);
+    }
+    None
+}
+
+/// The outcome that a word names.
+fn outcome_of(word: &[u8]) -> Option<Outcome>
+    ensures { MatchOption result ((outcome : Outcome) → word.now ≡ outcome_name outcome → ⊥) (λ outcome. word.now ≡ outcome_name outcome) }
+{
+    if word == b"busy".as_slice() {
+        return Some(Outcome::Busy);
+    }
+    if word == b"done".as_slice() {
+        return Some(Outcome::Done);
+    }
+    if word == b"failed".as_slice() {
+        return Some(Outcome::Failed);
+    }
+    None
+}

@@ -1,0 +1,204 @@
+// What is printed of duties, and of the answers that are heard, and what these do to the world.
+ghost use Rattle.std.specs.Prelude.{◌≡◌, ◌≤◌, ◌++◌, ℕ, List, [], length, IfOk, OnErr, OnOk, string_bytes, true};
+ghost use Rattle.lra_facts.specs.declared.fact.Fact.{Fact};
+ghost use Rattle.lra_facts.specs.Sets.{is_held, want};
+ghost use Rattle.lra_callback.specs.declared.duty.Duty.{Duty as Call};
+ghost use Rattle.lra_callback.specs.CallDuties.{IsDuty, act_wanted, comes_first};
+ghost use Rattle.lra_callback.specs.CallWords.{heard_name};
+ghost use Rattle.lra_forest.specs.Dues.{AreAll};
+ghost use Rattle.lra_history.specs.Replies.{member_shown};
+ghost use Rattle.lra_world.specs.Machines.{IsWorldOf};
+ghost use Rattle.lra_world.specs.Worlds.{State, front_of, set_of};
+ghost use Rattle.lra_script.specs.Asks.{IsNodeOf};
+ghost use Rattle.lra_script.specs.CallLines.{act_asked, act_demanded, act_where, command_of, duties_text, duty_text, further_text};
+ghost use Rattle.lra_script.specs.Scripts.{IsNothing, after_answer, after_heard, answer_line, heard_line, heard_reply_line, printed};
+ghost use Rattle.lra_script.specs.NodeHoldings.{Holds};
+
+use crate::room::Room;
+use crate::showing::held;
+use crate::telling::{refusal_line, tell};
+use lra_callback::{Answer, Duty, Heard, Kind, act_wanted, hear, pick};
+use lra_facts::Refusal;
+use lra_history::{Command, CommandReply};
+use lra_id::{LraId, NodeId};
+use lra_replica::Replica;
+use lra_states::{Act, LraStatus};
+use lra_world::{Event, Reply, World};
+use std::alloc::{AllocError, Global};
+
+/// Whom a node is to call now, and what for.
+pub fn show_duties(alloc: Global, replica: &Replica, me: NodeId) -> Result<String, AllocError>
+    requires { me ≤ length replica.now.front }
+    ensures { (S : List Fact) (front : List ℕ) → Holds S front replica.now →
+        IfOk result (λ text. (duties : List Call) × AreAll (IsDuty me S) (comes_first S) duties × (string_bytes text ≡ printed (duties_text duties))) }
+{
+    match pick(alloc, replica, me) {
+        Ok(duties) => duties_line(alloc, duties.as_slice()),
+        Err(_) => Err(AllocError),
+    }
+}
+
+/// The line of duties.
+fn duties_line(alloc: Global, duties: &[Duty]) -> Result<String, AllocError>
+    ensures { IfOk result (λ text. string_bytes text ≡ printed (duties_text duties.now)) }
+{
+    let [first, further @ ..] = duties else {
+        return format!(in alloc; "none\n");
+    };
+    let mut text = duty_text(alloc, first)?;
+    push_further(alloc, &mut text, further)?;
+    text.push_str("\n")?;
+    Ok(text)
+}
+
+/// The text of a duty: the kind of the call, the LRA and the member number.
+fn duty_text(alloc: Global, duty: &Duty) -> Result<String, AllocError>
+    ensures { IfOk result (λ text. string_bytes text ≡ duty_text duty.now) }
+{
+    let (kind, id, member) = (duty.kind, duty.id, duty.member);
+    format!(in alloc; "{kind} {id} {member}")
+}
+
+/// Puts the texts of further duties at the end, each behind a comma.
+fn push_further(alloc: Global, text: &mut String, duties: &[Duty]) -> Result<(), AllocError>
+    ensures { OnOk result (string_bytes text.new ≡ string_bytes text.old ++ further_text duties.now) }
+{
+    for duty in duties {
+        let piece = duty_text(alloc, duty)?;
+        text.push_str(", ")?;
+        text.push_str(&piece)?;
+    }
+    Ok(())
+}
+
+/// Has a node hear what a participant answered to a call of this kind: what was heard is entered, or the participant is to be
+/// called again.
+pub fn hear_answer(
+    alloc: Global,
+    world: &mut World,
+    node: NodeId,
+    id: LraId,
+    member: u8,
+    kind: Kind,
+    answer: &Answer,
+) -> Result<String, AllocError>
+    requires { IsNodeOf (length world.old.replicas) node }
+    ensures ok { (s : State) → IsWorldOf s world.old → IfOk result (λ text.
+        string_bytes text ≡ answer_line s node id member kind answer.now (act_asked (set_of s node) (front_of s node) kind id member)) }
+    ensures after { (s : State) → IsWorldOf s world.old → IfOk result (λ _.
+        IsWorldOf (after_answer s node id member kind answer.now (act_asked (set_of s node) (front_of s node) kind id member)) world.new) }
+    ensures err { (s : State) → IsWorldOf s world.old → OnErr result (IsWorldOf s world.new) }
+{
+    match act_asked(held(world, node), kind, id, member) {
+        Ok(act) => {
+            let heard = hear(act, kind, answer);
+            enter_heard(
+                alloc,
+                world,
+                node,
+                heard,
+                command_of(id, member, act, heard),
+            )
+        }
+        Err(refusal) => refusal_line(alloc, refusal),
+    }
+}
+
+/// The act that an answer to a call of this kind is heard for: of a status the one that the LRA's want demands, or why
+/// there is none. What is heard of a forget is the same for either.
+fn act_asked(replica: &Replica, kind: Kind, id: LraId, member: u8) -> Result<Act, Refusal>
+    ensures { (S : List Fact) (front : List ℕ) → Holds S front replica.now → result ≡ act_asked S front kind id member }
+{
+    match kind {
+        Kind::Complete | Kind::Forget => Ok(Act::Complete),
+        Kind::Compensate => Ok(Act::Compensate),
+        Kind::Status => act_of_status(replica, id, member),
+    }
+}
+
+/// The act that a participant is asked for the status of.
+fn act_of_status(replica: &Replica, id: LraId, member: u8) -> Result<Act, Refusal>
+    ensures { (S : List Fact) (front : List ℕ) → Holds S front replica.now →
+        result ≡ act_where (member_shown S front id member) (act_demanded (act_wanted (want S id))) }
+{
+    match replica.member(id, member) {
+        Ok(_) => act_demanded(replica, id),
+        Err(refusal) => Err(refusal),
+    }
+}
+
+/// The act that the want of an LRA that is held demands.
+fn act_demanded(replica: &Replica, id: LraId) -> Result<Act, Refusal>
+    ensures { (S : List Fact) (front : List ℕ) → Holds S front replica.now → is_held S id ≡ true → result ≡ act_demanded (act_wanted (want S id)) }
+{
+    match replica.want(id) {
+        Ok(want) => act_wanted(want).ok_or(Refusal::NotDue(LraStatus::Active)),
+        Err(refusal) => Err(refusal),
+    }
+}
+
+/// What is to be entered of what was heard.
+fn command_of(id: LraId, member: u8, act: Act, heard: Heard) -> Option<Command>
+    ensures { result ≡ command_of id member act heard }
+{
+    match heard {
+        Heard::Told(outcome) => Some(Command::Report {
+            id,
+            member,
+            act,
+            outcome,
+        }),
+        Heard::Forgotten => Some(Command::Forgot { id, member }),
+        Heard::Again => None,
+    }
+}
+
+/// Has a node enter the command of what was heard, if there is one, and tells of it in room that was made before.
+fn enter_heard(
+    alloc: Global,
+    world: &mut World,
+    node: NodeId,
+    heard: Heard,
+    command: Option<Command>,
+) -> Result<String, AllocError>
+    requires { IsNodeOf (length world.old.replicas) node }
+    ensures ok { (s : State) → IsWorldOf s world.old → IfOk result (λ text. string_bytes text ≡ heard_line s node heard command) }
+    ensures after { (s : State) → IsWorldOf s world.old → IfOk result (λ _. IsWorldOf (after_heard s node command) world.new) }
+    ensures err { (s : State) → IsWorldOf s world.old → OnErr result (IsWorldOf s world.new) }
+{
+    // Without a value of this type here the toolchain's borrow checker can't build its plan for a `Reply`.
+    let _ = CommandReply::Refused(Refusal::NoMemory);
+    let room = Room::new(alloc)?;
+    let Some(command) = command else {
+        return Ok(heard_word_line(room, heard, ""));
+    };
+    match world.step(alloc, Event::Act { node, command }) {
+        Ok(reply) => tell_heard(alloc, room, heard, reply),
+        Err(error) => Err(error),
+    }
+}
+
+/// The line of what was heard, and of the reply to it.
+fn tell_heard(alloc: Global, room: Room, heard: Heard, reply: Reply) -> Result<String, AllocError>
+    requires { room ≡ [] }
+    ensures ok { IfOk result (λ text. string_bytes text ≡ heard_reply_line heard reply) }
+    ensures err { OnErr result (IsNothing reply) }
+{
+    match reply {
+        Reply::Answered(CommandReply::Reported) => Ok(heard_word_line(room, heard, " reported")),
+        Reply::Answered(CommandReply::Known) => Ok(heard_word_line(room, heard, " known")),
+        Reply::Answered(CommandReply::Forgotten) => Ok(heard_word_line(room, heard, " forgot")),
+        other => tell(alloc, room, other),
+    }
+}
+
+/// The line of the word for what was heard, and of a short word behind it.
+fn heard_word_line(mut room: Room, heard: Heard, behind: &str) -> String
+    requires empty { room ≡ [] }
+    requires short { length behind.now ≤ 40 }
+    ensures { string_bytes result ≡ printed (heard_name heard ++ behind.now) }
+{
+    room.text(heard.name());
+    room.text(behind);
+    room.into_line()
+}

@@ -1,0 +1,54 @@
+// Reading a line.
+ghost use Rattle.std.specs.Prelude.{◌≡◌, ◌<◌, ◌≤◌, ◌+◌, ℕ, List, [], ◌∷◌, ◌++◌, take, vec_capacity, IfOk, OnOk, OnErr};
+ghost use Rattle.lra_script.specs.ScriptEnds.{LineReads, ReadsLine, ReadsPart};
+
+use lra_http::{ReadFault, Source, read_byte};
+
+/// A line of at most so many bytes is read.
+pub const MOST_IN_LINE: usize = 4096;
+
+/// One byte more than a line may have is kept, so that a longer line shows.
+pub const KEPT_OF_LINE: usize = 4097;
+
+/// Reads the next line, of which the first 4,097 bytes are kept in room that is there, and answers whether a line feed
+/// ended it. Otherwise the input did. The line is one message: 1,024 interrupted reads in it are a fault. So is a read
+/// that finds none of `reads_left`, from which each byte and the end take one.
+pub fn read_line<R: Source>(
+    reader: &mut R,
+    line: &mut Vec<u8>,
+    reads_left: &mut u64,
+) -> Result<bool, ReadFault>
+    requires { 4097 ≤ vec_capacity line.old }
+    ensures room { 4097 ≤ vec_capacity line.new }
+    ensures read { IfOk result (λ more. ReadsLine more line.new.items (R.stream reader.old) (R.stream reader.new)) }
+    ensures cut { OnErr result (ReadsPart (R.stream reader.old) (R.stream reader.new)) }
+    ensures streams { LineReads (R.calls reader.old) (R.calls reader.new) reads_left.new result }
+    ensures fewer { OnOk result (reads_left.new < reads_left.old) }
+    ensures spent { (R.calls reader.old).made + reads_left.old ≤ (R.calls reader.new).made + reads_left.new }
+{
+    line.clear();
+    let mut interrupted = 0;
+    'bytes: while *reads_left > 0 {
+        let Ok(next) = read_byte(reader, &mut interrupted) else {
+            return Err(ReadFault);
+        };
+        *reads_left -= 1;
+        match next {
+            Some(b'\n') => return Ok(true),
+            Some(byte) => keep(line, byte),
+            None => return Ok(false),
+        }
+    }
+    Err(ReadFault)
+}
+
+/// Puts a byte at the line's end, if one is still to be kept.
+fn keep(line: &mut Vec<u8>, byte: u8)
+    requires { 4097 ≤ vec_capacity line.old }
+    ensures room { 4097 ≤ vec_capacity line.new }
+    ensures kept { (pending : List ℕ) → line.old.items ≡ take 4097 pending → line.new.items ≡ take 4097 (pending ++ byte ∷ []) }
+{
+    if line.len() < KEPT_OF_LINE {
+        let _ = line.push(byte);
+    }
+}

@@ -1,0 +1,91 @@
+// What is shown: questions, which change nothing.
+ghost use Rattle.std.specs.Prelude.{◌≡◌, ◌++◌, ℕ, List, length, codes, IfOk, string_bytes};
+ghost use Rattle.lra_facts.specs.declared.fact.Fact.{Fact};
+ghost use Rattle.lra_id.specs.Fronts.{front_text};
+ghost use Rattle.lra_id.specs.Ids.{id_text, text_of};
+ghost use Rattle.lra_history.specs.Replies.{member_shown, shown_of};
+ghost use Rattle.lra_replica.specs.Replicas.{view_of};
+ghost use Rattle.lra_world.specs.Machines.{IsWorldOf};
+ghost use Rattle.lra_world.specs.Worlds.{State, front_of, set_of};
+ghost use Rattle.lra_script.specs.Asks.{IsNodeOf};
+ghost use Rattle.lra_script.specs.Scripts.{TellsSame, member_line, printed, status_line};
+ghost use Rattle.lra_script.specs.NodeHoldings.{Holds};
+
+use crate::telling::refusal_line;
+use lra_id::{LraId, NodeId};
+use lra_replica::Replica;
+use lra_world::World;
+use std::alloc::{AllocError, Global};
+use std::str;
+
+/// What a node holds.
+pub fn held(world: &World, node: NodeId) -> &Replica
+    requires { IsNodeOf (length world.now.replicas) node }
+    ensures holds { (s : State) → IsWorldOf s world.now → Holds (set_of s node) (front_of s node) result.now }
+    ensures nodes { length result.now.front ≡ length world.now.replicas }
+{
+    world.replica(node)
+}
+
+/// What is shown of an LRA.
+pub fn show(alloc: Global, replica: &Replica, id: LraId) -> Result<String, AllocError>
+    ensures { (S : List Fact) (front : List ℕ) → Holds S front replica.now →
+        IfOk result (λ text. string_bytes text ≡ status_line (shown_of S front id)) }
+{
+    match replica.status(id) {
+        Ok(status) => format!(in alloc; "{status}\n"),
+        Err(refusal) => refusal_line(alloc, refusal),
+    }
+}
+
+/// What is shown of a participant.
+pub fn show_member(
+    alloc: Global,
+    replica: &Replica,
+    id: LraId,
+    member: u8,
+) -> Result<String, AllocError>
+    ensures { (S : List Fact) (front : List ℕ) → Holds S front replica.now →
+        IfOk result (λ text. string_bytes text ≡ member_line (member_shown S front id member)) }
+{
+    match replica.member(id, member) {
+        Ok(status) => format!(in alloc; "{status}\n"),
+        Err(refusal) => refusal_line(alloc, refusal),
+    }
+}
+
+/// How many facts of each node a node has.
+pub fn show_front(alloc: Global, replica: &Replica) -> Result<String, AllocError>
+    ensures { IfOk result (λ text. string_bytes text ≡ printed (codes "front " ++ front_text replica.now.front)) }
+{
+    let front = replica.front();
+    format!(in alloc; "front {front}\n")
+}
+
+/// Whether two nodes hold the same.
+pub fn show_same(alloc: Global, one: &Replica, other: &Replica) -> Result<String, AllocError>
+    ensures { IfOk result (λ text. TellsSame (view_of one.now ≡ view_of other.now) (string_bytes text)) }
+{
+    if one.same(other) {
+        return format!(in alloc; "same\n");
+    }
+    format!(in alloc; "differ\n")
+}
+
+/// The text of an id as a UUID.
+pub fn text_line(alloc: Global, id: LraId) -> Result<String, AllocError>
+    ensures { IfOk result (λ text. string_bytes text ≡ printed (text_of id)) }
+{
+    let bytes = id.to_text();
+    match str::from_utf8(&bytes) {
+        Ok(text) => format!(in alloc; "{text}\n"),
+        Err(_) => unreachable!(),
+    }
+}
+
+/// The id that a text was read as.
+pub fn id_line(alloc: Global, id: LraId) -> Result<String, AllocError>
+    ensures { IfOk result (λ text. string_bytes text ≡ printed (id_text id)) }
+{
+    format!(in alloc; "{id}\n")
+}

@@ -1,0 +1,109 @@
+// The lines that replies print: of what happened, in room that was made before it.
+ghost use Rattle.std.specs.Prelude.{◌≡◌, ◌≤◌, ◌++◌, [], length, codes, IfOk, OnErr, string_bytes};
+ghost use Rattle.std.specs.Fmt.{decimal};
+ghost use Rattle.lra_id.specs.Ids.{id_text};
+ghost use Rattle.lra_script.specs.Scripts.{IsNothing, IsRefusal, began_text, event_line, printed, refused, reply_line};
+
+use crate::room::Room;
+use lra_facts::Refusal;
+use lra_history::CommandReply;
+use lra_id::LraId;
+use lra_world::Reply;
+use std::alloc::{AllocError, Global};
+
+/// The line that a reply prints: of what happened, in room that was made before.
+pub fn tell(alloc: Global, room: Room, reply: Reply) -> Result<String, AllocError>
+    requires { room ≡ [] }
+    ensures ok { IfOk result (λ text. string_bytes text ≡ event_line reply) }
+    ensures err { OnErr result (IsNothing reply) }
+{
+    match reply {
+        Reply::Answered(reply) => tell_answered(alloc, room, reply),
+        Reply::Sent(frame) => Ok(sent_line(room, frame)),
+        Reply::Took => Ok(word_line(room, "took")),
+        Reply::Restarted => Ok(word_line(room, "restarted")),
+        Reply::Expired(id) => Ok(expired_line(room, id)),
+        Reply::Quiet => Ok(word_line(room, "quiet")),
+        Reply::Refused(refusal) => refusal_line(alloc, refusal),
+    }
+}
+
+/// The line that the reply to a command prints.
+fn tell_answered(alloc: Global, room: Room, reply: CommandReply) -> Result<String, AllocError>
+    requires { room ≡ [] }
+    ensures ok { IfOk result (λ text. string_bytes text ≡ reply_line reply) }
+    ensures err { OnErr result (IsRefusal reply) }
+{
+    match reply {
+        CommandReply::Began(id, member) => Ok(began_line(room, id, member)),
+        CommandReply::Joined(_, member) => Ok(joined_line(room, member)),
+        CommandReply::Left => Ok(word_line(room, "left")),
+        CommandReply::Decided(_, status) => Ok(word_line(room, status.name())),
+        CommandReply::Reported => Ok(word_line(room, "reported")),
+        CommandReply::Known => Ok(word_line(room, "known")),
+        CommandReply::Forgotten => Ok(word_line(room, "forgot")),
+        CommandReply::Purged => Ok(word_line(room, "purged")),
+        CommandReply::Refused(refusal) => refusal_line(alloc, refusal),
+    }
+}
+
+/// The line that tells of an LRA that was begun: its member number only where it has one.
+fn began_line(mut room: Room, id: LraId, member: u8) -> String
+    requires { room ≡ [] }
+    ensures { string_bytes result ≡ printed (began_text id member) }
+{
+    room.text("began ");
+    room.id(id);
+    if member > 0 {
+        room.text(" member ");
+        room.number(u64::from(member));
+    }
+    room.into_line()
+}
+
+/// The line that tells of a participant that joined.
+fn joined_line(mut room: Room, member: u8) -> String
+    requires { room ≡ [] }
+    ensures { string_bytes result ≡ printed (codes "joined " ++ decimal member) }
+{
+    room.text("joined ");
+    room.number(u64::from(member));
+    room.into_line()
+}
+
+/// The line that tells of a frame that was sent.
+fn sent_line(mut room: Room, frame: usize) -> String
+    requires { room ≡ [] }
+    ensures { string_bytes result ≡ printed (codes "frame " ++ decimal frame) }
+{
+    room.text("frame ");
+    room.number(frame as u64);
+    room.into_line()
+}
+
+/// The line that tells of an LRA that was cancelled since its deadline had passed.
+fn expired_line(mut room: Room, id: LraId) -> String
+    requires { room ≡ [] }
+    ensures { string_bytes result ≡ printed (codes "expired " ++ id_text id) }
+{
+    room.text("expired ");
+    room.id(id);
+    room.into_line()
+}
+
+/// The line of one short word.
+fn word_line(mut room: Room, word: &str) -> String
+    requires empty { room ≡ [] }
+    requires short { length word.now ≤ 40 }
+    ensures { string_bytes result ≡ printed word.now }
+{
+    room.text(word);
+    room.into_line()
+}
+
+/// The line that a refusal prints.
+pub fn refusal_line(alloc: Global, refusal: Refusal) -> Result<String, AllocError>
+    ensures { IfOk result (λ text. string_bytes text ≡ refused refusal) }
+{
+    format!(in alloc; "refused {refusal}\n")
+}

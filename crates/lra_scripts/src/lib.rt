@@ -1,0 +1,21 @@
+//! Tests of scripts by the public calls of `lra_script`. They stand here since a crate is proved twice where it has tests.
+#![tactic(auto)]
+
+#[cfg(test)]
+mod calls;
+#[cfg(test)]
+mod faults;
+#[cfg(test)]
+mod frames;
+#[cfg(test)]
+mod limits;
+#[cfg(test)]
+mod members;
+#[cfg(test)]
+mod nesting;
+#[cfg(test)]
+mod nodes;
+#[cfg(test)]
+mod purging;
+#[cfg(test)]
+mod scripts;

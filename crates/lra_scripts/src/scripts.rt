@@ -1,0 +1,217 @@
+// What no clause says: the texts that outside examples give, and runs that end in the middle.
+ghost use Rattle.std.specs.Prelude.{◌≤◌};
+
+use lra_http::{OverRead, OverWrite};
+use lra_script::{ScriptFault, asked_nodes, script, status_of};
+use std::alloc::{AllocError, Global};
+use std::test::Fail;
+
+/// Runs a script of 1 to 8 nodes over memory.
+pub(crate) fn run(alloc: Global, nodes: u8, input: &[u8]) -> (Result<(), ScriptFault>, Vec<u8>)
+    requires some { 1 ≤ nodes }
+    requires few { nodes ≤ 8 }
+{
+    let mut reader = OverRead::new(input);
+    let mut writer = OverWrite::new(Vec::new(alloc));
+    let outcome = script(alloc, &mut reader, &mut writer, nodes);
+    (outcome, writer.into_inner())
+}
+
+/// Whether a script of one node prints this.
+pub(crate) fn prints(alloc: Global, input: &[u8], output: &[u8]) -> bool {
+    let (outcome, text) = run(alloc, 1, input);
+    outcome.is_ok() && text.as_slice() == output
+}
+
+/// Whether a script of so many nodes and of these lines prints these answers, one for each.
+pub(crate) fn plays(alloc: Global, nodes: u8, steps: &[(&str, &str)]) -> Result<bool, AllocError>
+    requires some { 1 ≤ nodes }
+    requires few { nodes ≤ 8 }
+{
+    let mut input = Vec::new(alloc);
+    let mut output = Vec::new(alloc);
+    for (line, answer) in steps {
+        push_line(&mut input, line)?;
+        push_line(&mut output, answer)?;
+    }
+    let (outcome, text) = run(alloc, nodes, &input);
+    Ok(outcome.is_ok() && text.as_slice() == output.as_slice())
+}
+
+/// Puts a line at the end.
+fn push_line(text: &mut Vec<u8>, line: &str) -> Result<(), AllocError> {
+    text.extend_from_slice(line.as_bytes())?;
+    text.extend_from_slice(b"\n")
+}
+
+#[test]
+fn id_texts(rt: HostRuntime) {
+    let input =
+        b"text 3.7\nread 00000000-0000-8003-8000-000000000007\nread 00000000-0000-4003-8000-000000000007\n";
+    let output = b"00000000-0000-8003-8000-000000000007\n3.7\nrefused E1 BadText\n";
+    assert!(rt; prints(rt.alloc(), input, output));
+}
+
+#[test]
+fn close_then_cancel(rt: HostRuntime) {
+    let input = b"begin 1 0\nshow 1 1.1\nclose 1 1.1\nshow 1 1.1\ncancel 1 1.1\n";
+    let output = b"began 1.1\nActive\nClosed\nClosed\nrefused E6 NotActive Closed\n";
+    assert!(rt; prints(rt.alloc(), input, output));
+}
+
+#[test]
+fn a_refused_command_spends_no_number(rt: HostRuntime) {
+    let input =
+        b"close 1 1.1\nbegin 1 0\ncancel 1 1.1\nclose 1 1.1\nbegin 1 5\nshow 1 1.1\nshow 1 1.3\n";
+    let output =
+        b"refused E2 UnknownLra\nbegan 1.1\nCancelled\nrefused E6 NotActive Cancelled\nbegan 1.3\nCancelled\nActive\n";
+    assert!(rt; prints(rt.alloc(), input, output));
+}
+
+#[test]
+fn ids_that_name_no_lra(rt: HostRuntime) {
+    let input =
+        b"begin 1 0\nclose 1 1.1\nshow 1 1.2\ncancel 1 1.2\nshow 1 1.3\nshow 1 2.1\nclose 1 2.1\n";
+    let output =
+        b"began 1.1\nClosed\nrefused E3 NotHeld\nrefused E3 NotHeld\nrefused E2 UnknownLra\nrefused E2 UnknownLra\nrefused E2 UnknownLra\n";
+    assert!(rt; prints(rt.alloc(), input, output));
+}
+
+#[test]
+fn lines_that_fit_no_command(rt: HostRuntime) {
+    let lines: [&[u8]; 22] = [
+        b"foo",
+        b" ",
+        b"begin",
+        b"begin 1",
+        b"begin 1 ",
+        b"begin 1 0 ",
+        b"begin  1 0",
+        b" begin 1 0",
+        b"begin 1 00",
+        b"begin 01 0",
+        b"begin 2 0",
+        b"begin 0 0",
+        b"begin 1 +1",
+        b"begin 1 18446744073709551616",
+        b"begin 1 0\r",
+        b"Begin 1 0",
+        b"show 1 1",
+        b"show 1 9.1",
+        b"show 1 1.0",
+        b"show 1 1.281474976710656",
+        b"text 1.1 1.1",
+        b"read \xff\xfe",
+    ];
+    for line in lines {
+        assert!(rt;
+            prints(rt.alloc(), line, b"refused E1 BadText\n"),
+            "{line:?}"
+        );
+    }
+    assert!(rt; prints(rt.alloc(), b"begin 1 18446744073709551615", b"began 1.1\n"));
+}
+
+#[test]
+fn empty_lines_and_empty_inputs_print_nothing(rt: HostRuntime) {
+    assert!(rt; prints(rt.alloc(), b"", b""));
+    assert!(rt; prints(rt.alloc(), b"\n\n", b""));
+    assert!(rt;
+        prints(
+            rt.alloc(),
+            b"\nbegin 1 0\n\nshow 1 1.1",
+            b"began 1.1\nActive\n"
+        )
+    );
+}
+
+#[test]
+fn bytes_that_are_no_text(rt: HostRuntime) {
+    assert!(rt;
+        prints(
+            rt.alloc(),
+            b"\xc3\x28\nbegin 1 0\n",
+            b"refused E1 BadText\nbegan 1.1\n"
+        )
+    );
+}
+
+#[test]
+fn a_line_that_is_too_long_is_one_refusal(rt: HostRuntime) -> Result<(), Fail> {
+    for length in [4096, 4097, 4098, 9000] {
+        let mut input = vec![in rt.alloc(); b'x'; length]?;
+        input.extend_from_slice(b"\nbegin 1 0\n")?;
+        assert!(rt;
+            prints(rt.alloc(), &input, b"refused E1 BadText\nbegan 1.1\n"),
+            "{length}"
+        );
+    }
+    Ok(())
+}
+
+#[test]
+fn as_many_lras_as_a_home_holds(rt: HostRuntime) -> Result<(), Fail> {
+    let (_, text) = run_after(
+        rt.alloc(),
+        256,
+        b"begin 1 0\nclose 1 1.1\nbegin 1 0\nshow 1 1.256\n",
+    )?;
+    assert!(rt;
+        text.as_slice().ends_with(
+            b"began 1.256\nrefused E13 LrasFull\nClosed\nrefused E13 LrasFull\nActive\n"
+        )
+    );
+    Ok(())
+}
+
+/// Runs a script of so many begins, and then more lines.
+fn run_after(
+    alloc: Global,
+    begins: usize,
+    more: &[u8],
+) -> Result<(Result<(), ScriptFault>, Vec<u8>), AllocError> {
+    let mut input = Vec::new(alloc);
+    for _ in 0..begins {
+        input.extend_from_slice(b"begin 1 0\n")?;
+    }
+    input.extend_from_slice(more)?;
+    Ok(run(alloc, 1, &input))
+}
+
+/// The words of a text, which are parted by one space.
+fn words_of(alloc: Global, text: &str) -> Result<Vec<String>, Fail> {
+    let mut words = Vec::new(alloc);
+    for word in text.split(' ') {
+        words.push(String::from_str(alloc, word)?)?;
+    }
+    Ok(words)
+}
+
+#[test]
+fn arguments_and_exit_statuses(rt: HostRuntime) -> Result<(), Fail> {
+    let alloc = rt.alloc();
+    for text in [
+        "script",
+        "script 0",
+        "script 9",
+        "script 01",
+        "script 1 1",
+        "script  1",
+        "Script 1",
+        "serve 1",
+        "",
+    ] {
+        let words = words_of(alloc, text)?;
+        assert_eq!(rt; asked_nodes(&words), None);
+        assert_eq!(rt; status_of(&words, Ok(())), 2);
+    }
+    for (text, nodes) in [("script 1", 1), ("script 8", 8)] {
+        let words = words_of(alloc, text)?;
+        assert_eq!(rt; asked_nodes(&words), Some(nodes));
+        assert_eq!(rt; status_of(&words, Ok(())), 0);
+        assert_eq!(rt; status_of(&words, Err(ScriptFault::Read)), 1);
+        assert_eq!(rt; status_of(&words, Err(ScriptFault::Write)), 1);
+        assert_eq!(rt; status_of(&words, Err(ScriptFault::NoMemory)), 1);
+    }
+    Ok(())
+}

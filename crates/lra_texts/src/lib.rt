@@ -1,0 +1,10 @@
+//! Tests of ids, names and HTTP messages by the public calls of the crates below. They stand here since a crate is proved
+//! twice where it has tests.
+#![tactic(auto)]
+
+#[cfg(test)]
+mod ids;
+#[cfg(test)]
+mod messages;
+#[cfg(test)]
+mod names;

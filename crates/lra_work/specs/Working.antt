@@ -1,0 +1,54 @@
+-- What a worker does: it serves connection after connection, up to the end of the arrivals or to a refusal that ends the run.
+use Rattle.std.specs.Prelude.{◌≡◌, ⊤, List, [], ◌∷◌, Option, Some, None, Result, Ok, Err}
+use Rattle.lra_facts.specs.declared.refusal.Refusal.{Refusal}
+use Rattle.lra_facts.specs.declared.refusal.Refusal.TheVariants.{JournalFailed, Stopped, RunFull, TrailLost}
+use Rattle.lra_http.specs.declared.Sink.{Ghosts as OfSink}
+use Rattle.lra_http.specs.declared.Source.{Ghosts as OfSource}
+use Rattle.lra_http.specs.declared.fault.Fault.{Fault}
+use Rattle.lra_http.specs.declared.message.Request.{Request}
+use Rattle.lra_book.specs.declared.clerk.Clerk.{Ghosts as OfClerk}
+use Rattle.lra_api.specs.Serving.{Makes}
+use Rattle.lra_api.specs.Serving as serving
+use Rattle.lra_api.specs.Streams.{IsReading}
+use Rattle.lra_api.specs.declared.serving.ServeError.{ServeError}
+use Rattle.lra_api.specs.declared.serving.ServeError.TheVariants.{Refused}
+use Rattle.lra_work.specs.declared.arrivals.Connection.{Connection}
+
+-- a refusal, if it ends the run in which it came: E18 to E21
+abbrev pub ending_by : Refusal → Option Refusal
+ending_by JournalFailed = Some JournalFailed
+ending_by Stopped = Some Stopped
+ending_by RunFull = Some RunFull
+ending_by (TrailLost number) = Some (TrailLost number)
+ending_by _ = None
+
+-- the refusal that ends the run, where one did
+abbrev pub ending_of : Result ⊤ ServeError → Option Refusal
+ending_of (Err (Refused refusal)) = ending_by refusal
+ending_of _ = None
+
+-- One connection is served, with this ending: one request is read, the call that it asks for is made at the connection's moment,
+-- once, and one answer is written
+abbrev pub Serves : {R W C : Type 0} → OfSource R → OfSink W → OfClerk C → Connection R W → (old new : C) → Option Refusal → Type 0
+Serves {R} {W} source sink clerk c old new ending =
+    (reader : R) × (writer : W) × (read : Result Request Fault) × (result : Result ⊤ ServeError)
+    × IsReading source c.reader reader read
+    × serving.Serves (new ≡ old) (Makes clerk old new c.now) sink c.writer writer c.now read result
+    × (ending ≡ ending_of result)
+
+-- each of the connections was given and served, in order, and none of them ended the run
+abbrev pub ServesEach : {A R W C : Type 0} → (A → Option (Connection R W) → A → Type 0) → OfSource R → OfSink W → OfClerk C → A → C → List (Connection R W) → A → C → Type 0
+ServesEach gives source sink clerk a old [] b new = (b ≡ a) × (new ≡ old)
+ServesEach gives source sink clerk a old (c ∷ cs) b new =
+    (between : _) × (then_ : _) × gives a (Some c) between × Serves source sink clerk c old then_ None × ServesEach gives source sink clerk between then_ cs b new
+
+-- the last arrival: none, or a connection whose service ended the run
+abbrev pub Ends : {A R W C : Type 0} → (A → Option (Connection R W) → A → Type 0) → OfSource R → OfSink W → OfClerk C → A → C → A → C → Option Refusal → Type 0
+Ends gives source sink clerk a old b new None = gives a None b × (new ≡ old)
+Ends gives source sink clerk a old b new (Some refusal) =
+    (c : Connection _ _) × gives a (Some c) b × Serves source sink clerk c old new (Some refusal)
+
+-- What a worker did between the arrivals a and b, with its clerk before and after
+abbrev pub Works : {A R W C : Type 0} → (A → Option (Connection R W) → A → Type 0) → OfSource R → OfSink W → OfClerk C → A → C → A → C → Option Refusal → Type 0
+Works gives source sink clerk a old b new ending =
+    (cs : List (Connection _ _)) × (last : _) × (then_ : _) × ServesEach gives source sink clerk a old cs last then_ × Ends gives source sink clerk last then_ b new ending

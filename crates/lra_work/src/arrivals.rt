@@ -1,0 +1,29 @@
+// Connections that come, one at a time.
+
+use lra_http::{Sink, Source};
+
+/// A connection: where its request is read, where its answer is written, and the moment at which it is served, in milliseconds
+/// since 1970.
+#[derive(Drop)]
+pub struct Connection<S, W> {
+    pub reader: S,
+    pub writer: W,
+    pub now: u64,
+}
+
+/// Connections, one after another.
+pub trait Arrivals {
+    ghost use Rattle.std.specs.Prelude.{Option};
+    ghost use Rattle.lra_work.specs.declared.arrivals.Connection.{Connection as TheConnection};
+
+    type Reader: Source + Drop;
+
+    type Writer: Sink + Drop;
+
+    /// What is given, and the arrivals before and after it, as far as they are known.
+    ghost gives: { Self → Option (TheConnection Self.Reader Self.Writer) → Self → Type 0 };
+
+    /// The next connection, or none at the end. It may wait.
+    fn next(&mut self) -> Option<Connection<Self::Reader, Self::Writer>>
+        ensures { gives self.old result self.new };
+}

@@ -1,0 +1,77 @@
+// A worker: it serves one connection after another.
+ghost use Rattle.std.specs.Prelude.{◌≡◌};
+ghost use Rattle.lra_work.specs.Working.{Serves, Works, ending_by, ending_of};
+
+use crate::gated::Gated;
+use crate::{Arrivals, Connection, Gate};
+use lra_api::{Paths, ServeError, serve_one};
+use lra_book::Clerk;
+use lra_facts::Refusal;
+use lra_http::{Sink, Source};
+use std::alloc::Global;
+use std::sync::Wait;
+
+/// A refusal, if it ends the run in which it came: E18 to E21.
+pub fn ending_by(refusal: Refusal) -> Option<Refusal>
+    ensures { result ≡ ending_by refusal }
+{
+    match refusal {
+        Refusal::JournalFailed => Some(Refusal::JournalFailed),
+        Refusal::Stopped => Some(Refusal::Stopped),
+        Refusal::RunFull => Some(Refusal::RunFull),
+        Refusal::TrailLost(number) => Some(Refusal::TrailLost(number)),
+        _ => None,
+    }
+}
+
+/// The refusal that ends the run, where one did.
+fn ending_of(outcome: Result<(), ServeError>) -> Option<Refusal>
+    ensures { result ≡ ending_of outcome }
+{
+    match outcome {
+        Err(ServeError::Refused(refusal)) => ending_by(refusal),
+        _ => None,
+    }
+}
+
+/// Serves one connection, and closes it. It tells the refusal that ends the run, where one did.
+fn serve<S: Source + Drop, W: Sink + Drop, C: Clerk>(
+    alloc: Global,
+    paths: &Paths,
+    connection: Connection<S, W>,
+    clerk: &mut C,
+) -> Option<Refusal>
+    ensures { Serves S.Source W.Sink C.Clerk connection clerk.old clerk.new result }
+{
+    let Connection {
+        mut reader,
+        mut writer,
+        now,
+    } = connection;
+    ending_of(serve_one(alloc, paths, &mut reader, &mut writer, clerk, now))
+}
+
+/// Serves each connection that `next` gives, in order, up to none or to the first refusal that ends the run, E18 to E21. It gives
+/// the clerk back, and that refusal. The gate is asked before and after each of the clerk's calls.
+pub fn work<A: Arrivals, C: Clerk + Drop, G: Gate, R: Wait>(
+    rt: &R,
+    alloc: Global,
+    paths: &Paths,
+    connections: &mut A,
+    clerk: C,
+    gate: &G,
+) -> (C, Option<Refusal>)
+    ensures { Works A.Arrivals.gives A.Reader.Source A.Writer.Sink C.Clerk connections.old clerk connections.new result.0 result.1 }
+{
+    let mut gated = Gated { clerk, gate };
+    for _ in rt.forever() {
+        let Some(connection) = connections.next() else {
+            return (gated.clerk, None);
+        };
+        match serve(alloc, paths, connection, &mut gated) {
+            None => {}
+            Some(refusal) => return (gated.clerk, Some(refusal)),
+        }
+    }
+    unreachable!()
+}
