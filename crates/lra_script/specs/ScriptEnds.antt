@@ -2,8 +2,8 @@
 use Rattle.std.specs.Prelude.{◌≡◌, ℕ, ◌+◌, ◌-◌, ◌*◌, ◌^◌, ◌≤◌, ◌⊎◌, List, [], ◌∷◌, ◌++◌, length, take, Bool, true, false, Result, MatchResult}
 use Rattle.lra_http.specs.Streams.{Calls, FoundEnd, GivenBytes, Gives, GivesWhat, HasCause, IsFlushed, TakenBytes, Takes, TakesPart, most_interrupted}
 use Rattle.lra_world.specs.Worlds.{start}
-use Rattle.lra_script.specs.declared.script.ScriptFault.{ScriptFault}
-use Rattle.lra_script.specs.declared.script.ScriptFault.TheVariants.{Read, Write, NoMemory}
+use Rattle.lra_script.specs.declared.course.ScriptFault.{ScriptFault}
+use Rattle.lra_script.specs.declared.course.ScriptFault.TheVariants.{Read, Write, NoMemory}
 use Rattle.lra_script.specs.LineParts.{HasNone, lines_of}
 use Rattle.lra_script.specs.Scripts.{ScriptText, most_in_line}
 

@@ -5,16 +5,16 @@ mod answer;
 mod ask;
 mod asking;
 mod calls;
+mod course;
 pub mod laws;
 mod line;
 mod number;
 mod playing;
 mod room;
-mod script;
 mod showing;
 mod telling;
 mod words;
 
+pub use course::{ScriptFault, script};
 pub use number::{code_of, node_of};
 pub use playing::{arguments, asked_nodes, play, status_of};
-pub use script::{ScriptFault, script};

@@ -2,8 +2,8 @@
 ghost use Rattle.lra_script.specs.Arguments.{AskScript};
 ghost use Rattle.std.specs.Prelude.{◌≡◌, ℕ, MatchOption, OnErr, OnOk, map, string_bytes};
 
+use crate::course::{ScriptFault, script};
 use crate::number::node_of;
-use crate::script::{ScriptFault, script};
 use lra_http::{OverRead, OverWrite};
 use lra_id::MOST_NODES;
 use std::{env, io};

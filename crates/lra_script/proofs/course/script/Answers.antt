@@ -1,6 +1,6 @@
 use Rattle.std.proofs.Common.{arith}
 use Rattle.lra_script.proofs.Runs.{part_none, runs_end, runs_fault, runs_line, runs_nodes, runs_part, runs_start, runs_whole}
-use Rattle.lra_script.proofs.script.script.Goals as goal
+use Rattle.lra_script.proofs.course.script.Goals as goal
 
 pub returns-in_default-clause-part : goal.returns-in_default-clause-part
 returns-in_default-clause-part g c = part_none c.args.nodes (g.R.Source.stream c.args.reader.now) (g.W.Sink.stream c.args.writer.now)

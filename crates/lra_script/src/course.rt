@@ -1,4 +1,4 @@
-// The script, over any source and sink.
+// The course of a script, over any source and sink.
 ghost use Rattle.std.specs.Prelude.{◌≡◌, ◌≤◌, length, IfErr, OnOk, OnErr};
 ghost use Rattle.lra_http.specs.Streams.{TakesPart};
 ghost use Rattle.lra_world.specs.Machines.{IsWorldOf};

@@ -1,7 +1,7 @@
 use Rattle.std.proofs.Common.{◌+◌, ◌≤◌, ◌≡◌, length, vec_capacity}
 use Rattle.lra_script.specs.ScriptEnds.{most_reads}
 use Rattle.lra_script.proofs.Runs.{Runs}
-use Rattle.lra_script.proofs.script.script.Given as goal
+use Rattle.lra_script.proofs.course.script.Given as goal
 
 abbrev pub invariant-lines : goal.invariant-lines
 invariant-lines g l = let s = g.R.Source in let t = g.W.Sink in record {
