@@ -1,9 +1,9 @@
 #!/usr/bin/env python3
-"""Runs the lines of README as a user does, and compares what they print: python3 tests/readme.py [PROGRAM]. Standard library alone.
+"""Does what README and docs/HTTP.md say, and compares: python3 tests/readme.py [PROGRAM]. Standard library alone.
 
-PROGRAM is crates/lra_node/out/lra_node, which ./coordinator builds. It runs each table of a script through `lra_node script N`, and
-the curl lines, in one shell, against `lra_node serve` with the numbers that README has. The status is 1 where a line prints
-something else. The ports of README, 8070 to 8072, have to be free."""
+PROGRAM is crates/lra_node/out/lra_node, which ./coordinator builds. It runs each table of a script through `lra_node script N`; the
+curl lines, in one shell, against `lra_node serve` with the numbers that README has; and the calls that HTTP.md has byte by byte. The
+status is 1 where something else comes. The ports of README, 8070 to 8072, have to be free."""
 import os
 import re
 import socket
@@ -82,7 +82,35 @@ def try_curl():
             check("the server ends with its input", 0, server.wait(20))
 
 
+def try_calls():
+    """The requests of HTTP.md, in order, each with its answer."""
+    with open(f"{TOP}/docs/HTTP.md", encoding="utf-8") as file:
+        part = re.search(r"## Each call, byte by byte\n(.*?)\n## ", file.read(), re.S)[1]
+    blocks = [it.replace("\n", "\r\n") for it in re.findall(r"^```\n(.*?)\n```$", part, re.M | re.S)]
+    with tempfile.TemporaryDirectory() as folder:
+        server = subprocess.Popen([PROGRAM, "serve", "2", "8070", folder], stdin=subprocess.PIPE)
+        try:
+            waits_for(8070)
+            waits_for(8071)
+            for request, wanted in zip(blocks[::2], blocks[1::2]):
+                whole = request if "{" in request.split("\r\n")[-1] else f"{request}\r\n"
+                answer = wanted if "{" in wanted.split("\r\n")[-1] else f"{wanted}\r\n"
+                check(request.split(" HTTP")[0], answer, sent(8070, whole))
+        finally:
+            server.stdin.close()
+            server.wait(20)
+
+
+def sent(port, text):
+    """What comes back for a request."""
+    with socket.create_connection(("127.0.0.1", port), 20) as connection:
+        connection.sendall(text.encode())
+        with connection.makefile("rb") as file:
+            return file.read().decode()
+
+
 try_scripts()
 try_curl()
+try_calls()
 print(f"{len(failures)} failed")
 sys.exit(1 if failures else 0)

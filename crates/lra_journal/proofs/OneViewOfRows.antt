@@ -1,0 +1,91 @@
+-- Rows stand for one view of a node.
+use Rattle.std.proofs.Common.{◌≡◌, ℕ, ◌+◌, ◌-◌, ◌<◌, ◌++◌, List, [], Option, Some, None, length, get_or, true, refl, sym, ap, subst, ◌∙◌, arith}
+use Rattle.std.proofs.lemmas.Bool.Decides.{nat_tests}
+use Rattle.std.proofs.lemmas.Grind.{same_number_lists}
+use Rattle.sqlite.specs.Order.{Row}
+use Rattle.sqlite.specs.Tree.{Trees}
+use Rattle.lra_id.specs.Ids.{Id}
+use Rattle.lra_forest.specs.declared.record.Record.{Record}
+use Rattle.lra_forest.specs.Forests.{id_of, is_of}
+use Rattle.lra_forest.proofs.Gatherings.{find_in}
+use Rattle.lra_forest.proofs.OneListOfRecords.{same_records}
+use Rattle.lra_history.specs.Views.{View, record_at, records_at}
+use Rattle.lra_history.proofs.OneViewOfASet.{same_homes, same_views}
+use Rattle.lra_delta.specs.OneRecord.{IsRecordUnder}
+use Rattle.lra_delta.specs.Spelling.{record_text}
+use Rattle.lra_delta.proofs.FrameCodes.{one_record}
+use Rattle.lra_journal.specs.FrontRows.{AreFronts, IsSaid, SaysOf}
+use Rattle.lra_journal.specs.Stands.{IsHeld, Stands}
+use Rattle.lra_journal.specs.Tables.{signed, HasLra}
+
+-- ---- the counts
+
+one_said : (rows : List Row) (n held purged held' purged' : ℕ) → IsSaid rows n held purged → IsSaid rows n held' purged' → (held ≡ held') × (purged ≡ purged')
+one_said rows n held purged held' purged' a b =
+    let both = sym a.1 ∙ b.1 in
+    let row : a.0 ≡ b.0 = cc in
+    let says = subst (λ r. SaysOf r n held purged) row a.2 in
+    let first = sym says.first ∙ b.2.first in
+    let second = sym says.second ∙ b.2.second in
+    (cc, cc)
+
+module _ (me : ℕ) (rows : List Row) (front purges front' purges' : List ℕ) (left : AreFronts me rows front purges) (right : AreFronts me rows front' purges') (nodes : length front ≡ length front') where
+  one_at : (k : ℕ) → k < length front → (get_or front k 0 ≡ get_or front' k 0) × (get_or purges k 0 ≡ get_or purges' k 0)
+  one_at k within =
+      let back : k + 1 - 1 ≡ k = omega arith in
+      let both = one_said rows (k + 1) _ _ _ _ (left.each (k + 1) (omega arith) (omega (arith, within))) (right.each (k + 1) (omega arith) (omega (arith, within, nodes))) in
+      (rw back at both.0, rw back at both.1)
+
+  pub one_front : front ≡ front'
+  one_front = same_number_lists front front' nodes (λ k within. (one_at k within).0)
+
+  pub one_purges : purges ≡ purges'
+  one_purges = same_number_lists purges purges' (left.nodes ∙ nodes ∙ sym right.nodes) (λ k within. (one_at k (omega (arith, within, left.nodes))).1)
+
+-- ---- the records
+
+abbrev AreUnder : List ℕ → View → Type 0
+AreUnder front view = (r : Record) → IsHeld view r → IsRecordUnder front r
+
+-- a record of one is one of the other
+carried : (me : ℕ) (db : Trees) (front : List ℕ) (a b : View) → Stands me db a → Stands me db b → AreUnder front a → AreUnder front b → (r : Record) → IsHeld a r → IsHeld b r
+carried me db front a b left right under_a under_b r held =
+    let has : HasLra db r.home (signed r.num) (record_text r) = (left.lra r.home (signed r.num) (record_text r)).1 (record { kept = r; held = held; at_home = refl; numbered = refl; spelled = refl }) in
+    let it = (right.lra r.home (signed r.num) (record_text r)).0 has in
+    let same = one_record front r it.kept [] [] (under_a r held) (under_b it.kept it.held) (ap (λ bytes. bytes ++ []) it.spelled) in
+    subst (IsHeld b) (sym same.0) it.held
+
+home_is : (l : Id) (r : Record) → is_of l r ≡ true → r.home ≡ l.home
+home_is l r is = grind (arith, nat_tests, is)
+
+num_is : (l : Id) (r : Record) → is_of l r ≡ true → r.num ≡ l.num
+num_is l r is = grind (arith, nat_tests, is)
+
+id_is : (l : Id) (r : Record) → r.home ≡ l.home → r.num ≡ l.num → id_of r ≡ l
+id_is l r home num = ap (λ h. record { home = h; num = r.num }) home ∙ ap (λ (n : ℕ). record { home = l.home; num = n }) num
+
+-- so each LRA that has a record in one has it in the other
+carried_at : (a b : View) → ((r : Record) → IsHeld a r → IsHeld b r) → (l : Id) (r : Record) → record_at a l ≡ Some r → record_at b l ≡ Some r
+carried_at a b carries l r found =
+    let is = (find_in (is_of l) (records_at a.records l.home) r found).1 in
+    let own = id_is l r (home_is l r is) (num_is l r is) in
+    subst (λ k. record_at b k ≡ Some r) own (carries r (subst (λ k. record_at a k ≡ Some r) (sym own) found))
+
+same_option : (x y : Option Record) → ((r : Record) → x ≡ Some r → y ≡ Some r) → ((r : Record) → y ≡ Some r → x ≡ Some r) → x ≡ y
+same_option None None f g = refl
+same_option None (Some r) f g = g r refl
+same_option (Some r) y f g = sym (f r refl)
+
+-- rows stand for one view, where records keep the rules under its front
+pub one_view : (me : ℕ) (db : Trees) (a b : View) → a.front ≡ b.front → a.purges ≡ b.purges → Stands me db a → Stands me db b
+    → ((r : Record) → IsHeld a r → IsRecordUnder a.front r) → ((r : Record) → IsHeld b r → IsRecordUnder b.front r) → a ≡ b
+one_view me db a b fronts purges left right under_a under_b =
+    let under : AreUnder a.front b = subst (λ front. AreUnder front b) (sym fronts) under_b in
+    let there = carried me db a.front a b left right under_a under in
+    let back = carried me db a.front b a right left under under_a in
+    let long = ap length fronts in
+    same_views a b fronts purges (same_homes (length a.front) a.records b.records left.whole.homes (right.whole.homes ∙ sym long) (λ home some high.
+    let own = left.whole.order home some high in
+    let other = right.whole.order home some (omega (arith, high, long)) in
+    same_records home (records_at a.records home) (records_at b.records home) own.homes other.homes own.ascending other.ascending (λ num.
+    let l : Id = record { home = home; num = num } in same_option (record_at a l) (record_at b l) (carried_at a b there l) (carried_at b a back l))))

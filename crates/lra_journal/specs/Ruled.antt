@@ -1,0 +1,23 @@
+-- What is asked of the tables and of a view, so that rows that stand for it are never refused.
+use Rattle.std.specs.Prelude.{◌≤◌, ◌<◌, ◌^◌, ℕ, length}
+use Rattle.sqlite.specs.Tree.{Trees, IsTable}
+use Rattle.lra_id.specs.Fronts.{count}
+use Rattle.lra_forest.specs.declared.record.Record.{Record}
+use Rattle.lra_history.specs.Views.{View}
+use Rattle.lra_history.specs.ViewShape.{HasShape}
+use Rattle.lra_delta.specs.OneRecord.{IsRecordUnder}
+use Rattle.lra_journal.specs.Schema.{front_tree, lra_tree}
+use Rattle.lra_journal.specs.Stands.{IsHeld}
+
+-- both are tables as the store keeps them: their rowids rise, so no row stands twice
+pub record AreTables (db : Trees) : Type 0 where
+  pub front : IsTable (db front_tree)
+  pub lra : IsTable (db lra_tree)
+
+-- The view keeps the rules by which rows are read: it is of at most 8 nodes and has counts of 48 bits, each of its records
+-- keeps those of records under its front, and it has the shape
+pub record KeepsRules (view : View) : Type 0 where
+  pub few : length view.front ≤ 8
+  pub small : (node : ℕ) → count view.front node < 2 ^ 48
+  pub records : (r : Record) → IsHeld view r → IsRecordUnder view.front r
+  pub shape : HasShape view
