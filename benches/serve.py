@@ -59,6 +59,8 @@ def ask(method, path, body=None, port=PORT):
         connection.close()
         if answer.status != 503:
             return answer.status, json.loads(text) if text else None
+        if b"E20" not in text:
+            raise SystemExit(f"{method} {path}: {text.decode()}")
 
 
 def row(what, seconds, count, clients):
@@ -162,11 +164,11 @@ http {{ access_log off; keepalive_timeout 0; server {{ listen 127.0.0.1:{NGINX};
 
 
 def durable(folder):
-    pair = begins_and_closes(400)
+    pair = begins_and_closes(240)  # a home holds 256
     for clients in (1, 8):
         spans, rate = pair(clients)
         calls = row("a begin and a close (two commits)", spans, rate, clients) * 2
-        spans, rate = commits(folder, clients, 800 // clients)
+        spans, rate = commits(folder, clients, 480 // clients)
         row("one-row commits of the C library", spans, rate, clients)
         print(f"  ratio of commits a second {calls / rate:.2f}")
 
