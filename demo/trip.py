@@ -1,8 +1,8 @@
 #!/usr/bin/env python3
 """Four services book trips with a coordinator of three nodes, which this starts: python3 demo/trip.py [PROGRAM]
 
-A trip is an LRA. The order begins it and asks hotel, flight and payment over HTTP; each joins it, and the coordinator calls each when
-the trip ends. The exit status is 1 where anything differs from what must be. Standard library alone; a few seconds."""
+A trip is an LRA. The order begins it and asks hotel, flight and payment over HTTP; each joins it, and the coordinator calls each
+when the trip ends. The exit status is 1 where anything differs from what must be. Standard library alone; a few seconds."""
 import http.client
 import http.server
 import json

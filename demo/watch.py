@@ -1,10 +1,10 @@
 #!/usr/bin/env python3
-"""A page that shows what a coordinator's nodes show: python3 demo/watch.py 8070 8071 8072 [--port 8090], then http://127.0.0.1:8090
+"""A page that shows what a coordinator's nodes show: python3 demo/watch.py 8070 8071 8072 [--port 8090]
 
-The ports are those of the nodes, in order. While someone looks, each node is asked once a second, by GET alone, and one question at a
-time. HTTP tells of an LRA its status, and of a participant its number and status; it tells neither parents, nor links, nor how many
-participants there are. So LRAs are a list, and numbers 1 to 32 are tried: often where a participant may be soon, and never again where
-nothing can change. Standard library alone."""
+Then look at http://127.0.0.1:8090. The ports are those of the nodes, in order. While someone looks, each node is asked once a
+second, by GET alone, and one question at a time. HTTP tells an LRA's status, and of a participant its number and status; it tells
+neither parents, nor links, nor how many participants there are. So LRAs are a list, and the numbers 1 to 32 are tried: often where a
+participant may come soon, and never again where nothing can change. Standard library alone."""
 import argparse
 import base64
 import collections
@@ -204,7 +204,7 @@ class Watch:
         rows = "".join(map(self.row, sorted(self.lras.values(), key=self.place)))
         table = ("<table><caption>LRAs: failed ones first, then those that are ending, active, and ended</caption><thead><tr>"
                  "<th scope=col>LRA<th scope=col>Status<th scope=col>Participants<th scope=col>Nodes</thead>"
-                 f"<tbody>{rows}</tbody></table>") if rows else "<p>There are no LRAs.</p>"
+                 f"<tbody>{rows}</tbody></table>") if rows else "<p>No node that answers holds an LRA.</p>"
         failed = sum(counts[it] for it in counts if it.startswith("Failed"))
         title = f"{f'{failed} failed, ' if failed else ''}{f'{len(down)} down, ' if down else ''}{len(self.lras)} LRAs"
         return {"title": html.escape(title), "summary": html.escape(summary), "at": time.strftime("%H:%M:%S"),
@@ -288,6 +288,13 @@ PAGE = """<!doctype html>
 """
 
 
+class Server(http.server.ThreadingHTTPServer):
+    def handle_error(self, request, client_address):
+        """A browser may go at any moment."""
+        if not isinstance(sys.exc_info()[1], OSError):
+            super().handle_error(request, client_address)
+
+
 def hash_of(text):
     return f"'sha256-{base64.b64encode(hashlib.sha256(text.encode()).digest()).decode()}'"
 
@@ -321,15 +328,22 @@ class Handler(http.server.BaseHTTPRequestHandler):
         pass
 
 
+def port_of(text):
+    port = int(text)
+    if not 0 < port < 65536:
+        raise ValueError
+    return port
+
+
 def main():
     parser = argparse.ArgumentParser(description="Shows on a page what the nodes of a coordinator show.")
-    parser.add_argument("ports", metavar="PORT", type=int, nargs="+", help="the nodes' ports, in order")
-    parser.add_argument("--port", type=int, default=8090, help="the page's own port (8090)")
+    parser.add_argument("ports", metavar="PORT", type=port_of, nargs="+", help="the nodes' ports, in order")
+    parser.add_argument("--port", type=port_of, default=8090, help="the page's own port (8090)")
     asked = parser.parse_args()
     Handler.watch = Watch(asked.ports)
     Handler.hosts = (f"127.0.0.1:{asked.port}", f"localhost:{asked.port}")
     try:
-        server = http.server.ThreadingHTTPServer(("127.0.0.1", asked.port), Handler)
+        server = Server(("127.0.0.1", asked.port), Handler)
     except OSError as error:
         sys.exit(f"port {asked.port}: {error.strerror}")
     threading.Thread(target=server.serve_forever, daemon=True).start()

@@ -5,6 +5,9 @@ use std::io::{ErrorKind, Read};
 use std::net::{Shutdown, TcpStream};
 use std::time::{Clock, Duration};
 
+/// How long the first look at a connection waits for its request, in milliseconds: most come with it.
+const WELCOME: u64 = 2;
+
 /// How long a connection may send nothing, in milliseconds.
 const SILENCE: u64 = 30_000;
 
@@ -17,6 +20,8 @@ const SLICE: u64 = 20;
 /// What is still to come of a connection.
 #[derive(Clone, Copy, PartialEq, Eq)]
 enum Stage {
+    /// Its request, for which nobody has looked yet.
+    Coming,
     /// Its request.
     Asking,
     /// Its end: it has its answer.
@@ -45,13 +50,13 @@ pub enum Seen {
 impl Guest {
     /// A connection that comes now.
     pub fn new<R: Clock>(rt: &R, stream: TcpStream) -> io::Result<Guest> {
-        stream.set_nonblocking(true)?;
+        stream.set_read_timeout(Some(Duration::from_millis(WELCOME)))?;
         let until = rt
             .monotonic()?
             .saturating_add(Duration::from_millis(SILENCE));
         Ok(Guest {
             stream,
-            stage: Stage::Asking,
+            stage: Stage::Coming,
             until,
         })
     }
@@ -79,13 +84,24 @@ impl Guest {
         }
     }
 
+    // From here on no look waits.
+    fn is_silent<R: Clock>(mut self, rt: &R) -> Seen {
+        if self.stage == Stage::Coming {
+            if self.stream.set_nonblocking(true).is_err() {
+                return Seen::Gone;
+            }
+            self.stage = Stage::Asking;
+        }
+        self.waits(rt)
+    }
+
     // Looks for the first byte of a request, and leaves it.
     fn asks<R: Clock>(self, rt: &R) -> Seen {
         let mut first = [0u8; 1];
         match self.stream.peek(&mut first) {
             Ok(0) => Seen::Gone,
             Ok(_) => self.is_ready(),
-            Err(error) if error.kind() == ErrorKind::WouldBlock => self.waits(rt),
+            Err(error) if error.kind() == ErrorKind::WouldBlock => self.is_silent(rt),
             Err(error) if error.kind() == ErrorKind::Interrupted => Seen::Silent(self),
             Err(_) => Seen::Gone,
         }
@@ -116,10 +132,10 @@ impl Guest {
         }
     }
 
-    /// Looks at what has come, and waits for nothing.
+    /// Looks at what has come. The first look waits a little for it, and others for nothing.
     pub fn look<R: Clock>(self, rt: &R) -> Seen {
         match self.stage {
-            Stage::Asking => self.asks(rt),
+            Stage::Coming | Stage::Asking => self.asks(rt),
             Stage::Closing => self.drains(rt),
         }
     }

@@ -23,6 +23,9 @@ const ANSWER: u64 = 10_000;
 /// How long a worker rests where all that wait are silent, in milliseconds.
 const REST: u64 = 2;
 
+/// How many waiting connections are closed at most so that there are files for one that speaks.
+const MOST_CLOSED: u32 = 8;
+
 /// How many bytes are read at once.
 const BUFFER: usize = 4096;
 
@@ -59,10 +62,21 @@ impl<'a, R: Wait + Clock> Taken<'a, R> {
         }
     }
 
+    // A socket once more. Where there are no files left for that, the connections are closed that have waited longest.
+    fn more_of(&self, stream: &TcpStream) -> io::Result<TcpStream> {
+        for _turn in 0..MOST_CLOSED {
+            if let Ok(more) = stream.try_clone() {
+                return Ok(more);
+            }
+            self.queue.close_first(self.rt);
+        }
+        stream.try_clone()
+    }
+
     // A reader and a writer over a socket. It is kept once more, to be closed when it is served.
     fn ends_of(&mut self, stream: TcpStream) -> io::Result<Ends<'a, R>> {
-        let other = stream.try_clone()?;
-        self.served = Some(stream.try_clone()?);
+        let other = self.more_of(&stream)?;
+        self.served = Some(self.more_of(&stream)?);
         let haste = Haste::WithRun;
         let reader = Patient::new(
             self.rt,
