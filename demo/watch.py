@@ -125,10 +125,12 @@ class Lra:
             self.due[m] = math.inf  # nested, or left, or never given
         elif status is None:
             self.due[m] = now + min(2 ** (m - top), 32)
-        elif status not in FINAL and self.status != "Active":
-            self.due[m] = now + 1
-        else:
-            self.due[m] = math.inf if self.status in LRA_STATES and not self.is_open() else now + 8
+        elif self.status == "Active":
+            self.due[m] = now + 8  # it may leave
+        elif self.is_open() or status not in FINAL:
+            self.due[m] = now + 1 if status not in FINAL else now + 8
+        else:  # a participant that is done may still be told to have failed: of an LRA that failed already, only it shows that
+            self.due[m] = now + 32 if self.status.startswith("Failed") and not status.startswith("Failed") else math.inf
 
     def is_open(self):
         return self.status in ("Active", "Closing", "Cancelling")
@@ -328,17 +330,16 @@ class Handler(http.server.BaseHTTPRequestHandler):
         pass
 
 
-def port_of(text):
-    port = int(text)
-    if not 0 < port < 65536:
+def port(text):
+    if not 0 < int(text) < 65536:
         raise ValueError
-    return port
+    return int(text)
 
 
 def main():
     parser = argparse.ArgumentParser(description="Shows on a page what the nodes of a coordinator show.")
-    parser.add_argument("ports", metavar="PORT", type=port_of, nargs="+", help="the nodes' ports, in order")
-    parser.add_argument("--port", type=port_of, default=8090, help="the page's own port (8090)")
+    parser.add_argument("ports", metavar="PORT", type=port, nargs="+", help="the nodes' ports, in order")
+    parser.add_argument("--port", type=port, default=8090, help="the page's own port (8090)")
     asked = parser.parse_args()
     Handler.watch = Watch(asked.ports)
     Handler.hosts = (f"127.0.0.1:{asked.port}", f"localhost:{asked.port}")
