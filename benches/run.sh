@@ -1,5 +1,5 @@
 #!/bin/sh
-# Runs a benchmark: `benches/run.sh status`, `prepare`, `duties`, `merge`, `frame`, `world` or `http`. It copies the repository to a
+# Runs a benchmark: `benches/run.sh status`, `prepare`, `duties`, `merge`, `frame`, `world`, `http` or `api`. It copies the repository to a
 # folder of its own, adds the program of that name there, proves it and runs it.
 #   status   what an LRA shows, by the records of its home and by the slow evaluators over the same facts
 #   prepare  a join that is prepared and applied, at homes of 16, 64 and 256 LRAs
@@ -8,6 +8,7 @@
 #   frame    frames of 16, 64 and 256 records that are spelled and read, and one of a changed record that is taken
 #   world    runs of a world of 2 and 8 nodes, at homes of 16 and 256 LRAs
 #   http     requests of 200 bytes, 1 KiB and 64 KiB that are read, from memory and through a buffer, and their parser alone
+#   api      requests that a clerk serves from memory to memory, with a journal in memory, and their parser alone
 set -eu
 name=$1
 top=$(cd "$(dirname "$0")/.." && pwd)
@@ -18,5 +19,6 @@ mkdir -p "$copy/crates/bench_$name/src"
 cp "$top/benches/$name/main.rt.txt" "$copy/crates/bench_$name/src/main.rt"
 uses="lra_id lra_states lra_facts lra_forest lra_history lra_replica lra_delta lra_world lra_http lra_callback anyhow"
 if [ "$name" = http ]; then uses="lra_http httparse anyhow"; fi
+if [ "$name" = api ]; then uses="lra_id lra_http lra_book lra_api httparse sqlite anyhow"; fi
 echo "bench_$name: $uses" >> "$copy/crates.txt"
 cd "$copy" && git init -q . && cd "crates/bench_$name" && rt run
