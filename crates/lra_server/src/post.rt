@@ -149,6 +149,24 @@ impl Mail {
         }
     }
 
+    /// Takes the duties back that no thread has begun with: who is to be called may be others by now.
+    fn recall(&mut self) {
+        for _turn in 0..self.due.len() {
+            if let Some(duty) = self.due.pop_front() {
+                self.release(&duty);
+            }
+        }
+    }
+
+    /// Lets a participant be called at once, if it is to be called. How long it paused is kept.
+    fn release(&mut self, duty: &Duty) {
+        for slip in self.slips.iter_mut() {
+            if slip.is_of(duty) {
+                slip.until = Some(Duration::from_millis(0));
+            }
+        }
+    }
+
     /// Has a participant wait before it is called again, each time longer.
     fn pause(&mut self, duty: &Duty, now: Duration) {
         for slip in self.slips.iter_mut() {
@@ -266,10 +284,12 @@ impl Post {
         Task::Rest
     }
 
-    /// Hands those who are to be called to the threads that call. Who is no longer among them is forgotten, unless it is called now.
+    /// Hands those who are to be called to the threads that call, in place of those that no thread has begun with. Who is no longer
+    /// among them is forgotten, unless it is called now.
     pub fn put_duties<R: Wait + Clock>(&self, rt: &R, duties: Duties) {
         let now = rt.monotonic().unwrap_or(Duration::from_millis(0));
         let mut mail = self.mail.lock(rt);
+        mail.recall();
         for slip in mail.slips.iter_mut() {
             slip.due = false;
         }
