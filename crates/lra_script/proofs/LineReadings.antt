@@ -2,17 +2,14 @@
 use Rattle.std.proofs.Common.{◌≡◌, ℕ, ◌<◌, ◌≤◌, ◌==◌, true, false, List, [], ◌∷◌, ◌++◌, length, take, ap, sym, refl, subst, ◌∙◌, arith}
 use Rattle.std.proofs.lemmas.List.{append-nil, take_all, length-take, length-append, take-append-le}
 use Rattle.lra_http.specs.Streams.{FoundEnd, GivenBytes, Gives, GivesWhat}
-use Rattle.lra_http.proofs.Known.{gives_more, gives_none}
+use Rattle.lra_http.proofs.Known.{gives_more}
 use Rattle.lra_script.specs.LineParts.{HasNone}
-use Rattle.lra_script.specs.ScriptEnds.{ReadsLine, ReadsPart}
+use Rattle.lra_script.specs.ScriptEnds.{ReadsLine}
 use Rattle.lra_script.proofs.Splits.{HasNone-push}
 
 -- a part of a line was given, of which so much is kept
 abbrev pub IsReading : List ℕ → GivenBytes → GivenBytes → Type 0
 IsReading kept old now = GivesWhat old now (λ part. (kept ≡ take 4097 part) × HasNone 10 part)
-
-pub reading_none : (old : GivenBytes) → IsReading [] old old
-reading_none old = ([], gives_none old, (refl, tt))
 
 pub reading_byte : (kept more : List ℕ) (old now next : GivenBytes) (b : ℕ) → IsReading kept old now → Gives now next (b ∷ []) → (b == 10) ≡ false
     → ((part : List ℕ) → kept ≡ take 4097 part → more ≡ take 4097 (part ++ b ∷ [])) → IsReading more old next
@@ -29,12 +26,6 @@ same_part old now next part gave gives = subst (λ (l : List ℕ). Gives old nex
 
 pub reading_end : (kept : List ℕ) (old now next : GivenBytes) → IsReading kept old now → Gives now next [] × FoundEnd next → ReadsLine false kept old next
 reading_end kept old now next (part, gave, (is, none)) (gives, ended) = ((part, same_part old now next part gave gives, (is, none)), ended)
-
-pub reading_stopped : (kept : List ℕ) (old now next : GivenBytes) → IsReading kept old now → Gives now next [] → ReadsPart old next
-reading_stopped kept old now next (part, gave, (is, none)) gives = (part, same_part old now next part gave gives, none)
-
-pub reading_left : (kept : List ℕ) (old now : GivenBytes) → IsReading kept old now → ReadsPart old now
-reading_left kept old now (part, gave, (is, none)) = (part, gave, none)
 
 -- one more byte is kept, where there is room
 pub keep_more : (kept part : List ℕ) (b : ℕ) → length kept < 4097 → kept ≡ take 4097 part → kept ++ b ∷ [] ≡ take 4097 (part ++ b ∷ [])

@@ -1,6 +1,6 @@
 // A script that a program's arguments ask for, over its standard streams.
 ghost use Rattle.lra_script.specs.Arguments.{AskScript};
-ghost use Rattle.std.specs.Prelude.{◌≡◌, ℕ, MatchOption, OnErr, OnOk, map, string_bytes};
+ghost use Rattle.std.specs.Prelude.{◌≡◌, ◌≤◌, ℕ, MatchOption, OnErr, OnOk, map, string_bytes};
 
 use crate::course::{ScriptFault, script};
 use crate::number::node_of;
@@ -21,7 +21,8 @@ pub fn arguments(rt: &HostRuntime) -> io::Result<Vec<String>> {
 /// of the input, 1 after a fault or where memory was wanting at the start. Where they ask for no script it writes the usage to
 /// standard error, and the status is 2.
 pub fn play(rt: &HostRuntime, words: &[String], usage: &str) -> u8
-    ensures { ((nodes : ℕ) → AskScript (map string_bytes words.now) nodes → ⊥) → result ≡ 2 }
+    ensures other { ((nodes : ℕ) → AskScript (map string_bytes words.now) nodes → ⊥) → result ≡ 2 }
+    ensures asked { (nodes : ℕ) → AskScript (map string_bytes words.now) nodes → result ≤ 1 }
 {
     let outcome = if let Some(nodes) = asked_nodes(words) {
         let mut reader = OverRead::new(rt.reader());
@@ -51,6 +52,7 @@ pub fn asked_nodes(words: &[String]) -> Option<u8>
 /// The exit status, by the arguments and by how the script that they asked for came out.
 pub fn status_of(words: &[String], outcome: Result<(), ScriptFault>) -> u8
     ensures other { ((nodes : ℕ) → AskScript (map string_bytes words.now) nodes → ⊥) → result ≡ 2 }
+    ensures asked { (nodes : ℕ) → AskScript (map string_bytes words.now) nodes → result ≤ 1 }
     ensures ended { (nodes : ℕ) → AskScript (map string_bytes words.now) nodes → OnOk outcome (result ≡ 0) }
     ensures fault { (nodes : ℕ) → AskScript (map string_bytes words.now) nodes → OnErr outcome (result ≡ 1) }
 {
