@@ -36,7 +36,7 @@ number_of (Text t) = 0
 number_of (Blob b) = 0
 
 abbrev origin_of : Row → ℕ
-origin_of row = number_of (column row 0)
+origin_of cells = number_of (column cells 0)
 
 module _ (me : ℕ) (db : Trees) (rows : List Row) (view : View) (low : me ≤ 8) (tables : AreTables db) (stands : Stands me db view) (rules : KeepsRules view) (listed : AreFrontRows db rows) where
   -- a row that is listed is that of a row of the table
