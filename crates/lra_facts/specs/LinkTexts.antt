@@ -9,14 +9,14 @@ use Rattle.lra_facts.specs.declared.refusal.Refusal.{Refusal}
 use Rattle.lra_facts.specs.declared.refusal.Refusal.TheVariants.{BadText, NoMemory}
 
 -- the most bytes of a link, as it is given and as it is kept
-abbrev pub link_limit : ℕ
-link_limit = 127
+abbrev pub max_link_bytes : ℕ
+max_link_bytes = 127
 
 -- an http URL with no user, password or fragment, and a serialised text of at most 127 bytes
 abbrev pub is_link : Parts → Bool
 is_link url =
     bytes_eq url.scheme (codes "http") && (is_empty url.username && (is_empty url.password && (not (is_some url.fragment)
-    && nat_le (length (serialize url)) link_limit)))
+    && nat_le (length (serialize url)) max_link_bytes)))
 
 abbrev pub kept_of : Parsed Parts → Option (List ℕ)
 kept_of (Ok url) = if is_link url then Some (serialize url) else None
@@ -24,7 +24,7 @@ kept_of (Err e) = None
 
 -- the text that is kept of a link's text: what the URL Standard serialises. There is none where the text is no link
 abbrev pub kept_text : List ℕ → Option (List ℕ)
-kept_text text = if nat_le (length text) link_limit then kept_of (parse_url None text) else None
+kept_text text = if nat_le (length text) max_link_bytes then kept_of (parse_url None text) else None
 
 abbrev pub is_same : Option (List ℕ) → List ℕ → Bool
 is_same (Some kept) text = bytes_eq kept text

@@ -9,7 +9,7 @@ use std::marker::Model;
 use url::{ParseError, Url};
 
 /// The most bytes of a link.
-pub const LINK_LIMIT: usize = 127;
+pub const MAX_LINK_BYTES: usize = 127;
 
 /// A link: an http URL of at most 127 bytes, kept as it is serialised.
 #[derive(Debug, Drop)]
@@ -28,7 +28,6 @@ impl Model for Link {
     ghost invariant = { λ link. (length (string_bytes link.text) ≤ 127) × (kept_text (string_bytes link.text) ≡ Some (string_bytes link.text)) };
 }
 
-/// Whether a URL is a link.
 fn is_link(url: &Url) -> bool
     ensures { result ≡ is_link url.now }
 {
@@ -36,7 +35,7 @@ fn is_link(url: &Url) -> bool
         && url.username().is_empty()
         && url.password().is_none()
         && url.fragment().is_none()
-        && url.as_str().len() <= LINK_LIMIT
+        && url.as_str().len() <= MAX_LINK_BYTES
 }
 
 impl Link {
@@ -47,7 +46,7 @@ impl Link {
         ensures long { 127 < length text.now → result ≡ Err BadText }
         ensures kept { IfOk result (λ link. kept_text link ≡ Some link) }
     {
-        if text.len() > LINK_LIMIT {
+        if text.len() > MAX_LINK_BYTES {
             return Err(Refusal::BadText);
         }
         match Url::parse(alloc, text) {

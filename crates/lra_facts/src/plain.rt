@@ -20,14 +20,12 @@ pub fn are_in_order(facts: &[Fact]) -> bool
         .all(|fact| is_numbered(fact) && names_earlier(fact))
 }
 
-/// Whether a fact has a number that a node can give.
 fn is_numbered(fact: &Fact) -> bool
     ensures { IsTrue result ↔ IsNumbered fact.now }
 {
     1 <= fact.num && fact.num <= LAST_NUMBER
 }
 
-/// Whether a fact begins no LRA in one that is not of its origin, or that comes later.
 fn names_earlier(fact: &Fact) -> bool
     ensures { IsTrue result ↔ NamesEarlier fact.now }
 {
@@ -47,14 +45,12 @@ pub fn begins_lra(id: LraId, fact: &Fact) -> bool
     }
 }
 
-/// Whether an LRA was begun.
 fn begun(facts: &[Fact], id: LraId) -> bool
     ensures { result ≡ is_begun facts.now id }
 {
     facts.iter().any(|fact| begins_lra(id, fact))
 }
 
-/// The parent that the begin of an LRA names.
 fn named_parent(fact: &Fact) -> Option<LraId>
     ensures { result ≡ parent_named fact.now.body }
 {
@@ -76,7 +72,6 @@ pub fn parent(facts: &[Fact], id: LraId) -> Option<LraId>
     None
 }
 
-/// Whether a fact decides an LRA by this verdict.
 fn decides(id: LraId, verdict: Verdict, fact: &Fact) -> bool
     ensures { result ≡ is_decision id verdict fact.now.body }
 {
@@ -96,7 +91,6 @@ pub fn decided(facts: &[Fact], verdict: Verdict, id: LraId) -> bool
     facts.iter().any(|fact| decides(id, verdict, fact))
 }
 
-/// Whether an LRA or one of its ancestors was decided by this verdict.
 #[tactic(auto, using(crate::proofs::Chains::parent_lesser, crate::proofs::Chains::chain_any))]
 fn decided_above(facts: &[Fact], verdict: Verdict, id: LraId) -> bool
     requires { AllByRecursion NamesEarlier facts.now }
@@ -128,7 +122,6 @@ pub fn want_of(facts: &[Fact], id: LraId) -> Option<Verdict>
     }
 }
 
-/// Whether an LRA is another, or is nested in it at some depth.
 #[tactic(auto, using(crate::proofs::Chains::parent_lesser, crate::proofs::Chains::chain_any))]
 fn under(facts: &[Fact], id: LraId, inner: LraId) -> bool
     requires { AllByRecursion NamesEarlier facts.now }
@@ -146,14 +139,12 @@ fn under(facts: &[Fact], id: LraId, inner: LraId) -> bool
     }
 }
 
-/// Whether a purge names an LRA.
 fn purged(facts: &[Fact], id: LraId) -> bool
     ensures { result ≡ list_any (λ f. is_purge id f.body) facts.now }
 {
     facts.iter().any(|fact| matches!(&fact.body, Body::Purge { root } if *root == id))
 }
 
-/// Whether the root of an LRA was purged.
 #[tactic(auto, using(crate::proofs::Chains::parent_lesser, crate::proofs::Chains::chain_any))]
 fn root_purged(facts: &[Fact], id: LraId) -> bool
     requires { AllByRecursion NamesEarlier facts.now }
@@ -176,7 +167,6 @@ pub fn holds(facts: &[Fact], id: LraId) -> bool
     begun(facts, id) && !root_purged(facts, id)
 }
 
-/// Whether a fact is the begin of an LRA of a home that is held.
 fn begins_held(facts: &[Fact], home: NodeId, fact: &Fact) -> bool
     requires earlier { AllByRecursion NamesEarlier facts.now }
     requires numbered { IsNumbered fact.now }
@@ -203,7 +193,6 @@ pub fn held_at(facts: &[Fact], home: NodeId) -> usize
     count
 }
 
-/// Whether a fact is the leave of a participant.
 fn leaves(id: LraId, member: u8, fact: &Fact) -> bool
     ensures { result ≡ is_leave id member fact.now.body }
 {
@@ -223,7 +212,6 @@ pub fn left(facts: &[Fact], id: LraId, member: u8) -> bool
     facts.iter().any(|fact| leaves(id, member, fact))
 }
 
-/// The outcome that a fact reports of an act of a participant.
 fn report_of(id: LraId, member: u8, act: Act, fact: &Fact) -> Option<Outcome>
     ensures { result ≡ reported id member act fact.now.body }
 {
@@ -284,7 +272,6 @@ pub fn status_for(
     }
 }
 
-/// The status of a participant that joined with these links.
 fn participant_status(facts: &[Fact], id: LraId, member: u8, links: &Links) -> MemberStatus
     requires { AllByRecursion NamesEarlier facts.now }
     ensures { result ≡ joined_status facts.now id member links.now }
@@ -294,7 +281,6 @@ fn participant_status(facts: &[Fact], id: LraId, member: u8, links: &Links) -> M
     status_for(want_of(facts, id), links, completed, compensated)
 }
 
-/// The links of a participant, where a fact is its join.
 fn links_joined(id: LraId, member: u8, fact: &Fact) -> Option<&Links>
     ensures { option_copied result ≡ joined_links id member fact.now.body }
 {
@@ -330,7 +316,6 @@ pub fn member_of(facts: &[Fact], id: LraId, member: u8) -> Option<MemberStatus>
     None
 }
 
-/// Whether a fact is the join of a participant under an LRA that still has something to do.
 fn shows_open(facts: &[Fact], id: LraId, fact: &Fact) -> bool
     requires { AllByRecursion NamesEarlier facts.now }
     ensures { result ≡ shows is_open facts.now id fact.now.body }
@@ -359,7 +344,6 @@ pub fn is_open(status: MemberStatus) -> bool
     )
 }
 
-/// Whether a fact is the join of a participant under an LRA that shows this failure.
 fn shows_failed(facts: &[Fact], id: LraId, failed: MemberStatus, fact: &Fact) -> bool
     requires { AllByRecursion NamesEarlier facts.now }
     ensures { result ≡ shows (same_member_status failed) facts.now id fact.now.body }
@@ -378,7 +362,6 @@ fn shows_failed(facts: &[Fact], id: LraId, failed: MemberStatus, fact: &Fact) ->
     }
 }
 
-/// Whether a participant under an LRA still has something to do.
 fn open_under(facts: &[Fact], id: LraId) -> bool
     requires { AllByRecursion NamesEarlier facts.now }
     ensures { result ≡ some_shows is_open facts.now id }
@@ -386,7 +369,6 @@ fn open_under(facts: &[Fact], id: LraId) -> bool
     facts.iter().any(|fact| shows_open(facts, id, fact))
 }
 
-/// Whether a participant under an LRA shows this failure.
 fn failed_under(facts: &[Fact], id: LraId, failed: MemberStatus) -> bool
     requires { AllByRecursion NamesEarlier facts.now }
     ensures { result ≡ some_shows (same_member_status failed) facts.now id }
@@ -489,7 +471,6 @@ pub fn depth_of(facts: &[Fact], id: LraId) -> u64
     }
 }
 
-/// The links with which a participant joined.
 fn links(facts: &[Fact], id: LraId, member: u8) -> Option<&Links>
     ensures { option_copied result ≡ links_of facts.now id member }
 {
@@ -535,7 +516,7 @@ pub fn is_heard(facts: &[Fact], id: LraId, member: u8, act: Act, outcome: Outcom
     ensures { result ≡ is_heard facts.now id member act outcome }
 {
     match greatest_report(facts, id, member, act) {
-        Some(greatest) => outcome <= greatest,
+        Some(greatest) => greatest.is_at_least(outcome),
         None => false,
     }
 }

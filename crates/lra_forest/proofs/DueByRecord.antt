@@ -51,7 +51,7 @@ joined_is S l m p seated e = by (has_left S l m) (links_of S l m) refl refl (sym
     by false None s t e = absurd cc
     by false (Some links) s t e = record { given = links; links = t; stayed = s; is = cc }
 
-complete_owes : (w : Option Verdict) (p : ParticipantRecord) → (demands w p.links CompleteAct && is_pending p.completed) ≡ owes (completing_by w) p
+pub complete_owes : (w : Option Verdict) (p : ParticipantRecord) → (demands w p.links CompleteAct && is_pending p.completed) ≡ owes (completing_by w) p
 complete_owes None p = refl
 complete_owes (Some Close) p = refl
 complete_owes (Some Cancel) p = refl

@@ -6,6 +6,7 @@ mod ChangedCounts
 mod ChangedRecords
 pub mod Climbs
 mod Collected
+pub mod Compensated
 mod Depths
 pub mod Descents
 mod DueByRecord
@@ -34,6 +35,7 @@ mod RecordsInPlace
 pub mod Removals
 mod Sagas
 pub mod Sayings
+pub mod Seats
 mod Seeing
 mod Shares
 pub mod Standings

@@ -7,6 +7,7 @@ pub mod Overdue
 pub mod Owings
 pub mod Participants
 pub mod Places
+pub mod RecordDues
 pub mod RecordMerges
 pub mod Records
 pub mod Said

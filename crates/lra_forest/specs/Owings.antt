@@ -1,7 +1,7 @@
 -- What the participants of one record owe: to complete, or to forget.
 use Rattle.std.specs.Prelude.{◌≡◌, IfSome, ◌+◌, ◌&&◌, ℕ, Bool, false, Option, Some, None, List, [], ◌∷◌, if◌then◌else◌, is_some}
 use mathlib.Core.Bool.{not}
-use Rattle.lra_id.specs.Ids.{Id}
+use Rattle.lra_id.specs.Ids.{Id, is_fact_number}
 use Rattle.lra_states.specs.declared.outcome.Verdict.{Verdict}
 use Rattle.lra_states.specs.declared.outcome.Verdict.TheVariants.{Close, Cancel}
 use Rattle.lra_facts.specs.declared.fact.Fact.{Fact}
@@ -65,3 +65,7 @@ owes_at owing Left = false
 abbrev pub owed_by : Owing → Id → ℕ → List Member → List Due
 owed_by owing l i [] = []
 owed_by owing l i (m ∷ ms) = if owes_at owing m then record { lra = l; member = i } ∷ owed_by owing l (i + 1) ms else owed_by owing l (i + 1) ms
+
+-- of a record of the home, if its LRA has a number that a fact can have, those of its participants that owe it
+abbrev pub owed_of : Errand → ℕ → (ℕ → Option Record) → Record → List Due
+owed_of errand home at r = if is_fact_number r.num then owed_by (owing_at errand at r) (record { home = home; num = r.num }) 1 r.members else []

@@ -54,6 +54,12 @@ want_at at num = wanted_by (records_up 8 at num)
 abbrev pub depth_at : (ℕ → Option Record) → ℕ → ℕ
 depth_at at num = length (records_up 8 at num)
 
+-- the LRA of the home that its record names as its parent, if it names one with a number that a fact can have
+abbrev pub parent_at : ℕ → (ℕ → Option Record) → ℕ → Option Id
+parent_at home at num =
+    option_map_or (λ (r : Record). option_map_or (λ (p : Place). if is_fact_number p.number then Some (record { home = home; num = p.number }) else None) r.parent None)
+    (at num) None
+
 -- Members
 
 abbrev pub members_at : (ℕ → Option Record) → ℕ → List Member

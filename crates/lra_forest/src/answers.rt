@@ -9,11 +9,11 @@ ghost use Rattle.lra_facts.specs.Sets.{IsNumbered, depth, is_demanded, is_heard,
 ghost use Rattle.lra_forest.specs.Forests.{AreOf, is_of};
 ghost use Rattle.lra_forest.specs.Overdue.{IsLeastOverdue, is_overdue, is_past};
 ghost use Rattle.lra_forest.specs.Participants.{answered_of, heard_by, parent_held, participant_at, participant_of as participant_held};
-ghost use Rattle.lra_forest.specs.Said.{depth_at, first_overdue, is_overdue_at, is_demanded_at, is_heard_at, members_at, participant_of};
+ghost use Rattle.lra_forest.specs.Said.{depth_at, first_overdue, is_overdue_at, is_demanded_at, is_heard_at, members_at, parent_at, participant_of};
 ghost use Rattle.lra_forest.specs.Shape.{found_at};
 ghost use Rattle.lra_forest.specs.Standing.{IsNested, IsSeated, IsWhole, Stands, answered};
 
-use crate::{Forest, MOST_DEPTH, Member, Participant, Record};
+use crate::{Forest, MAX_DEPTH, Member, Participant, Record};
 use lra_facts::{Refusal, plain};
 use lra_id::LraId;
 use lra_states::{Act, Outcome};
@@ -40,17 +40,15 @@ impl Participant {
     }
 }
 
-/// Whether this outcome of an act was heard of a participant, or a greater one.
 fn hears(participant: &Participant, act: Act, outcome: Outcome) -> bool
     ensures { result ≡ nat_le (level (Some outcome)) (level (heard_by participant.now act)) }
 {
     match participant.heard(act) {
-        Some(greatest) => outcome <= greatest,
+        Some(greatest) => greatest.is_at_least(outcome),
         None => false,
     }
 }
 
-/// Whether there is a deadline, and it is not after now.
 fn is_past(deadline: u64, now: u64) -> bool
     ensures { result ≡ is_past deadline now }
 {
@@ -58,7 +56,6 @@ fn is_past(deadline: u64, now: u64) -> bool
 }
 
 impl Forest {
-    /// The LRA of this record, which is one of the forest's, if it is overdue.
     fn if_overdue(&self, kept: &Record, now: u64) -> Option<LraId>
         ensures { let at = found_at self.now.home self.now.records in
             result ≡ (if is_overdue_at at now kept.now then Some (record { home = self.now.home; num = kept.now.num }) else None) }
@@ -72,7 +69,6 @@ impl Forest {
         LraId::new(self.home(), kept.num).ok()
     }
 
-    /// The LRA of the first record that is overdue.
     fn first_overdue(&self, now: u64) -> Option<LraId>
         ensures value { result ≡ first_overdue self.now.home (found_at self.now.home self.now.records) now self.now.records }
         ensures order { AreOf self.now.home self.now.records }
@@ -96,13 +92,12 @@ impl Forest {
         self.first_overdue(now)
     }
 
-    /// How deep the LRA with this number is nested, by its chain of parents.
     fn depth_at(&self, num: u64) -> u64
         ensures { result ≡ depth_at (found_at self.now.home self.now.records) num }
     {
         let mut depth = 0;
         let mut at = num;
-        for _ in 0..MOST_DEPTH {
+        for _ in 0..MAX_DEPTH {
             let Some(record) = self.numbered(at) else {
                 return depth;
             };
@@ -184,7 +179,8 @@ impl Forest {
 
     /// The participant of an LRA with this member number, if the LRA is held and has one.
     pub fn participant(&self, id: LraId, member: u8) -> Option<&Participant>
-        ensures { (nodes : ℕ) (S : List Fact) → IsSeated S → Stands nodes id.home S self.now.records →
+        ensures says { option_copied result ≡ participant_of (found_at id.home self.now.records) id.num member }
+        ensures settled { (nodes : ℕ) (S : List Fact) → IsSeated S → Stands nodes id.home S self.now.records →
             option_copied result ≡ participant_held S id member }
     {
         let Some(record) = self.get(id) else {
@@ -195,7 +191,8 @@ impl Forest {
 
     /// The parent of an LRA, if the LRA is held and nested.
     pub fn parent(&self, id: LraId) -> Option<LraId>
-        ensures { (nodes : ℕ) (S : List Fact) → IsWhole S → AllByRecursion IsNumbered S → Stands nodes id.home S self.now.records →
+        ensures says { result ≡ parent_at id.home (found_at id.home self.now.records) id.num }
+        ensures settled { (nodes : ℕ) (S : List Fact) → IsWhole S → AllByRecursion IsNumbered S → Stands nodes id.home S self.now.records →
             result ≡ parent_held S id }
     {
         let Some(record) = self.get(id) else {

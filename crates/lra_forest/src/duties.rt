@@ -1,16 +1,16 @@
 // What is due of the participants of a home: to compensate in saga order, to complete, and to forget.
-ghost use Rattle.std.specs.Prelude.{◌≡◌, ◌↔◌, ◌++◌, ℕ, List, Err, None, Some, false, IfOk, OnOk, find, is_some, slice_get};
+ghost use Rattle.std.specs.Prelude.{◌≡◌, ◌↔◌, ◌++◌, ℕ, List, Err, None, Some, false, IfOk, OnOk, find, flat_map, is_some, slice_get};
 ghost use Rattle.std.specs.List.{AllByRecursion};
 ghost use Rattle.std.specs.Option.{option_map_or};
-ghost use Rattle.lra_id.specs.Ids.{Id};
 ghost use Rattle.lra_facts.specs.declared.fact.Fact.{Fact};
 ghost use Rattle.lra_facts.specs.declared.refusal.Refusal.TheVariants.{NotHeld};
 ghost use Rattle.lra_facts.specs.Duties.{has_to_forget, is_compensation_due, is_forget_duty, is_pending};
 ghost use Rattle.lra_facts.specs.Sets.{IsNumbered};
-ghost use Rattle.lra_forest.specs.Dues.{AreAll, IsDueAt, IsShare, is_before, is_complete_duty, is_topmost, is_topmost_before};
-ghost use Rattle.lra_forest.specs.Forests.{is_of};
-ghost use Rattle.lra_forest.specs.Owings.{IsLastRoot, completing_by, duty_of, forgetting_at, owed_by, owes, owes_at, owing_at};
+ghost use Rattle.lra_forest.specs.Dues.{AreAll, IsDueAt, is_before, is_complete_duty, is_topmost_before};
+ghost use Rattle.lra_forest.specs.Forests.{AreOf, is_of};
+ghost use Rattle.lra_forest.specs.Owings.{IsLastRoot, completing_by, forgetting_at, owed_by, owed_of, owes, owes_at, owing_at};
 ghost use Rattle.lra_forest.specs.Participants.{answered_of};
+ghost use Rattle.lra_forest.specs.RecordDues.{compensation_at, due_to_compensate, due_to_complete, due_to_forget, is_topmost_at};
 ghost use Rattle.lra_forest.specs.Said.{is_ended_at, is_over_at, is_owed_at, is_forgot_at, is_under_at, least_owed_of, owed_below, participant_of};
 ghost use Rattle.lra_forest.specs.Shape.{found_at};
 ghost use Rattle.lra_forest.specs.Standing.{IsNested, IsSeated, IsWhole, Stands};
@@ -18,7 +18,7 @@ ghost use Rattle.lra_forest.specs.Wants.{wants_cancel};
 ghost use Rattle.lra_forest.specs.Walks.{last_of, pending_within};
 
 use crate::answers::participant_at;
-use crate::forest::MOST_DEPTH;
+use crate::forest::MAX_DEPTH;
 use crate::seen::status_of;
 use crate::{Forest, Member, Members, Participant, Place, Record};
 use lra_facts::Refusal;
@@ -55,7 +55,6 @@ struct LastRoot {
     ended: bool,
 }
 
-/// Whether no outcome that ends an act was heard.
 fn is_pending(heard: Option<Outcome>) -> bool
     ensures { result ≡ is_pending heard }
 {
@@ -65,14 +64,12 @@ fn is_pending(heard: Option<Outcome>) -> bool
     }
 }
 
-/// Whether this is to be cancelled.
 fn is_cancel(want: Option<Verdict>) -> bool
     ensures { result ≡ wants_cancel want }
 {
     matches!(want, Some(Verdict::Cancel))
 }
 
-/// What the participants of an LRA that wants this may owe, where they are called to complete.
 fn completing(want: Option<Verdict>) -> Owing
     ensures { result ≡ completing_by want }
 {
@@ -82,7 +79,6 @@ fn completing(want: Option<Verdict>) -> Owing
     }
 }
 
-/// Whether one with this status has something to forget.
 fn has_to_forget(nested: bool, status: MemberStatus) -> bool
     ensures { result ≡ has_to_forget nested status }
 {
@@ -93,7 +89,6 @@ fn has_to_forget(nested: bool, status: MemberStatus) -> bool
     }
 }
 
-/// Whether a participant owes it.
 fn owes(owing: Owing, participant: &Participant) -> bool
     ensures { result ≡ owes owing participant.now }
 {
@@ -110,7 +105,6 @@ fn owes(owing: Owing, participant: &Participant) -> bool
     }
 }
 
-/// Whether a member is a participant that owes it.
 fn owes_at(owing: Owing, member: &Member) -> bool
     ensures { result ≡ owes_at owing member.now }
 {
@@ -120,7 +114,6 @@ fn owes_at(owing: Owing, member: &Member) -> bool
     }
 }
 
-/// Adds those of the members of an LRA that owe it.
 fn add_owed(
     owing: Owing,
     lra: LraId,
@@ -139,7 +132,6 @@ fn add_owed(
     Ok(())
 }
 
-/// The first of the members of an LRA that owes it.
 fn first_owed(owing: Owing, lra: LraId, members: &Members) -> Option<Due>
     ensures { result ≡ slice_get (owed_by owing lra 1 members.now) 0 }
 {
@@ -154,10 +146,9 @@ fn first_owed(owing: Owing, lra: LraId, members: &Members) -> Option<Due>
 }
 
 impl Forest {
-    /// The last participant whose compensation is pending: a member, or one nested in it to this depth.
     #[cycle(walk)]
     fn pending_in(&self, number: u64, slot: u8, member: &Member, levels: u8) -> Option<Place>
-        ensures { result ≡ pending_within levels self.now number slot member.now }
+        ensures { result ≡ pending_within levels (found_at self.now.home self.now.records) number slot member.now }
     {
         match member {
             Member::Nested(child) => {
@@ -184,7 +175,7 @@ impl Forest {
     /// It goes from the greatest member number down.
     #[cycle(walk)]
     fn last_pending(&self, number: u64, members: &Members, levels: u8) -> Option<Place>
-        ensures { result ≡ last_of (pending_within levels self.now number) 1 members.now }
+        ensures { result ≡ last_of (pending_within levels (found_at self.now.home self.now.records) number) 1 members.now }
     {
         let members = members.as_slice();
         let mut left = members.len();
@@ -198,11 +189,8 @@ impl Forest {
         None
     }
 
-    /// Whether the LRA of this record is cancelled, and none that it is nested in is.
     fn is_topmost_cancelled(&self, kept: &Record) -> bool
-        ensures { (nodes : ℕ) (S : List Fact) → IsWhole S → IsNested S → Stands nodes self.now.home S self.now.records →
-            let l : Id = record { home = self.now.home; num = kept.now.num } in
-            find (is_of l) self.now.records ≡ Some kept.now → result ≡ is_topmost S l }
+        ensures { result ≡ is_topmost_at (found_at self.now.home self.now.records) kept.now }
     {
         if !is_cancel(kept.decision) {
             return false;
@@ -213,18 +201,13 @@ impl Forest {
         }
     }
 
-    /// The participant under the LRA of this record that is to compensate next, if the LRA is the topmost cancelled one of its
-    /// chain.
     fn compensation_under(&self, kept: &Record) -> Option<Due>
-        ensures { (nodes : ℕ) (S : List Fact) → IsWhole S → IsSeated S → IsNested S → AllByRecursion IsNumbered S →
-            Stands nodes self.now.home S self.now.records →
-            find (is_of (record { home = self.now.home; num = kept.now.num })) self.now.records ≡ Some kept.now →
-            IsShare self.now.home S kept.now.num result }
+        ensures { result ≡ compensation_at self.now.home (found_at self.now.home self.now.records) kept.now }
     {
         if !self.is_topmost_cancelled(kept) {
             return None;
         }
-        let Some(place) = self.last_pending(kept.num, &kept.members, MOST_DEPTH - 1) else {
+        let Some(place) = self.last_pending(kept.num, &kept.members, MAX_DEPTH - 1) else {
             return None;
         };
         let Ok(lra) = LraId::new(self.home(), place.number) else {
@@ -239,7 +222,8 @@ impl Forest {
     /// The compensations that are due: under each LRA that is cancelled, and that is nested in no cancelled one, at most one,
     /// by the number of that LRA. It looks up the records under these LRAs, each at most once.
     pub fn next_compensations(&self, alloc: Global) -> Result<Vec<Due>, AllocError>
-        ensures { (nodes : ℕ) (S : List Fact) → IsWhole S → IsSeated S → IsNested S → AllByRecursion IsNumbered S →
+        ensures says { IfOk result (λ dues. dues.items ≡ due_to_compensate self.now.home (found_at self.now.home self.now.records) self.now.records) }
+        ensures settled { (nodes : ℕ) (S : List Fact) → IsWhole S → IsSeated S → IsNested S → AllByRecursion IsNumbered S →
             Stands nodes self.now.home S self.now.records →
             IfOk result (λ dues. AreAll (IsDueAt self.now.home S is_compensation_due) (is_topmost_before S) dues.items) }
     {
@@ -258,7 +242,7 @@ impl Forest {
         ensures { result ≡ is_under_at (found_at self.now.home self.now.records) above num }
     {
         let mut at = num;
-        for _ in 0..MOST_DEPTH {
+        for _ in 0..MAX_DEPTH {
             let Some(record) = self.numbered(at) else {
                 return false;
             };
@@ -273,7 +257,6 @@ impl Forest {
         false
     }
 
-    /// Whether the LRA with this number is ended.
     fn is_ended(&self, num: u64) -> bool
         ensures { result ≡ is_ended_at (found_at self.now.home self.now.records) num }
     {
@@ -281,16 +264,15 @@ impl Forest {
             return false;
         };
         let want = self.wanted(num);
-        let seen = self.seen(want, kept.members.as_slice(), MOST_DEPTH - 1);
+        let seen = self.seen(want, kept.members.as_slice(), MAX_DEPTH - 1);
         seen.is_ended(want)
     }
 
-    /// The number of the root of the LRA with this number, by its chain of parents.
     fn root_of(&self, num: u64) -> Option<u64>
         ensures { let at = found_at self.now.home self.now.records in is_over_at at num ≡ option_map_or (is_ended_at at) result false }
     {
         let mut at = num;
-        for _ in 0..MOST_DEPTH {
+        for _ in 0..MAX_DEPTH {
             let Some(record) = self.numbered(at) else {
                 return None;
             };
@@ -356,7 +338,6 @@ impl Forest {
         owing
     }
 
-    /// What the participants of the LRA of this record owe of an errand.
     fn owing_since(
         &self,
         errand: Errand,
@@ -375,11 +356,10 @@ impl Forest {
         }
     }
 
-    /// The duties of an errand, by the numbers of their LRAs and their member numbers.
     fn duties(&self, alloc: Global, errand: Errand) -> Result<Vec<Due>, AllocError>
-        ensures { (nodes : ℕ) (S : List Fact) → IsWhole S → IsSeated S → IsNested S → AllByRecursion IsNumbered S →
-            Stands nodes self.now.home S self.now.records →
-            IfOk result (λ dues. AreAll (IsDueAt self.now.home S (duty_of errand)) is_before dues.items) }
+        ensures owed { IfOk result (λ dues. dues.items
+            ≡ flat_map (owed_of errand self.now.home (found_at self.now.home self.now.records)) self.now.records) }
+        ensures order { AreOf self.now.home self.now.records }
     {
         let mut dues = Vec::new(alloc);
         let mut last = None;
@@ -396,7 +376,8 @@ impl Forest {
 
     /// The participants that are to be called to complete, by the numbers of their LRAs and their member numbers.
     pub fn complete_duties(&self, alloc: Global) -> Result<Vec<Due>, AllocError>
-        ensures { (nodes : ℕ) (S : List Fact) → IsWhole S → IsSeated S → IsNested S → AllByRecursion IsNumbered S →
+        ensures says { IfOk result (λ dues. dues.items ≡ due_to_complete (found_at self.now.home self.now.records) self.now.records) }
+        ensures settled { (nodes : ℕ) (S : List Fact) → IsWhole S → IsSeated S → IsNested S → AllByRecursion IsNumbered S →
             Stands nodes self.now.home S self.now.records →
             IfOk result (λ dues. AreAll (IsDueAt self.now.home S is_complete_duty) is_before dues.items) }
     {
@@ -405,7 +386,8 @@ impl Forest {
 
     /// The participants that are to be told that they may forget, by the numbers of their LRAs and their member numbers.
     pub fn forget_duties(&self, alloc: Global) -> Result<Vec<Due>, AllocError>
-        ensures { (nodes : ℕ) (S : List Fact) → IsWhole S → IsSeated S → IsNested S → AllByRecursion IsNumbered S →
+        ensures says { IfOk result (λ dues. dues.items ≡ due_to_forget (found_at self.now.home self.now.records) self.now.records) }
+        ensures settled { (nodes : ℕ) (S : List Fact) → IsWhole S → IsSeated S → IsNested S → AllByRecursion IsNumbered S →
             Stands nodes self.now.home S self.now.records →
             IfOk result (λ dues. AreAll (IsDueAt self.now.home S is_forget_duty) is_before dues.items) }
     {
@@ -445,7 +427,6 @@ impl Forest {
         Ok(participant.forgotten)
     }
 
-    /// The first participant of the LRA of this record that is to be told to forget, if the LRA is this one or nested in it.
     fn first_to_forget(
         &self,
         above: LraId,

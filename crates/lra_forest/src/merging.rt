@@ -60,7 +60,6 @@ fn merged_participant(kept: Participant, other: &Participant) -> Participant
     })
 }
 
-/// A member, with what another record heard of the participant, where it has one at the place.
 fn merged_member(kept: Member, other: Option<&Member>) -> Member
     ensures { result ≡ merged_member kept (option_copied other.entry) }
 {
@@ -86,7 +85,6 @@ fn merge_members(kept: &mut Members, other: &Members)
     }
 }
 
-/// The greatest number of the home's own facts about the LRA of a record.
 fn home_stamp(kept: &Record) -> u64
     ensures { result ≡ home_stamp kept.now }
 {
@@ -121,7 +119,6 @@ pub(crate) fn merged(own: &Record, other: Record) -> Result<Record, AllocError>
 }
 
 impl Told {
-    /// Whether all LRAs of the home that the other holds are told, and none of them has this number.
     fn is_unlisted(&self, num: u64) -> bool
         ensures { result ≡ is_unlisted (held_numbers self.now.held) num }
     {
@@ -144,7 +141,6 @@ impl Told {
     }
 }
 
-/// The LRAs of these records that were purged at the other, which has so many of the home's facts.
 fn all_gone(
     alloc: Global,
     own: &[Record],
@@ -163,7 +159,6 @@ fn all_gone(
     Ok(removed)
 }
 
-/// A record that is to be kept, unless it is the one that is there.
 fn unless_there(next: Record, own: &Record) -> Option<Record>
     ensures { IsPut (Some own.now) (Some next) result }
 {
@@ -184,7 +179,6 @@ impl Forest {
         }
     }
 
-    /// Puts the news of an LRA of which the other has this record among records that are to be changed.
     fn bring(&self, mine: u64, heard: Record, records: &mut Forest) -> Result<(), AllocError>
         requires heard { heard.home ≡ self.now.home }
         requires home { records.old.home ≡ self.now.home }
@@ -205,7 +199,6 @@ impl Forest {
         Ok(())
     }
 
-    /// The records that are to be put, where the other has these.
     fn all_brought(&self, alloc: Global, mine: u64, other: Forest) -> Result<Forest, AllocError>
         requires home { other.home ≡ self.now.home }
         requires own { AreOf self.now.home self.now.records }

@@ -23,7 +23,6 @@ impl Forest {
         Ok(record.parent.is_none())
     }
 
-    /// The LRA of this record, if it is this one or nested in it.
     fn if_under(&self, above: LraId, kept: &Record) -> Option<LraId>
         ensures { result ≡ (if is_below (found_at self.now.home self.now.records) above.num kept.now then Some (id_of kept.now) else None) }
     {

@@ -8,13 +8,12 @@ ghost use Rattle.lra_facts.specs.Duties.{has_forgot, is_forgot};
 ghost use Rattle.lra_forest.specs.Records.{deadline_given, deadline_of, decision_of, is_about, is_named, member_by, members_of, nodes_to, place_in, record_of, stamp};
 ghost use Rattle.lra_forest.specs.Gathering.{giver_at, least_above, lesser_number, next_giver, number_above, IsRecordable};
 
-use crate::{MOST_MEMBERS, Member, Members, Participant, Place, Record};
+use crate::{MAX_MEMBERS, Member, Members, Participant, Place, Record};
 use lra_facts::{Body, Fact, plain};
 use lra_id::{Front, LraId, NodeId};
 use lra_states::{Act, Verdict};
 use std::alloc::{AllocError, Global};
 
-/// The deadline that the begin of an LRA gives.
 fn deadline_given(fact: &Fact) -> u64
     ensures { result ≡ deadline_given fact.now.body }
 {
@@ -24,7 +23,6 @@ fn deadline_given(fact: &Fact) -> u64
     }
 }
 
-/// The deadline of an LRA.
 fn deadline(facts: &[Fact], id: LraId) -> u64
     ensures { result ≡ deadline_of facts.now id }
 {
@@ -36,14 +34,12 @@ fn deadline(facts: &[Fact], id: LraId) -> u64
     0
 }
 
-/// Whether a fact with a lesser number gives a member number of an LRA.
 fn gives_before(id: LraId, num: u64, fact: &Fact) -> bool
     ensures { result ≡ (gives_number id fact.now.body && nat_lt fact.now.num num) }
 {
     plain::gives_number(id, fact) && fact.num < num
 }
 
-/// How many facts with lesser numbers give a member number of an LRA.
 fn given_before(facts: &[Fact], id: LraId, num: u64) -> usize
     ensures { result + 1 ≡ member_number facts.now id num }
 {
@@ -56,7 +52,6 @@ fn given_before(facts: &[Fact], id: LraId, num: u64) -> usize
     before
 }
 
-/// The member number that the fact with this number gives, where a byte holds it.
 fn member_number(facts: &[Fact], id: LraId, num: u64) -> u8
     ensures { member_number facts.now id num < 2 ^ 8 → result ≡ member_number facts.now id num }
 {
@@ -68,7 +63,6 @@ fn member_number(facts: &[Fact], id: LraId, num: u64) -> u8
     }
 }
 
-/// Where an LRA is nested.
 fn place(facts: &[Fact], id: LraId) -> Option<Place>
     ensures { ((p : Id) → member_number facts.now p id.num < 2 ^ 8) → result ≡ place_in facts.now id.num (parent_of facts.now id) }
 {
@@ -79,7 +73,6 @@ fn place(facts: &[Fact], id: LraId) -> Option<Place>
     })
 }
 
-/// How an LRA itself was decided.
 fn decision(facts: &[Fact], id: LraId) -> Option<Verdict>
     ensures { result ≡ decision_of facts.now id }
 {
@@ -92,7 +85,6 @@ fn decision(facts: &[Fact], id: LraId) -> Option<Verdict>
     }
 }
 
-/// Whether a fact names an LRA.
 fn names(id: LraId, fact: &Fact) -> bool
     ensures { result ≡ is_named id fact.now.body }
 {
@@ -118,7 +110,6 @@ fn number_about(id: LraId, node: NodeId, fact: &Fact) -> u64
     }
 }
 
-/// The greatest number of a node's facts about an LRA.
 fn stamp(facts: &[Fact], id: LraId, node: NodeId) -> u64
     ensures { result ≡ stamp facts.now id node }
 {
@@ -129,7 +120,6 @@ fn stamp(facts: &[Fact], id: LraId, node: NodeId) -> u64
     greatest
 }
 
-/// Whether a fact tells that a participant was told to forget.
 fn tells_forgot(id: LraId, member: u8, fact: &Fact) -> bool
     ensures { result ≡ is_forgot id member fact.now.body }
 {
@@ -142,14 +132,12 @@ fn tells_forgot(id: LraId, member: u8, fact: &Fact) -> bool
     }
 }
 
-/// Whether a participant was told to forget.
 fn forgotten(facts: &[Fact], id: LraId, member: u8) -> bool
     ensures { result ≡ has_forgot facts.now id member }
 {
     facts.iter().any(|fact| tells_forgot(id, member, fact))
 }
 
-/// What a fact that gives a member number of an LRA gives it to.
 fn member(facts: &[Fact], id: LraId, fact: &Fact) -> Result<Member, AllocError>
     ensures { IfOk result (λ member. member ≡ member_by facts.now id fact.now.num fact.now.body) }
 {
@@ -167,7 +155,6 @@ fn member(facts: &[Fact], id: LraId, fact: &Fact) -> Result<Member, AllocError>
     }))
 }
 
-/// The lesser of two numbers, where none is no number.
 fn lesser_number(a: Option<u64>, b: Option<u64>) -> Option<u64>
     ensures { result ≡ lesser_number a b }
 {
@@ -178,7 +165,6 @@ fn lesser_number(a: Option<u64>, b: Option<u64>) -> Option<u64>
     }
 }
 
-/// The number of a fact, if it gives a member number of an LRA and comes after this number.
 fn number_above(id: LraId, after: u64, fact: &Fact) -> Option<u64>
     ensures { result ≡ number_above after id fact.now }
 {
@@ -189,7 +175,6 @@ fn number_above(id: LraId, after: u64, fact: &Fact) -> Option<u64>
     }
 }
 
-/// The least number after this one of the facts that give a member number of an LRA.
 fn least_above(facts: &[Fact], id: LraId, after: u64) -> Option<u64>
     ensures { result ≡ least_above after id facts.now }
 {
@@ -200,7 +185,6 @@ fn least_above(facts: &[Fact], id: LraId, after: u64) -> Option<u64>
     least
 }
 
-/// The fact with this number that gives a member number of an LRA.
 fn giver_at(facts: &[Fact], id: LraId, num: u64) -> Option<&Fact>
     ensures { option_copied result ≡ giver_at id facts.now num }
 {
@@ -209,7 +193,6 @@ fn giver_at(facts: &[Fact], id: LraId, num: u64) -> Option<&Fact>
         .find(|fact| plain::gives_number(id, fact) && fact.num == num)
 }
 
-/// The first fact after this number that gives a member number of an LRA.
 fn next_giver(facts: &[Fact], id: LraId, after: u64) -> Option<&Fact>
     ensures { option_copied result ≡ next_giver after id facts.now }
 {
@@ -227,7 +210,7 @@ fn members(alloc: Global, facts: &[Fact], id: LraId) -> Result<Members, AllocErr
 {
     let mut members = Members::new(alloc);
     let mut after = 0;
-    'places: for _ in 0..MOST_MEMBERS {
+    'places: for _ in 0..MAX_MEMBERS {
         let Some(fact) = next_giver(facts, id, after) else {
             return Ok(members);
         };
@@ -237,7 +220,6 @@ fn members(alloc: Global, facts: &[Fact], id: LraId) -> Result<Members, AllocErr
     Ok(members)
 }
 
-/// The greatest number of each node's facts about an LRA.
 fn stamps(facts: &[Fact], id: LraId, nodes: usize) -> Front
     requires some { 1 ≤ nodes }
     requires few { nodes ≤ 8 }
@@ -277,7 +259,6 @@ pub fn record_of(
     })
 }
 
-/// Whether a fact is a begin.
 fn is_begin(fact: &Fact) -> bool
     ensures { result ≡ is_begin fact.now.body }
 {

@@ -9,13 +9,12 @@ ghost use Rattle.lra_forest.specs.Forests.{is_of};
 ghost use Rattle.lra_forest.specs.RecordMerges.{changed_by, without};
 ghost use Rattle.lra_forest.specs.Shape.{found_at, is_shallow, records_after, AreInShape, IsInPlaceAt, IsInPlace, IsNestedAt};
 
-use crate::{Changes, Forest, MOST_DEPTH, Member, Place, Record};
+use crate::{Changes, Forest, MAX_DEPTH, Member, Place, Record};
 use lra_id::{Front, LraId};
 
 /// The most LRAs of one home that are held.
-pub const MOST_HELD: usize = 256;
+pub const MAX_HELD: usize = 256;
 
-/// Whether the LRA of this record is one of these.
 fn is_among(ids: &[LraId], kept: &Record) -> bool
     ensures { result ≡ list_any (λ l. is_of l kept.now) ids.now }
 {
@@ -65,7 +64,7 @@ impl Forest {
         ensures { result ≡ is_shallow 8 self.now.home (records_after changes.now self.now) num }
     {
         let mut at = num;
-        for _ in 0..MOST_DEPTH {
+        for _ in 0..MAX_DEPTH {
             let Some(record) = self.changed_at(changes, at) else {
                 return false;
             };
@@ -92,7 +91,6 @@ impl Forest {
         }
     }
 
-    /// Whether the LRA with this number is a root, or nested in this place.
     fn has_parent(&self, changes: &Changes, num: u64, parent: Option<Place>) -> bool
         requires { changes.now.records.home ≡ self.now.home }
         ensures { IsTrue result ↔
@@ -157,7 +155,6 @@ impl Forest {
         true
     }
 
-    /// How many records stay where these are removed.
     fn count_kept(&self, removed: &[LraId]) -> usize
         ensures { result ≡ length (without removed.now self.now.records) }
     {
@@ -171,7 +168,6 @@ impl Forest {
         count
     }
 
-    /// How many of these records replace none of those that stay where some are removed.
     fn count_added(&self, removed: &[LraId], added: &[Record]) -> usize
         ensures { result ≡
             length (filter (λ r. is_none (found_at self.now.home (without removed.now self.now.records) r.num)) added.now) }
@@ -195,10 +191,10 @@ impl Forest {
         let removed = changes.removed.as_slice();
         let put = changes.records.records();
         let kept = self.count_kept(removed);
-        if kept > MOST_HELD {
+        if kept > MAX_HELD {
             return false;
         }
-        self.count_added(removed, put) <= MOST_HELD - kept
+        self.count_added(removed, put) <= MAX_HELD - kept
     }
 
     /// Whether these records have their shape once they are changed, under a front: they are at most 256, the parent that a

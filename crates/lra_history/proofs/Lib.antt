@@ -14,6 +14,7 @@ mod LeftAsItWas
 pub mod ListsWithOneMore
 mod MergeExamples
 pub mod MergeIsAJoin
+mod MergedLras
 mod MergedMembers
 pub mod MergedRecords
 pub mod MergedViews

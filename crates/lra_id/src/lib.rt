@@ -13,7 +13,7 @@ pub use node::NodeId;
 pub const LAST_NUMBER: u64 = 281_474_976_710_655;
 
 /// The most nodes that there may be.
-pub const MOST_NODES: u8 = 8;
+pub const MAX_NODES: u8 = 8;
 
 /// A text or a number breaks its grammar.
 #[derive(Clone, Copy, Debug, PartialEq, Eq)]

@@ -112,7 +112,6 @@ impl fmt::Display for LraId {
     }
 }
 
-/// Whether a text of the urn form's length begins with the prefix in lower case: `uuid` takes it in any case.
 fn is_prefix_lower(text: &[u8]) -> bool
     ensures { IsTrue result ↔ (length text.now ≡ 45 → take 9 text.now ≡ codes "urn:uuid:") }
 {

@@ -3,7 +3,7 @@ ghost use Rattle.std.specs.Prelude.{◌≡◌, Some, IfOk, MatchResult};
 ghost use Rattle.std.specs.Fmt.{decimal};
 ghost use Rattle.lra_id.specs.Ids.{IsNodeNumber};
 
-use crate::{BadText, MOST_NODES};
+use crate::{BadText, MAX_NODES};
 use std::fmt;
 use std::marker::Model;
 
@@ -32,7 +32,7 @@ impl NodeId {
         ensures value { IfOk result (λ node. node ≡ number) }
         ensures exact { MatchResult result (λ _. IsNodeNumber number) (λ _. IsNodeNumber number → ⊥) }
     {
-        if number == 0 || number > MOST_NODES {
+        if number == 0 || number > MAX_NODES {
             return Err(BadText);
         }
         Ok(NodeId { number })

@@ -7,4 +7,5 @@ mod Paging
 mod PreparedReplies
 pub mod Rooms
 mod SameHomes
+pub mod SettledDues
 mod Tellings

@@ -27,7 +27,6 @@ impl Replica {
         self.purges = purges;
     }
 
-    /// Removes the records of these LRAs.
     fn remove_all(&mut self, removed: &[LraId])
         ensures front { self.new.front ≡ self.old.front }
         ensures purges { self.new.purges ≡ self.old.purges }
@@ -39,7 +38,6 @@ impl Replica {
         }
     }
 
-    /// Removes the record of an LRA.
     fn remove(&mut self, id: LraId)
         ensures front { self.new.front ≡ self.old.front }
         ensures purges { self.new.purges ≡ self.old.purges }
@@ -52,7 +50,6 @@ impl Replica {
         }
     }
 
-    /// Puts records in their places, for which there is room.
     fn put_all(&mut self, records: Vec<Record>)
         requires homes { AllByRecursion (λ r. r.home ≤ length self.old.front) records.items }
         requires room { (home : ℕ) → 1 ≤ home → count_of_home home records.items ≤ spare_at self.old.homes home }
@@ -65,7 +62,6 @@ impl Replica {
         }
     }
 
-    /// Puts a record in its place, for which there is room.
     fn put(&mut self, added: Record)
         requires home { added.home ≤ length self.old.front }
         requires room { 1 ≤ added.home → 1 ≤ spare_at self.old.homes added.home }

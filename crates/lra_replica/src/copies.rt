@@ -13,7 +13,6 @@ impl Replica {
         self.front == other.front && self.purges == other.purges && self.same_records(other)
     }
 
-    /// Whether another of as many nodes has the same records at each home.
     fn same_records(&self, other: &Replica) -> bool
         requires { length self.now.front ≡ length other.now.front }
         ensures { IsTrue result ↔ ((view_of self.now).records ≡ (view_of other.now).records) }

@@ -18,7 +18,6 @@ use lra_forest::{Changes, Told};
 use lra_id::Front;
 use std::alloc::{AllocError, Global};
 
-/// Adds some more to others, after them.
 fn add_all<X: Drop>(list: &mut Vec<X>, more: Vec<X>) -> Result<(), AllocError>
     ensures { OnOk result (list.new.items ≡ list.old.items ++ more.items) }
 {
@@ -28,7 +27,6 @@ fn add_all<X: Drop>(list: &mut Vec<X>, more: Vec<X>) -> Result<(), AllocError>
     Ok(())
 }
 
-/// Adds the changes of a home to a patch.
 fn add_changes(patch: &mut Patch, changes: Changes) -> Result<(), AllocError>
     ensures removed { OnOk result (patch.new.removed ≡ patch.old.removed ++ changes.removed.items) }
     ensures records { OnOk result (patch.new.records ≡ patch.old.records ++ changes.records.records) }
@@ -68,7 +66,6 @@ impl Replica {
         Ok(changes)
     }
 
-    /// Adds to a patch what is to be changed at one home when what another node tells of it is taken, and makes room for it.
     fn absorb_home(
         &mut self,
         alloc: Global,
@@ -93,7 +90,6 @@ impl Replica {
         Ok(())
     }
 
-    /// Adds to a patch what is to be changed when what another node tells of each home is taken, and makes room for it.
     fn absorb_homes(
         &mut self,
         alloc: Global,

@@ -19,7 +19,7 @@ use std::alloc::{AllocError, Global};
 use std::marker::Model;
 
 /// How many rows a page has at most.
-pub const MOST_ROWS: usize = 64;
+pub const MAX_ROWS: usize = 64;
 
 /// An LRA, and what it shows.
 #[derive(Clone, Copy, Debug, PartialEq, Eq)]
@@ -72,7 +72,6 @@ impl Clone for Page {
     }
 }
 
-/// The LRA of the first record.
 fn first_of(records: &[Record]) -> Option<LraId>
     ensures none { records.now ≡ [] → result ≡ None }
     ensures first { (r : Record) (rs : List Record) → records.now ≡ r ∷ rs → result ≡ (if is_fact_number r.num then Some (id_of r) else None) }
@@ -84,7 +83,6 @@ fn first_of(records: &[Record]) -> Option<LraId>
 }
 
 impl Replica {
-    /// The first LRA that is held of those that a home began with greater numbers than this.
     fn next_at(&self, home: NodeId, num: u64) -> Option<LraId>
         ensures { IsNextAt (by_view (view_of self.now)) home num result }
     {
@@ -94,7 +92,6 @@ impl Replica {
         }
     }
 
-    /// How many nodes there are, each with a home.
     fn nodes(&self) -> usize
         ensures count { result ≡ length self.now.front }
         ensures few { result ≤ 8 }
@@ -105,7 +102,6 @@ impl Replica {
         self.front().nodes()
     }
 
-    /// The first LRA that is held of the homes after this, where 0 comes before all.
     fn first_beyond(&self, home: usize) -> Option<LraId>
         ensures first { IsFirstBeyond (by_view (view_of self.now)) home result }
         ensures state { IsReplicaState self.now }
@@ -121,7 +117,6 @@ impl Replica {
         None
     }
 
-    /// The first LRA that is held beyond this one, or the first of all.
     fn next_after(&self, after: Option<LraId>) -> Option<LraId>
         ensures { IsNext (by_view (view_of self.now)) after result }
     {
@@ -134,7 +129,6 @@ impl Replica {
         }
     }
 
-    /// The row of the first LRA that is held beyond this one, or of the first of all.
     fn next_row(&self, after: Option<LraId>) -> Option<Row>
         ensures { IsNextRow (by_view (view_of self.now)) after result }
     {
@@ -147,13 +141,12 @@ impl Replica {
         }
     }
 
-    /// The next 64 LRAs that are held beyond this one, or the first of all, with their rows.
     fn next_rows(&self, alloc: Global, after: Option<LraId>) -> Result<Page, AllocError>
         ensures { IfOk result (λ page. IsPage (by_view (view_of self.now)) after page) }
     {
         let mut rows = Vec::new(alloc);
         let mut last = after;
-        for _ in 0..MOST_ROWS {
+        for _ in 0..MAX_ROWS {
             let Some(row) = self.next_row(last) else {
                 return Ok(Page { rows, more: false });
             };

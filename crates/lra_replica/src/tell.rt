@@ -43,7 +43,6 @@ impl Taken {
     }
 }
 
-/// The numbers of the LRAs of these records.
 fn numbers_of(alloc: Global, records: &[Record]) -> Result<Vec<u64>, AllocError>
     ensures { IfOk result (λ numbers. numbers.items ≡ map (λ (r : Record). r.num) records.now) }
 {

@@ -1,10 +1,10 @@
 // What a participant is asked, what is heard of it, and how an LRA is decided.
-ghost use Rattle.std.specs.Prelude.{◌≡◌, ◌≢◌, Some, IfErr, IfOk};
+ghost use Rattle.std.specs.Prelude.{◌≡◌, ◌≢◌, Some, IfErr, IfOk, nat_le};
 ghost use Rattle.lra_states.specs.declared.outcome.Act.{Act};
 ghost use Rattle.lra_states.specs.declared.outcome.Outcome.{Outcome};
 ghost use Rattle.lra_states.specs.declared.outcome.Verdict.{Verdict};
 ghost use Rattle.lra_states.specs.Names.{act_name, outcome_name, verdict_name};
-ghost use Rattle.lra_states.specs.States.{greater};
+ghost use Rattle.lra_states.specs.States.{greater, level};
 
 use lra_id::BadText;
 use std::fmt;
@@ -78,6 +78,13 @@ impl Outcome {
             (Some(Outcome::Done), Some(Outcome::Busy | Outcome::Done)) => own,
             (_, heard) => heard,
         }
+    }
+
+    /// Whether it is another one or greater.
+    pub fn is_at_least(self, other: Outcome) -> bool
+        ensures { result ≡ nat_le (level (Some other)) (level (Some self)) }
+    {
+        other <= self
     }
 
     /// The outcome that has this name; another text is refused.

@@ -1,6 +1,13 @@
 // Laws of merges. Each view is that of a closed set of one lawful history, and one is a part of another where its set is.
-ghost use Rattle.std.specs.Prelude.{◌≡◌, ℕ, List, length};
-ghost use Rattle.lra_id.specs.Fronts.{join_fronts};
+ghost use Rattle.std.specs.Prelude.{◌≡◌, ◌≤◌, ◌&&◌, ℕ, List, false, length, true};
+ghost use Rattle.lra_id.specs.Fronts.{is_covered, join_fronts};
+ghost use Rattle.lra_id.specs.Ids.{Id};
+ghost use Rattle.lra_states.specs.States.{greater};
+ghost use Rattle.lra_states.specs.declared.outcome.Act.{Act as TheAct};
+ghost use Rattle.lra_facts.specs.declared.fact.Fact.{Fact};
+ghost use Rattle.lra_facts.specs.Lists.{In};
+ghost use Rattle.lra_facts.specs.Sets.{heard, is_held};
+ghost use Rattle.lra_forest.specs.Records.{is_about, stamp};
 ghost use Rattle.lra_history.specs.Histories.{History, IsClosed, IsLawful, facts};
 ghost use Rattle.lra_history.specs.NodeViews.{IsCurrent};
 ghost use Rattle.lra_history.specs.Merging.{IsAbsorbed, IsClosedView, IsMerged, IsPartOf, Telling, TellsAll, merged};
@@ -27,6 +34,31 @@ pub fn a_merge_is_the_union()
     ensures closed { (h : History) (v w : List ℕ) → IsClosed h v → IsClosed h w → IsClosed h (join_fronts v w) }
     ensures current { (h : History) (node : ℕ) (v w : List ℕ) → IsCurrent h node v → IsClosed h w →
         IsCurrent h node (join_fronts v w) }
+{}
+
+/// Whether an LRA is held in the union of two closed sets: where both count its begin, it is if both hold it, so what one purged
+/// stays away; where only one counts it, it is if that one holds it.
+pub fn an_lra_is_held_in_the_union()
+    ensures both { (h : History) (v w : List ℕ) → IsLawful h → IsClosed h v → IsClosed h w → (l : Id) →
+        is_covered v l ≡ true → is_covered w l ≡ true →
+        is_held (facts h (join_fronts v w)) l ≡ (is_held (facts h v) l && is_held (facts h w) l) }
+    ensures one { (h : History) (v w : List ℕ) → IsLawful h → IsClosed h v → IsClosed h w → (l : Id) →
+        is_covered v l ≡ true → is_covered w l ≡ false →
+        is_held (facts h (join_fronts v w)) l ≡ is_held (facts h v) l }
+{}
+
+/// Of two closed sets the one with the greater home stamp of an LRA has all that the home entered about it, so a merge may take
+/// the home's part of one record whole.
+pub fn the_greater_home_stamp_has_the_homes_facts()
+    ensures { (h : History) (v w : List ℕ) → IsLawful h → IsClosed h v → IsClosed h w → (l : Id) (f : Fact) →
+        stamp (facts h w) l l.home ≤ stamp (facts h v) l l.home →
+        In f (facts h w) → f.origin ≡ l.home → is_about l f ≡ true → In f (facts h v) }
+{}
+
+/// Of two closed sets the greater outcome of each act is heard in the union.
+pub fn the_greater_outcome_is_heard_in_the_union()
+    ensures { (h : History) (v w : List ℕ) (l : Id) (m : ℕ) (act : TheAct) →
+        heard (facts h (join_fronts v w)) l m act ≡ greater (heard (facts h v) l m act) (heard (facts h w) l m act) }
 {}
 
 /// A view merged with itself stays as it is.

@@ -15,24 +15,22 @@ ghost use Rattle.lra_history.specs.Views.{OfItsSet};
 use crate::commands::fact::stamp;
 use crate::{Prepared, Replica};
 use lra_facts::Refusal;
-use lra_forest::{MOST_DEPTH, MOST_HELD, MOST_MEMBERS, Member, Members, Place, Record};
+use lra_forest::{MAX_DEPTH, MAX_HELD, MAX_MEMBERS, Member, Members, Place, Record};
 use lra_history::CommandReply;
 use lra_id::{Front, LraId, NodeId};
 use std::alloc::Global;
 
 impl Replica {
-    /// The refusal to hold one more LRA of this node's own.
     fn refusal_to_hold(&self, me: NodeId) -> Option<Refusal>
         requires { me ≤ length self.now.front }
         ensures { let t = by_view (view_of self.now) in result ≡ crowded_by t me }
     {
-        if self.held_at(me) >= MOST_HELD {
+        if self.held_at(me) >= MAX_HELD {
             return Some(Refusal::LrasFull);
         }
         None
     }
 
-    /// The refusal of a begin of a root, if it is refused.
     fn refusal_of_root(&self, me: NodeId) -> Option<Refusal>
         requires { me ≤ length self.now.front }
         ensures judged { (deadline : ℕ) → judge_on (view_of self.now) me (Begin None deadline) ≡ judged_by result }
@@ -47,17 +45,15 @@ impl Replica {
         self.refusal_to_number(me)
     }
 
-    /// The refusal of an LRA that is nested as deep as may be.
     fn refusal_of_deep(&self, id: LraId) -> Option<Refusal>
         ensures { let t = by_view (view_of self.now) in t.held id ≡ true → result ≡ deep_by t id }
     {
         match self.depth(id) {
-            Ok(depth) if depth >= u64::from(MOST_DEPTH) => Some(Refusal::DepthFull),
+            Ok(depth) if depth >= u64::from(MAX_DEPTH) => Some(Refusal::DepthFull),
             _ => None,
         }
     }
 
-    /// The refusal to begin an LRA in this one.
     fn refusal_to_nest(&self, me: NodeId, parent: LraId) -> Option<Refusal>
         requires { me ≤ length self.now.front }
         ensures { let t = by_view (view_of self.now) in result ≡ first (unknown self.now.front parent ∷ gone_by t parent ∷ away me parent ∷ inactive_by t parent ∷ full_by t parent ∷ deep_by t parent ∷ crowded_by t me ∷ []) }
@@ -71,7 +67,6 @@ impl Replica {
         self.refusal_to_hold(me)
     }
 
-    /// The refusal of a begin in a parent, if it is refused.
     fn refusal_of_nested(&self, me: NodeId, parent: LraId) -> Option<Refusal>
         requires { me ≤ length self.now.front }
         ensures judged { (deadline : ℕ) → judge_on (view_of self.now) me (Begin (Some parent) deadline) ≡ judged_by result }
@@ -83,7 +78,6 @@ impl Replica {
         self.refusal_to_number(me)
     }
 
-    /// The id of an LRA that a node begins with its next fact.
     fn next_id(&self, me: NodeId) -> LraId
         requires { count self.now.front me < last_number }
         ensures { result ≡ record { home = me; num = count self.now.front me + 1 } }
@@ -94,7 +88,6 @@ impl Replica {
         id
     }
 
-    /// The record of an LRA that a node begins with its next fact.
     fn fresh_record(
         &self,
         alloc: Global,
@@ -120,7 +113,6 @@ impl Replica {
         }
     }
 
-    /// Prepares the begin of a root.
     fn begin_root(&mut self, alloc: Global, me: NodeId, deadline: u64) -> Result<Prepared, Refusal>
         requires { me ≤ length self.old.front }
         ensures view { view_of self.new ≡ view_of self.old }
@@ -141,7 +133,6 @@ impl Replica {
         })
     }
 
-    /// The record of an LRA in which a node may begin one.
     fn ready_to_nest(&self, me: NodeId, parent: LraId) -> Result<Record, Refusal>
         requires { me ≤ length self.now.front }
         ensures ready { (deadline : ℕ) → IsReadyNext (view_of self.now) me (Begin (Some parent) deadline) parent result }
@@ -157,13 +148,12 @@ impl Replica {
         if copy.home != me {
             return Err(Refusal::NotHome(copy.home));
         }
-        if copy.members.len() >= MOST_MEMBERS {
+        if copy.members.len() >= MAX_MEMBERS {
             return Err(Refusal::MembersFull);
         }
         Ok(copy)
     }
 
-    /// Prepares the begin of an LRA that is nested in another.
     fn nest(
         &mut self,
         alloc: Global,

@@ -22,7 +22,6 @@ use lra_states::{LraStatus, Verdict};
 use std::alloc::Global;
 
 impl Replica {
-    /// The refusal of a decision, if it is refused.
     fn refusal_of_decide(&self, me: NodeId, id: LraId) -> Option<Refusal>
         ensures judged { (verdict : Verdict) → judge_on (view_of self.now) me (Decide id verdict) ≡ judged_by result }
         ensures left { result ≡ None → count self.now.front me < last_number }
@@ -33,7 +32,6 @@ impl Replica {
         self.refusal_to_number(me)
     }
 
-    /// The record of an LRA that may be decided.
     fn ready_to_decide(&self, me: NodeId, id: LraId) -> Result<Record, Refusal>
         ensures ready { (verdict : Verdict) → IsReadyNext (view_of self.now) me (Decide id verdict) id result }
         ensures some { IfOk result (λ _. 1 ≤ me) }
@@ -46,7 +44,6 @@ impl Replica {
         self.stamped(id, me)
     }
 
-    /// What an LRA would show with this record, which is handed back.
     fn shown_with(&mut self, next: Record) -> (Result<LraStatus, Refusal>, Record)
         requires { next.home ≤ length self.old.front }
         ensures same { view_of self.new ≡ view_of self.old }

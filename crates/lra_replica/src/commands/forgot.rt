@@ -20,7 +20,6 @@ use lra_history::CommandReply;
 use lra_id::{LraId, NodeId};
 use std::alloc::{AllocError, Global};
 
-/// A participant, after it was told to forget.
 fn forgotten(participant: Participant) -> Participant
     ensures { Member.Participant result ≡ forgetting (Member.Participant participant) }
 {
@@ -29,7 +28,6 @@ fn forgotten(participant: Participant) -> Participant
     next
 }
 
-/// A member, after it was told to forget.
 fn forgetting(member: Member) -> Member
     ensures { result ≡ forgetting member }
 {
@@ -39,7 +37,6 @@ fn forgetting(member: Member) -> Member
     }
 }
 
-/// Notes that the participant with this number was told to forget.
 fn forget_at(members: &mut Members, number: u8) -> Result<(), AllocError>
     ensures { 1 ≤ number → OnOk result (members.new ≡ member_changed forgetting (number - 1) members.old) }
 {
@@ -51,7 +48,6 @@ fn forget_at(members: &mut Members, number: u8) -> Result<(), AllocError>
 }
 
 impl Replica {
-    /// Whether a participant is to be told to forget, where there is such a one.
     fn is_to_forget(&self, id: LraId, member: u8) -> Result<bool, Refusal>
         ensures { let t = by_view (view_of self.now) in result ≡ answered_of (t.held id) (t.participant id member) (t.owed id member) }
     {
@@ -61,7 +57,6 @@ impl Replica {
         }
     }
 
-    /// Whether a participant was told to forget, where there is such a one.
     fn has_forgotten(&self, id: LraId, member: u8) -> Result<bool, Refusal>
         ensures { let t = by_view (view_of self.now) in result ≡ answered_of (t.held id) (t.participant id member) (t.forgot id member) }
     {
@@ -71,7 +66,6 @@ impl Replica {
         }
     }
 
-    /// Whether a participant is to be told to forget, or was, where there is such a one.
     fn has_to_know(&self, id: LraId, member: u8) -> Result<bool, Refusal>
         ensures { let t = by_view (view_of self.now) in result ≡ answered_of (t.held id) (t.participant id member) (t.owed id member || t.forgot id member) }
     {
@@ -81,7 +75,6 @@ impl Replica {
         }
     }
 
-    /// The refusal of one that has nothing to forget, and was not told to.
     fn refusal_of_unowed(&self, id: LraId, member: u8) -> Option<Refusal>
         ensures { let t = by_view (view_of self.now) in t.held id ≡ true → t.participant id member ≡ true → result ≡ unowed_by t id member }
     {
@@ -91,7 +84,6 @@ impl Replica {
         }
     }
 
-    /// The refusal to enter that a participant was told to forget.
     fn refusal_to_forget(&self, id: LraId, member: u8) -> Option<Refusal>
         ensures { let t = by_view (view_of self.now) in result ≡ first (unknown self.now.front id ∷ gone_by t id ∷ stranger_by t id member ∷ unowed_by t id member ∷ []) }
     {
@@ -104,7 +96,6 @@ impl Replica {
         self.refusal_of_unowed(id, member)
     }
 
-    /// Whether it is known already that a participant was told to forget, or the refusal of it.
     fn knows_forgot(&self, me: NodeId, id: LraId, member: u8) -> Result<bool, Refusal>
         ensures judged { judge_on (view_of self.now) me (Forgot id member) ≡ judged_as result }
         ensures left { result ≡ Ok false → count self.now.front me < last_number }

@@ -11,13 +11,12 @@ ghost use Rattle.lra_history.specs.Views.{OfItsSet};
 
 use crate::{Prepared, Replica};
 use lra_facts::{Links, Refusal};
-use lra_forest::{MOST_MEMBERS, Member, Participant, Record};
+use lra_forest::{MAX_MEMBERS, Member, Participant, Record};
 use lra_history::CommandReply;
 use lra_id::{LraId, NodeId};
 use std::alloc::Global;
 
 impl Replica {
-    /// The refusal of a join, if it is refused.
     fn refusal_of_join(&self, me: NodeId, id: LraId) -> Option<Refusal>
         ensures judged { (links : Links) → judge_on (view_of self.now) me (Join id links) ≡ judged_by result }
         ensures left { result ≡ None → count self.now.front me < last_number }
@@ -28,7 +27,6 @@ impl Replica {
         self.refusal_to_number(me)
     }
 
-    /// The record of an LRA that a participant may join.
     fn ready_to_join(&self, me: NodeId, id: LraId) -> Result<Record, Refusal>
         ensures ready { (links : Links) → IsReadyNext (view_of self.now) me (Join id links) id result }
         ensures left { IfOk result (λ _. count self.now.front me < last_number) }
@@ -43,7 +41,7 @@ impl Replica {
             Err(refusal) => return Err(refusal),
         };
         // This was asked. It tells what is known of the copy.
-        if copy.members.len() >= MOST_MEMBERS {
+        if copy.members.len() >= MAX_MEMBERS {
             return Err(Refusal::MembersFull);
         }
         Ok(copy)

@@ -19,7 +19,6 @@ use lra_history::CommandReply;
 use lra_id::{LraId, NodeId};
 use std::alloc::Global;
 
-/// What a member is after its leave.
 fn leaving(member: &Member) -> Member
     ensures { result ≡ leaving member.now }
 {
@@ -29,7 +28,6 @@ fn leaving(member: &Member) -> Member
     }
 }
 
-/// Marks that the participant with this number left.
 fn leave_from(members: &mut Members, number: u8)
     ensures { 1 ≤ number → members.new ≡ member_changed leaving (number - 1) members.old }
 {
@@ -40,7 +38,6 @@ fn leave_from(members: &mut Members, number: u8)
 }
 
 impl Replica {
-    /// The refusal to let a participant leave.
     fn refusal_to_leave(&self, me: NodeId, id: LraId, member: u8) -> Option<Refusal>
         ensures { let t = by_view (view_of self.now) in result ≡ first (unknown self.now.front id ∷ gone_by t id ∷ away me id ∷ stranger_by t id member ∷ inactive_by t id ∷ []) }
     {
@@ -53,7 +50,6 @@ impl Replica {
         self.refusal_of_inactive(id)
     }
 
-    /// The refusal of a leave, if it is refused.
     fn refusal_of_leave(&self, me: NodeId, id: LraId, member: u8) -> Option<Refusal>
         ensures judged { judge_on (view_of self.now) me (Leave id member) ≡ judged_by result }
         ensures left { result ≡ None → count self.now.front me < last_number }
@@ -64,7 +60,6 @@ impl Replica {
         self.refusal_to_number(me)
     }
 
-    /// The record of an LRA that a participant may leave.
     fn ready_to_leave(&self, me: NodeId, id: LraId, member: u8) -> Result<Record, Refusal>
         ensures ready { IsReadyNext (view_of self.now) me (Leave id member) id result }
         ensures left { IfOk result (λ _. count self.now.front me < last_number) }

@@ -22,7 +22,6 @@ use lra_id::{LraId, NodeId};
 use std::alloc::{AllocError, Global};
 
 impl Replica {
-    /// Whether an LRA is a root, where it is held.
     fn is_root(&self, id: LraId) -> Result<bool, Refusal>
         ensures { let t = by_view (view_of self.now) in result ≡ answered (t.held id) (t.root id) }
     {
@@ -32,7 +31,6 @@ impl Replica {
         }
     }
 
-    /// Whether an LRA is ended, where it is held.
     fn ended(&self, id: LraId) -> Result<bool, Refusal>
         ensures { let t = by_view (view_of self.now) in result ≡ answered (t.held id) (t.ended id) }
     {
@@ -42,7 +40,6 @@ impl Replica {
         }
     }
 
-    /// The refusal to purge a nested LRA.
     fn refusal_of_no_root(&self, id: LraId) -> Option<Refusal>
         ensures { let t = by_view (view_of self.now) in t.held id ≡ true → result ≡ nested_by t id }
     {
@@ -52,7 +49,6 @@ impl Replica {
         }
     }
 
-    /// The refusal to purge what is not ended.
     fn refusal_of_running(&self, id: LraId) -> Option<Refusal>
         ensures { let t = by_view (view_of self.now) in t.held id ≡ true → result ≡ running_by t id }
     {
@@ -62,7 +58,6 @@ impl Replica {
         }
     }
 
-    /// The refusal that tells what an LRA shows that is not ended.
     fn not_ended(&self, id: LraId) -> Option<Refusal>
         ensures { let t = by_view (view_of self.now) in t.held id ≡ true → result ≡ Some (NotEnded (t.shows id)) }
     {
@@ -72,7 +67,6 @@ impl Replica {
         }
     }
 
-    /// The refusal to purge a root under which one is still to be told to forget, which names the least of these.
     fn refusal_of_unforgotten(&self, root: LraId) -> Option<Refusal>
         requires { root.home ≤ length self.now.front }
         ensures { let t = by_view (view_of self.now) in result ≡ unforgotten_by t root }
@@ -83,7 +77,6 @@ impl Replica {
         }
     }
 
-    /// The refusal to purge an LRA.
     fn refusal_to_purge(&self, me: NodeId, root: LraId) -> Option<Refusal>
         requires { me ≤ length self.now.front }
         ensures first { let t = by_view (view_of self.now) in result ≡ first (unknown self.now.front root ∷ gone_by t root ∷ away me root ∷ nested_by t root ∷ running_by t root ∷ unforgotten_by t root ∷ []) }
@@ -101,7 +94,6 @@ impl Replica {
         self.refusal_of_unforgotten(root)
     }
 
-    /// The refusal of a purge, if it is refused.
     fn refusal_of_purge(&self, me: NodeId, root: LraId) -> Option<Refusal>
         requires { me ≤ length self.now.front }
         ensures judged { judge_on (view_of self.now) me (Purge root) ≡ judged_by result }
@@ -114,7 +106,6 @@ impl Replica {
         self.refusal_to_number(me)
     }
 
-    /// A root and all that is nested in it, by number.
     fn tree(&self, alloc: Global, root: LraId) -> Result<Vec<LraId>, AllocError>
         requires { root.home ≤ length self.now.front }
         ensures { IfOk result (λ ids. ids.items ≡ ids_below (at_home (view_of self.now) root.home) root.num (records_at (view_of self.now).records root.home)) }
@@ -125,7 +116,6 @@ impl Replica {
         }
     }
 
-    /// The patch of a purge that removes these LRAs.
     fn removal(&self, alloc: Global, me: NodeId, removed: Vec<LraId>) -> Patch
         requires node { me ≤ length self.now.front }
         requires left { count self.now.front me < last_number }

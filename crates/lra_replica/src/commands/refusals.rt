@@ -8,7 +8,7 @@ ghost use Rattle.lra_replica.specs.Replicas.{view_of};
 
 use crate::Replica;
 use lra_facts::Refusal;
-use lra_forest::MOST_MEMBERS;
+use lra_forest::MAX_MEMBERS;
 use lra_id::{LAST_NUMBER, LraId, NodeId};
 
 impl Replica {
@@ -79,12 +79,11 @@ impl Replica {
         self.refusal_of_full(id)
     }
 
-    /// The refusal of an LRA that gave its last member number.
     fn refusal_of_full(&self, id: LraId) -> Option<Refusal>
         ensures { let t = by_view (view_of self.now) in t.held id ≡ true → result ≡ full_by t id }
     {
         match self.numbers_given(id) {
-            Ok(given) if given >= MOST_MEMBERS => Some(Refusal::MembersFull),
+            Ok(given) if given >= MAX_MEMBERS => Some(Refusal::MembersFull),
             _ => None,
         }
     }

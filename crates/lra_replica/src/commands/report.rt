@@ -20,7 +20,6 @@ use lra_id::{LraId, NodeId};
 use lra_states::{Act, Outcome};
 use std::alloc::{AllocError, Global};
 
-/// A participant, after an outcome of an act was heard of it.
 fn reported(participant: Participant, act: Act, outcome: Outcome) -> Participant
     ensures { Member.Participant result ≡ reporting act outcome (Member.Participant participant) }
 {
@@ -32,7 +31,6 @@ fn reported(participant: Participant, act: Act, outcome: Outcome) -> Participant
     next
 }
 
-/// A member, after an outcome of an act was heard of it.
 fn reporting(member: Member, act: Act, outcome: Outcome) -> Member
     ensures { result ≡ reporting act outcome member }
 {
@@ -44,7 +42,6 @@ fn reporting(member: Member, act: Act, outcome: Outcome) -> Member
     }
 }
 
-/// Notes an outcome of an act of the participant with this number.
 fn report_to(
     members: &mut Members,
     number: u8,
@@ -61,7 +58,6 @@ fn report_to(
 }
 
 impl Replica {
-    /// The refusal of a report of an act that nothing demands.
     fn refusal_of_unasked(&self, id: LraId, member: u8, act: Act) -> Option<Refusal>
         ensures { let t = by_view (view_of self.now) in t.held id ≡ true → t.participant id member ≡ true → result ≡ unasked_by t id member act }
     {
@@ -71,7 +67,6 @@ impl Replica {
         }
     }
 
-    /// The refusal to enter what was heard of a participant.
     fn refusal_to_report(&self, id: LraId, member: u8, act: Act) -> Option<Refusal>
         ensures { let t = by_view (view_of self.now) in result ≡ first (unknown self.now.front id ∷ gone_by t id ∷ stranger_by t id member ∷ unasked_by t id member act ∷ []) }
     {
@@ -84,7 +79,6 @@ impl Replica {
         self.refusal_of_unasked(id, member, act)
     }
 
-    /// Whether a report is known already, or the refusal of it.
     fn knows_report(
         &self,
         me: NodeId,

@@ -4,18 +4,18 @@ use Rattle.lra_forest.proofs.Overdue.{at, held_number, id_made}
 use Rattle.lra_forest.proofs.Standings.{found_parent, found_root, held_if_found, held_parent, not_held}
 use Rattle.lra_forest.proofs.forest.Forest.parent.Goals as goal
 
-pub returns-in_default : goal.returns-in_default
-returns-in_default c nodes S whole numbered stands =
+pub returns-in_default-clause-settled : goal.returns-in_default-clause-settled
+returns-in_default-clause-settled c nodes S whole numbered stands =
     parent_lost S c.args.id (not_held nodes S c.args.self.now.records c.args.id stands (sym c.in_default.ensures.found))
 
-pub returns-in_default-parent : goal.returns-in_default-parent
-returns-in_default-parent c nodes S whole numbered stands =
+pub returns-in_default-parent-clause-settled : goal.returns-in_default-parent-clause-settled
+returns-in_default-parent-clause-settled c nodes S whole numbered stands =
     let found = sym c.in-Some.ensures.found in
     let held = held_if_found nodes S c.args.self.now.records c.args.id c.in-Some.record.now stands found in
     parent_known S c.args.id None held (sym (found_root nodes S c.args.self.now.records c.args.id c.in-Some.record.now stands held found c.in_default-parent.is))
 
-pub returns : goal.returns
-returns c nodes S whole numbered stands =
+pub returns-clause-settled : goal.returns-clause-settled
+returns-clause-settled c nodes S whole numbered stands =
     let found = sym c.in-Some.ensures.found in
     let held = held_if_found nodes S c.args.self.now.records c.args.id c.in-Some.record.now stands found in
     let up = found_parent nodes S c.args.self.now.records c.args.id c.in-Some.record.now c.in-Some-parent.place whole stands held found c.in-Some-parent.is in
