@@ -5,7 +5,7 @@ use Rattle.lra_http.specs.declared.fault.Fault.TheVariants.{Cut, ReadFault, Writ
 use Rattle.lra_http.specs.Responses.{HasNoResponse, IsResponse, head_room}
 use Rattle.lra_http.specs.Streams.{AllWell, Calls, GivenBytes, IsLost, OnReadFault, OnWriteFault}
 use Rattle.lra_http.proofs.Left.{response_found}
-use Rattle.lra_callback.specs.OneCall.{IsUnanswered, answer_limit, answer_reads}
+use Rattle.lra_callback.specs.OneCall.{IsUnanswered, max_answer_bytes, answer_reads}
 
 -- of the faults of writing all but want of memory are write faults
 pub write_lost : (P Q : Type 0) (fault : Fault) → OnWriteFault P Q fault → fault ≢ NoMemory → P
@@ -44,7 +44,7 @@ not_read P old LengthNeeded Lost Well found calls memory = inr (none_there P old
 not_read P old NotOffered Lost Well found calls memory = inr (none_there P old NotOffered found (λ e. absurd (cc)) memory)
 
 pub broken_so : (old new : GivenBytes) (before after : Calls) → IsUnanswered old new before after
-    → IsLost answer_reads 0 before after ⊎ IfSome old.left (HasNoResponse head_room answer_limit)
+    → IsLost answer_reads 0 before after ⊎ IfSome old.left (HasNoResponse head_room max_answer_bytes)
 broken_so old new before after (fault, memory, stops, calls) =
-    not_read (IsResponse head_room answer_limit) old.left fault (IsLost answer_reads 0 before after) (AllWell answer_reads 0 before after)
-    (response_found answer_limit old new fault stops) calls memory
+    not_read (IsResponse head_room max_answer_bytes) old.left fault (IsLost answer_reads 0 before after) (AllWell answer_reads 0 before after)
+    (response_found max_answer_bytes old new fault stops) calls memory

@@ -221,11 +221,6 @@ all_picked home S first second third a b c =
         by Release e = inr (inr (record { duty = d; on = e }))
 
 -- three lists that are added one after another
-pub picked : (home : ℕ) (S : List Fact) (none one two three : List Duty) (first second third : List Due) → AreAll (IsDueAt home S is_complete_duty) is_before first → AreAll (IsDueAt home S is_compensation_due) (is_topmost_before S) second → AreAll (IsDueAt home S is_forget_duty) is_before third → none ≡ [] → one ≡ none ++ map (duty_from S (Call CompleteAct)) first → two ≡ one ++ map (duty_from S (Call CompensateAct)) second → three ≡ two ++ map (duty_from S Release) third → AreAll (IsDuty home S) (comes_first S) three
-picked home S none one two three first second third a b c empty by_one by_two by_three =
-    subst (λ ds. AreAll (IsDuty home S) (comes_first S) ds) (sym whole) (all_picked home S first second third a b c)
-  where
-    whole : three ≡ map (duty_from S (Call CompleteAct)) first ++ (map (duty_from S (Call CompensateAct)) second ++ map (duty_from S Release) third)
-    whole =
-        by_three ∙ ap (λ ds. ds ++ map (duty_from S Release) third) (by_two ∙ ap (λ ds. ds ++ map (duty_from S (Call CompensateAct)) second) (by_one ∙ ap (λ ds. ds ++ map (duty_from S (Call CompleteAct)) first) empty))
-        ∙ append_assoc (map (duty_from S (Call CompleteAct)) first) (map (duty_from S (Call CompensateAct)) second) (map (duty_from S Release) third)
+pub three_added : {X : Type 0} (none one two three first second third : List X) → none ≡ [] → one ≡ none ++ first → two ≡ one ++ second → three ≡ two ++ third → three ≡ first ++ (second ++ third)
+three_added none one two three first second third empty by_one by_two by_three =
+    by_three ∙ ap (λ xs. xs ++ third) (by_two ∙ ap (λ xs. xs ++ second) (by_one ∙ ap (λ xs. xs ++ first) empty)) ∙ append_assoc first second third

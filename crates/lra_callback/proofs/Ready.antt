@@ -165,19 +165,3 @@ made home S errand d due p kind act link parent kept is_kind is_act is_link is_p
 
     nested : parent ≡ parent_of S d.lra
     nested = let held = due.held in is_parent ∙ rw held refl
-
--- no look-up fails
-pub no_participant : (home : ℕ) (S : List Fact) (errand : Errand) (d : Due) → IsDueAt home S (due_by errand) d → None ≡ participant_of S d.lra d.member → ⊥
-no_participant home S errand d due none = let there = none ∙ participant_is home S errand d due (ready home S errand d due) in cc
-
-pub no_act : (home : ℕ) (S : List Fact) (errand : Errand) (d : Due) → IsDueAt home S (due_by errand) d → None ≡ act_from S errand d → ⊥
-no_act home S errand d due none = let r = ready home S errand d due in let there = none ∙ r.wanted in cc
-
-pub no_link : (home : ℕ) (S : List Fact) (errand : Errand) (d : Due) → IsDueAt home S (due_by errand) d → (p : ParticipantRecord) (kind : Kind) → Some p ≡ participant_of S d.lra d.member → kind ≡ kind_in errand p → None ≡ link_for kind p.links → ⊥
-no_link home S errand d due p kind kept is_kind none =
-    let r = ready home S errand d due in
-    let e : ◌≡◌ {A = Option ParticipantRecord} (Some p) (Some (joined_as S d.lra d.member r.links)) = kept ∙ participant_is home S errand d due r in
-    let same : p ≡ joined_as S d.lra d.member r.links = cc in
-    let kinds = is_kind ∙ ap (kind_in errand) same ∙ kind_is S errand d r.links r.joined in
-    let there : ◌≡◌ {A = Option (List ℕ)} None (Some r.link) = none ∙ ap (λ k. link_for k p.links) kinds ∙ ap (λ (q : ParticipantRecord). link_for (kind_from S errand d) q.links) same ∙ r.given in
-    cc

@@ -4,3 +4,4 @@ pub mod CallRequests
 pub mod CallWords
 pub mod Errands
 pub mod OneCall
+pub mod ViewDuties

@@ -5,7 +5,7 @@ use Rattle.lra_http.specs.declared.fault.Fault.{Fault}
 use Rattle.lra_http.specs.declared.fault.Fault.TheVariants.{NoMemory}
 use Rattle.lra_http.specs.declared.message.Response.{Response}
 use Rattle.lra_http.specs.Faults.{Stops}
-use Rattle.lra_http.specs.Heads.{most_bytes}
+use Rattle.lra_http.specs.Heads.{max_head_bytes}
 use Rattle.lra_http.specs.Responses.{IsMessage, Shows}
 use Rattle.lra_http.specs.Streams.{AllWell, Calls, GivenBytes, GivesWhat, IsFlushed, IsLost, OnReadFault, TakenBytes, Takes, TakesPart}
 use Rattle.lra_callback.specs.declared.answer.Answer.{Answer}
@@ -17,17 +17,17 @@ pub record Ends (R W : Type 0) : Type 0 where
   pub writer : W
 
 -- the most bytes of an answer's body
-abbrev pub answer_limit : ℕ
-answer_limit = 65536
+abbrev pub max_answer_bytes : ℕ
+max_answer_bytes = 65536
 
 -- the most reads of an answer, apart from the interrupted ones
 abbrev pub answer_reads : ℕ
-answer_reads = most_bytes + 1 + answer_limit
+answer_reads = max_head_bytes + 1 + max_answer_bytes
 
 -- the bytes are a whole response with this code and this body, and no byte more
 pub record HasAnswered (bytes : List ℕ) (code : ℕ) (body : List ℕ) : Type 0 where
   pub response : Response
-  pub whole : IsMessage answer_limit bytes response
+  pub whole : IsMessage max_answer_bytes bytes response
   pub code_is : code ≡ response.status
   pub body_is : body ≡ response.body
 
@@ -39,7 +39,7 @@ IsCodeOf old new Broken = Unit {0}
 -- what was given shows why there is no whole response, or a read failed
 abbrev pub IsUnanswered : (old new : GivenBytes) (before after : Calls) → Type 0
 IsUnanswered old new before after =
-    (fault : Fault) × (fault ≢ NoMemory) × Stops old new (Shows answer_limit) fault
+    (fault : Fault) × (fault ≢ NoMemory) × Stops old new (Shows max_answer_bytes) fault
     × OnReadFault (IsLost answer_reads 0 before after) (AllWell answer_reads 0 before after) fault
 
 -- what was given tells the answer, and so the reads came out

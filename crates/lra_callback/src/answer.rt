@@ -91,7 +91,6 @@ fn without_trailing(text: &[u8]) -> &[u8]
     rest
 }
 
-/// What is in double quotes, or the text itself if it is not.
 fn unquoted(text: &[u8]) -> &[u8]
     ensures { result.now ≡ unquoted text.now }
 {
@@ -101,7 +100,6 @@ fn unquoted(text: &[u8]) -> &[u8]
     }
 }
 
-/// What a participant shows where the act is done.
 fn done_status(act: Act) -> MemberStatus
     ensures { result ≡ done_status act }
 {
@@ -111,7 +109,6 @@ fn done_status(act: Act) -> MemberStatus
     }
 }
 
-/// What a participant shows where the act failed.
 fn failed_status(act: Act) -> MemberStatus
     ensures { result ≡ failed_status act }
 {
@@ -121,7 +118,6 @@ fn failed_status(act: Act) -> MemberStatus
     }
 }
 
-/// What is heard of the answer to a call to complete or to compensate.
 fn heard_by_act(code: u16) -> Heard
     ensures { result ≡ heard_by_act code }
 {
@@ -133,7 +129,6 @@ fn heard_by_act(code: u16) -> Heard
     }
 }
 
-/// What is heard of the answer to a question for the status of an act.
 fn heard_by_status(act: Act, code: u16, body: &[u8]) -> Heard
     ensures { result ≡ heard_by_status act code body.now }
 {
@@ -153,7 +148,6 @@ fn heard_by_status(act: Act, code: u16, body: &[u8]) -> Heard
     }
 }
 
-/// What is heard of the answer where a participant was told to forget.
 fn heard_by_forget(code: u16) -> Heard
     ensures { result ≡ heard_by_forget code }
 {

@@ -7,7 +7,7 @@ ghost use Rattle.lra_callback.specs.declared.answer.Answer.{Answer as TheAnswer}
 ghost use Rattle.lra_callback.specs.OneCall.{IsBroken, IsOfStatus, IsSent, IsTold, IsUnsent, answer_reads};
 
 use crate::Answer;
-use lra_http::{BODY_LIMIT, CallRequest, Fault, Sink, Source, read_response, write_request};
+use lra_http::{CallRequest, Fault, MAX_BODY_BYTES, Sink, Source, read_response, write_request};
 use std::alloc::Global;
 use std::marker::Model;
 
@@ -20,10 +20,15 @@ pub trait Caller {
     /// What holds of the caller before and after a request was answered so: each caller says what makes its answers true.
     ghost answered: { (old new : Self) → TheRequest → TheAnswer → Type 0 };
 
+    /// What holds of it before and after a call whose memory was refused.
+    ghost unanswered: { (old new : Self) → TheRequest → Type 0 };
+
     /// Makes one call. Where the request can't be brought to the participant, or no whole response comes of it, the answer
-    /// is `Broken`. Of that the trait promises what the caller's `answered` says, and no more. Errors: want of memory.
+    /// is `Broken`. Of that the trait promises what the caller's `answered` says, and no more. Errors: want of memory, of which
+    /// it promises what the caller's `unanswered` says.
     fn call(&mut self, alloc: Global, request: &CallRequest) -> Result<Answer, NoMemory>
         ensures answered { IfOk result (answered self.old self.new request.now) }
+        ensures memory { OnErr result (unanswered self.old self.new request.now) }
         ensures status { IfOk result IsOfStatus };
 }
 
@@ -43,13 +48,12 @@ impl<R, W> Model for NetCaller<R, W> {
     ghost view = { λ c. record { reader = c.reader; writer = c.writer } };
 }
 
-/// Reads the answer.
 fn receive<R: Source>(alloc: Global, reader: &mut R) -> Result<Answer, NoMemory>
     ensures told { IfOk result (IsTold (R.stream reader.old) (R.stream reader.new) (R.calls reader.old) (R.calls reader.new)) }
     ensures memory { OnErr result (AllWell answer_reads 0 (R.calls reader.old) (R.calls reader.new)) }
     ensures status { IfOk result IsOfStatus }
 {
-    match read_response(alloc, reader, BODY_LIMIT) {
+    match read_response(alloc, reader, MAX_BODY_BYTES) {
         Ok(response) => Ok(Answer::Code(response.status.as_u16(), response.body)),
         Err(fault) => match fault {
             Fault::NoMemory => Err(NoMemory),
@@ -109,6 +113,12 @@ impl<R: Source, W: Sink> Caller for NetCaller<R, W> {
         × (new.reader ≡ old.reader))
         ⊎ (IsSent (W.stream old.writer) (W.stream new.writer) (W.calls old.writer) (W.calls new.writer) (request_text request)
         × IsTold (R.stream old.reader) (R.stream new.reader) (R.calls old.reader) (R.calls new.reader) answer) };
+
+    // The clause `memory` of `ask`.
+    ghost unanswered = { λ old new request.
+        (new ≡ old)
+        ⊎ (IsSent (W.stream old.writer) (W.stream new.writer) (W.calls old.writer) (W.calls new.writer) (request_text request)
+        × AllWell answer_reads 0 (R.calls old.reader) (R.calls new.reader)) };
 
     fn call(&mut self, alloc: Global, request: &CallRequest) -> Result<Answer, NoMemory> {
         self.ask(alloc, request)

@@ -1,16 +1,13 @@
 // What participants are called for now.
-ghost use Rattle.std.specs.Prelude.{◌≡◌, ◌≤◌, ◌++◌, ℕ, List, Some, IfErr, IfOk, OnOk, length, map};
+ghost use Rattle.std.specs.Prelude.{◌≡◌, ◌≤◌, ◌++◌, IfErr, IfOk, OnOk, filter_map, length};
 ghost use Rattle.std.specs.Option.{option_copied};
-ghost use Rattle.lra_facts.specs.declared.fact.Fact.{Fact};
 ghost use Rattle.lra_facts.specs.declared.refusal.Refusal.TheVariants.{NoMemory};
-ghost use Rattle.lra_facts.specs.Lists.{In};
-ghost use Rattle.lra_forest.specs.declared.duties.Due.{Due};
-ghost use Rattle.lra_forest.specs.Dues.{AreAll, IsDueAt};
-ghost use Rattle.lra_history.specs.Growth.{IsSettled};
+ghost use Rattle.lra_forest.specs.Dues.{AreAll};
 ghost use Rattle.lra_replica.specs.Replicas.{view_of};
-ghost use Rattle.lra_history.specs.Views.{OfItsSet, StandsFor};
+ghost use Rattle.lra_history.specs.Views.{OfItsSet};
 ghost use Rattle.lra_callback.specs.CallDuties.{IsDuty, act_wanted, comes_first, link_for};
-ghost use Rattle.lra_callback.specs.Errands.{act_from, due_by, duty_from, kind_by, kind_in, kind_of_act};
+ghost use Rattle.lra_callback.specs.Errands.{kind_by, kind_in, kind_of_act};
+ghost use Rattle.lra_callback.specs.ViewDuties.{act_by, duties_of, duty_by};
 
 use crate::Kind;
 use lra_facts::{Link, Refusal};
@@ -105,7 +102,6 @@ enum Errand {
     Release,
 }
 
-/// The kind of a call for an act.
 fn kind_of_act(act: Act) -> Kind
     ensures { result ≡ kind_of_act act }
 {
@@ -115,7 +111,6 @@ fn kind_of_act(act: Act) -> Kind
     }
 }
 
-/// The kind of the next call for an act: one that is busy is asked for its status, where it gave a link for that.
 fn kind_by(participant: &Participant, act: Act) -> Kind
     ensures { result ≡ kind_by participant.now act }
 {
@@ -125,7 +120,6 @@ fn kind_by(participant: &Participant, act: Act) -> Kind
     }
 }
 
-/// The kind of the next call of an errand.
 fn kind_in(errand: Errand, participant: &Participant) -> Kind
     ensures { result ≡ kind_in errand participant.now }
 {
@@ -146,7 +140,6 @@ pub fn act_wanted(want: Option<Verdict>) -> Option<Act>
     }
 }
 
-/// The link for calls of a kind.
 fn link_for(participant: &Participant, kind: Kind) -> Option<&Link>
     ensures { option_copied result ≡ link_for kind participant.now.links }
 {
@@ -158,10 +151,8 @@ fn link_for(participant: &Participant, kind: Kind) -> Option<&Link>
     }
 }
 
-/// The act of a participant's errand.
 fn act_of(replica: &Replica, errand: Errand, due: Due) -> Option<Act>
-    ensures { (home : ℕ) (S : List Fact) → IsSettled S → StandsFor S (view_of replica.now) →
-        IsDueAt home S (due_by errand) due → result ≡ act_from S errand due }
+    ensures { result ≡ act_by (view_of replica.now) errand due }
 {
     match errand {
         Errand::Call(act) => Some(act),
@@ -172,10 +163,8 @@ fn act_of(replica: &Replica, errand: Errand, due: Due) -> Option<Act>
     }
 }
 
-/// The call that is due of a participant.
 fn duty_of(replica: &Replica, errand: Errand, due: Due) -> Result<Option<Duty>, AllocError>
-    ensures { (home : ℕ) (S : List Fact) → IsSettled S → StandsFor S (view_of replica.now) →
-        IsDueAt home S (due_by errand) due → IfOk result (λ duty. duty ≡ Some (duty_from S errand due)) }
+    ensures { IfOk result (λ duty. duty ≡ duty_by (view_of replica.now) errand due) }
 {
     let Some(participant) = replica.participant(due.lra, due.member) else {
         return Ok(None);
@@ -197,16 +186,13 @@ fn duty_of(replica: &Replica, errand: Errand, due: Due) -> Result<Option<Duty>, 
     }))
 }
 
-/// Adds the calls that are due of these participants.
 fn add(
     replica: &Replica,
     errand: Errand,
     dues: &[Due],
     duties: &mut Vec<Duty>,
 ) -> Result<(), AllocError>
-    ensures { (home : ℕ) (S : List Fact) → IsSettled S → StandsFor S (view_of replica.now) →
-        ((due : Due) → In due dues.now → IsDueAt home S (due_by errand) due) →
-        OnOk result (duties.new.items ≡ duties.old.items ++ map (duty_from S errand) dues.now) }
+    ensures { OnOk result (duties.new.items ≡ duties.old.items ++ filter_map (duty_by (view_of replica.now) errand) dues.now) }
 {
     for due in dues {
         if let Some(duty) = duty_of(replica, errand, *due)? {
@@ -221,9 +207,11 @@ fn add(
 /// NoMemory.
 pub fn pick(alloc: Global, replica: &Replica, me: NodeId) -> Result<Duties, Refusal>
     requires { me ≤ length replica.now.front }
+    ensures next { IfOk result (λ duties. duties ≡ duties_of (view_of replica.now) me) }
     ensures all { OfItsSet (view_of replica.now) (λ S. IfOk result (λ duties. AreAll (IsDuty me S) (comes_first S) duties)) }
     ensures cause { IfErr result (λ refusal. refusal ≡ NoMemory) }
 {
+    let _ = me.number();
     let mut list = Vec::new(alloc);
     let dues = replica.complete_duties(alloc, me)?;
     add(replica, Errand::Call(Act::Complete), &dues, &mut list)?;

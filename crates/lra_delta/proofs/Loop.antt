@@ -4,7 +4,7 @@ use Rattle.std.specs.Prelude.{IfOk}
 use Rattle.std.proofs.lemmas.List.{append-nil}
 use Rattle.lra_delta.specs.declared.input.Stop.{Stop}
 use Rattle.lra_delta.specs.declared.input.Stop.TheVariants.{Fault, Cut, ReadFault, Memory}
-use Rattle.lra_http.specs.Streams.{most_interrupted}
+use Rattle.lra_http.specs.Streams.{too_many_interrupted}
 use Rattle.lra_delta.specs.FrameFields.{Rest, Read, ◌>>=◌, Stops, each_at}
 use Rattle.lra_delta.specs.Seen.{Seen, Reads, Begins, rest_in}
 
@@ -53,7 +53,7 @@ abbrev pub SoFar : {S A : Type 0} → (S → Rest → Read A) → (S → A → S
 SoFar item next count start old prefix left s now =
     (now.first ≡ old.first)
     × ((whole : List ℕ) → Begins now.taken whole → Begins old.taken whole × (with_prefix prefix (each_at item next left s (rest_in whole now)) ≡ each_at item next count start (rest_in whole old)))
-    × (old.now.counted < most_interrupted → now.now.counted < most_interrupted)
+    × (old.now.counted < too_many_interrupted → now.now.counted < too_many_interrupted)
 
 pub begins : {S A : Type 0} (item : S → Rest → Read A) (next : S → A → S) (count : ℕ) (start : S) (old : Seen) → SoFar item next count start old [] count start old
 begins item next count start old = (refl, (λ whole f. (f, same (each_at item next count start (rest_in whole old)))), λ few. few)

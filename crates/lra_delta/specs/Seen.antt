@@ -1,7 +1,7 @@
 -- what is known of an input, and what a reading of it says
 use Rattle.std.specs.Prelude.{◌≡◌, ◌⊎◌, ◌+◌, ◌<◌, ◌≤◌, ℕ, min, List, ◌++◌, length, take, drop, Option, None, Some, Result, Ok, Err, IfOk, IfErr}
 use Rattle.std.specs.Borrow.{GName}
-use Rattle.lra_http.specs.Streams.{most_interrupted}
+use Rattle.lra_http.specs.Streams.{too_many_interrupted}
 use Rattle.lra_delta.specs.declared.input.Stop.{Stop}
 use Rattle.lra_delta.specs.declared.input.Stop.TheVariants.{Fault, Cut, ReadFault, Memory}
 use Rattle.lra_delta.specs.FrameFields.{Rest, Read, Gives, value_of}
@@ -57,7 +57,7 @@ widest = 128
 
 -- a call failed, or the message has met its most interrupted ones
 abbrev pub HasCause : (failed_before failed_after interrupted : ℕ) → Type 0
-HasCause failed_before failed_after interrupted = (failed_before < failed_after) ⊎ (interrupted ≡ most_interrupted)
+HasCause failed_before failed_after interrupted = (failed_before < failed_after) ⊎ (interrupted ≡ too_many_interrupted)
 
 -- What a stop has as its cause. A fault comes before any byte behind its field is taken.
 abbrev pub HasReason : Stop → Seen → Type 0
@@ -71,7 +71,7 @@ Reads old new view result scan =
     (new.first ≡ old.first)
     × IfErr result (λ e. HasReason e new)
     × ((whole : List ℕ) → Whole result new whole → Begins old.taken whole × Gives (λ x. (view x, rest_in whole new)) result (scan (rest_in whole old)))
-    × (old.now.counted < most_interrupted → IfOk result (λ _. new.now.counted < most_interrupted))
+    × (old.now.counted < too_many_interrupted → IfOk result (λ _. new.now.counted < too_many_interrupted))
 
 -- the same without what is left
 abbrev pub Answers : {X Y : Type 0} → Seen → Seen → (X → Y) → Result X Stop → (Rest → Read Y) → Type 0
@@ -79,7 +79,7 @@ Answers old new view result scan =
     (new.first ≡ old.first)
     × IfErr result (λ e. HasReason e new)
     × ((whole : List ℕ) → Whole result new whole → Begins old.taken whole × Gives view result (value_of (scan (rest_in whole old))))
-    × (old.now.counted < most_interrupted → IfOk result (λ _. new.now.counted < most_interrupted))
+    × (old.now.counted < too_many_interrupted → IfOk result (λ _. new.now.counted < too_many_interrupted))
 
 -- the frame ends after so many bytes more at the latest
 abbrev pub within : ℕ → Seen → Seen

@@ -6,7 +6,6 @@ use crate::Delta;
 use lra_forest::Told;
 use std::alloc::{AllocError, Global};
 
-/// A copy of what is told of a home.
 fn copy_of(told: &Told) -> Result<Told, AllocError>
     ensures { IfOk result (λ copy. part_of copy ≡ part_of told.now) }
 {
@@ -16,7 +15,6 @@ fn copy_of(told: &Told) -> Result<Told, AllocError>
     })
 }
 
-/// A copy of what is told of each home.
 fn copies_of(alloc: Global, homes: &[Told]) -> Result<Vec<Told>, AllocError>
     ensures { IfOk result (λ copies. map part_of copies.items ≡ map part_of homes.now) }
 {

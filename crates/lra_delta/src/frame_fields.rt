@@ -24,14 +24,12 @@ use std::alloc::{AllocError, Global};
 
 // ---- vectors
 
-/// Whether each number is one that counts facts: of 48 bits.
 fn are_counts(ns: &[u64]) -> bool
     ensures { result ≡ are_counts ns.now }
 {
     ns.iter().all(|n| *n <= LAST_NUMBER)
 }
 
-/// What the taker has to have.
 #[tactic(auto, unfolding(crate::specs::FrameFields::vector_at))]
 fn base_of<I: Input>(nodes: u8, input: &mut I) -> Result<Front, Stop>
     requires some { 1 ≤ nodes }
@@ -47,7 +45,6 @@ fn base_of<I: Input>(nodes: u8, input: &mut I) -> Result<Front, Stop>
     Ok(counts)
 }
 
-/// How many facts the sender has: none fewer than the base.
 #[tactic(auto, unfolding(crate::specs::FrameFields::vector_at))]
 fn front_of<I: Input>(nodes: u8, base: &Front, input: &mut I) -> Result<Front, Stop>
     requires some { 1 ≤ nodes }
@@ -63,7 +60,6 @@ fn front_of<I: Input>(nodes: u8, base: &Front, input: &mut I) -> Result<Front, S
     Ok(counts)
 }
 
-/// The number of each home's last purge: within the front.
 #[tactic(auto, unfolding(crate::specs::FrameFields::vector_at))]
 fn purges_of<I: Input>(nodes: u8, front: &Front, input: &mut I) -> Result<Front, Stop>
     requires some { 1 ≤ nodes }
@@ -81,7 +77,6 @@ fn purges_of<I: Input>(nodes: u8, front: &Front, input: &mut I) -> Result<Front,
 
 // ---- live lists
 
-/// The number of an LRA that is held, above the last one.
 fn live_number_of<I: Input>(top: u64, last: u64, input: &mut I) -> Result<u64, Stop>
     ensures { Reads (I.seen input.old) (I.seen input.new) (λ x. x) result (number_at w64 (is_live_number top last)) }
 {
@@ -93,7 +88,6 @@ fn live_number_of<I: Input>(top: u64, last: u64, input: &mut I) -> Result<u64, S
     Ok(num)
 }
 
-/// So many numbers of LRAs that are held.
 fn each_live_number<I: Input>(
     alloc: Global,
     top: u64,
@@ -112,7 +106,6 @@ fn each_live_number<I: Input>(
     Ok(list)
 }
 
-/// A count, and as many numbers.
 #[tactic(auto, unfolding(crate::specs::Reading::live_list_at))]
 fn live_list_of<I: Input>(alloc: Global, top: u64, input: &mut I) -> Result<Vec<u64>, Stop>
     ensures { Reads (I.seen input.old) (I.seen input.new) (λ x. x.items) result (live_list_at top) }
@@ -125,7 +118,6 @@ fn live_list_of<I: Input>(alloc: Global, top: u64, input: &mut I) -> Result<Vec<
     each_live_number(alloc, top, count, input)
 }
 
-/// The live list of a home, which is there where its last purge is beyond the base.
 #[tactic(auto, unfolding(crate::specs::Reading::live_at, crate::specs::Reading::live_by))]
 fn live_of<I: Input>(
     alloc: Global,
@@ -148,7 +140,6 @@ fn live_of<I: Input>(
     Ok(Some(live_list_of(alloc, top, input)?))
 }
 
-/// The home at a place, counted from 0.
 fn home_at(place: u8) -> NodeId
     requires { place < 8 }
     ensures { result ≡ place + 1 }
@@ -159,7 +150,6 @@ fn home_at(place: u8) -> NodeId
     }
 }
 
-/// The live list of a home, with no record yet.
 fn told_of<I: Input>(
     alloc: Global,
     place: u8,
@@ -181,7 +171,6 @@ fn told_of<I: Input>(
     })
 }
 
-/// The live lists of so many homes.
 fn each_home<I: Input>(
     alloc: Global,
     nodes: u8,
@@ -204,7 +193,6 @@ fn each_home<I: Input>(
 
 // ---- records
 
-/// How far the records were read, with this one.
 fn after(last: Last, r: &Record) -> Last
     requires { last.count < 65535 }
     ensures { result ≡ after_lem last r.now }
@@ -221,7 +209,6 @@ fn after(last: Last, r: &Record) -> Last
     }
 }
 
-/// Puts a record behind those of its home.
 fn put_last(told: &mut Told, kept: Record) -> Result<(), AllocError>
     requires home { kept.home ≡ told.old.records.home }
     requires last { AllByRecursion (λ q. q.num < kept.num) told.old.records.records }
@@ -232,7 +219,6 @@ fn put_last(told: &mut Told, kept: Record) -> Result<(), AllocError>
     told.records.push_last(kept)
 }
 
-/// Puts a record behind those of its home.
 fn put_home(homes: &mut Vec<Told>, kept: Record) -> Result<(), AllocError>
     requires there { kept.home ≤ length homes.old.items }
     requires told { AreToldFrom 1 homes.old.items }
@@ -245,7 +231,6 @@ fn put_home(homes: &mut Vec<Told>, kept: Record) -> Result<(), AllocError>
     put_last(&mut homes[place], kept)
 }
 
-/// So many records, in order, each put at its home as it is read.
 fn each_record<I: Input>(
     alloc: Global,
     base: &Front,
@@ -271,7 +256,6 @@ fn each_record<I: Input>(
     Ok(())
 }
 
-/// A count, and as many records, each put at its home.
 #[tactic(auto, unfolding(crate::specs::Reading::records_at))]
 fn records_of<I: Input>(
     alloc: Global,
@@ -293,7 +277,6 @@ fn records_of<I: Input>(
 
 // ---- the frame
 
-/// How many nodes there are.
 fn nodes_of<I: Input>(input: &mut I) -> Result<u8, Stop>
     ensures gives { Reads (I.seen input.old) (I.seen input.new) (λ x. x) result (number_at w8 is_node_count) }
     ensures some { IfOk result (λ x. 1 ≤ x) }
@@ -307,7 +290,6 @@ fn nodes_of<I: Input>(input: &mut I) -> Result<u8, Stop>
     Ok(nodes)
 }
 
-/// All that stands after the length.
 #[tactic(auto, unfolding(crate::specs::Reading::body_at))]
 fn body_of<I: Input>(alloc: Global, input: &mut I) -> Result<Delta, Stop>
     ensures { Reads (I.seen input.old) (I.seen input.new) (λ x. x) result body_at }
@@ -321,7 +303,6 @@ fn body_of<I: Input>(alloc: Global, input: &mut I) -> Result<Delta, Stop>
     Ok(Delta::new(base, front, purges, homes))
 }
 
-/// The letters LRAD.
 fn magic_of<I: Input>(input: &mut I) -> Result<u32, Stop>
     ensures { Reads (I.seen input.old) (I.seen input.new) (λ x. x) result (number_at w32 (λ n. n == magic)) }
 {
@@ -333,7 +314,6 @@ fn magic_of<I: Input>(input: &mut I) -> Result<u32, Stop>
     Ok(letters)
 }
 
-/// The version, 1.
 fn version_of<I: Input>(input: &mut I) -> Result<u8, Stop>
     ensures { Reads (I.seen input.old) (I.seen input.new) (λ x. x) result (number_at w8 (λ n. n == 1)) }
 {

@@ -26,7 +26,6 @@ fn put_count<O: Output>(out: &mut O, n: u64)
     out.put(&((n % 65_536) as u16).to_be_bytes());
 }
 
-/// A count, and the numbers of LRAs that are held.
 #[tactic(auto, unfolding(crate::specs::Spelling::live_list))]
 fn put_live_list<O: Output>(out: &mut O, numbers: &[u64])
     ensures same { O.start out.new ≡ O.start out.old }
@@ -36,7 +35,6 @@ fn put_live_list<O: Output>(out: &mut O, numbers: &[u64])
     put_numbers(out, numbers);
 }
 
-/// The live list of a home, or that there is none.
 #[tactic(auto, unfolding(crate::specs::Spelling::live))]
 fn put_live<O: Output>(out: &mut O, told: &Told)
     ensures same { O.start out.new ≡ O.start out.old }
@@ -51,7 +49,6 @@ fn put_live<O: Output>(out: &mut O, told: &Told)
     }
 }
 
-/// The live lists of homes.
 fn put_each_live<O: Output>(out: &mut O, homes: &[Told])
     ensures same { O.start out.new ≡ O.start out.old }
     ensures text { O.text out.new ≡ O.text out.old ++ flat_map (λ (told : Told). live (held_numbers told.held)) homes.now }
@@ -61,7 +58,6 @@ fn put_each_live<O: Output>(out: &mut O, homes: &[Told])
     }
 }
 
-/// The same, by what is told of the homes.
 #[tactic(auto, using(crate::proofs::Put::lives_put))]
 fn put_lives<O: Output>(out: &mut O, homes: &[Told])
     ensures same { O.start out.new ≡ O.start out.old }
@@ -70,7 +66,6 @@ fn put_lives<O: Output>(out: &mut O, homes: &[Told])
     put_each_live(out, homes);
 }
 
-/// Records, one after another.
 fn put_each_record<O: Output>(out: &mut O, records: &[Record])
     ensures same { O.start out.new ≡ O.start out.old }
     ensures text { O.text out.new ≡ O.text out.old ++ flat_map record_text records.now }
@@ -81,7 +76,6 @@ fn put_each_record<O: Output>(out: &mut O, records: &[Record])
     }
 }
 
-/// The records of homes.
 fn put_each_home<O: Output>(out: &mut O, homes: &[Told])
     ensures same { O.start out.new ≡ O.start out.old }
     ensures text { O.text out.new ≡ O.text out.old ++ flat_map (λ (told : Told). flat_map record_text told.records.records) homes.now }
@@ -92,7 +86,6 @@ fn put_each_home<O: Output>(out: &mut O, homes: &[Told])
     }
 }
 
-/// The same, by all records one after another.
 #[tactic(auto, using(crate::proofs::Put::homes_put, crate::proofs::Put::homes_typed))]
 fn put_homes<O: Output>(out: &mut O, homes: &[Told])
     ensures same { O.start out.new ≡ O.start out.old }
@@ -102,7 +95,6 @@ fn put_homes<O: Output>(out: &mut O, homes: &[Told])
     put_each_home(out, homes);
 }
 
-/// How many records there are, as a number of 64 bits.
 fn record_count(homes: &[Told]) -> u64
     ensures { result ≡ length (flat (records_told homes.now)) % 2 ^ 64 }
 {
@@ -113,7 +105,6 @@ fn record_count(homes: &[Told]) -> u64
     count
 }
 
-/// A count, and the records of all homes.
 #[tactic(auto, unfolding(crate::specs::Spelling::records), using(crate::proofs::Widths::two_of_eight))]
 fn put_records<O: Output>(out: &mut O, homes: &[Told])
     ensures same { O.start out.new ≡ O.start out.old }
@@ -124,7 +115,6 @@ fn put_records<O: Output>(out: &mut O, homes: &[Told])
     put_homes(out, homes);
 }
 
-/// All that stands after the length.
 #[tactic(auto, unfolding(crate::specs::Spelling::body))]
 fn put_body<O: Output>(out: &mut O, delta: &Delta)
     ensures same { O.start out.new ≡ O.start out.old }
@@ -149,7 +139,6 @@ fn body_length(delta: &Delta) -> u64
     count.total()
 }
 
-/// What stands before the body.
 #[tactic(auto, using(crate::proofs::Widths::in_four_bytes))]
 fn put_header<O: Output>(out: &mut O, len: u64)
     ensures same { O.start out.new ≡ O.start out.old }

@@ -17,7 +17,6 @@ use lra_forest::Record;
 use lra_id::Front;
 use std::alloc::{AllocError, Global};
 
-/// A record, which must end where the input has to.
 #[tactic(auto, unfolding(crate::specs::OneRecord::alone_at))]
 fn alone_of<I: Input>(alloc: Global, front: &Front, input: &mut I) -> Result<Record, Stop>
     ensures { Answers (I.seen input.old) (I.seen input.new) (λ x. x) result (alone_at front.now) }

@@ -22,7 +22,6 @@ use lra_id::{Front, NodeId};
 use lra_states::{Outcome, Verdict};
 use std::alloc::Global;
 
-/// Where an LRA with this number is nested: in one that was begun before.
 #[tactic(auto, unfolding(crate::specs::Reading::place_at))]
 fn place_of<I: Input>(num: u64, input: &mut I) -> Result<Place, Stop>
     ensures { Reads (I.seen input.old) (I.seen input.new) (λ x. x) result (place_at num) }
@@ -43,7 +42,6 @@ fn place_of<I: Input>(num: u64, input: &mut I) -> Result<Place, Stop>
     })
 }
 
-/// Where an LRA with this number is nested, if it is.
 #[tactic(auto, unfolding(crate::specs::Reading::parent_at, crate::specs::Reading::parent_by))]
 fn parent_of<I: Input>(num: u64, input: &mut I) -> Result<Option<Place>, Stop>
     ensures { Reads (I.seen input.old) (I.seen input.new) (λ x. x) result (parent_at num) }
@@ -56,7 +54,6 @@ fn parent_of<I: Input>(num: u64, input: &mut I) -> Result<Option<Place>, Stop>
     }
 }
 
-/// Whether the LRA itself was closed or cancelled.
 #[tactic(auto, unfolding(crate::specs::Reading::decision_at))]
 fn decision_of<I: Input>(input: &mut I) -> Result<Option<Verdict>, Stop>
     ensures { Reads (I.seen input.old) (I.seen input.new) (λ x. x) result decision_at }
@@ -72,7 +69,6 @@ fn decision_of<I: Input>(input: &mut I) -> Result<Option<Verdict>, Stop>
 
 // ---- links
 
-/// A link that has to be there.
 #[tactic(auto, unfolding(crate::specs::Reading::text_at))]
 fn given_link_of<I: Input>(alloc: Global, input: &mut I) -> Result<Link, Stop>
     ensures { Reads (I.seen input.old) (I.seen input.new) (λ x. x) result (text_at is_given_length is_kept) }
@@ -89,7 +85,6 @@ fn given_link_of<I: Input>(alloc: Global, input: &mut I) -> Result<Link, Stop>
     }
 }
 
-/// A link, if one is given.
 #[tactic(auto, unfolding(crate::specs::Reading::link_at, crate::specs::Reading::text_at))]
 fn link_of<I: Input>(alloc: Global, input: &mut I) -> Result<Option<Link>, Stop>
     ensures { Reads (I.seen input.old) (I.seen input.new) (λ x. x) result link_at }
@@ -111,7 +106,6 @@ fn link_of<I: Input>(alloc: Global, input: &mut I) -> Result<Option<Link>, Stop>
 
 // ---- participants
 
-/// The outcome of a mark, 0 to 3.
 fn outcome_of(mark: u8) -> Option<Outcome>
     ensures { result ≡ outcome_of mark }
 {
@@ -135,7 +129,6 @@ fn completed_of<I: Input>(link: &Option<Link>, input: &mut I) -> Result<u8, Stop
     Ok(mark)
 }
 
-/// The mark of what was heard of compensating.
 fn compensated_of<I: Input>(input: &mut I) -> Result<u8, Stop>
     ensures { Reads (I.seen input.old) (I.seen input.new) (λ x. x) result (number_at w8 is_outcome) }
 {
@@ -159,7 +152,6 @@ fn forgotten_of<I: Input>(link: &Option<Link>, input: &mut I) -> Result<u8, Stop
     Ok(mark)
 }
 
-/// A participant: its links and what was heard of it.
 #[tactic(auto, unfolding(crate::specs::Reading::participant_at))]
 fn participant_of<I: Input>(alloc: Global, input: &mut I) -> Result<Participant, Stop>
     ensures { Reads (I.seen input.old) (I.seen input.new) (λ x. x) result participant_at }
@@ -207,7 +199,6 @@ fn member_of<I: Input>(alloc: Global, stamp: u64, last: u64, input: &mut I) -> R
     }
 }
 
-/// The number of the last nested LRA, with this member.
 fn next_nested(last: u64, member: &Member) -> u64
     ensures { result ≡ next_nested last member.now }
 {
@@ -218,7 +209,6 @@ fn next_nested(last: u64, member: &Member) -> u64
     }
 }
 
-/// So many members.
 fn each_member<I: Input>(
     alloc: Global,
     stamp: u64,
@@ -239,7 +229,6 @@ fn each_member<I: Input>(
     Ok(list)
 }
 
-/// A count, and as many members.
 #[tactic(auto, unfolding(crate::specs::Reading::members_at))]
 fn members_of<I: Input>(alloc: Global, stamp: u64, num: u64, input: &mut I) -> Result<Members, Stop>
     ensures { Reads (I.seen input.old) (I.seen input.new) (λ x. x) result (members_at stamp num) }
@@ -293,7 +282,6 @@ pub(crate) fn at_most(limits: &[u64], ns: &[u64]) -> bool
 
 // ---- records
 
-/// Whether the record may come after the last one, by its number and how many there were of its home.
 fn is_next(last: Last, home: u8, num: u64) -> bool
     ensures { result ≡ is_next last home num }
 {
@@ -304,14 +292,12 @@ fn is_next(last: Last, home: u8, num: u64) -> bool
     }
 }
 
-/// Whether a number is among others.
 fn is_in(numbers: &[u64], num: u64) -> bool
     ensures { result ≡ list_any (λ n. n == num) numbers.now }
 {
     numbers.iter().any(|n| *n == num)
 }
 
-/// Whether a number is among those that are told of a home, if they are.
 fn is_told(told: &Told, num: u64) -> bool
     ensures { result ≡ is_among (held_numbers told.now.held) num }
 {
@@ -321,7 +307,6 @@ fn is_told(told: &Told, num: u64) -> bool
     }
 }
 
-/// Whether a number is among those that are told of its home, if they are.
 fn is_among(homes: &[Told], home: NodeId, num: u64) -> bool
     ensures { result ≡ is_among (live_at (told_context [] [] homes.now).lives home) num }
 {
@@ -331,7 +316,6 @@ fn is_among(homes: &[Told], home: NodeId, num: u64) -> bool
     }
 }
 
-/// Whether an LRA of this home may have this number here.
 fn is_number(front: &Front, homes: &[Told], last: Last, home: NodeId, num: u64) -> bool
     ensures { result ≡ is_number (told_context [] front.now homes.now) last home num }
 {
@@ -341,7 +325,6 @@ fn is_number(front: &Front, homes: &[Told], last: Last, home: NodeId, num: u64) 
         && is_among(homes, home, num)
 }
 
-/// The home of a record: not before the last one.
 fn home_of<I: Input>(nodes: usize, last: u8, input: &mut I) -> Result<NodeId, Stop>
     requires { nodes ≤ 8 }
     ensures gives { Reads (I.seen input.old) (I.seen input.new) (λ x. x) result (number_at w8 (is_home nodes last)) }
@@ -358,7 +341,6 @@ fn home_of<I: Input>(nodes: usize, last: u8, input: &mut I) -> Result<NodeId, St
     }
 }
 
-/// The number of a record.
 fn num_of<I: Input>(
     front: &Front,
     homes: &[Told],
@@ -377,14 +359,12 @@ fn num_of<I: Input>(
     Ok(num)
 }
 
-/// Whether of some node these counts are greater than a base's.
 fn is_beyond(base: &Front, counts: &Front) -> bool
     ensures { result ≡ is_beyond base.now counts.now }
 {
     !counts.below(base)
 }
 
-/// Whether a record may have these stamps: within the front, with its begin, and some beyond the base.
 fn are_stamps(base: &Front, front: &Front, home: NodeId, num: u64, stamps: &Front) -> bool
     ensures { result ≡ are_stamps (told_context base.now front.now []) home num stamps.now }
 {
@@ -393,7 +373,6 @@ fn are_stamps(base: &Front, front: &Front, home: NodeId, num: u64, stamps: &Fron
         && is_beyond(base, stamps)
 }
 
-/// The stamps of a record.
 #[tactic(auto, unfolding(crate::specs::FrameFields::vector_at))]
 fn stamps_of<I: Input>(
     base: &Front,

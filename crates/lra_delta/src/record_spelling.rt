@@ -27,7 +27,6 @@ pub(crate) fn put_number<O: Output>(out: &mut O, n: u64)
     out.put(&n.to_be_bytes());
 }
 
-/// Where an LRA is nested, if it is.
 #[tactic(auto, unfolding(crate::specs::Spelling::parent, crate::specs::Spelling::place))]
 fn put_parent<O: Output>(out: &mut O, p: Option<Place>)
     ensures same { O.start out.new ≡ O.start out.old }
@@ -43,7 +42,6 @@ fn put_parent<O: Output>(out: &mut O, p: Option<Place>)
     }
 }
 
-/// The mark of a decision.
 fn decision_mark(decision: Option<Verdict>) -> u8
     ensures { result ≡ decision_mark decision }
 {
@@ -54,7 +52,6 @@ fn decision_mark(decision: Option<Verdict>) -> u8
     }
 }
 
-/// The mark of an outcome.
 fn outcome_mark(outcome: Option<Outcome>) -> u8
     ensures { result ≡ outcome_mark outcome }
 {
@@ -66,7 +63,6 @@ fn outcome_mark(outcome: Option<Outcome>) -> u8
     }
 }
 
-/// Its length, and the text.
 #[tactic(auto, unfolding(crate::specs::Spelling::counted))]
 fn put_text<O: Output>(out: &mut O, text: &[u8])
     requires { length text.now ≤ 127 }
@@ -87,7 +83,6 @@ fn put_link<O: Output>(out: &mut O, link: &Link)
     put_text(out, link.as_bytes());
 }
 
-/// A link, or that there is none.
 fn put_link_or_none<O: Output>(out: &mut O, link: &Option<Link>)
     ensures same { O.start out.new ≡ O.start out.old }
     ensures text { O.text out.new ≡ O.text out.old ++ counted (link_text link.now) }
@@ -99,7 +94,6 @@ fn put_link_or_none<O: Output>(out: &mut O, link: &Option<Link>)
     }
 }
 
-/// A participant: its links and what was heard of it.
 #[tactic(auto, unfolding(crate::specs::Spelling::participant))]
 fn put_participant<O: Output>(out: &mut O, p: &Participant)
     ensures same { O.start out.new ≡ O.start out.old }
@@ -115,7 +109,6 @@ fn put_participant<O: Output>(out: &mut O, p: &Participant)
     put_byte(out, if p.forgotten { 1 } else { 0 });
 }
 
-/// A member.
 #[tactic(auto, unfolding(crate::specs::Spelling::member))]
 fn put_member<O: Output>(out: &mut O, m: &Member)
     ensures same { O.start out.new ≡ O.start out.old }
@@ -135,7 +128,6 @@ fn put_member<O: Output>(out: &mut O, m: &Member)
     }
 }
 
-/// Members, one after another.
 fn put_each_member<O: Output>(out: &mut O, ms: &[Member])
     ensures same { O.start out.new ≡ O.start out.old }
     ensures text { O.text out.new ≡ O.text out.old ++ flat_map member ms.now }
@@ -146,7 +138,6 @@ fn put_each_member<O: Output>(out: &mut O, ms: &[Member])
     }
 }
 
-/// A count, and the members.
 #[tactic(auto, unfolding(crate::specs::Spelling::members))]
 fn put_members<O: Output>(out: &mut O, ms: &Members)
     ensures same { O.start out.new ≡ O.start out.old }

@@ -10,7 +10,6 @@ ghost use Rattle.lra_delta.specs.SameFrames.{same_frame, same_lives, same_record
 use crate::Delta;
 use lra_forest::Told;
 
-/// Whether two live lists are the same.
 fn same_held(a: &Option<Vec<u64>>, b: &Option<Vec<u64>>) -> bool
     ensures { result ≡ option_eq bytes_eq (held_numbers a.now) (held_numbers b.now) }
 {
@@ -21,7 +20,6 @@ fn same_held(a: &Option<Vec<u64>>, b: &Option<Vec<u64>>) -> bool
     }
 }
 
-/// Whether as many homes have the same live lists.
 fn same_lives(a: &[Told], b: &[Told]) -> bool
     requires { length a.now ≡ length b.now }
     ensures { result ≡ same_lives (map (λ told. held_numbers told.held) a.now) (map (λ told. held_numbers told.held) b.now) }
@@ -34,7 +32,6 @@ fn same_lives(a: &[Told], b: &[Told]) -> bool
     true
 }
 
-/// Whether as many homes have the same records.
 fn same_records(a: &[Told], b: &[Told]) -> bool
     requires { length a.now ≡ length b.now }
     ensures { result ≡ same_records (map (λ told. told.records.records) a.now) (map (λ told. told.records.records) b.now) }
@@ -47,7 +44,6 @@ fn same_records(a: &[Told], b: &[Told]) -> bool
     true
 }
 
-/// Whether what is told of each home is the same.
 fn same_homes(a: &[Told], b: &[Told]) -> bool
     ensures { result ≡ (same_lives (map (λ told. held_numbers told.held) a.now) (map (λ told. held_numbers told.held) b.now)
         && same_records (map (λ told. told.records.records) a.now) (map (λ told. told.records.records) b.now)) }

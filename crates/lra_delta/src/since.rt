@@ -20,14 +20,12 @@ use lra_id::Front;
 use lra_replica::Replica;
 use std::alloc::{AllocError, Global};
 
-/// Whether a record has a stamp beyond a base.
 fn is_beyond(base: &Front, kept: &Record) -> bool
     ensures { result ≡ is_beyond base.now kept.now.stamps }
 {
     !kept.stamps.below(base)
 }
 
-/// The numbers of the LRAs of these records.
 fn numbers_of(alloc: Global, records: &[Record]) -> Result<Vec<u64>, AllocError>
     ensures { IfOk result (λ numbers. numbers.items ≡ map (λ (r : Record). r.num) records.now) }
 {
@@ -38,7 +36,6 @@ fn numbers_of(alloc: Global, records: &[Record]) -> Result<Vec<u64>, AllocError>
     Ok(numbers)
 }
 
-/// The numbers of all LRAs that are held at a home, where it purged after the base.
 fn live_since(
     alloc: Global,
     home: &Forest,
@@ -55,7 +52,6 @@ fn live_since(
     }
 }
 
-/// Adds a copy of a record, if it has a stamp beyond a base.
 fn push_newer(since: &mut Vec<Record>, kept: &Record, base: &Front) -> Result<(), AllocError>
     ensures { OnOk result (since.new.items ≡
         (if is_beyond base.now kept.now.stamps then since.old.items ++ kept.now ∷ [] else since.old.items)) }
@@ -66,7 +62,6 @@ fn push_newer(since: &mut Vec<Record>, kept: &Record, base: &Front) -> Result<()
     Ok(())
 }
 
-/// The records of a home that have a stamp beyond a base.
 fn records_since(alloc: Global, home: &Forest, base: &Front) -> Result<Forest, AllocError>
     ensures home { IfOk result (λ since. since.home ≡ home.now.home) }
     ensures records { IfOk result (λ since. since.records ≡ filter (λ r. is_beyond base.now r.stamps) home.now.records) }

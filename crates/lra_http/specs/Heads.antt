@@ -11,11 +11,11 @@ use Rattle.lra_http.specs.declared.head.Step.{Step}
 use Rattle.lra_http.specs.declared.head.Step.TheVariants.{More, Whole, Bad, Long}
 
 -- the most bytes and field lines of a message's heads
-abbrev pub most_bytes : ℕ
-most_bytes = 16384
+abbrev pub max_head_bytes : ℕ
+max_head_bytes = 16384
 
-abbrev pub most_lines : ℕ
-most_lines = 64
+abbrev pub max_head_lines : ℕ
+max_head_lines = 64
 
 -- the text is a head of this kind, with so many field lines
 abbrev pub IsHead : Kind → List ℕ → ℕ → Type 0

@@ -8,7 +8,7 @@ use Rattle.lra_http.specs.declared.fault.Fault.{Fault}
 use Rattle.lra_http.specs.declared.fault.Fault.TheVariants.{Cut, ReadFault, WriteFault, HeadTooLong, BodyTooLong, BadHead, LengthNeeded, NotOffered, NoMemory}
 use Rattle.lra_http.specs.declared.head.Kind.TheVariants.{Request}
 use Rattle.lra_http.specs.declared.message.Request.{Request as Question}
-use Rattle.lra_http.specs.Heads.{RefusesHead, most_bytes, most_lines}
+use Rattle.lra_http.specs.Heads.{RefusesHead, max_head_bytes, max_head_lines}
 use Rattle.lra_http.specs.HeadFields.{field_bytes, request_length}
 
 -- what the fields of a head state
@@ -18,8 +18,8 @@ stated limit h = request_length limit h.minor (map name_and_value h.fields)
 -- the input begins with this head, which is within the limits
 pub record HasHead (input : List ℕ) (h : RequestHead) (rest : List ℕ) : Type 0 where
   pub reads : ReadsRequest input h rest
-  pub bytes : length (print_request h) ≤ most_bytes
-  pub lines : length h.fields ≤ most_lines
+  pub bytes : length (print_request h) ≤ max_head_bytes
+  pub lines : length h.fields ≤ max_head_lines
 
 -- the input is a whole request and then rest
 abbrev pub IsRequest : ℕ → List ℕ → RequestHead → List ℕ → List ℕ → Type 0
@@ -40,9 +40,9 @@ IsCutInBody limit input =
 
 -- where each fault comes
 abbrev pub Refuses : ℕ → List ℕ → Fault → Type 0
-Refuses limit input Cut = HasNoRequest limit input × (RefusesHead Request most_bytes most_lines input Cut ⊎ IsCutInBody limit input)
-Refuses limit input BadHead = RefusesHead Request most_bytes most_lines input BadHead ⊎ HasFault limit input BadHead
-Refuses limit input HeadTooLong = RefusesHead Request most_bytes most_lines input HeadTooLong
+Refuses limit input Cut = HasNoRequest limit input × (RefusesHead Request max_head_bytes max_head_lines input Cut ⊎ IsCutInBody limit input)
+Refuses limit input BadHead = RefusesHead Request max_head_bytes max_head_lines input BadHead ⊎ HasFault limit input BadHead
+Refuses limit input HeadTooLong = RefusesHead Request max_head_bytes max_head_lines input HeadTooLong
 Refuses limit input BodyTooLong = HasFault limit input BodyTooLong
 Refuses limit input NotOffered = HasFault limit input NotOffered
 Refuses limit input LengthNeeded = ⊥
@@ -68,13 +68,13 @@ IsFaultyHead limit bytes fault = (h : RequestHead) × HasHead bytes h [] × (sta
 
 -- what was given before each fault: of the head at most a byte more than it may have, and none of a body that isn't wanted
 abbrev pub Spends : ℕ → List ℕ → Fault → Type 0
-Spends limit bytes BadHead = length bytes ≤ most_bytes + 1
-Spends limit bytes HeadTooLong = length bytes ≤ most_bytes + 1
+Spends limit bytes BadHead = length bytes ≤ max_head_bytes + 1
+Spends limit bytes HeadTooLong = length bytes ≤ max_head_bytes + 1
 Spends limit bytes BodyTooLong = IsFaultyHead limit bytes BodyTooLong
 Spends limit bytes NotOffered = IsFaultyHead limit bytes NotOffered
-Spends limit bytes Cut = length bytes ≤ most_bytes + limit
-Spends limit bytes ReadFault = length bytes ≤ most_bytes + 1 + limit
-Spends limit bytes NoMemory = length bytes ≤ most_bytes + 1 + limit
+Spends limit bytes Cut = length bytes ≤ max_head_bytes + limit
+Spends limit bytes ReadFault = length bytes ≤ max_head_bytes + 1 + limit
+Spends limit bytes NoMemory = length bytes ≤ max_head_bytes + 1 + limit
 Spends limit bytes LengthNeeded = ⊥
 Spends limit bytes WriteFault = ⊥
 

@@ -8,7 +8,7 @@ use Rattle.lra_http.specs.declared.fault.Fault.{Fault}
 use Rattle.lra_http.specs.declared.fault.Fault.TheVariants.{Cut, ReadFault, WriteFault, HeadTooLong, BodyTooLong, BadHead, LengthNeeded, NotOffered, NoMemory}
 use Rattle.lra_http.specs.declared.head.Kind.TheVariants.{Response}
 use Rattle.lra_http.specs.declared.message.Response.{Response as Answer}
-use Rattle.lra_http.specs.Heads.{HasNoHead, IsNoHead, IsLong, Exceeds, most_bytes, most_lines}
+use Rattle.lra_http.specs.Heads.{HasNoHead, IsNoHead, IsLong, Exceeds, max_head_bytes, max_head_lines}
 use Rattle.lra_http.specs.HeadFields.{field_bytes, response_length}
 
 -- how many bytes and field lines heads may have
@@ -18,7 +18,7 @@ pub record Room : Type 0 where
 
 -- those of all heads of a message
 abbrev pub head_room : Room
-head_room = record { bytes = most_bytes; lines = most_lines }
+head_room = record { bytes = max_head_bytes; lines = max_head_lines }
 
 -- an interim head is skipped, save the one that switches protocols
 abbrev pub is_interim : ℕ → Bool
@@ -149,14 +149,14 @@ IsFaultyHead limit bytes fault = (h : ResponseHead) × HasFinal head_room bytes 
 
 -- what was given before each fault: of the heads at most a byte more than they may have, and none of a body that isn't wanted
 abbrev pub Spends : ℕ → List ℕ → Fault → Type 0
-Spends limit bytes BadHead = length bytes ≤ most_bytes + 1
-Spends limit bytes HeadTooLong = length bytes ≤ most_bytes + 1
+Spends limit bytes BadHead = length bytes ≤ max_head_bytes + 1
+Spends limit bytes HeadTooLong = length bytes ≤ max_head_bytes + 1
 Spends limit bytes BodyTooLong = IsFaultyHead limit bytes BodyTooLong
 Spends limit bytes NotOffered = IsFaultyHead limit bytes NotOffered
 Spends limit bytes LengthNeeded = IsFaultyHead limit bytes LengthNeeded
-Spends limit bytes Cut = length bytes ≤ most_bytes + 1 + limit
-Spends limit bytes ReadFault = length bytes ≤ most_bytes + 1 + limit
-Spends limit bytes NoMemory = length bytes ≤ most_bytes + 1 + limit
+Spends limit bytes Cut = length bytes ≤ max_head_bytes + 1 + limit
+Spends limit bytes ReadFault = length bytes ≤ max_head_bytes + 1 + limit
+Spends limit bytes NoMemory = length bytes ≤ max_head_bytes + 1 + limit
 Spends limit bytes WriteFault = ⊥
 
 -- the bytes show the fault, whatever follows them, and are no more than it takes; behind a cut nothing follows
@@ -179,6 +179,6 @@ pub record IsFinalRead (given bytes : List ℕ) : Type 0 where
   pub head : ResponseHead
   pub valid : IsResponseHead head
   pub whole : bytes ≡ print_response head
-  pub few : length head.fields ≤ most_lines
+  pub few : length head.fields ≤ max_head_lines
   pub first : (rest : List ℕ) → HasFinal head_room (given ++ rest) head rest
-  pub short : length given ≤ most_bytes
+  pub short : length given ≤ max_head_bytes

@@ -91,21 +91,21 @@ pub record OneMore {A : Type 0} (old new : Calls) (result : Result A CallError) 
   pub last_failed : new.last_failed ≡ failed_calls result
 
 -- so many interrupted calls in one message are a fault
-abbrev pub most_interrupted : ℕ
-most_interrupted = 1024
+abbrev pub too_many_interrupted : ℕ
+too_many_interrupted = 1024
 
 -- no call failed, those of the message that were interrupted, of which so many came before, are fewer than the most, and
 -- apart from them at most so many were made
 pub record AllWell (most before : ℕ) (old new : Calls) : Type 0 where
   pub none_failed : new.failed ≡ old.failed
-  pub few_interrupted : new.interrupted + before < old.interrupted + most_interrupted
+  pub few_interrupted : new.interrupted + before < old.interrupted + too_many_interrupted
   pub few : new.made + old.interrupted ≤ old.made + most + new.interrupted
 
 -- the last call failed, and no other did; or it was interrupted, and was one too many
 abbrev pub HasCause : (before : ℕ) (old new : Calls) → Type 0
 HasCause before old new =
-    ((new.failed ≡ old.failed + 1) × (new.last_failed ≡ 1) × (new.interrupted + before < old.interrupted + most_interrupted))
-    ⊎ ((new.failed ≡ old.failed) × (new.interrupted + before ≡ old.interrupted + most_interrupted))
+    ((new.failed ≡ old.failed + 1) × (new.last_failed ≡ 1) × (new.interrupted + before < old.interrupted + too_many_interrupted))
+    ⊎ ((new.failed ≡ old.failed) × (new.interrupted + before ≡ old.interrupted + too_many_interrupted))
 
 -- a fault of the stream has its cause, and apart from the interrupted calls at most so many were made
 pub record IsLost (most before : ℕ) (old new : Calls) : Type 0 where

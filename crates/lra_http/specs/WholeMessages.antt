@@ -5,7 +5,7 @@ use Rattle.lra_http.specs.declared.message.CallRequest.{CallRequest}
 use Rattle.lra_http.specs.declared.message.Field.{Field}
 use Rattle.lra_http.specs.declared.message.Response.{Response}
 use Rattle.lra_http.specs.HeadFields.{field_bytes, request_length, response_length}
-use Rattle.lra_http.specs.Heads.{most_bytes, most_lines}
+use Rattle.lra_http.specs.Heads.{max_head_bytes, max_head_lines}
 use Rattle.lra_http.specs.MessageTexts.{request_head, response_head}
 
 -- the name is a token, and the value has no control byte but the tab, and no white space at its ends (RFC 9110, section 5.5)
@@ -20,8 +20,8 @@ pub record IsSound (limit : ℕ) (r : Response) : Type 0 where
   pub status : r.status < 1000
   pub fields : All IsPlain r.fields
   pub stated : response_length limit r.status (map field_bytes r.fields) ≡ Ok (length r.body)
-  pub short : length (response_head r) ≤ most_bytes
-  pub few : length r.fields ≤ most_lines
+  pub short : length (response_head r) ≤ max_head_bytes
+  pub few : length r.fields ≤ max_head_lines
 
 -- the host as a field
 abbrev pub host_field : List ℕ → Field
@@ -34,5 +34,5 @@ pub record IsSoundCall (limit : ℕ) (r : CallRequest) : Type 0 where
   pub text : IsUtf8 r.target
   pub fields : All IsPlain (host_field r.host ∷ r.fields)
   pub stated : request_length limit 1 (map field_bytes (host_field r.host ∷ r.fields)) ≡ Ok (length r.body)
-  pub short : length (request_head r) ≤ most_bytes
-  pub few : length (host_field r.host ∷ r.fields) ≤ most_lines
+  pub short : length (request_head r) ≤ max_head_bytes
+  pub few : length (host_field r.host ∷ r.fields) ≤ max_head_lines

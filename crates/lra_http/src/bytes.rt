@@ -1,6 +1,6 @@
 // Bytes over any source and sink, with the bound on interrupted calls.
 ghost use Rattle.std.specs.Prelude.{◌≡◌, ℕ, ◌+◌, ◌<◌, [], ◌∷◌, length, IfOk, IfSome, IfNone, OnOk, OnErr};
-ghost use Rattle.lra_http.specs.Streams.{FoundEnd, Gives, IsFlushed, Streams, Takes, TakesPart, most_interrupted};
+ghost use Rattle.lra_http.specs.Streams.{FoundEnd, Gives, IsFlushed, Streams, Takes, TakesPart, too_many_interrupted};
 
 use crate::{CallError, Sink, Source};
 
@@ -13,7 +13,7 @@ pub struct ReadFault;
 pub struct WriteFault;
 
 /// So many interrupted calls in one message are a fault: a message of 1,023 is still read or written.
-pub const MOST_INTERRUPTED: u16 = 1024;
+pub const TOO_MANY_INTERRUPTED: u16 = 1024;
 
 /// Writes all of the bytes, or a prefix of them before a fault. `interrupted` counts the interrupted calls of the
 /// message that the bytes belong to, and is handed on from one piece of it to the next.
@@ -22,12 +22,12 @@ pub fn write_all<W: Sink>(
     bytes: &[u8],
     interrupted: &mut u16,
 ) -> Result<(), WriteFault>
-    requires { interrupted.old < most_interrupted }
+    requires { interrupted.old < too_many_interrupted }
     ensures ok { OnOk result (Takes (W.stream sink.old) (W.stream sink.new) bytes.now) }
     ensures part { OnErr result (TakesPart (W.stream sink.old) (W.stream sink.new) bytes.now) }
     ensures streams { Streams (length bytes.now) interrupted.old (W.calls sink.old) (W.calls sink.new) result }
     ensures counted { (W.calls sink.new).interrupted + interrupted.old ≡ (W.calls sink.old).interrupted + interrupted.new }
-    ensures below { OnOk result (interrupted.new < most_interrupted) }
+    ensures below { OnOk result (interrupted.new < too_many_interrupted) }
 {
     let mut done = 0;
     while done < bytes.len() {
@@ -35,7 +35,7 @@ pub fn write_all<W: Sink>(
             Ok(n) => done += n,
             Err(CallError::Interrupted) => {
                 *interrupted += 1;
-                if *interrupted == MOST_INTERRUPTED {
+                if *interrupted == TOO_MANY_INTERRUPTED {
                     return Err(WriteFault);
                 }
             }
@@ -47,14 +47,14 @@ pub fn write_all<W: Sink>(
 
 /// Passes on what the sink has taken. `interrupted` counts the interrupted calls of the message.
 pub fn flush<W: Sink>(sink: &mut W, interrupted: &mut u16) -> Result<(), WriteFault>
-    requires { interrupted.old < most_interrupted }
+    requires { interrupted.old < too_many_interrupted }
     ensures none { Takes (W.stream sink.old) (W.stream sink.new) [] }
     ensures all { OnOk result (IsFlushed (W.stream sink.new)) }
     ensures streams { Streams 1 interrupted.old (W.calls sink.old) (W.calls sink.new) result }
     ensures counted { (W.calls sink.new).interrupted + interrupted.old ≡ (W.calls sink.old).interrupted + interrupted.new }
-    ensures below { OnOk result (interrupted.new < most_interrupted) }
+    ensures below { OnOk result (interrupted.new < too_many_interrupted) }
 {
-    while *interrupted != MOST_INTERRUPTED {
+    while *interrupted != TOO_MANY_INTERRUPTED {
         match sink.flush() {
             Ok(()) => return Ok(()),
             Err(CallError::Interrupted) => *interrupted += 1,
@@ -67,17 +67,17 @@ pub fn flush<W: Sink>(sink: &mut W, interrupted: &mut u16) -> Result<(), WriteFa
 /// The next byte, or `None` at the end. It reads no byte more. `interrupted` counts the interrupted calls of the message
 /// that the byte belongs to, and is handed on from one byte of it to the next. A fault leaves the bytes as they were.
 pub fn read_byte<R: Source>(source: &mut R, interrupted: &mut u16) -> Result<Option<u8>, ReadFault>
-    requires { interrupted.old < most_interrupted }
+    requires { interrupted.old < too_many_interrupted }
     ensures some { IfOk result (λ byte. IfSome byte (λ b. Gives (R.stream source.old) (R.stream source.new) (b ∷ []))) }
     ensures end { IfOk result (λ byte. IfNone byte (Gives (R.stream source.old) (R.stream source.new) [] × FoundEnd (R.stream source.new))) }
     ensures err { OnErr result (Gives (R.stream source.old) (R.stream source.new) []) }
     ensures streams { Streams 1 interrupted.old (R.calls source.old) (R.calls source.new) result }
     ensures called { (R.calls source.old).made < (R.calls source.new).made }
     ensures counted { (R.calls source.new).interrupted + interrupted.old ≡ (R.calls source.old).interrupted + interrupted.new }
-    ensures below { OnOk result (interrupted.new < most_interrupted) }
+    ensures below { OnOk result (interrupted.new < too_many_interrupted) }
 {
     let mut buffer = [0u8; 1];
-    while *interrupted < MOST_INTERRUPTED {
+    while *interrupted < TOO_MANY_INTERRUPTED {
         match source.read_some(&mut buffer) {
             Ok(0) => return Ok(None),
             Ok(_) => return Ok(Some(buffer[0])),

@@ -29,7 +29,6 @@ fn with_one<'b>(found: Found<'b>, text: &'b [u8]) -> Found<'b>
     }
 }
 
-/// The value of the one field with this name.
 fn sole<'b>(bytes: &'b [u8], headers: &[HeaderSpan], name: &[u8]) -> Found<'b>
     requires { All (IsHeaderWithin (length bytes.now)) headers.now }
     ensures { IsFound result (values name.now (map (header_bytes bytes.now) headers.now)) }
@@ -72,7 +71,6 @@ fn number(text: &[u8], most: usize) -> Option<usize>
     Some(n)
 }
 
-/// The length that the value of a Content-Length field states.
 fn length_in(text: &[u8], limit: usize) -> Result<usize, Fault>
     requires { limit < 2 ^ 31 }
     ensures length { result ≡ length_in limit text.now }

@@ -1,9 +1,9 @@
 // The head of a message of either kind, read one byte at a time.
 ghost use Rattle.std.specs.Prelude.{◌≡◌, ◌≢◌, ◌+◌, ◌<◌, ◌≤◌, length, IfOk, IfErr, OnOk, ◌==◌, ◌||◌, if◌then◌else◌};
 ghost use Rattle.httparse.specs.Ascii.{space};
-ghost use Rattle.lra_http.specs.Streams.{AllWell, Gives, Reads, most_interrupted};
+ghost use Rattle.lra_http.specs.Streams.{AllWell, Gives, Reads, too_many_interrupted};
 ghost use Rattle.lra_http.specs.Faults.{Shows, Stops};
-ghost use Rattle.lra_http.specs.Heads.{IsStep, HasNoHead, MayLack, IsHeadWithin, RefusesHead, most_bytes};
+ghost use Rattle.lra_http.specs.Heads.{IsStep, HasNoHead, MayLack, IsHeadWithin, RefusesHead, max_head_bytes};
 ghost use Rattle.lra_http.specs.declared.fault.Fault.TheVariants.{ReadFault, WriteFault};
 
 use crate::{Fault, Source, read_byte};
@@ -12,10 +12,10 @@ use httparse::{Error, Status};
 use std::alloc::Global;
 
 /// The most bytes of a message's head, or of all heads of a response together.
-pub const HEAD_LIMIT: usize = 16_384;
+pub const MAX_HEAD_BYTES: usize = 16_384;
 
 /// The most field lines of a message's head, or of all heads of a response together.
-pub const LINE_LIMIT: usize = 64;
+pub const MAX_HEAD_LINES: usize = 64;
 
 /// The two kinds of message.
 #[derive(Clone, Copy, Debug, PartialEq, Eq)]
@@ -115,15 +115,15 @@ pub fn read_head<S: Source>(
     most: usize,
     interrupted: &mut u16,
 ) -> Result<Vec<u8>, Fault>
-    requires below { interrupted.old < most_interrupted }
-    requires most { most ≤ most_bytes }
+    requires below { interrupted.old < too_many_interrupted }
+    requires most { most ≤ max_head_bytes }
     ensures head { IfOk result (λ head. Gives (S.stream source.old) (S.stream source.new) head.items × IsHeadWithin kind most (length headers.old) head.items) }
     ensures fault { IfErr result (Stops (S.stream source.old) (S.stream source.new) (Shows (most + 1) (RefusesHead kind most (length headers.old)))) }
     ensures streams { Reads (most + 1) interrupted.old (S.calls source.old) (S.calls source.new) result }
     // A call for each byte.
     ensures each { IfOk result (λ head. AllWell (length head.items) interrupted.old (S.calls source.old) (S.calls source.new)) }
     ensures counted { (S.calls source.new).interrupted + interrupted.old ≡ (S.calls source.old).interrupted + interrupted.new }
-    ensures below { OnOk result (interrupted.new < most_interrupted) }
+    ensures below { OnOk result (interrupted.new < too_many_interrupted) }
 {
     let mut head = Vec::new(alloc);
     let mut spaced = false;

@@ -4,7 +4,7 @@ ghost use Rattle.httparse.specs.Grammar.{RequestHead, ResponseHead, status_code}
 ghost use Rattle.httparse.specs.Spans.{name_and_value};
 ghost use Rattle.lra_http.specs.Faults.{IsOfBytes, Stops};
 ghost use Rattle.lra_http.specs.HeadFields.{field_bytes};
-ghost use Rattle.lra_http.specs.Heads.{Exceeds, most_lines};
+ghost use Rattle.lra_http.specs.Heads.{Exceeds, max_head_lines};
 ghost use Rattle.lra_http.specs.Requests.{IsMessage as IsRequestRead, IsRequest, IsTextSoFar, Refuses as RefusesRequest, Shows as ShowsRequest};
 ghost use Rattle.lra_http.specs.Responses.{Behind, HasNoResponse, IsCrowded, IsMessage as IsResponseRead, IsResponse, Refuses as RefusesResponse, Shows as ShowsResponse, head_room};
 ghost use Rattle.lra_http.specs.MessageTexts.{request_text, response_text};
@@ -20,7 +20,7 @@ ghost use Rattle.lra_http.specs.declared.message.Response.{Response as TheRespon
 /// An input of a request has one fault that lies in its bytes, save where more than 64 field lines came, or where what came
 /// of a target can no longer be a text: there the parser may tell either of two.
 pub fn a_request_has_one_fault()
-    ensures { (limit : ℕ) (input : List ℕ) (a b : TheFault) → IsOfBytes a → IsOfBytes b → ¬ (Exceeds OfRequest most_lines input) → IsTextSoFar input
+    ensures { (limit : ℕ) (input : List ℕ) (a b : TheFault) → IsOfBytes a → IsOfBytes b → ¬ (Exceeds OfRequest max_head_lines input) → IsTextSoFar input
         → RefusesRequest limit input a → RefusesRequest limit input b → a ≡ b }
 {}
 

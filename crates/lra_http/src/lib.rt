@@ -18,11 +18,11 @@ mod text;
 ghost use Rattle.std.specs.Prelude.{◌≡◌, ◌≤◌, [], length, IfOk, OnOk};
 ghost use Rattle.lra_http.specs.Streams.{CallGives, Calls, CallTakes, FoundNoEnd, GivenBytes, IsFlushed, OneMore, TakenBytes, Takes};
 
-pub use body::BODY_LIMIT;
-pub use bytes::{MOST_INTERRUPTED, ReadFault, WriteFault, flush, read_byte, write_all};
+pub use body::MAX_BODY_BYTES;
+pub use bytes::{ReadFault, TOO_MANY_INTERRUPTED, WriteFault, flush, read_byte, write_all};
 pub use count::Count;
 pub use fault::Fault;
-pub use head::{HEAD_LIMIT, LINE_LIMIT};
+pub use head::{MAX_HEAD_BYTES, MAX_HEAD_LINES};
 pub use message::{Bytes, CallRequest, Field, Fields, Request, Response, Text};
 pub use over::{OverRead, OverWrite};
 pub use request::read_request;

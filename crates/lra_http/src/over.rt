@@ -34,7 +34,6 @@ impl Calls {
         }
     }
 
-    /// Counts a call that came out so.
     fn count<T>(&mut self, outcome: &Result<T, CallError>)
         ensures made { self.new.made ≡ self.old.made + 1 }
         ensures failed { self.new.failed ≡ self.old.failed + failed_calls outcome.now }

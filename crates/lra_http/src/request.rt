@@ -4,14 +4,14 @@ ghost use Rattle.httparse.specs.Grammar.{IsToken};
 ghost use Rattle.lra_http.specs.Streams.{GivesWhat, Reads};
 ghost use Rattle.lra_http.specs.Faults.{Stops};
 ghost use Rattle.lra_http.specs.HeadFields.{field_bytes, first_value};
-ghost use Rattle.lra_http.specs.Heads.{IsHead, most_bytes};
+ghost use Rattle.lra_http.specs.Heads.{IsHead, max_head_bytes};
 ghost use Rattle.lra_http.specs.Requests.{IsMessage, Shows, ArePartsOf};
 ghost use Rattle.lra_http.specs.declared.fault.Fault.TheVariants.{NoMemory};
 ghost use Rattle.lra_http.specs.declared.head.Kind.TheVariants.{Request as OfRequest};
 
 use crate::body::read_body;
 use crate::fields::{fields_of, request_size};
-use crate::head::{HEAD_LIMIT, Kind, LINE_LIMIT, read_head};
+use crate::head::{Kind, MAX_HEAD_BYTES, MAX_HEAD_LINES, read_head};
 use crate::{Bytes, Fault, Request, Source, Text};
 use http::Method;
 use http::method::MethodError;
@@ -29,7 +29,6 @@ impl Request {
     }
 }
 
-/// Where the parts of this head are.
 fn parts_of(head: &[u8], headers: &mut [HeaderSpan]) -> RequestSpans
     requires { (lines : ℕ) × IsHead OfRequest head.now lines × (lines ≤ length headers.old) }
     ensures { ArePartsOf head.now headers.new result }
@@ -40,7 +39,6 @@ fn parts_of(head: &[u8], headers: &mut [HeaderSpan]) -> RequestSpans
     }
 }
 
-/// The method with this name.
 fn method_of(alloc: Global, name: &[u8]) -> Result<Method, Fault>
     requires { IsToken name.now }
     ensures ok { IfOk result (λ method. method ≡ name.now) }
@@ -79,16 +77,16 @@ pub fn read_request<S: Source>(
     // What is given before each fault shows it, whatever follows.
     ensures fault { IfErr result (Stops (S.stream source.old) (S.stream source.new) (Shows limit)) }
     // A read fault has its cause, no call follows one that failed, and there are at most so many.
-    ensures streams { Reads (most_bytes + 1 + limit) 0 (S.calls source.old) (S.calls source.new) result }
+    ensures streams { Reads (max_head_bytes + 1 + limit) 0 (S.calls source.old) (S.calls source.new) result }
 {
     let mut interrupted = 0;
-    let mut headers = [EMPTY_HEADER_SPAN; LINE_LIMIT];
+    let mut headers = [EMPTY_HEADER_SPAN; MAX_HEAD_LINES];
     let head = read_head(
         alloc,
         source,
         Kind::Request,
         &mut headers,
-        HEAD_LIMIT,
+        MAX_HEAD_BYTES,
         &mut interrupted,
     )?;
     let spans = parts_of(&head, &mut headers);

@@ -1,22 +1,21 @@
 // A whole response.
 ghost use Rattle.std.specs.Prelude.{◌≡◌, ℕ, ◌+◌, ◌<◌, ◌≤◌, ◌^◌, length, IfOk, IfErr, OnOk};
 ghost use Rattle.http.specs.StatusCode.{IsStatusCode};
-ghost use Rattle.lra_http.specs.Streams.{GivesWhat, Reads, most_interrupted};
+ghost use Rattle.lra_http.specs.Streams.{GivesWhat, Reads, too_many_interrupted};
 ghost use Rattle.lra_http.specs.Faults.{Stops, Shows as ShowsPart};
-ghost use Rattle.lra_http.specs.Heads.{IsHead, most_bytes};
+ghost use Rattle.lra_http.specs.Heads.{IsHead, max_head_bytes};
 ghost use Rattle.lra_http.specs.Responses.{head_room, is_interim, IsMessage, RefusesHeads, Shows, ArePartsOf, IsFinalRead};
 ghost use Rattle.lra_http.specs.declared.head.Kind.TheVariants.{Response as OfResponse};
 
 use crate::body::read_body;
 use crate::fields::{fields_of, response_size};
-use crate::head::{HEAD_LIMIT, Kind, LINE_LIMIT, read_head};
+use crate::head::{Kind, MAX_HEAD_BYTES, MAX_HEAD_LINES, read_head};
 use crate::{Bytes, Fault, Response, Source};
 use http::StatusCode;
 use httparse::Status;
 use httparse::spans::{EMPTY_HEADER_SPAN, HeaderSpan, ResponseSpans, parse_response};
 use std::alloc::Global;
 
-/// Where the parts of this head are.
 fn parts_of(head: &[u8], headers: &mut [HeaderSpan]) -> ResponseSpans
     requires { (lines : ℕ) × IsHead OfResponse head.now lines × (lines ≤ length headers.old) }
     ensures { ArePartsOf head.now headers.new result }
@@ -27,7 +26,6 @@ fn parts_of(head: &[u8], headers: &mut [HeaderSpan]) -> ResponseSpans
     }
 }
 
-/// The status with this code.
 fn status_of(code: u16) -> StatusCode
     requires { IsStatusCode code }
     ensures { result ≡ code }
@@ -38,7 +36,6 @@ fn status_of(code: u16) -> StatusCode
     }
 }
 
-/// Whether a head with this code says that another head follows.
 fn is_interim_code(code: u16) -> bool
     ensures { result ≡ is_interim code }
 {
@@ -51,16 +48,16 @@ fn read_final_head<S: Source>(
     source: &mut S,
     interrupted: &mut u16,
 ) -> Result<Vec<u8>, Fault>
-    requires below { interrupted.old < most_interrupted }
+    requires below { interrupted.old < too_many_interrupted }
     ensures head { IfOk result (λ head. GivesWhat (S.stream source.old) (S.stream source.new) (λ given. IsFinalRead given head.items)) }
-    ensures fault { IfErr result (Stops (S.stream source.old) (S.stream source.new) (ShowsPart (most_bytes + 1) (RefusesHeads head_room))) }
-    ensures streams { Reads (most_bytes + 1) interrupted.old (S.calls source.old) (S.calls source.new) result }
+    ensures fault { IfErr result (Stops (S.stream source.old) (S.stream source.new) (ShowsPart (max_head_bytes + 1) (RefusesHeads head_room))) }
+    ensures streams { Reads (max_head_bytes + 1) interrupted.old (S.calls source.old) (S.calls source.new) result }
     ensures counted { (S.calls source.new).interrupted + interrupted.old ≡ (S.calls source.old).interrupted + interrupted.new }
-    ensures below { OnOk result (interrupted.new < most_interrupted) }
+    ensures below { OnOk result (interrupted.new < too_many_interrupted) }
 {
-    let mut headers = [EMPTY_HEADER_SPAN; LINE_LIMIT];
-    let mut most = HEAD_LIMIT;
-    let mut lines = LINE_LIMIT;
+    let mut headers = [EMPTY_HEADER_SPAN; MAX_HEAD_LINES];
+    let mut most = MAX_HEAD_BYTES;
+    let mut lines = MAX_HEAD_LINES;
     loop {
         let head = read_head(
             alloc,
@@ -96,11 +93,11 @@ pub fn read_response<S: Source>(
     // What is given before each fault shows it, whatever follows.
     ensures fault { IfErr result (Stops (S.stream source.old) (S.stream source.new) (Shows limit)) }
     // A read fault has its cause, no call follows one that failed, and there are at most so many.
-    ensures streams { Reads (most_bytes + 1 + limit) 0 (S.calls source.old) (S.calls source.new) result }
+    ensures streams { Reads (max_head_bytes + 1 + limit) 0 (S.calls source.old) (S.calls source.new) result }
 {
     let mut interrupted = 0;
     let head = read_final_head(alloc, source, &mut interrupted)?;
-    let mut headers = [EMPTY_HEADER_SPAN; LINE_LIMIT];
+    let mut headers = [EMPTY_HEADER_SPAN; MAX_HEAD_LINES];
     let spans = parts_of(&head, &mut headers);
     let size = response_size(&head, &headers[..spans.headers], spans.code, limit)?;
     let body = read_body(alloc, source, size, &mut interrupted)?;

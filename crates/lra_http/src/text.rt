@@ -7,7 +7,6 @@ use crate::{CallRequest, Fault, Field, Response, Sink, Text, WriteFault, flush, 
 use http::StatusCode;
 use std::alloc::{AllocError, Global};
 
-/// Adds a field's line.
 fn push_field(text: &mut Vec<u8>, field: &Field) -> Result<(), AllocError>
     ensures { OnOk result (text.new.items ≡ text.old.items ++ field_line field.now) }
 {
@@ -17,7 +16,6 @@ fn push_field(text: &mut Vec<u8>, field: &Field) -> Result<(), AllocError>
     text.extend_from_slice(b"\r\n")
 }
 
-/// Adds the lines of the fields.
 fn push_fields(text: &mut Vec<u8>, fields: &[Field]) -> Result<(), AllocError>
     ensures { OnOk result (text.new.items ≡ text.old.items ++ field_lines fields.now) }
 {
@@ -27,7 +25,6 @@ fn push_fields(text: &mut Vec<u8>, fields: &[Field]) -> Result<(), AllocError>
     Ok(())
 }
 
-/// The phrase of a status, empty where it has none.
 #[tactic(auto, unfolding(crate::specs::MessageTexts::phrase))]
 fn phrase_of(status: StatusCode) -> &'static str
     ensures { result.now ≡ phrase status }
@@ -35,7 +32,6 @@ fn phrase_of(status: StatusCode) -> &'static str
     status.canonical_reason().unwrap_or("")
 }
 
-/// Adds the status line.
 fn push_status(text: &mut Vec<u8>, status: StatusCode) -> Result<(), AllocError>
     ensures { OnOk result (text.new.items ≡ text.old.items ++ status_line status) }
 {
@@ -46,7 +42,6 @@ fn push_status(text: &mut Vec<u8>, status: StatusCode) -> Result<(), AllocError>
     text.extend_from_slice(b"\r\n")
 }
 
-/// The head of a response.
 fn head_of_response(alloc: Global, response: &Response) -> Result<Vec<u8>, AllocError>
     ensures { IfOk result (λ text. text.items ≡ response_head response.now) }
 {
@@ -57,7 +52,6 @@ fn head_of_response(alloc: Global, response: &Response) -> Result<Vec<u8>, Alloc
     Ok(text)
 }
 
-/// Adds the request line.
 fn push_request_line(text: &mut Vec<u8>, request: &CallRequest) -> Result<(), AllocError>
     ensures { OnOk result (text.new.items ≡ text.old.items ++ request_line request.now.method request.now.target) }
 {
@@ -68,7 +62,6 @@ fn push_request_line(text: &mut Vec<u8>, request: &CallRequest) -> Result<(), Al
     text.extend_from_slice(b"\r\n")
 }
 
-/// Adds the line of the host.
 fn push_host(text: &mut Vec<u8>, host: &Text) -> Result<(), AllocError>
     ensures { OnOk result (text.new.items ≡ text.old.items ++ host_line host.now) }
 {
@@ -77,7 +70,6 @@ fn push_host(text: &mut Vec<u8>, host: &Text) -> Result<(), AllocError>
     text.extend_from_slice(b"\r\n")
 }
 
-/// The head of a request.
 fn head_of_request(alloc: Global, request: &CallRequest) -> Result<Vec<u8>, AllocError>
     ensures { IfOk result (λ text. text.items ≡ request_head request.now) }
 {
@@ -89,7 +81,6 @@ fn head_of_request(alloc: Global, request: &CallRequest) -> Result<Vec<u8>, Allo
     Ok(text)
 }
 
-/// Writes a head and a body as one message and passes them on, or writes a prefix of them before a fault.
 fn write_parts<W: Sink>(sink: &mut W, head: &[u8], body: &[u8]) -> Result<(), WriteFault>
     ensures ok { OnOk result (Takes (W.stream sink.old) (W.stream sink.new) (head.now ++ body.now) × IsFlushed (W.stream sink.new)) }
     ensures part { OnErr result (TakesPart (W.stream sink.old) (W.stream sink.new) (head.now ++ body.now)) }

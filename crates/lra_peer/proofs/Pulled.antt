@@ -17,7 +17,7 @@ use Rattle.lra_http.specs.declared.message.Response.{Response}
 use Rattle.lra_http.proofs.Cuts.{final_more}
 use Rattle.lra_http.proofs.Left.{response_found}
 use Rattle.lra_http.proofs.Messages.{unique_final}
-use Rattle.lra_peer.specs.PullAnswers.{IsAnswer, IsOfStreams, IsSent, IsUnsent, StopsPull, Tells, frame_limit, pull_reads}
+use Rattle.lra_peer.specs.PullAnswers.{IsAnswer, IsOfStreams, IsSent, IsUnsent, StopsPull, Tells, max_frame_bytes, pull_reads}
 use Rattle.lra_peer.specs.declared.error.PullError.{PullError}
 use Rattle.lra_peer.specs.declared.error.PullError.TheVariants.{Fault, BadFrame}
 
@@ -45,7 +45,7 @@ told_fault Sent Well U S Q (Err fault) sent is calls = inr (sent, is, calls)
 
 -- ---- an answer
 
-is_answer : (bytes : List ℕ) (answer : Response) → IsMessage frame_limit bytes answer → IsAnswer bytes answer.status answer.body
+is_answer : (bytes : List ℕ) (answer : Response) → IsMessage max_frame_bytes bytes answer → IsAnswer bytes answer.status answer.body
 is_answer bytes answer is = record { head = is.head; whole = is.whole; status_is = sym is.status }
 
 abbrev sized : ℕ → Result ℕ HttpFault
@@ -58,18 +58,18 @@ same_front : (a b x y : List ℕ) → a ++ x ≡ b ++ y → length a ≡ length 
 same_front a b x y e len = sym (take_at a x (length b) len) ∙ ap (take (length b)) e ∙ take_at b y (length b) refl
 
 -- an input begins with one response
-one_body : (input : List ℕ) (h k : ResponseHead) (a b x y : List ℕ) → IsResponse head_room frame_limit input h a x → IsResponse head_room frame_limit input k b y
+one_body : (input : List ℕ) (h k : ResponseHead) (a b x y : List ℕ) → IsResponse head_room max_frame_bytes input h a x → IsResponse head_room max_frame_bytes input k b y
     → (h ≡ k) × (a ≡ b)
 one_body input h k a b x y one other =
     let same = unique_final head_room input h (a ++ x) k (b ++ y) one.0 other.0 in
-    let sizes : length a ≡ length b = ok_size (length a) (length b) (sym one.1 ∙ ap (stated frame_limit) same.0 ∙ other.1) in
+    let sizes : length a ≡ length b = ok_size (length a) (length b) (sym one.1 ∙ ap (stated max_frame_bytes) same.0 ∙ other.1) in
     (same.0, same_front a b x y same.1 sizes)
 
 -- a whole response stands at the start of an input
-stands_in : (input bytes rest body : List ℕ) (h : ResponseHead) → input ≡ bytes ++ rest → IsResponse head_room frame_limit bytes h body []
-    → IsResponse head_room frame_limit input h body rest
+stands_in : (input bytes rest body : List ℕ) (h : ResponseHead) → input ≡ bytes ++ rest → IsResponse head_room max_frame_bytes bytes h body []
+    → IsResponse head_room max_frame_bytes input h body rest
 stands_in input bytes rest body h split whole =
-    subst (λ (l : List ℕ). IsResponse head_room frame_limit l h body rest) (sym split) (
+    subst (λ (l : List ℕ). IsResponse head_room max_frame_bytes l h body rest) (sym split) (
       subst (λ (l : List ℕ). HasFinal head_room (bytes ++ rest) h (l ++ rest)) (append-nil body) (final_more head_room bytes (body ++ []) rest h whole.0),
       whole.1,
     )
@@ -80,7 +80,7 @@ abbrev stopped : PullError → Result Frame PullError
 stopped error = Err error
 
 refused_answer : (old new : GivenBytes) (before after : Calls) (bytes : List ℕ) (answer : Response) (error : PullError) → Gives old new bytes
-    → IsMessage frame_limit bytes answer → AllWell pull_reads 0 before after
+    → IsMessage max_frame_bytes bytes answer → AllWell pull_reads 0 before after
     → (answer.status ≢ 200 → stopped error ≡ stopped (Fault NotOffered)) → (answer.status ≡ 200 → Tells (stopped error) (frame_in answer.body))
     → (answer.status ≡ 200) ⊎ (answer.status ≢ 200) → StopsPull old new before after error
 refused_answer old new before after bytes answer (Fault fault) gives is well other told (inl ok) =
@@ -109,7 +109,7 @@ refused_answer old new before after bytes answer (BadFrame place) gives is well 
 refused_answer old new before after bytes answer (BadFrame place) gives is well other told (inr not) = absurd (let e = other not in cc)
 
 pub refused_told : (Sent : Type 0) (U : PullError → Type 0) (old new : GivenBytes) (before after : Calls) (answer : Response) (result : Result Frame PullError)
-    → Sent × GivesWhat old new (λ bytes. IsMessage frame_limit bytes answer) × AllWell pull_reads 0 before after
+    → Sent × GivesWhat old new (λ bytes. IsMessage max_frame_bytes bytes answer) × AllWell pull_reads 0 before after
     → (answer.status ≢ 200 → result ≡ Err (Fault NotOffered)) → (answer.status ≡ 200 → Tells result (frame_in answer.body))
     → IfErr result (λ error. U error ⊎ (Sent × StopsPull old new before after error))
 refused_told Sent U old new before after answer (Ok delta) (sent, (bytes, gives, is), well) other told = tt
@@ -119,7 +119,7 @@ refused_told Sent U old new before after answer (Err error) (sent, (bytes, gives
 -- ---- errors before an answer
 
 pub refused_before : (Sent : Type 0) (U : HttpFault → Type 0) (old new : GivenBytes) (before after : Calls) (fault : HttpFault)
-    → U fault ⊎ (Sent × Stops old new (Shows frame_limit) fault × OnReadFault (IsLost pull_reads 0 before after) (AllWell pull_reads 0 before after) fault)
+    → U fault ⊎ (Sent × Stops old new (Shows max_frame_bytes) fault × OnReadFault (IsLost pull_reads 0 before after) (AllWell pull_reads 0 before after) fault)
     → U fault ⊎ (Sent × StopsPull old new before after (Fault fault))
 refused_before Sent U old new before after fault (inl u) = inl u
 refused_before Sent U old new before after fault (inr (sent, stops, calls)) = inr (
@@ -145,7 +145,7 @@ abbrev IsFound : List ℕ → Result Frame PullError → Type 0
 IsFound input result =
     (bytes rest : List ℕ) (frame : Frame) → input ≡ bytes ++ rest → IsDelta frame → IsAnswer bytes 200 (spelling frame) → MatchResult result (λ delta. delta ≡ frame) IsOfStreams
 
-found_in : (left after : Option (List ℕ)) (given : List ℕ) (answer : Response) (result : Result Frame PullError) → Consumes left after given → IsMessage frame_limit given answer
+found_in : (left after : Option (List ℕ)) (given : List ℕ) (answer : Response) (result : Result Frame PullError) → Consumes left after given → IsMessage max_frame_bytes given answer
     → ((frame : Frame) → answer.status ≡ 200 → IsDelta frame → answer.body ≡ spelling frame → MatchResult result (λ delta. delta ≡ frame) (λ error. error ≡ Fault NoMemory))
     → IfSome left (λ input. IsFound input result)
 found_in None after given answer result took is only = tt
@@ -157,7 +157,7 @@ found_in (Some input) (Some more) given answer result took is only = λ bytes re
     streams_of frame result (only frame status rules same.1)
 
 pub found_told : (Sent Well : Type 0) (old new : GivenBytes) (answer : Response) (result : Result Frame PullError)
-    → Sent × GivesWhat old new (λ bytes. IsMessage frame_limit bytes answer) × Well
+    → Sent × GivesWhat old new (λ bytes. IsMessage max_frame_bytes bytes answer) × Well
     → ((frame : Frame) → answer.status ≡ 200 → IsDelta frame → answer.body ≡ spelling frame → MatchResult result (λ delta. delta ≡ frame) (λ error. error ≡ Fault NoMemory))
     → IfSome old.left (λ input. IsFound input result)
 found_told Sent Well old new answer result (sent, (given, gives, is), well) only = found_in old.left new.left given answer result gives.left is only
@@ -172,7 +172,7 @@ anywhere None P f = tt
 anywhere (Some input) P f = f input
 
 found_stopped : (left : Option (List ℕ)) (fault : HttpFault)
-    → IfSome left (λ input. (h : ResponseHead) (body rest : List ℕ) → IsResponse head_room frame_limit input h body rest → (fault ≡ ReadFault) ⊎ (fault ≡ NoMemory))
+    → IfSome left (λ input. (h : ResponseHead) (body rest : List ℕ) → IsResponse head_room max_frame_bytes input h body rest → (fault ≡ ReadFault) ⊎ (fault ≡ NoMemory))
     → IfSome left (λ input. IsFound input (stopped (Fault fault)))
 found_stopped None fault found = tt
 found_stopped (Some input) fault found = λ bytes rest frame split rules stands.
@@ -183,9 +183,9 @@ found_stopped (Some input) fault found = λ bytes rest frame split rules stands.
     settle (inr memory) = inr (inr (ap (λ (f : HttpFault). Fault f) memory))
 
 pub found_before : (Sent Came : Type 0) (taken after_taken : TakenBytes) (writes after_writes : Calls) (text : List ℕ) (unread untouched : Type 0) (old new : GivenBytes) (fault : HttpFault)
-    → IsUnsent taken after_taken writes after_writes text unread untouched fault ⊎ (Sent × Stops old new (Shows frame_limit) fault × Came)
+    → IsUnsent taken after_taken writes after_writes text unread untouched fault ⊎ (Sent × Stops old new (Shows max_frame_bytes) fault × Came)
     → IfSome old.left (λ input. IsFound input (stopped (Fault fault)))
 found_before Sent Came taken after_taken writes after_writes text unread untouched old new fault (inl u) =
     anywhere old.left _ (λ input bytes rest frame split rules stands. of_unsent taken after_taken writes after_writes text unread untouched fault u)
 found_before Sent Came taken after_taken writes after_writes text unread untouched old new fault (inr (sent, stops, calls)) =
-    found_stopped old.left fault (response_found frame_limit old new fault stops)
+    found_stopped old.left fault (response_found max_frame_bytes old new fault stops)

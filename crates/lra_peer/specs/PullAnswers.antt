@@ -7,7 +7,7 @@ use Rattle.lra_delta.specs.Rules.{IsDelta}
 use Rattle.lra_delta.specs.Spelling.{spelling}
 use Rattle.lra_delta.specs.declared.input.Stop.{Stop}
 use Rattle.lra_delta.specs.declared.input.Stop.TheVariants.{Fault as FaultAt}
-use Rattle.lra_http.specs.Heads.{most_bytes}
+use Rattle.lra_http.specs.Heads.{max_head_bytes}
 use Rattle.lra_http.specs.Responses.{IsResponse, Shows, head_room}
 use Rattle.lra_http.specs.Streams.{AllWell, Calls, FoundEnd, GivenBytes, Gives, GivesWhat, IsFlushed, IsLost, OnReadFault, TakenBytes, Takes, TakesPart}
 use Rattle.lra_http.specs.declared.fault.Fault.{Fault as HttpFault}
@@ -16,12 +16,12 @@ use Rattle.lra_peer.specs.declared.error.PullError.{PullError}
 use Rattle.lra_peer.specs.declared.error.PullError.TheVariants.{Fault, BadFrame}
 
 -- the most bytes of a frame
-abbrev pub frame_limit : ℕ
-frame_limit = 67108864
+abbrev pub max_frame_bytes : ℕ
+max_frame_bytes = 67108864
 
 -- the most reads of an answer, apart from the interrupted ones
 abbrev pub pull_reads : ℕ
-pull_reads = most_bytes + 1 + frame_limit
+pull_reads = max_head_bytes + 1 + max_frame_bytes
 
 -- ---- the request
 
@@ -44,7 +44,7 @@ IsUnsentBy old new before after text unread untouched (BadFrame place) = ⊥
 -- the bytes are a whole response with this status and this body, and no byte more
 pub record IsAnswer (bytes : List ℕ) (status : ℕ) (body : List ℕ) : Type 0 where
   pub head : ResponseHead
-  pub whole : IsResponse head_room frame_limit bytes head body []
+  pub whole : IsResponse head_room max_frame_bytes bytes head body []
   pub status_is : status_code head ≡ status
 
 -- the answer has another status than 200
@@ -63,7 +63,7 @@ IsNoFrame bytes place = (body : List ℕ) × IsAnswer bytes 200 body × (frame_i
 -- its body is no frame
 abbrev pub RefusesPull : List ℕ → PullError → Type 0
 RefusesPull bytes (Fault fault) =
-    Shows frame_limit bytes fault ⊎ (((fault ≡ NotOffered) × IsOther bytes) ⊎ ((fault ≡ NoMemory) × IsOffered bytes))
+    Shows max_frame_bytes bytes fault ⊎ (((fault ≡ NotOffered) × IsOther bytes) ⊎ ((fault ≡ NoMemory) × IsOffered bytes))
 RefusesPull bytes (BadFrame place) = IsNoFrame bytes place
 
 -- how the reads came out before an error

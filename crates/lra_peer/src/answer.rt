@@ -15,7 +15,7 @@ use lra_http::{Fault, Response};
 use std::alloc::Global;
 
 /// The most bytes of a frame, and so of an answer's body.
-pub const FRAME_LIMIT: usize = 67_108_864;
+pub const MAX_FRAME_BYTES: usize = 67_108_864;
 
 /// The delta that a response tells, whose status is to be 200.
 pub fn delta_of(alloc: Global, response: &Response) -> Result<Delta, PullError>

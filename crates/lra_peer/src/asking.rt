@@ -9,7 +9,6 @@ use lra_http::{Bytes, CallRequest, Field, Fields, Text};
 use lra_id::Front;
 use std::alloc::{AllocError, Global};
 
-/// A field.
 fn field(alloc: Global, name: &str, value: &str) -> Result<Field, AllocError>
     ensures { IfOk result (λ made. made ≡ field name.now value.now) }
 {
@@ -31,14 +30,12 @@ fn pull_fields(alloc: Global, size: usize) -> Result<Fields, AllocError>
     Ok(Fields::new(fields))
 }
 
-/// A text of a message.
 fn text(alloc: Global, text: &str) -> Result<Text, AllocError>
     ensures { IfOk result (λ made. made ≡ text.now) }
 {
     Ok(Text::new(String::from_str(alloc, text)?))
 }
 
-/// The parts of the request for what a front lacks.
 fn parts_of(alloc: Global, front: &Front) -> Result<CallRequest, AllocError>
     ensures { IfOk result (λ request. request ≡ pull_request front.now) }
 {

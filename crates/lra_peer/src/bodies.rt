@@ -58,7 +58,6 @@ fn counts_in(nodes: usize, bytes: &[u8]) -> Front
     Front::from_counts(&counts[..nodes])
 }
 
-/// Whether each number is one that counts facts: of 48 bits.
 fn are_counts(counts: &[u64]) -> bool
     ensures { result ≡ are_counts counts.now }
 {
@@ -86,7 +85,6 @@ fn front_in(nodes: usize, bytes: &[u8]) -> Result<Front, Refusal>
     Ok(front)
 }
 
-/// What a body asks of a node that counts so many nodes.
 fn asked(nodes: usize, body: &[u8]) -> Result<Front, Refusal>
     requires some { 1 ≤ nodes }
     requires few { nodes ≤ 8 }

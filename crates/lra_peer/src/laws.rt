@@ -12,7 +12,7 @@ ghost use Rattle.lra_http.specs.Requests.{IsRequest};
 ghost use Rattle.lra_http.specs.MessageTexts.{response_text};
 ghost use Rattle.lra_http.specs.WholeMessages.{IsSound};
 ghost use Rattle.lra_http.specs.declared.message.Response.{Response as TheResponse};
-ghost use Rattle.lra_peer.specs.PullAnswers.{IsAnswer, frame_limit};
+ghost use Rattle.lra_peer.specs.PullAnswers.{IsAnswer, max_frame_bytes};
 ghost use Rattle.lra_peer.specs.PullBodies.{IsAsked, asked, pull_body};
 ghost use Rattle.lra_peer.specs.Serving.{Serves};
 ghost use Rattle.lra_peer.specs.Texts.{pull_text};
@@ -42,6 +42,6 @@ pub fn a_pull_is_a_whole_request()
 /// The text of a response with status 200, whose body spells a frame and whose fields are plain and state its length, is an
 /// answer from which a pull takes that frame.
 pub fn a_written_frame_is_an_answer()
-    ensures { (r : TheResponse) (frame : Frame) → IsSound frame_limit r → r.status ≡ 200 → r.body ≡ spelling frame →
+    ensures { (r : TheResponse) (frame : Frame) → IsSound max_frame_bytes r → r.status ≡ 200 → r.body ≡ spelling frame →
         IsAnswer (response_text r) 200 (spelling frame) }
 {}

@@ -9,7 +9,7 @@ pub mod laws;
 mod pulling;
 mod serving;
 
-pub use answer::FRAME_LIMIT;
+pub use answer::MAX_FRAME_BYTES;
 pub use bodies::{front_of_pull, pull_body};
 pub use error::PullError;
 pub use pulling::pull;

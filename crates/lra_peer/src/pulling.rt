@@ -6,18 +6,17 @@ ghost use Rattle.lra_delta.specs.Spelling.{spelling};
 ghost use Rattle.lra_http.specs.Faults.{Stops};
 ghost use Rattle.lra_http.specs.Responses.{IsMessage, Shows};
 ghost use Rattle.lra_http.specs.Streams.{AllWell, GivesWhat, IsLost, OnReadFault};
-ghost use Rattle.lra_peer.specs.PullAnswers.{IsAnswer, IsOfStreams, IsSent, IsUnsent, IsUnsentBy, StopsPull, TellsDelta, frame_limit, pull_reads};
+ghost use Rattle.lra_peer.specs.PullAnswers.{IsAnswer, IsOfStreams, IsSent, IsUnsent, IsUnsentBy, StopsPull, TellsDelta, max_frame_bytes, pull_reads};
 ghost use Rattle.lra_peer.specs.Texts.{pull_text};
 
 use crate::PullError;
-use crate::answer::{FRAME_LIMIT, delta_of};
+use crate::answer::{MAX_FRAME_BYTES, delta_of};
 use crate::asking::pull_request;
 use lra_delta::Delta;
 use lra_http::{Fault, Response, Sink, Source, read_response, write_request};
 use lra_id::Front;
 use std::alloc::Global;
 
-/// Writes the request for what a front lacks, and reads the response.
 fn exchange<R: Source, W: Sink>(
     alloc: Global,
     reader: &mut R,
@@ -26,18 +25,18 @@ fn exchange<R: Source, W: Sink>(
 ) -> Result<Response, Fault>
     ensures message { IfOk result (λ response.
         IsSent (W.stream writer.old) (W.stream writer.new) (W.calls writer.old) (W.calls writer.new) (pull_text front.now)
-        × GivesWhat (R.stream reader.old) (R.stream reader.new) (λ bytes. IsMessage frame_limit bytes response)
+        × GivesWhat (R.stream reader.old) (R.stream reader.new) (λ bytes. IsMessage max_frame_bytes bytes response)
         × AllWell pull_reads 0 (R.calls reader.old) (R.calls reader.new)) }
     ensures fault { IfErr result (λ fault.
         IsUnsent (W.stream writer.old) (W.stream writer.new) (W.calls writer.old) (W.calls writer.new) (pull_text front.now)
         (reader.new ≡ reader.old) ((writer.new ≡ writer.old) × (reader.new ≡ reader.old)) fault
         ⊎ (IsSent (W.stream writer.old) (W.stream writer.new) (W.calls writer.old) (W.calls writer.new) (pull_text front.now)
-        × Stops (R.stream reader.old) (R.stream reader.new) (Shows frame_limit) fault
+        × Stops (R.stream reader.old) (R.stream reader.new) (Shows max_frame_bytes) fault
         × OnReadFault (IsLost pull_reads 0 (R.calls reader.old) (R.calls reader.new)) (AllWell pull_reads 0 (R.calls reader.old) (R.calls reader.new)) fault)) }
 {
     let request = pull_request(alloc, front)?;
     write_request(alloc, writer, &request)?;
-    read_response(alloc, reader, FRAME_LIMIT)
+    read_response(alloc, reader, MAX_FRAME_BYTES)
 }
 
 /// Asks another node for what is lacked by one that has the facts which a front counts: writes the request of a pull, and reads
