@@ -2,10 +2,9 @@
 use Rattle.std.proofs.Common.{◌≡◌, ◌∙◌, ℕ, List, [], ◌++◌, Option, Some, None, IfSome, ap, append-nil, subst, sym}
 use Rattle.std.specs.Io.KnownBytes.{Consumes, IsAtEnd}
 use Rattle.lra_http.specs.Streams.{Calls, FoundEnd, GivenBytes, TakenBytes, TakesPart}
-use Rattle.lra_world.specs.Worlds.{start}
 use Rattle.lra_script.specs.LineParts.{lines_of}
 use Rattle.lra_script.specs.ScriptEnds.{HasRun, IsPut, WritesPart}
-use Rattle.lra_script.specs.Scripts.{ScriptText}
+use Rattle.lra_script.specs.Scripts.{Plays}
 
 -- what holds of the bytes that were given, whatever follows, holds of all that were left
 of_left : (P : List ℕ → Type 0) (left after : Option (List ℕ)) (bytes : List ℕ) (Ended : Type 0) → Consumes left after bytes → (Ended → IsAtEnd after)
@@ -22,13 +21,13 @@ of_all P (Some input) (Some rest) bytes took end holds = subst P (sym (took ∙ 
 
 pub text_of_input : (nodes : ℕ) (old new : GivenBytes) (before after : TakenBytes) (reads_before reads writes_before writes : Calls)
     → HasRun nodes old new before after reads_before reads writes_before writes
-    → IfSome old.left (λ input. (out : List ℕ) × ScriptText nodes (start nodes) (lines_of input) out × IsPut before after out)
+    → IfSome old.left (λ input. (out : List ℕ) × Plays nodes (lines_of input) out × IsPut before after out)
 text_of_input nodes old new before after reads_before reads writes_before writes run =
-    of_all (λ input. (out : List ℕ) × ScriptText nodes (start nodes) (lines_of input) out × IsPut before after out) old.left new.left run.bytes
-    run.gives.left run.ended.1 (run.out, run.text, run.put)
+    of_all (λ input. (out : List ℕ) × Plays nodes (lines_of input) out × IsPut before after out) old.left new.left run.bytes
+    run.gives.left run.ended.1 (run.out, run.plays, run.put)
 
 pub part_of_input : (nodes : ℕ) (old new : GivenBytes) (before after : TakenBytes) → WritesPart nodes old new before after
-    → IfSome old.left (λ input. (out : List ℕ) × ScriptText nodes (start nodes) (lines_of input) out × TakesPart before after out)
+    → IfSome old.left (λ input. (out : List ℕ) × Plays nodes (lines_of input) out × TakesPart before after out)
 part_of_input nodes old new before after (bytes, gives, part) =
-    of_left (λ input. (out : List ℕ) × ScriptText nodes (start nodes) (lines_of input) out × TakesPart before after out) old.left new.left bytes (FoundEnd new)
+    of_left (λ input. (out : List ℕ) × Plays nodes (lines_of input) out × TakesPart before after out) old.left new.left bytes (FoundEnd new)
     gives.left (λ ended. ended.1) part

@@ -5,6 +5,7 @@ mod KnownInputs
 mod LineReadings
 mod MemberWords
 mod OneAskALine
+mod OneRun
 mod OneTextAScript
 mod Runs
 mod Splits

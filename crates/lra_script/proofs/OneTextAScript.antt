@@ -88,18 +88,27 @@ line_once nodes s (b ∷ bs) a x t u few (inr done) (inl (bad, is, stays)) = abs
 line_once nodes s (b ∷ bs) a x t u few (inr (ask, short, spells, does)) (inr (other, brief, spell, shown)) =
     asked_once s ask other a x t u (one_ask nodes (b ∷ bs) ask other few spells spell) does shown
 
-pub text_once : (nodes : ℕ) (s : State) (lines : List (List ℕ)) (a x : List ℕ) → nodes ≤ 8 → TextInRoom nodes s lines a → TextInRoom nodes s lines x → a ≡ x
-text_once nodes s [] a x few h k = h ∙ sym k
-text_once nodes s (line ∷ lines) a x few (first, rest, t, is, answers, more) (other, others, u, also, answer, further) =
+pub text_once : (nodes : ℕ) (s : State) (lines : List (List ℕ)) (a x : List ℕ) (states passed : List State) → nodes ≤ 8
+    → TextInRoom nodes s lines a states → TextInRoom nodes s lines x passed → (a ≡ x) × (states ≡ passed)
+text_once nodes s [] a x [] [] few h k = (h ∙ sym k, refl)
+text_once nodes s [] a x (t ∷ states) passed few h k = absurd h
+text_once nodes s [] a x [] (u ∷ passed) few h k = absurd k
+text_once nodes s (line ∷ lines) a x [] passed few h k = absurd h
+text_once nodes s (line ∷ lines) a x (t ∷ states) [] few h k = absurd k
+text_once nodes s (line ∷ lines) a x (t ∷ states) (u ∷ passed) few (first, rest, is, answers, more) (other, others, also, answer, further) =
     let one = line_once nodes s line first other t u few answers answer in
-    let same = text_once nodes t lines rest others few more (subst (λ (v : State). TextInRoom nodes v lines others) (sym one.1) further) in
-    is ∙ ap (λ (l : List ℕ). l ++ rest) one.0 ∙ ap (λ (l : List ℕ). other ++ l) same ∙ sym also
+    let same = text_once nodes t lines rest others states passed few more (subst (λ (v : State). TextInRoom nodes v lines others passed) (sym one.1) further) in (
+      is ∙ ap (λ (l : List ℕ). l ++ rest) one.0 ∙ ap (λ (l : List ℕ). other ++ l) same.0 ∙ sym also,
+      ap (λ (v : State). v ∷ states) one.1 ∙ ap (λ (l : List State). u ∷ l) same.1,
+    )
 
 in_room : (nodes : ℕ) (s : State) (line a : List ℕ) (t : State) → AnswersInRoom nodes s line a t → Answers nodes s line a t
 in_room nodes s [] a t h = h
 in_room nodes s (b ∷ bs) a t h = inr h
 
 -- it is a text of the script
-pub text_is_one : (nodes : ℕ) (s : State) (lines : List (List ℕ)) (a : List ℕ) → TextInRoom nodes s lines a → ScriptText nodes s lines a
-text_is_one nodes s [] a h = h
-text_is_one nodes s (line ∷ lines) a (first, rest, t, is, answers, more) = (first, rest, t, is, in_room nodes s line first t answers, text_is_one nodes t lines rest more)
+pub text_is_one : (nodes : ℕ) (s : State) (lines : List (List ℕ)) (a : List ℕ) (states : List State) → TextInRoom nodes s lines a states → ScriptText nodes s lines a states
+text_is_one nodes s [] a [] h = h
+text_is_one nodes s [] a (t ∷ states) h = absurd h
+text_is_one nodes s (line ∷ lines) a [] h = absurd h
+text_is_one nodes s (line ∷ lines) a (t ∷ states) (first, rest, is, answers, more) = (first, rest, is, in_room nodes s line first t answers, text_is_one nodes t lines rest states more)

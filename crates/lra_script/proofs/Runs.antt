@@ -8,15 +8,15 @@ use Rattle.lra_script.specs.LineParts.{HasNone, lines_of}
 use Rattle.lra_world.specs.Machines.{IsWorldOf, Machine}
 use Rattle.lra_world.specs.Worlds.{State, nodes_of, start as beginning}
 use Rattle.lra_script.specs.ScriptEnds.{AnswersWhole, HasRun, IsPut, ReadsLine, ReadsPart, WentWell, WritesPart}
-use Rattle.lra_script.specs.Scripts.{refused, Answers, Prints, ScriptText}
+use Rattle.lra_script.specs.Scripts.{refused, Answers, Prints}
+use Rattle.lra_script.proofs.OneRun.{HasText, answers_keep, plays}
 use Rattle.lra_script.proofs.Splits.{parts_whole, parts_last}
-use Rattle.lra_script.proofs.Steps.{answers_keep}
 
 -- any lines have a text: each may meet want of memory
-pub some_text : (n : ℕ) (s : State) (lines : List (List ℕ)) → (out : List ℕ) × ScriptText n s lines out
-some_text n s [] = ([], refl)
-some_text n s ([] ∷ lines) = let r = some_text n s lines in (r.0, ([], r.0, s, refl, (refl, refl), r.1))
-some_text n s ((b ∷ bs) ∷ lines) = let r = some_text n s lines in (refused NoMemory ++ r.0, (refused NoMemory, r.0, s, refl, inl (refl, refl), r.1))
+pub some_text : (n : ℕ) (s : State) (lines : List (List ℕ)) → (out : List ℕ) × HasText n s lines out
+some_text n s [] = ([], ([], refl))
+some_text n s ([] ∷ lines) = let r = some_text n s lines in (r.0, (s ∷ r.1.0, ([], r.0, refl, (refl, refl), r.1.1)))
+some_text n s ((b ∷ bs) ∷ lines) = let r = some_text n s lines in (refused NoMemory ++ r.0, (s ∷ r.1.0, (refused NoMemory, r.0, refl, inl (refl, refl), r.1.1)))
 
 -- a line that is too long answers as its kept part does
 long_answers : (n : ℕ) (s : State) (kept line out : List ℕ) (t : State) → 4096 < length kept → 4096 < length line → Answers n s kept out t → Answers n s line out t
@@ -37,18 +37,18 @@ kept_answers n s kept line out t e h = elim (at_most_or_more (length line) 4097)
 
 -- from state s on more lines can be answered behind these, which were answered so
 abbrev pub GoesOn : ℕ → State → List (List ℕ) → List ℕ → Type 0
-GoesOn n s whole out = (lines : List (List ℕ)) (tail : List ℕ) → ScriptText n s lines tail → ScriptText n (beginning n) (whole ++ lines) (out ++ tail)
+GoesOn n s whole out = (lines : List (List ℕ)) (tail : List ℕ) → HasText n s lines tail → HasText n (beginning n) (whole ++ lines) (out ++ tail)
 
 -- a text of a line and of those after it
 text_on : (n : ℕ) (s t : State) (kept line : List ℕ) (lines : List (List ℕ)) (first tail : List ℕ) → kept ≡ take 4097 line
-    → Answers n s kept first t → ScriptText n t lines tail → ScriptText n s (line ∷ lines) (first ++ tail)
-text_on n s t kept line lines first tail is answers h = (first, tail, t, refl, kept_answers n s kept line first t is answers, h)
+    → Answers n s kept first t → HasText n t lines tail → HasText n s (line ∷ lines) (first ++ tail)
+text_on n s t kept line lines first tail is answers h = (t ∷ h.0, (first, tail, refl, kept_answers n s kept line first t is answers, h.1))
 
 goes_on : (n : ℕ) (s t : State) (kept line : List ℕ) (whole : List (List ℕ)) (out first : List ℕ) → GoesOn n s whole out → kept ≡ take 4097 line
     → Answers n s kept first t → GoesOn n t (whole ++ line ∷ []) (out ++ first)
 goes_on n s t kept line whole out first goes is answers = λ lines tail h.
-    let P : List (List ℕ) → Type 0 = λ l. ScriptText n (beginning n) l ((out ++ first) ++ tail) in
-    let Q : List ℕ → Type 0 = λ l. ScriptText n (beginning n) (whole ++ (line ∷ lines)) l in
+    let P : List (List ℕ) → Type 0 = λ l. HasText n (beginning n) l ((out ++ first) ++ tail) in
+    let Q : List ℕ → Type 0 = λ l. HasText n (beginning n) (whole ++ (line ∷ lines)) l in
     subst P (sym (append_assoc whole (line ∷ []) lines))
     (subst Q (sym (append_assoc out first tail)) (goes (line ∷ lines) (first ++ tail) (text_on n s t kept line lines first tail is answers h)))
 
@@ -122,11 +122,11 @@ running_line n s t kept first now next old mid new r (bytes, gave, (line, is, no
 
 -- the text of the last line
 text_end : (n : ℕ) (s t : State) (kept line text out given : List ℕ) (whole : List (List ℕ)) → GoesOn n s whole out → kept ≡ take 4097 line → Answers n s kept text t
-    → lines_of (given ++ line) ≡ whole ++ line ∷ [] → ScriptText n (beginning n) (lines_of (given ++ line)) (out ++ text)
+    → lines_of (given ++ line) ≡ whole ++ line ∷ [] → HasText n (beginning n) (lines_of (given ++ line)) (out ++ text)
 text_end n s t kept line text out given whole goes is answers lines =
-    let P : List (List ℕ) → Type 0 = λ l. ScriptText n (beginning n) l (out ++ text) in
-    let Q : List ℕ → Type 0 = λ l. ScriptText n (beginning n) (whole ++ line ∷ []) (out ++ l) in
-    subst P (sym lines) (subst Q (append-nil text) (goes (line ∷ []) (text ++ []) (text_on n s t kept line [] text [] is answers refl)))
+    let P : List (List ℕ) → Type 0 = λ l. HasText n (beginning n) l (out ++ text) in
+    let Q : List ℕ → Type 0 = λ l. HasText n (beginning n) (whole ++ line ∷ []) (out ++ l) in
+    subst P (sym lines) (subst Q (append-nil text) (goes (line ∷ []) (text ++ []) (text_on n s t kept line [] text [] is answers ([], refl))))
 
 -- a part of what comes after out
 part_on : (old mid new : TakenBytes) (out text tail : List ℕ) → Takes old mid out → TakesPart mid new text → TakesPart old new ((out ++ text) ++ tail)
@@ -140,53 +140,56 @@ part_on old mid new out text tail grew (front, rest, is, wrote) = (
 )
 
 -- a line that a line feed ended: its text goes on, whatever follows
-part_more : (n : ℕ) (s t : State) (kept : List ℕ) (first now next : GivenBytes) (old mid new : TakenBytes) → IsRunning n s first now old mid
+part_more : (n : ℕ) → 1 ≤ n → (s t : State) (kept : List ℕ) (first now next : GivenBytes) (old mid new : TakenBytes) → IsRunning n s first now old mid
     → ReadsLine true kept now next → Leaves n s kept t (TakesPart mid new) → WritesPart n first next old new
-part_more n s t kept first now next old mid new r (bytes, gave, (line, is, none, split)) (text, answers, part) = (
+part_more n some s t kept first now next old mid new r (bytes, gave, (line, is, none, split)) (text, answers, part) = (
   r.given ++ (line ++ 10 ∷ []),
   gives_more first now next r.given (line ++ 10 ∷ []) r.gives (subst (λ (l : List ℕ). Gives now next l) split gave),
   λ more _.
       let tail = some_text n t (lines_of more) in
-      let P : List (List ℕ) → Type 0 = λ l. ScriptText n (beginning n) l ((r.out ++ text) ++ tail.0) in (
+      let P : List (List ℕ) → Type 0 = λ l. HasText n (beginning n) l ((r.out ++ text) ++ tail.0) in (
         (r.out ++ text) ++ tail.0,
-        subst P (sym (line_more r.given line r.whole r.lines none more)) (goes_on n s t kept line r.whole r.out text r.goes is answers (lines_of more) tail.0 tail.1),
+        plays n (lines_of ((r.given ++ (line ++ 10 ∷ [])) ++ more)) ((r.out ++ text) ++ tail.0) some
+            (subst P (sym (line_more r.given line r.whole r.lines none more)) (goes_on n s t kept line r.whole r.out text r.goes is answers (lines_of more) tail.0 tail.1)),
         part_on old mid new r.out text tail.0 r.takes part,
       ),
 )
 
 -- the last line: nothing follows
-part_last : (n : ℕ) (s t : State) (kept : List ℕ) (first now next : GivenBytes) (old mid new : TakenBytes) → IsRunning n s first now old mid
+part_last : (n : ℕ) → 1 ≤ n → (s t : State) (kept : List ℕ) (first now next : GivenBytes) (old mid new : TakenBytes) → IsRunning n s first now old mid
     → ReadsLine false kept now next → Leaves n s kept t (TakesPart mid new) → WritesPart n first next old new
-part_last n s t kept first now next old mid new r ((line, gave, (is, none)), ended) (text, answers, part) = (
+part_last n some s t kept first now next old mid new r ((line, gave, (is, none)), ended) (text, answers, part) = (
   r.given ++ line,
   gives_more first now next r.given line r.gives gave,
   λ more nothing.
-      let P : List ℕ → Type 0 = λ l. ScriptText n (beginning n) (lines_of l) (r.out ++ text) in
+      let P : List ℕ → Type 0 = λ l. HasText n (beginning n) (lines_of l) (r.out ++ text) in
       let same : r.given ++ line ≡ (r.given ++ line) ++ more = sym (append-nil (r.given ++ line)) ∙ ap (λ (l : List ℕ). (r.given ++ line) ++ l) (sym (nothing ended)) in
       let Q : List ℕ → Type 0 = λ l. TakesPart old new l in (
         r.out ++ text,
-        subst P same (text_end n s t kept line text r.out r.given r.whole r.goes is answers (line_last r.given line r.whole r.lines none)),
+        plays n (lines_of ((r.given ++ line) ++ more)) (r.out ++ text) some
+            (subst P same (text_end n s t kept line text r.out r.given r.whole r.goes is answers (line_last r.given line r.whole r.lines none))),
         subst Q (append-nil (r.out ++ text)) (part_on old mid new r.out text [] r.takes part),
       ),
 )
 
 -- a read broke off in mid-line
-part_fault : (n : ℕ) (s : State) (first now next : GivenBytes) (old new : TakenBytes) → IsRunning n s first now old new → ReadsPart now next → WritesPart n first next old new
-part_fault n s first now next old new r (part, gave, none) = (
+part_fault : (n : ℕ) → 1 ≤ n → (s : State) (first now next : GivenBytes) (old new : TakenBytes) → IsRunning n s first now old new → ReadsPart now next → WritesPart n first next old new
+part_fault n some s first now next old new r (part, gave, none) = (
   r.given ++ part,
   gives_more first now next r.given part r.gives gave,
   λ more _.
       let tail = some_text n s (lines_of (part ++ more)) in
-      let P : List (List ℕ) → Type 0 = λ l. ScriptText n (beginning n) l (r.out ++ tail.0) in (
+      let P : List (List ℕ) → Type 0 = λ l. HasText n (beginning n) l (r.out ++ tail.0) in (
         r.out ++ tail.0,
-        subst P (sym (ap lines_of (append_assoc r.given part more) ∙ r.lines (part ++ more))) (r.goes (lines_of (part ++ more)) tail.0 tail.1),
+        plays n (lines_of ((r.given ++ part) ++ more)) (r.out ++ tail.0) some
+            (subst P (sym (ap lines_of (append_assoc r.given part more) ∙ r.lines (part ++ more))) (r.goes (lines_of (part ++ more)) tail.0 tail.1)),
         (r.out, tail.0, refl, r.takes),
       ),
 )
 
 -- and all lines before it are answered
-whole_fault : (n : ℕ) (s : State) (first now next : GivenBytes) (old new : TakenBytes) → IsRunning n s first now old new → ReadsPart now next → AnswersWhole n first next old new
-whole_fault n s first now next old new r (part, gave, none) = (
+whole_fault : (n : ℕ) → 1 ≤ n → (s : State) (first now next : GivenBytes) (old new : TakenBytes) → IsRunning n s first now old new → ReadsPart now next → AnswersWhole n first next old new
+whole_fault n some s first now next old new r (part, gave, none) = (
   r.given ++ part,
   gives_more first now next r.given part r.gives gave,
   (
@@ -195,9 +198,9 @@ whole_fault n s first now next old new r (part, gave, none) = (
     r.whole,
     line_last r.given part r.whole r.lines none,
     (
-        let P : List (List ℕ) → Type 0 = λ l. ScriptText n (beginning n) l r.out in
-        let Q : List ℕ → Type 0 = λ l. ScriptText n (beginning n) (r.whole ++ []) l in
-        subst P (append-nil r.whole) (subst Q (append-nil r.out) (r.goes [] [] refl))
+        let P : List (List ℕ) → Type 0 = λ l. HasText n (beginning n) l r.out in
+        let Q : List ℕ → Type 0 = λ l. HasText n (beginning n) (r.whole ++ []) l in
+        plays n r.whole r.out some (subst P (append-nil r.whole) (subst Q (append-nil r.out) (r.goes [] [] ([], refl))))
         ),
     r.takes,
     r.flushed,
@@ -208,6 +211,7 @@ whole_fault n s first now next old new r (part, gave, none) = (
 
 -- so many lines were given whole and answered, and the world stands for the state that they left
 pub record Runs (n : ℕ) (world : Machine) (first now : GivenBytes) (old new : TakenBytes) (reads_before reads writes_before writes : Calls) : Type 0 where
+  pub some : 1 ≤ n
   pub state : State
   pub stands : IsWorldOf state world
   pub nodes : nodes_of state ≡ n
@@ -224,10 +228,11 @@ runs_nodes n world first now old new rb r wb w run = run.stands.nodes ∙ run.no
 abbrev pub PrintsIn : ℕ → (before after : Machine) → List ℕ → (List ℕ → Type 0) → Type 0
 PrintsIn n before after kept was_written = (s : State) → IsWorldOf s before → Prints n s kept after was_written
 
-pub runs_start : (n : ℕ) (world : Machine) (first : GivenBytes) (old : TakenBytes) (rb wb : Calls) → IsWorldOf (beginning n) world
+pub runs_start : (n : ℕ) (world : Machine) (first : GivenBytes) (old : TakenBytes) (rb wb : Calls) → 1 ≤ n → IsWorldOf (beginning n) world
     → Runs n world first first old old rb rb wb wb
 unfolding running_start
-runs_start n world first old rb wb stands = record {
+runs_start n world first old rb wb some stands = record {
+  some = some;
   state = beginning n;
   stands = stands;
   nodes = length-replicate n [];
@@ -237,8 +242,8 @@ runs_start n world first old rb wb stands = record {
 }
 
 -- nothing was given or written
-pub part_none : (n : ℕ) (first : GivenBytes) (old : TakenBytes) → WritesPart n first first old old
-part_none n first old = part_fault n (beginning n) first first first old old (running_start n first old) ([], gives_none first, tt)
+pub part_none : (n : ℕ) → 1 ≤ n → (first : GivenBytes) (old : TakenBytes) → WritesPart n first first old old
+part_none n some first old = part_fault n some (beginning n) first first first old old (running_start n first old) ([], gives_none first, tt)
 
 one_more : (whole : List (List ℕ)) (line : List ℕ) (before mid after : Calls) → WentWell (length whole) before mid → WentWell 1 mid after → WentWell (length (whole ++ line ∷ [])) before after
 one_more whole line before mid after p q =
@@ -251,9 +256,10 @@ unfolding running_line
 runs_line n before after kept first now next old mid new rb rm r wb wm w run read reads prints writes =
     let p = prints run.state run.stands in
     record {
+      some = run.some;
       state = p.1.0;
       stands = p.1.2;
-      nodes = answers_keep n run.state kept p.0 p.1.0 run.stands.world p.1.1 ∙ run.nodes;
+      nodes = answers_keep n run.state kept p.0 p.1.0 run.stands.world run.nodes p.1.1;
       running = running_line n run.state p.1.0 kept first now next old mid new run.running read (p.0, p.1.1, p.2);
       reads_well = one_more run.running.whole read.2.0 rb rm r run.reads_well reads;
       writes_well = one_more run.running.whole read.2.0 wb wm w run.writes_well writes;
@@ -277,7 +283,8 @@ runs_end n before after kept first now next old mid new rb rm r wb wm w run ((li
       gives = gives_more first now next run_so.given line run_so.gives gave;
       ended = ended;
       out = run_so.out ++ p.0;
-      text = text_end n run.state p.1.0 kept line p.0 run_so.out run_so.given run_so.whole run_so.goes is p.1.1 lines;
+      plays = plays n (lines_of (run_so.given ++ line)) (run_so.out ++ p.0) run.some
+          (text_end n run.state p.1.0 kept line p.0 run_so.out run_so.given run_so.whole run_so.goes is p.1.1 lines);
       put = (takes_more old mid new run_so.out p.0 run_so.takes p.2.0, p.2.1);
       reads_well = last_well run_so.given line run_so.whole rb rm r lines run.reads_well reads;
       writes_well = last_well run_so.given line run_so.whole wb wm w lines run.writes_well writes;
@@ -287,15 +294,15 @@ pub runs_part : (n : ℕ) (before after : Machine) (more : Bool) (kept : List �
     → Runs n before first now old mid rb rm wb wm → ReadsLine more kept now next → PrintsIn n before after kept (TakesPart mid new) → WritesPart n first next old new
 runs_part n before after true kept first now next old mid new rb rm wb wm run read prints =
     let p = prints run.state run.stands in
-    part_more n run.state p.1.0 kept first now next old mid new run.running read (p.0, p.1.1, p.2)
+    part_more n run.some run.state p.1.0 kept first now next old mid new run.running read (p.0, p.1.1, p.2)
 runs_part n before after false kept first now next old mid new rb rm wb wm run read prints =
     let p = prints run.state run.stands in
-    part_last n run.state p.1.0 kept first now next old mid new run.running read (p.0, p.1.1, p.2)
+    part_last n run.some run.state p.1.0 kept first now next old mid new run.running read (p.0, p.1.1, p.2)
 
 pub runs_fault : (n : ℕ) (world : Machine) (first now next : GivenBytes) (old new : TakenBytes) (rb r wb w : Calls) → Runs n world first now old new rb r wb w
     → ReadsPart now next → WritesPart n first next old new
-runs_fault n world first now next old new rb r wb w run cut = part_fault n run.state first now next old new run.running cut
+runs_fault n world first now next old new rb r wb w run cut = part_fault n run.some run.state first now next old new run.running cut
 
 pub runs_whole : (n : ℕ) (world : Machine) (first now next : GivenBytes) (old new : TakenBytes) (rb r wb w : Calls) → Runs n world first now old new rb r wb w
     → ReadsPart now next → AnswersWhole n first next old new
-runs_whole n world first now next old new rb r wb w run cut = whole_fault n run.state first now next old new run.running cut
+runs_whole n world first now next old new rb r wb w run cut = whole_fault n run.some run.state first now next old new run.running cut

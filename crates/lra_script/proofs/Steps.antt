@@ -1,6 +1,6 @@
 -- What comes of what a line asks.
-use Rattle.std.proofs.Common.{◌≡◌, ◌≤◌, ◌-◌, ◌==◌, ◌&&◌, inl, inr, ℕ, List, [], ◌∷◌, Bool, true, false, Option, None, Some, cond, refl, sym, ap, subst, ◌∙◌, arith, length, nat_le, slice_get}
-use Rattle.std.specs.Prelude.{IfSome, Result, Ok, Err, unwrap_or, option_map}
+use Rattle.std.proofs.Common.{◌≡◌, ◌≤◌, ◌-◌, ◌==◌, ◌&&◌, inl, inr, ℕ, List, Bool, true, false, Option, None, Some, cond, refl, sym, ap, subst, ◌∙◌, arith, length, nat_le, slice_get}
+use Rattle.std.specs.Prelude.{IfSome, unwrap_or, option_map}
 use Rattle.std.proofs.lemmas.Bool.Decides.{nat_tests}
 use Rattle.std.proofs.lemmas.Option.{slice_get_within}
 use Rattle.lra_facts.specs.declared.fact.Fact.{Fact}
@@ -11,30 +11,20 @@ use Rattle.lra_history.specs.declared.command.Command.{Command}
 use Rattle.lra_history.specs.declared.command.Command.TheVariants.{Begin, Join, Leave, Decide, Report, Forgot, Purge}
 use Rattle.lra_history.specs.declared.command.CommandReply.{CommandReply}
 use Rattle.lra_history.specs.declared.command.CommandReply.TheVariants.{Began, Joined, Left, Decided, Reported, Known, Forgotten, Purged, Refused as NotEntered}
-use Rattle.lra_history.specs.NodeViews.{entry_for}
 use Rattle.lra_replica.specs.Replicas.{ReplicaState, view_of}
 use Rattle.lra_history.specs.Replies.{Judgement, Denied, AlreadyKnown, Accepted, accepted, judge, reply_by}
 use Rattle.lra_history.specs.Views.{View}
-use Rattle.lra_history.proofs.OneMoreEntry.{length_with}
 use Rattle.lra_history.proofs.ClosedSets.{closed_settled}
 use Rattle.lra_world.specs.declared.event.Event.{Event}
 use Rattle.lra_world.specs.declared.event.Event.TheVariants.{Act as ActEvent, Deliver as DeliverEvent, Restart as RestartEvent, Send as SendEvent, Tick as TickEvent}
 use Rattle.lra_world.specs.declared.event.Reply.{Reply}
 use Rattle.lra_world.specs.declared.event.Reply.TheVariants.{Answered}
 use Rattle.lra_world.specs.Machines.{Happens, IsWorldOf, Machine}
-use Rattle.lra_world.specs.Worlds.{Acts, Comes, Expires, IfNode, IsSpelled, IsViewOf, IsWorld, SentFrame, Sends, State, Steps, Takes, Ticks, after_command, expired, frame_at, front_of, if_taken, is_node, nodes_of, reply_at, set_of, with_command}
+use Rattle.lra_world.specs.Worlds.{Acts, Comes, Expires, IfNode, IsSpelled, IsViewOf, SentFrame, Sends, State, Steps, Takes, Ticks, after_command, expired, frame_at, front_of, if_taken, is_node, nodes_of, reply_at, set_of, with_command}
 use Rattle.lra_world.proofs.Agreeing.{same_view}
 use Rattle.lra_world.proofs.OneReplicaChanged.{get_some}
-use Rattle.lra_world.proofs.Moving.{step_keeps}
-use Rattle.lra_states.specs.declared.outcome.Act.{Act}
-use Rattle.lra_callback.specs.declared.answer.Answer.{Answer}
-use Rattle.lra_callback.specs.declared.answer.Kind.{Kind}
-use Rattle.lra_callback.specs.Answers.{heard_of}
-use Rattle.lra_script.specs.declared.ask.Ask.{Ask}
-use Rattle.lra_script.specs.declared.ask.Ask.TheVariants.{Enter, Tick, Send, Deliver, Restart, Show, Member, Duties, Hear, Front, Same, Text, Read}
 use Rattle.lra_script.specs.Asks.{IsNodeOf}
-use Rattle.lra_script.specs.CallLines.{act_asked, command_of}
-use Rattle.lra_script.specs.Scripts.{Answers, Does, IsNothing, IsRefusal, PrintsReply, TellsSame, after_answer, after_heard}
+use Rattle.lra_script.specs.Scripts.{IsNothing, IsRefusal, TellsSame}
 use Rattle.lra_script.specs.NodeHoldings.{Holds, IsWholeOf}
 
 -- Nothing happened
@@ -160,49 +150,3 @@ whole_coming s m number count w e = by (number == 0) e
         → IfSome (cond b None (slice_get s.sent (number - 1))) (λ frame. (bytes : List ℕ) × IsSpelled s.history frame bytes × (count ≡ length bytes))
     by true e = tt
     by false e = at (slice_get s.sent (number - 1)) refl e
-
--- As many nodes as there were
-
-steps_keep : (s t : State) (event : Event) (out : List ℕ) → IsWorld s → PrintsReply s event out t → nodes_of t ≡ nodes_of s
-steps_keep s t event out w (reply, steps, is) = (step_keeps s t event reply w steps).grown.nodes
-
-stays_keep : (s t : State) → t ≡ s → nodes_of t ≡ nodes_of s
-stays_keep s t e = ap (λ (u : State). nodes_of u) e
-
-command_keeps : (s : State) (node : ℕ) (c : Command) → nodes_of (after_command s node c) ≡ nodes_of s
-command_keeps s node c = by (judge (set_of s node) (front_of s node) node c)
-  where
-    by : (j : Judgement) → nodes_of (if_taken j s (with_command s node c)) ≡ nodes_of s
-    by (Denied r) = refl
-    by AlreadyKnown = refl
-    by Accepted = length_with s.history node (entry_for s.history (front_of s node) c)
-
-heard_keeps : (s : State) (node : ℕ) (c : Option Command) → nodes_of (after_heard s node c) ≡ nodes_of s
-heard_keeps s node None = refl
-heard_keeps s node (Some c) = command_keeps s node c
-
-answer_keeps : (s : State) (node : ℕ) (id : Id) (m : ℕ) (kind : Kind) (answer : Answer) (act : Result Act Refusal) → nodes_of (after_answer s node id m kind answer act) ≡ nodes_of s
-answer_keeps s node id m kind answer (Err r) = refl
-answer_keeps s node id m kind answer (Ok act) = heard_keeps s node (command_of id m act (heard_of act kind answer))
-
-does_keep : (s t : State) (ask : Ask) (out : List ℕ) → IsWorld s → Does s ask out t → nodes_of t ≡ nodes_of s
-does_keep s t (Enter node command) out w h = steps_keep s t (ActEvent node command) out w h
-does_keep s t (Tick node now) out w h = steps_keep s t (TickEvent node now) out w h
-does_keep s t (Send node base) out w h = steps_keep s t (SendEvent node base) out w h
-does_keep s t (Deliver frame node kept) out w (count, coming, prints) = steps_keep s t (DeliverEvent frame node count) out w prints
-does_keep s t (Restart node) out w h = steps_keep s t (RestartEvent node) out w h
-does_keep s t (Show node id) out w h = stays_keep s t h.1
-does_keep s t (Member node id m) out w h = stays_keep s t h.1
-does_keep s t (Duties node) out w (duties, all, is, same) = stays_keep s t same
-does_keep s t (Hear node id m kind answer) out w h =
-    ap (λ (u : State). nodes_of u) h.1 ∙ answer_keeps s node id m kind answer (act_asked (set_of s node) (front_of s node) kind id m)
-does_keep s t (Front node) out w h = stays_keep s t h.1
-does_keep s t (Same node other) out w h = stays_keep s t h.1
-does_keep s t (Text id) out w h = stays_keep s t h.1
-does_keep s t (Read id) out w h = stays_keep s t h.1
-
-pub answers_keep : (n : ℕ) (s : State) (line out : List ℕ) (t : State) → IsWorld s → Answers n s line out t → nodes_of t ≡ nodes_of s
-answers_keep n s [] out t w h = stays_keep s t h.1
-answers_keep n s (b ∷ bs) out t w (inl h) = stays_keep s t h.1
-answers_keep n s (b ∷ bs) out t w (inr (inl h)) = stays_keep s t h.2
-answers_keep n s (b ∷ bs) out t w (inr (inr (ask, short, spells, does))) = does_keep s t ask out w does

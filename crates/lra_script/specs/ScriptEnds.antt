@@ -1,11 +1,10 @@
 -- How a script ends: what it was given, what it has written of it, and how the calls came out.
 use Rattle.std.specs.Prelude.{◌≡◌, ℕ, ◌+◌, ◌-◌, ◌*◌, ◌^◌, ◌≤◌, ◌⊎◌, List, [], ◌∷◌, ◌++◌, length, take, Bool, true, false, Result, MatchResult}
-use Rattle.lra_http.specs.Streams.{Calls, FoundEnd, GivenBytes, Gives, GivesWhat, HasCause, IsFlushed, TakenBytes, Takes, TakesPart, most_interrupted}
-use Rattle.lra_world.specs.Worlds.{start}
+use Rattle.lra_http.specs.Streams.{Calls, FoundEnd, GivenBytes, Gives, GivesWhat, HasCause, IsFlushed, TakenBytes, Takes, TakesPart, too_many_interrupted}
 use Rattle.lra_script.specs.declared.course.ScriptFault.{ScriptFault}
 use Rattle.lra_script.specs.declared.course.ScriptFault.TheVariants.{Read, Write, NoMemory}
 use Rattle.lra_script.specs.LineParts.{HasNone, lines_of}
-use Rattle.lra_script.specs.Scripts.{ScriptText, most_in_line}
+use Rattle.lra_script.specs.Scripts.{Plays, max_line_bytes}
 
 -- ---- calls
 
@@ -13,7 +12,7 @@ use Rattle.lra_script.specs.Scripts.{ScriptText, most_in_line}
 pub record WentWell (lines : ℕ) (before after : Calls) : Type 0 where
   pub none_failed : after.failed ≡ before.failed
   pub counted : before.interrupted ≤ after.interrupted
-  pub few : after.interrupted ≤ before.interrupted + (most_interrupted - 1) * lines
+  pub few : after.interrupted ≤ before.interrupted + (too_many_interrupted - 1) * lines
 
 -- how the calls of one line came out: a fault has its cause
 abbrev pub LineCalls : {A E : Type 0} → Calls → Calls → Result A E → Type 0
@@ -28,16 +27,16 @@ LineReads before after reads_left result =
 abbrev pub IsStopped : Calls → Calls → Type 0
 IsStopped before after =
     ((after.failed ≡ before.failed + 1) × (after.last_failed ≡ 1))
-    ⊎ ((after.failed ≡ before.failed) × (before.interrupted + most_interrupted ≤ after.interrupted))
+    ⊎ ((after.failed ≡ before.failed) × (before.interrupted + too_many_interrupted ≤ after.interrupted))
 
 -- so many bytes are read at most
-abbrev pub most_reads : ℕ
-most_reads = 2 ^ 64 - 1
+abbrev pub max_reads : ℕ
+max_reads = 2 ^ 64 - 1
 
 -- the cause of each fault of a script: of the other side no call failed, and where there was no memory none was made
 abbrev pub HasStopped : (reads_before reads writes_before writes : Calls) → (untouched : Type 0) → ScriptFault → Type 0
 HasStopped reads_before reads writes_before writes untouched Read =
-    (IsStopped reads_before reads ⊎ ((reads.failed ≡ reads_before.failed) × (reads_before.made + most_reads ≤ reads.made)))
+    (IsStopped reads_before reads ⊎ ((reads.failed ≡ reads_before.failed) × (reads_before.made + max_reads ≤ reads.made)))
     × (writes.failed ≡ writes_before.failed)
 HasStopped reads_before reads writes_before writes untouched Write =
     IsStopped writes_before writes × (reads.failed ≡ reads_before.failed)
@@ -49,9 +48,9 @@ HasStopped reads_before reads writes_before writes untouched NoMemory = untouche
 -- end of the input.
 abbrev pub ReadsLine : Bool → List ℕ → GivenBytes → GivenBytes → Type 0
 ReadsLine true kept old new =
-    GivesWhat old new (λ bytes. (line : List ℕ) × (kept ≡ take (most_in_line + 1) line) × HasNone 10 line × (bytes ≡ line ++ 10 ∷ []))
+    GivesWhat old new (λ bytes. (line : List ℕ) × (kept ≡ take (max_line_bytes + 1) line) × HasNone 10 line × (bytes ≡ line ++ 10 ∷ []))
 ReadsLine false kept old new =
-    GivesWhat old new (λ line. (kept ≡ take (most_in_line + 1) line) × HasNone 10 line) × FoundEnd new
+    GivesWhat old new (λ line. (kept ≡ take (max_line_bytes + 1) line) × HasNone 10 line) × FoundEnd new
 
 -- a part of a line was given
 abbrev pub ReadsPart : GivenBytes → GivenBytes → Type 0
@@ -63,14 +62,14 @@ ReadsPart old new = GivesWhat old new (HasNone 10)
 abbrev pub IsPut : TakenBytes → TakenBytes → List ℕ → Type 0
 IsPut old new text = Takes old new text × IsFlushed new
 
--- The input was given to its end. The text of its lines from the start was taken and passed on. No call failed, and for each
--- line fewer were interrupted than make a fault.
+-- The input was given to its end. What its lines print was taken and passed on. No call failed, and for each line fewer were
+-- interrupted than make a fault.
 pub record HasRun (nodes : ℕ) (old new : GivenBytes) (before after : TakenBytes) (reads_before reads writes_before writes : Calls) : Type 0 where
   pub bytes : List ℕ
   pub gives : Gives old new bytes
   pub ended : FoundEnd new
   pub out : List ℕ
-  pub text : ScriptText nodes (start nodes) (lines_of bytes) out
+  pub plays : Plays nodes (lines_of bytes) out
   pub put : IsPut before after out
   pub reads_well : WentWell (length (lines_of bytes)) reads_before reads
   pub writes_well : WentWell (length (lines_of bytes)) writes_before writes
@@ -79,11 +78,11 @@ pub record HasRun (nodes : ℕ) (old new : GivenBytes) (before after : TakenByte
 abbrev pub WritesPart : ℕ → (old new : GivenBytes) → (before after : TakenBytes) → Type 0
 WritesPart nodes old new before after =
     GivesWhat old new (λ bytes. (more : List ℕ) → (FoundEnd new → more ≡ [])
-    → (out : List ℕ) × ScriptText nodes (start nodes) (lines_of (bytes ++ more)) out × TakesPart before after out)
+    → (out : List ℕ) × Plays nodes (lines_of (bytes ++ more)) out × TakesPart before after out)
 
 -- The text of all lines that were given whole was taken, and passed on where all was that came before. Of what was given the
 -- last line, `cut`, was not whole.
 abbrev pub AnswersWhole : ℕ → (old new : GivenBytes) → (before after : TakenBytes) → Type 0
 AnswersWhole nodes old new before after =
     GivesWhat old new (λ bytes. (cut out : List ℕ) × (whole : List (List ℕ)) × (lines_of bytes ≡ whole ++ cut ∷ [])
-    × ScriptText nodes (start nodes) whole out × Takes before after out × (IsFlushed before → IsFlushed after))
+    × Plays nodes whole out × Takes before after out × (IsFlushed before → IsFlushed after))

@@ -1,5 +1,5 @@
 -- The script: what its lines print, one after another.
-use Rattle.std.specs.Prelude.{◌≡◌, ℕ, ◌<◌, ◌≤◌, ◌⊎◌, List, [], ◌∷◌, ◌++◌, length, codes, zero, suc, Option, None, Some, Result, Ok, Err}
+use Rattle.std.specs.Prelude.{◌≡◌, ℕ, ◌<◌, ◌≤◌, ◌⊎◌, List, [], ◌∷◌, ◌++◌, length, codes, zero, suc, slice_get, Option, None, Some, Result, Ok, Err}
 use Rattle.std.specs.Fmt.{decimal}
 use Rattle.lra_id.specs.Fronts.{front_text}
 use Rattle.lra_id.specs.Ids.{Id, id_text, text_of}
@@ -18,9 +18,9 @@ use Rattle.lra_world.specs.declared.event.Event.{Event}
 use Rattle.lra_world.specs.declared.event.Event.TheVariants.{Act as ActEvent, Deliver as DeliverEvent, Restart as RestartEvent, Send as SendEvent, Tick as TickEvent}
 use Rattle.lra_world.specs.declared.event.Reply.{Reply}
 use Rattle.lra_world.specs.declared.event.Reply.TheVariants.{Answered, Sent, Took, Restarted, Expired, Quiet, Refused}
-use Rattle.lra_world.specs.Headline.{member_at, shown_at}
+use Rattle.lra_world.specs.Headline.{Converges, member_at, shown_at}
 use Rattle.lra_world.specs.Machines.{IsWorldOf, Machine}
-use Rattle.lra_world.specs.Worlds.{State, Steps, after_command, front_of, reply_at, set_of}
+use Rattle.lra_world.specs.Worlds.{Leads, State, Steps, after_command, front_of, reply_at, set_of, start}
 use Rattle.lra_callback.specs.declared.answer.Answer.{Answer}
 use Rattle.lra_callback.specs.declared.answer.Heard.{Heard}
 use Rattle.lra_callback.specs.declared.answer.Kind.{Kind}
@@ -35,8 +35,8 @@ use Rattle.lra_script.specs.CallLines.{act_asked, command_of, duties_text}
 use Rattle.lra_script.specs.NodeHoldings.{AreComing}
 
 -- a line of at most so many bytes is read
-abbrev pub most_in_line : ℕ
-most_in_line = 4096
+abbrev pub max_line_bytes : ℕ
+max_line_bytes = 4096
 
 abbrev pub printed : List ℕ → List ℕ
 printed text = text ++ 10 ∷ []
@@ -157,12 +157,12 @@ WasDone s ask out world = (t : State) × Does s ask out t × IsWorldOf t world
 
 -- a line that is too long, or fits no command
 abbrev pub IsBad : ℕ → List ℕ → Type 0
-IsBad nodes line = (most_in_line < length line) ⊎ ((ask : Ask) → Spells nodes line ask → ⊥)
+IsBad nodes line = (max_line_bytes < length line) ⊎ ((ask : Ask) → Spells nodes line ask → ⊥)
 
 -- a line that asks something, which is done
 abbrev pub IsDone : ℕ → State → List ℕ → List ℕ → State → Type 0
 IsDone nodes s line out t =
-    (ask : Ask) × (length line ≤ most_in_line) × Spells nodes line ask × Does s ask out t
+    (ask : Ask) × (length line ≤ max_line_bytes) × Spells nodes line ask × Does s ask out t
 
 -- In state s a line prints this and leaves state t, where memory is not wanting. An empty line prints nothing.
 abbrev pub AnswersInRoom : ℕ → State → List ℕ → List ℕ → State → Type 0
@@ -178,18 +178,33 @@ Answers nodes s (b ∷ bs) out t = ((out ≡ refused NoMemory) × (t ≡ s)) ⊎
 abbrev pub WasAnswered : ℕ → State → List ℕ → List ℕ → Machine → Type 0
 WasAnswered nodes s line out world = (t : State) × Answers nodes s line out t × IsWorldOf t world
 
--- from state s on these lines print this, one after another, where `answers` says what a line prints
-abbrev pub TextOfLines : (State → List ℕ → List ℕ → State → Type 0) → State → List (List ℕ) → List ℕ → Type 0
-TextOfLines answers s [] out = out ≡ []
-TextOfLines answers s (line ∷ lines) out =
-    (first rest : List ℕ) × (t : State) × (out ≡ first ++ rest) × answers s line first t × TextOfLines answers t lines rest
+-- From state s on these lines print this, one after another, and lead through these states, one after each line, where
+-- `answers` says what a line prints
+abbrev pub TextOfLines : (State → List ℕ → List ℕ → State → Type 0) → State → List (List ℕ) → List ℕ → List State → Type 0
+TextOfLines answers s [] out [] = out ≡ []
+TextOfLines answers s (line ∷ lines) out (t ∷ states) =
+    (first rest : List ℕ) × (out ≡ first ++ rest) × answers s line first t × TextOfLines answers t lines rest states
+TextOfLines answers s [] out (t ∷ states) = ⊥
+TextOfLines answers s (line ∷ lines) out [] = ⊥
 
-abbrev pub ScriptText : ℕ → State → List (List ℕ) → List ℕ → Type 0
-ScriptText nodes s lines out = TextOfLines (Answers nodes) s lines out
+abbrev pub ScriptText : ℕ → State → List (List ℕ) → List ℕ → List State → Type 0
+ScriptText nodes s lines out states = TextOfLines (Answers nodes) s lines out states
 
 -- the same, where no line meets want of memory
-abbrev pub TextInRoom : ℕ → State → List (List ℕ) → List ℕ → Type 0
-TextInRoom nodes s lines out = TextOfLines (AnswersInRoom nodes) s lines out
+abbrev pub TextInRoom : ℕ → State → List (List ℕ) → List ℕ → List State → Type 0
+TextInRoom nodes s lines out states = TextOfLines (AnswersInRoom nodes) s lines out states
+
+-- from each of these states a run of the world leads to each later one, and the headline holds from the one to the other
+abbrev pub AreOneRun : List State → Type 0
+AreOneRun states =
+    (i j : ℕ) (s t : State) → i ≤ j → slice_get states i ≡ Some s → slice_get states j ≡ Some t → Leads s t × Converges s t
+
+-- What the lines of a script print, over a world that has no facts yet. The states that they lead through, with the first one,
+-- are those of one run of the world
+pub record Plays (nodes : ℕ) (lines : List (List ℕ)) (out : List ℕ) : Type 0 where
+  pub states : List State
+  pub text : ScriptText nodes (start nodes) lines out states
+  pub one_run : AreOneRun (start nodes ∷ states)
 
 -- a line, and that what it prints was written so, in a world that stands for the state after it
 abbrev pub Prints : ℕ → State → List ℕ → Machine → (List ℕ → Type 0) → Type 0

@@ -11,7 +11,7 @@ ghost use Rattle.lra_script.specs.NodeHoldings.{AreComing};
 use crate::ask::Ask;
 use crate::asking::ask_of;
 use crate::calls::{hear_answer, show_duties};
-use crate::line::MOST_IN_LINE;
+use crate::line::MAX_LINE_BYTES;
 use crate::room::Room;
 use crate::showing::{held, id_line, show, show_front, show_member, show_same, text_line};
 use crate::telling::{refusal_line, tell};
@@ -36,7 +36,7 @@ pub fn answer(
     if line.is_empty() {
         return Ok(String::new(alloc));
     }
-    if line.len() > MOST_IN_LINE {
+    if line.len() > MAX_LINE_BYTES {
         return refusal_line(alloc, Refusal::BadText);
     }
     let found = ask_of(alloc, line, nodes)?;
@@ -46,7 +46,6 @@ pub fn answer(
     obey(alloc, world, ask)
 }
 
-/// What is printed for what a line asks, and what that does to the world.
 fn obey(alloc: Global, world: &mut World, ask: Ask) -> Result<String, AllocError>
     requires { IsInRange (length world.old.replicas) ask }
     ensures ok { (s : State) → IsWorldOf s world.old → IfOk result (λ text. WasDone s ask (string_bytes text) world.new) }
@@ -65,8 +64,8 @@ fn obey(alloc: Global, world: &mut World, ask: Ask) -> Result<String, AllocError
             kind,
             answer,
         } => hear_answer(alloc, world, node, id, member, kind, &answer),
-        Ask::Show { node, id } => show(alloc, held(world, node), id),
-        Ask::Member { node, id, member } => show_member(alloc, held(world, node), id, member),
+        Ask::Show { node, id } => show(alloc, world, node, id),
+        Ask::Member { node, id, member } => show_member(alloc, world, node, id, member),
         Ask::Duties { node } => show_duties(alloc, held(world, node), node),
         Ask::Front { node } => show_front(alloc, held(world, node)),
         Ask::Same { node, other } => show_same(alloc, held(world, node), held(world, other)),
@@ -75,7 +74,6 @@ fn obey(alloc: Global, world: &mut World, ask: Ask) -> Result<String, AllocError
     }
 }
 
-/// Has an event happen, and tells the reply in room that was made before.
 fn happen(alloc: Global, world: &mut World, event: Event) -> Result<String, AllocError>
     ensures ok { (s : State) → IsWorldOf s world.old → IfOk result (λ text. HasHappened s event (string_bytes text) world.new) }
     ensures err { (s : State) → IsWorldOf s world.old → OnErr result (IsWorldOf s world.new) }

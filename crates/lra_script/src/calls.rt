@@ -38,7 +38,6 @@ pub fn show_duties(alloc: Global, replica: &Replica, me: NodeId) -> Result<Strin
     }
 }
 
-/// The line of duties.
 fn duties_line(alloc: Global, duties: &[Duty]) -> Result<String, AllocError>
     ensures { IfOk result (λ text. string_bytes text ≡ printed (duties_text duties.now)) }
 {
@@ -51,7 +50,6 @@ fn duties_line(alloc: Global, duties: &[Duty]) -> Result<String, AllocError>
     Ok(text)
 }
 
-/// The text of a duty: the kind of the call, the LRA and the member number.
 fn duty_text(alloc: Global, duty: &Duty) -> Result<String, AllocError>
     ensures { IfOk result (λ text. string_bytes text ≡ duty_text duty.now) }
 {
@@ -59,7 +57,6 @@ fn duty_text(alloc: Global, duty: &Duty) -> Result<String, AllocError>
     format!(in alloc; "{kind} {id} {member}")
 }
 
-/// Puts the texts of further duties at the end, each behind a comma.
 fn push_further(alloc: Global, text: &mut String, duties: &[Duty]) -> Result<(), AllocError>
     ensures { OnOk result (string_bytes text.new ≡ string_bytes text.old ++ further_text duties.now) }
 {
@@ -116,7 +113,6 @@ fn act_asked(replica: &Replica, kind: Kind, id: LraId, member: u8) -> Result<Act
     }
 }
 
-/// The act that a participant is asked for the status of.
 fn act_of_status(replica: &Replica, id: LraId, member: u8) -> Result<Act, Refusal>
     ensures { (S : List Fact) (front : List ℕ) → Holds S front replica.now →
         result ≡ act_where (member_shown S front id member) (act_demanded (act_wanted (want S id))) }
@@ -127,7 +123,6 @@ fn act_of_status(replica: &Replica, id: LraId, member: u8) -> Result<Act, Refusa
     }
 }
 
-/// The act that the want of an LRA that is held demands.
 fn act_demanded(replica: &Replica, id: LraId) -> Result<Act, Refusal>
     ensures { (S : List Fact) (front : List ℕ) → Holds S front replica.now → is_held S id ≡ true → result ≡ act_demanded (act_wanted (want S id)) }
 {
@@ -137,7 +132,6 @@ fn act_demanded(replica: &Replica, id: LraId) -> Result<Act, Refusal>
     }
 }
 
-/// What is to be entered of what was heard.
 fn command_of(id: LraId, member: u8, act: Act, heard: Heard) -> Option<Command>
     ensures { result ≡ command_of id member act heard }
 {
@@ -153,7 +147,6 @@ fn command_of(id: LraId, member: u8, act: Act, heard: Heard) -> Option<Command>
     }
 }
 
-/// Has a node enter the command of what was heard, if there is one, and tells of it in room that was made before.
 fn enter_heard(
     alloc: Global,
     world: &mut World,
@@ -178,7 +171,6 @@ fn enter_heard(
     }
 }
 
-/// The line of what was heard, and of the reply to it.
 fn tell_heard(alloc: Global, room: Room, heard: Heard, reply: Reply) -> Result<String, AllocError>
     requires { room ≡ [] }
     ensures ok { IfOk result (λ text. string_bytes text ≡ heard_reply_line heard reply) }
@@ -192,7 +184,6 @@ fn tell_heard(alloc: Global, room: Room, heard: Heard, reply: Reply) -> Result<S
     }
 }
 
-/// The line of the word for what was heard, and of a short word behind it.
 fn heard_word_line(mut room: Room, heard: Heard, behind: &str) -> String
     requires empty { room ≡ [] }
     requires short { length behind.now ≤ 40 }

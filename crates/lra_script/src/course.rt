@@ -34,11 +34,12 @@ pub fn script<R: Source, W: Sink>(
     requires some { 1 ≤ nodes }
     requires few { nodes ≤ 8 }
 
-    // What was written and passed on is the text of what was given, to its end. No call failed, and of interrupted ones there
+    // What was written and passed on is the text of what was given, to its end. The states that its lines lead through are those
+    // of one run of the world, and the headline holds from each to each later one. No call failed, and of interrupted ones there
     // were fewer than 1,024 a line.
     ensures text { OnOk result (HasRun nodes (R.stream reader.old) (R.stream reader.new) (W.stream writer.old) (W.stream writer.new)
         (R.calls reader.old) (R.calls reader.new) (W.calls writer.old) (W.calls writer.new)) }
-    // After a fault what was written is a prefix of that text, whatever follows what was given. After a read fault every line
+    // After a fault what was written is a prefix of such a text, whatever follows what was given. After a read fault every line
     // that was given whole is answered whole.
     ensures part { OnErr result (WritesPart nodes (R.stream reader.old) (R.stream reader.new) (W.stream writer.old) (W.stream writer.new)) }
     ensures whole { result ≡ Err ScriptFault.Read → AnswersWhole nodes (R.stream reader.old) (R.stream reader.new) (W.stream writer.old) (W.stream writer.new) }
@@ -66,7 +67,6 @@ pub fn script<R: Source, W: Sink>(
     }
 }
 
-/// Answers a line, and writes what it prints: one message.
 fn print_line<W: Sink>(
     alloc: Global,
     world: &mut World,
@@ -86,7 +86,6 @@ fn print_line<W: Sink>(
     }
 }
 
-/// Writes a text and passes it on, or writes a prefix of it before a fault: one message.
 fn put<W: Sink>(writer: &mut W, text: &[u8]) -> Result<(), WriteFault>
     ensures ok { OnOk result (IsPut (W.stream writer.old) (W.stream writer.new) text.now) }
     ensures part { OnErr result (TakesPart (W.stream writer.old) (W.stream writer.new) text.now) }

@@ -1,12 +1,12 @@
 // Laws of the definitions: each function does nothing, and its contract is the law.
-ghost use Rattle.std.specs.Prelude.{◌≡◌, ◌≤◌, ℕ, List, IfSome};
+ghost use Rattle.std.specs.Prelude.{◌≡◌, ◌≤◌, ◌∷◌, ℕ, List, IfSome};
 ghost use Rattle.lra_http.specs.Streams.{Calls, GivenBytes, TakenBytes, TakesPart};
-ghost use Rattle.lra_world.specs.Worlds.{State, start};
+ghost use Rattle.lra_world.specs.Worlds.{IsWorld, State, nodes_of};
 ghost use Rattle.lra_script.specs.declared.ask.Ask.{Ask};
 ghost use Rattle.lra_script.specs.Asks.{Spells};
 ghost use Rattle.lra_script.specs.LineParts.{lines_of};
 ghost use Rattle.lra_script.specs.ScriptEnds.{HasRun, IsPut, WritesPart};
-ghost use Rattle.lra_script.specs.Scripts.{ScriptText, TextInRoom};
+ghost use Rattle.lra_script.specs.Scripts.{AreOneRun, Plays, ScriptText, TextInRoom};
 
 /// A line spells at most one ask.
 pub fn a_line_spells_one_ask()
@@ -14,11 +14,19 @@ pub fn a_line_spells_one_ask()
 {}
 
 /// A script has one text but for want of memory: two texts of the same lines from the same state, in neither of which a line
-/// met it, are equal.
+/// met it, are equal, and so are the states that they lead through.
 pub fn a_script_has_one_text()
-    ensures one { (nodes : ℕ) (s : State) (lines : List (List ℕ)) (a b : List ℕ) → nodes ≤ 8 →
-        TextInRoom nodes s lines a → TextInRoom nodes s lines b → a ≡ b }
-    ensures text { (nodes : ℕ) (s : State) (lines : List (List ℕ)) (a : List ℕ) → TextInRoom nodes s lines a → ScriptText nodes s lines a }
+    ensures one { (nodes : ℕ) (s : State) (lines : List (List ℕ)) (a b : List ℕ) (states others : List State) → nodes ≤ 8 →
+        TextInRoom nodes s lines a states → TextInRoom nodes s lines b others → (a ≡ b) × (states ≡ others) }
+    ensures text { (nodes : ℕ) (s : State) (lines : List (List ℕ)) (a : List ℕ) (states : List State) →
+        TextInRoom nodes s lines a states → ScriptText nodes s lines a states }
+{}
+
+/// Whatever the lines of a script are, the states that they lead through are those of one run of the world: a line is an event
+/// of it, or none.
+pub fn a_script_is_one_run()
+    ensures { (nodes : ℕ) (s : State) (lines : List (List ℕ)) (out : List ℕ) (states : List State) → IsWorld s → nodes_of s ≡ nodes →
+        ScriptText nodes s lines out states → AreOneRun (s ∷ states) }
 {}
 
 /// Where the bytes that were left are known, a script that ended has written the text of all of them, and one that broke off a
@@ -26,7 +34,7 @@ pub fn a_script_has_one_text()
 pub fn a_script_is_of_its_input()
     ensures text { (nodes : ℕ) (old new : GivenBytes) (before after : TakenBytes) (reads_before reads writes_before writes : Calls)
         → HasRun nodes old new before after reads_before reads writes_before writes
-        → IfSome old.left (λ input. (out : List ℕ) × ScriptText nodes (start nodes) (lines_of input) out × IsPut before after out) }
+        → IfSome old.left (λ input. (out : List ℕ) × Plays nodes (lines_of input) out × IsPut before after out) }
     ensures part { (nodes : ℕ) (old new : GivenBytes) (before after : TakenBytes) → WritesPart nodes old new before after
-        → IfSome old.left (λ input. (out : List ℕ) × ScriptText nodes (start nodes) (lines_of input) out × TakesPart before after out) }
+        → IfSome old.left (λ input. (out : List ℕ) × Plays nodes (lines_of input) out × TakesPart before after out) }
 {}

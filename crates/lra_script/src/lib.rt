@@ -17,4 +17,4 @@ mod words;
 
 pub use course::{ScriptFault, script};
 pub use number::{code_of, node_of};
-pub use playing::{arguments, asked_nodes, play, status_of};
+pub use playing::{arguments, asked_nodes, play, run};

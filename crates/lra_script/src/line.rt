@@ -5,7 +5,7 @@ ghost use Rattle.lra_script.specs.ScriptEnds.{LineReads, ReadsLine, ReadsPart};
 use lra_http::{ReadFault, Source, read_byte};
 
 /// A line of at most so many bytes is read.
-pub const MOST_IN_LINE: usize = 4096;
+pub const MAX_LINE_BYTES: usize = 4096;
 
 /// One byte more than a line may have is kept, so that a longer line shows.
 pub const KEPT_OF_LINE: usize = 4097;
@@ -42,7 +42,6 @@ pub fn read_line<R: Source>(
     Err(ReadFault)
 }
 
-/// Puts a byte at the line's end, if one is still to be kept.
 fn keep(line: &mut Vec<u8>, byte: u8)
     requires { 4097 ≤ vec_capacity line.old }
     ensures room { 4097 ≤ vec_capacity line.new }

@@ -4,8 +4,8 @@ ghost use Rattle.std.specs.Fmt.{decimal};
 ghost use Rattle.lra_id.specs.Ids.{Id, IsId, id_text};
 ghost use Rattle.lra_script.specs.Asks.{IsMemberNumber, IsNodeOf};
 
-use lra_forest::MOST_MEMBERS;
-use lra_id::{LraId, MOST_NODES, NodeId};
+use lra_forest::MAX_MEMBERS;
+use lra_id::{LraId, MAX_NODES, NodeId};
 use std::str;
 
 /// The number that a word spells in decimal, without leading zeros.
@@ -24,7 +24,6 @@ pub fn number_of(word: &[u8]) -> Option<u64>
     }
 }
 
-/// Whether a word has neither a plus in front nor a leading zero.
 fn is_canonical(word: &[u8]) -> bool
     ensures plain { IsTrue result → (slice_index word.now 0 ≡ 43 → ⊥) × (slice_index word.now 0 ≡ 48 → length word.now ≡ 1) }
     ensures odd { (IsTrue result → ⊥) → (slice_index word.now 0 ≡ 43 → length word.now ≡ 0) → (slice_index word.now 0 ≡ 48) × (length word.now ≢ 1) }
@@ -59,7 +58,7 @@ pub fn member_number_of(word: &[u8]) -> Option<u8>
     let Some(number) = number_of(word) else {
         return None;
     };
-    if number == 0 || number > MOST_MEMBERS as u64 {
+    if number == 0 || number > MAX_MEMBERS as u64 {
         return None;
     }
     Some(number as u8)
@@ -85,7 +84,7 @@ pub fn id_of(word: &[u8]) -> Option<LraId>
     if word.len() < 2 || word[1] != b'.' {
         return None;
     }
-    let (Some(home), Some(num)) = (node_of(&word[..1], MOST_NODES), number_of(&word[2..])) else {
+    let (Some(home), Some(num)) = (node_of(&word[..1], MAX_NODES), number_of(&word[2..])) else {
         return None;
     };
     match LraId::new(home, num) {

@@ -1,12 +1,16 @@
 // A script that a program's arguments ask for, over its standard streams.
-ghost use Rattle.lra_script.specs.Arguments.{AskScript};
-ghost use Rattle.std.specs.Prelude.{◌≡◌, ◌≤◌, ℕ, MatchOption, OnErr, OnOk, map, string_bytes};
+ghost use Rattle.lra_script.specs.Arguments.{AskScript, EndsWith, IsRunOf};
+ghost use Rattle.std.specs.Prelude.{◌≡◌, ◌≤◌, ℕ, MatchOption, map, string_bytes};
 
-use crate::course::{ScriptFault, script};
+use crate::course::script;
 use crate::number::node_of;
-use lra_http::{OverRead, OverWrite};
-use lra_id::MOST_NODES;
+use lra_http::{OverRead, OverWrite, Sink, Source};
+use lra_id::MAX_NODES;
+use std::alloc::Global;
 use std::{env, io};
+
+/// The exit status of words that ask for nothing that there is.
+const OTHER_WORDS: u8 = 2;
 
 /// The arguments after the program's name.
 pub fn arguments(rt: &HostRuntime) -> io::Result<Vec<String>> {
@@ -17,22 +21,41 @@ pub fn arguments(rt: &HostRuntime) -> io::Result<Vec<String>> {
     Ok(words)
 }
 
-/// Plays the script that the arguments ask for, from standard input to standard output, and gives the exit status: 0 at the end
-/// of the input, 1 after a fault or where memory was wanting at the start. Where they ask for no script it writes the usage to
-/// standard error, and the status is 2.
+/// Plays the script that the words of a command line ask for, from a reader to a writer, and gives the exit status: 0 where the
+/// input was read and what it prints was written, to their ends; 1 after a fault, or where memory was wanting at the start; 2 where
+/// the words ask for no script, and then nothing is read or written.
+pub fn run<R: Source, W: Sink>(
+    alloc: Global,
+    words: &[String],
+    reader: &mut R,
+    writer: &mut W,
+) -> u8
+    ensures { IsRunOf (AskScript (map string_bytes words.now))
+        (EndsWith (R.stream reader.old) (R.stream reader.new) (W.stream writer.old) (W.stream writer.new)
+        (R.calls reader.old) (R.calls reader.new) (W.calls writer.old) (W.calls writer.new))
+        ((reader.new ≡ reader.old) × (writer.new ≡ writer.old)) result }
+{
+    let Some(nodes) = asked_nodes(words) else {
+        return OTHER_WORDS;
+    };
+    match script(alloc, reader, writer, nodes) {
+        Ok(()) => 0,
+        Err(_) => 1,
+    }
+}
+
+/// The same from standard input to standard output. Where the words ask for no script the usage goes to standard error.
 pub fn play(rt: &HostRuntime, words: &[String], usage: &str) -> u8
     ensures other { ((nodes : ℕ) → AskScript (map string_bytes words.now) nodes → ⊥) → result ≡ 2 }
     ensures asked { (nodes : ℕ) → AskScript (map string_bytes words.now) nodes → result ≤ 1 }
 {
-    let outcome = if let Some(nodes) = asked_nodes(words) {
-        let mut reader = OverRead::new(rt.reader());
-        let mut writer = OverWrite::new(io::writer(rt));
-        script(rt.alloc(), &mut reader, &mut writer, nodes)
-    } else {
+    let mut reader = OverRead::new(rt.reader());
+    let mut writer = OverWrite::new(io::writer(rt));
+    let status = run(rt.alloc(), words, &mut reader, &mut writer);
+    if status == OTHER_WORDS {
         let _ = eprintln!(rt; "{usage}");
-        Ok(())
-    };
-    status_of(words, outcome)
+    }
+    status
 }
 
 /// How many nodes a script is to have, where the arguments ask for a script.
@@ -45,22 +68,6 @@ pub fn asked_nodes(words: &[String]) -> Option<u8>
     if command.as_str() != "script" {
         return None;
     }
-    let last = node_of(count.as_bytes(), MOST_NODES)?;
+    let last = node_of(count.as_bytes(), MAX_NODES)?;
     Some(last.number())
-}
-
-/// The exit status, by the arguments and by how the script that they asked for came out.
-pub fn status_of(words: &[String], outcome: Result<(), ScriptFault>) -> u8
-    ensures other { ((nodes : ℕ) → AskScript (map string_bytes words.now) nodes → ⊥) → result ≡ 2 }
-    ensures asked { (nodes : ℕ) → AskScript (map string_bytes words.now) nodes → result ≤ 1 }
-    ensures ended { (nodes : ℕ) → AskScript (map string_bytes words.now) nodes → OnOk outcome (result ≡ 0) }
-    ensures fault { (nodes : ℕ) → AskScript (map string_bytes words.now) nodes → OnErr outcome (result ≡ 1) }
-{
-    if asked_nodes(words).is_none() {
-        return 2;
-    }
-    match outcome {
-        Ok(()) => 0,
-        Err(_) => 1,
-    }
 }

@@ -1,10 +1,9 @@
 // What is shown: questions, which change nothing.
-ghost use Rattle.std.specs.Prelude.{◌≡◌, ◌++◌, ℕ, List, length, codes, IfOk, string_bytes};
-ghost use Rattle.lra_facts.specs.declared.fact.Fact.{Fact};
+ghost use Rattle.std.specs.Prelude.{◌≡◌, ◌++◌, length, codes, IfOk, string_bytes};
 ghost use Rattle.lra_id.specs.Fronts.{front_text};
 ghost use Rattle.lra_id.specs.Ids.{id_text, text_of};
-ghost use Rattle.lra_history.specs.Replies.{member_shown, shown_of};
 ghost use Rattle.lra_replica.specs.Replicas.{view_of};
+ghost use Rattle.lra_world.specs.Headline.{member_at, shown_at};
 ghost use Rattle.lra_world.specs.Machines.{IsWorldOf};
 ghost use Rattle.lra_world.specs.Worlds.{State, front_of, set_of};
 ghost use Rattle.lra_script.specs.Asks.{IsNodeOf};
@@ -27,28 +26,29 @@ pub fn held(world: &World, node: NodeId) -> &Replica
     world.replica(node)
 }
 
-/// What is shown of an LRA.
-pub fn show(alloc: Global, replica: &Replica, id: LraId) -> Result<String, AllocError>
-    ensures { (S : List Fact) (front : List ℕ) → Holds S front replica.now →
-        IfOk result (λ text. string_bytes text ≡ status_line (shown_of S front id)) }
+/// What a node shows of an LRA.
+pub fn show(alloc: Global, world: &World, node: NodeId, id: LraId) -> Result<String, AllocError>
+    requires { IsNodeOf (length world.now.replicas) node }
+    ensures { (s : State) → IsWorldOf s world.now → IfOk result (λ text. string_bytes text ≡ status_line (shown_at s node id)) }
 {
-    match replica.status(id) {
+    match world.status(node, id) {
         Ok(status) => format!(in alloc; "{status}\n"),
         Err(refusal) => refusal_line(alloc, refusal),
     }
 }
 
-/// What is shown of a participant.
+/// What a node shows of a participant.
 pub fn show_member(
     alloc: Global,
-    replica: &Replica,
+    world: &World,
+    node: NodeId,
     id: LraId,
     member: u8,
 ) -> Result<String, AllocError>
-    ensures { (S : List Fact) (front : List ℕ) → Holds S front replica.now →
-        IfOk result (λ text. string_bytes text ≡ member_line (member_shown S front id member)) }
+    requires { IsNodeOf (length world.now.replicas) node }
+    ensures { (s : State) → IsWorldOf s world.now → IfOk result (λ text. string_bytes text ≡ member_line (member_at s node id member)) }
 {
-    match replica.member(id, member) {
+    match world.member(node, id, member) {
         Ok(status) => format!(in alloc; "{status}\n"),
         Err(refusal) => refusal_line(alloc, refusal),
     }

@@ -28,7 +28,6 @@ pub fn tell(alloc: Global, room: Room, reply: Reply) -> Result<String, AllocErro
     }
 }
 
-/// The line that the reply to a command prints.
 fn tell_answered(alloc: Global, room: Room, reply: CommandReply) -> Result<String, AllocError>
     requires { room ≡ [] }
     ensures ok { IfOk result (λ text. string_bytes text ≡ reply_line reply) }
@@ -61,7 +60,6 @@ fn began_line(mut room: Room, id: LraId, member: u8) -> String
     room.into_line()
 }
 
-/// The line that tells of a participant that joined.
 fn joined_line(mut room: Room, member: u8) -> String
     requires { room ≡ [] }
     ensures { string_bytes result ≡ printed (codes "joined " ++ decimal member) }
@@ -71,7 +69,6 @@ fn joined_line(mut room: Room, member: u8) -> String
     room.into_line()
 }
 
-/// The line that tells of a frame that was sent.
 fn sent_line(mut room: Room, frame: usize) -> String
     requires { room ≡ [] }
     ensures { string_bytes result ≡ printed (codes "frame " ++ decimal frame) }
@@ -91,7 +88,6 @@ fn expired_line(mut room: Room, id: LraId) -> String
     room.into_line()
 }
 
-/// The line of one short word.
 fn word_line(mut room: Room, word: &str) -> String
     requires empty { room ≡ [] }
     requires short { length word.now ≤ 40 }

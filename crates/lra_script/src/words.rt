@@ -64,7 +64,6 @@ impl<'a> Words<'a> {
     }
 }
 
-/// The first word of a text, and what follows the space behind it.
 fn first_word(text: &[u8]) -> (&[u8], Option<&[u8]>)
     ensures { MatchOption result.1 (words_of text.now ≡ result.0.now ∷ []) (λ rest. words_of text.now ≡ result.0.now ∷ words_of rest.now) }
 {

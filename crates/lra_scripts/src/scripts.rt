@@ -2,7 +2,7 @@
 ghost use Rattle.std.specs.Prelude.{◌≤◌};
 
 use lra_http::{OverRead, OverWrite};
-use lra_script::{ScriptFault, asked_nodes, script, status_of};
+use lra_script::{ScriptFault, asked_nodes, script};
 use std::alloc::{AllocError, Global};
 use std::test::Fail;
 
@@ -187,8 +187,16 @@ fn words_of(alloc: Global, text: &str) -> Result<Vec<String>, Fail> {
     Ok(words)
 }
 
+/// The exit status of a program with these words that is given an input, and what it writes.
+fn ended(alloc: Global, words: &[String], input: &[u8]) -> (u8, Vec<u8>) {
+    let mut reader = OverRead::new(input);
+    let mut writer = OverWrite::new(Vec::new(alloc));
+    let status = lra_script::run(alloc, words, &mut reader, &mut writer);
+    (status, writer.into_inner())
+}
+
 #[test]
-fn arguments_and_exit_statuses(rt: HostRuntime) -> Result<(), Fail> {
+fn words_that_ask_for_no_script_end_with_2(rt: HostRuntime) -> Result<(), Fail> {
     let alloc = rt.alloc();
     for text in [
         "script",
@@ -203,15 +211,22 @@ fn arguments_and_exit_statuses(rt: HostRuntime) -> Result<(), Fail> {
     ] {
         let words = words_of(alloc, text)?;
         assert_eq!(rt; asked_nodes(&words), None);
-        assert_eq!(rt; status_of(&words, Ok(())), 2);
+        let (status, text) = ended(alloc, &words, b"begin 1 0");
+        assert_eq!(rt; status, 2);
+        assert!(rt; text.is_empty());
     }
+    Ok(())
+}
+
+#[test]
+fn a_script_that_is_asked_for_ends_with_0(rt: HostRuntime) -> Result<(), Fail> {
+    let alloc = rt.alloc();
     for (text, nodes) in [("script 1", 1), ("script 8", 8)] {
         let words = words_of(alloc, text)?;
         assert_eq!(rt; asked_nodes(&words), Some(nodes));
-        assert_eq!(rt; status_of(&words, Ok(())), 0);
-        assert_eq!(rt; status_of(&words, Err(ScriptFault::Read)), 1);
-        assert_eq!(rt; status_of(&words, Err(ScriptFault::Write)), 1);
-        assert_eq!(rt; status_of(&words, Err(ScriptFault::NoMemory)), 1);
+        let (status, text) = ended(alloc, &words, b"begin 1 0");
+        assert_eq!(rt; status, 0);
+        assert!(rt; text.as_slice() == b"began 1.1\n".as_slice());
     }
     Ok(())
 }

@@ -5,6 +5,7 @@ use Rattle.std.proofs.lemmas.Bool.Decides.{nat_tests}
 use Rattle.lra_id.specs.Ids.{Id}
 use Rattle.std.proofs.lemmas.List.{length-append}
 use Rattle.lra_id.specs.Fronts.{IsBelow}
+use Rattle.lra_facts.specs.declared.fact.Fact.{Fact}
 use Rattle.lra_facts.specs.declared.refusal.Refusal.TheVariants.{BadText}
 use Rattle.lra_history.specs.declared.command.Command.{Command}
 use Rattle.lra_history.specs.declared.command.Command.TheVariants.{Decide}
@@ -15,19 +16,17 @@ use Rattle.lra_history.specs.Growth.{IsSettled}
 use Rattle.lra_history.proofs.ClosedSets.{closed_settled}
 use Rattle.lra_history.specs.Histories.{History, IsClosed, IsLawful, facts}
 use Rattle.lra_replica.specs.Replicas.{ReplicaState, view_of}
-use Rattle.lra_history.specs.Views.{StandsFor}
+use Rattle.lra_history.specs.Views.{OfItsSet, StandsFor, View}
 use Rattle.lra_world.specs.declared.event.Event.{Event}
 use Rattle.lra_world.specs.declared.event.Event.TheVariants.{Act, Restart, Send, Tick}
 use Rattle.lra_world.specs.declared.event.Reply.{Reply}
 use Rattle.lra_world.specs.declared.event.Reply.TheVariants.{Answered, Refused, Restarted, Sent}
 use Rattle.lra_world.specs.Headline.{IsNode}
 use Rattle.lra_world.specs.Machines.{Happens, IsChanged, IsExpired, IsWorldOf, LeadsTo, Machine, StopsIn}
-use Rattle.lra_world.specs.Worlds.{Acts, SentFrame, IfNode, IsSpelled, IsWorld, Runs, Sends, State, Stays, Steps, Ticks, after_command, expired, front_of, is_node, nodes_of, set_of}
+use Rattle.lra_world.specs.Worlds.{Acts, SentFrame, IfNode, IsSpelled, IsViewOf, IsWorld, Runs, Sends, State, Stays, Ticks, after_command, expired, front_of, is_node, nodes_of, set_of}
 use Rattle.lra_world.proofs.Delivering.{at_node}
-use Rattle.lra_world.proofs.Agreeing.{nodes_agree}
-use Rattle.lra_world.proofs.Moving.{kept_posted, run_keeps}
-use Rattle.lra_world.proofs.Parting.{no_split}
-use Rattle.lra_world.proofs.StatusesRise.{statuses_rise}
+use Rattle.lra_world.proofs.Converging.{converged, one_step, run_on}
+use Rattle.lra_world.proofs.Moving.{kept_posted}
 use Rattle.lra_world.proofs.WorldsStand.{ActsSo, acted_world, still_world, with_so}
 
 -- there is such a node
@@ -78,13 +77,20 @@ pub tick_happens : (s : State) (new : Machine) (node now : ℕ) (l : Id) (reply 
 tick_happens s new node now l reply is least e =
     (e.0, at_node s e.0 node (Ticks s node now reply e.0) reply is (Some l, least, e.1), e.2)
 
+-- what a view answers in each set that it stands for is answered of the node's own set
+pub of_own : {X : Type 0} (s : State) (m : Machine) (node : ℕ) (view : View) (answer : X) (of : List Fact → List ℕ → X) → IsWorldOf s m → 1 ≤ node → node ≤ length m.replicas
+    → IsViewOf s.history (front_of s node) view → OfItsSet view (λ S. answer ≡ of S view.front) → answer ≡ of (set_of s node) (front_of s node)
+of_own s m node view answer of w some there is says =
+    let closed = (w.world.current node some (omega (arith, there, w.nodes))).closed in
+    says (set_of s node) (closed_settled s.history w.world.lawful (front_of s node) closed) is.stands ∙ ap (of (set_of s node)) is.counts
+
 -- Runs
 
-run_more : (s t u : State) (events : List Event) (replies : List Reply) (event : Event) (reply : Reply) → Runs s events replies t → Steps t event reply u → Runs s (events ++ event ∷ []) (replies ++ reply ∷ []) u
-run_more s t u [] [] event reply h step = (u, subst (λ (x : State). Steps x event reply u) h step, refl)
-run_more s t u [] (r ∷ replies) event reply h step = absurd h
-run_more s t u (e ∷ events) [] event reply h step = absurd h
-run_more s t u (e ∷ events) (r ∷ replies) event reply h step = (h.0, h.1, run_more h.0 t u events replies event reply h.2 step)
+same_count : (s t : State) (events : List Event) (replies : List Reply) → Runs s events replies t → length events ≡ length replies
+same_count s t [] [] h = refl
+same_count s t [] (r ∷ replies) h = absurd h
+same_count s t (e ∷ events) [] h = absurd h
+same_count s t (e ∷ events) (r ∷ replies) h = ap suc (same_count h.0 t events replies h.2)
 
 -- a run that has come so far: these events are left
 pub record IsRunning (s : State) (all left : List Event) (replies : List Reply) (m : Machine) : Type 0 where
@@ -106,28 +112,23 @@ running_more s all left event replies reply old new r h =
       done = r.done ++ event ∷ [];
       parted = r.parted ∙ sym (append_assoc r.done (event ∷ []) left);
       state = h.0;
-      runs = run_more s r.state h.0 r.done replies event reply r.runs h.1;
+      runs = run_on s r.state h.0 r.done (event ∷ []) replies (reply ∷ []) r.runs (one_step r.state h.0 event reply h.1);
       stands = h.2;
     }
 
 -- the headline holds of each run
 pub leads : (s t : State) (events : List Event) (replies : List Reply) (m : Machine) → IsWorld s → Runs s events replies t → IsWorldOf t m → LeadsTo s events replies m
-leads s t events replies m world runs w =
-    let kept = run_keeps s t events replies world runs in
-    record {
-      state = t;
-      runs = runs;
-      stands = w;
-      converges = record { world = kept.world; agree = λ one other took. nodes_agree t one other kept.world took; whole = no_split s t world kept; rising = statuses_rise s t world kept };
-    }
+leads s t events replies m world runs w = record { state = t; runs = runs; stands = w; converges = converged s t events replies world runs }
 
-pub running_stops : (s : State) (all left : List Event) (replies : List Reply) (m : Machine) → IsWorld s → IsRunning s all left replies m → StopsIn s all m
-running_stops s all left replies m world r =
+-- it stops at an event
+pub running_stops : (s : State) (all left : List Event) (event : Event) (replies : List Reply) (m : Machine) → IsWorld s → IsRunning s all (event ∷ left) replies m → StopsIn s all replies m
+running_stops s all left event replies m world r =
+    let count = same_count s r.state r.done replies r.runs in
+    let all_count : length all ≡ length r.done + length (event ∷ left) = ap (λ (l : List Event). length l) r.parted ∙ length-append r.done (event ∷ left) in
+    let front : take (length replies) all ≡ r.done = ap (λ (n : ℕ). take n all) (sym count) ∙ ap (take (length r.done)) r.parted ∙ take-append_seam r.done (event ∷ left) in
     record {
-      done = length r.done;
-      replies = replies;
-      leads = subst (λ (events : List Event). LeadsTo s events replies m) (sym (ap (take (length r.done)) r.parted ∙ take-append_seam r.done left))
-          (leads s r.state r.done replies m world r.runs r.stands);
+      left = omega (arith, count, all_count);
+      leads = subst (λ (events : List Event). LeadsTo s events replies m) (sym front) (leads s r.state r.done replies m world r.runs r.stands);
     }
 
 pub running_ends : (s : State) (all left : List Event) (replies : List Reply) (m : Machine) → IsWorld s → IsRunning s all left replies m → left ≡ [] → LeadsTo s all replies m

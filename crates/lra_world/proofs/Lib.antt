@@ -1,6 +1,7 @@
 mod Acting
 pub mod Agreeing
 mod Belows
+pub mod Converging
 mod Delivering
 pub mod Determined
 mod FramesNotTaken

@@ -8,14 +8,22 @@ use Rattle.lra_history.specs.Histories.{History, IsClosed, IsLawful, facts}
 use Rattle.lra_history.specs.Views.{empty_view, StandsFor, View}
 use Rattle.lra_history.proofs.CountedByFronts.{empty_stands}
 use Rattle.lra_history.proofs.ClosedSets.{entry_of, made_from_at}
+use Rattle.lra_history.specs.ViewShape.{HasShape}
 use Rattle.lra_history.proofs.OneViewOfASet.{one_view}
-use Rattle.lra_delta.specs.Frames.{frame_of}
+use Rattle.lra_delta.specs.Frames.{IsFrame, frame_of}
 use Rattle.lra_delta.specs.Rules.{IsDelta}
 use Rattle.lra_delta.specs.Spelling.{spelling}
+use Rattle.lra_delta.specs.TakenFrames.{IsTaken}
+use Rattle.lra_delta.specs.Typed.{IsTyped}
+use Rattle.lra_delta.proofs.FrameCodes.{frame_again}
+use Rattle.lra_delta.proofs.FramesOfHistories.{some_view, take_law}
+use Rattle.lra_delta.proofs.Grammar.{grammar_law}
+use Rattle.lra_delta.proofs.HaveSpellings.{is_delta}
 use Rattle.lra_delta.proofs.OfSets.{frame_stands}
 use Rattle.lra_world.specs.declared.event.Reply.{Reply}
 use Rattle.lra_world.specs.declared.event.Reply.TheVariants.{Took}
 use Rattle.lra_world.specs.Machines.{IsFrom, TakesBytes, TakesFrame}
+use Rattle.lra_world.specs.Restarts.{ComesBack, whole_of}
 use Rattle.lra_world.specs.Worlds.{IsViewOf}
 use Rattle.lra_world.proofs.Delivering.{all_read}
 
@@ -96,3 +104,40 @@ retaken zeros items bytes nodes_front own fresh new nodes len vec reply sends co
     let sent = sends h v lawful closed is in
     taken_again h v zeros bytes own fresh new nodes reply lawful closed is (count ∙ ap (λ (u : List ℕ). length u) front) none empty sent.1 (same ∙ sent.2)
     (subst (λ (k : ℕ). TakesBytes fresh bytes k reply new) (whole ∙ sym many) takes)
+
+-- The frame since nothing brings all back
+pub comes_back : (h : History) (v : List ℕ) (view : View) → IsLawful h → IsClosed h v → IsViewOf h v view → IsTyped (whole_of view) → ComesBack view
+comes_back h v view lawful closed is typed =
+    record {
+      read = frame_again (whole_of view) (is_delta (whole_of view) typed (grammar_law h v nothing view lawful closed is.stands (length-replicate {A = ℕ} n 0) below));
+      taken = subst (λ (c : View). IsTaken (empty_view n) (whole_of view) c) (only some.0 some.1) some.1;
+      only = only;
+    }
+  where
+    n : ℕ
+    n = length view.front
+
+    nothing : List ℕ
+    nothing = replicate n 0
+
+    count : n ≡ length h
+    count = ap (λ (u : List ℕ). length u) is.counts ∙ closed.nodes
+
+    below : IsBelow nothing view.front
+    below = zeros_below n view.front
+
+    none : StandsFor (facts h (replicate (length h) 0)) (empty_view n)
+    none = subst (λ (k : ℕ). StandsFor (facts h (replicate (length h) 0)) (empty_view k)) (sym count) (zeros_stand h)
+
+    told : IsFrame (facts h v) nothing (whole_of view)
+    told = frame_stands (facts h v) view nothing is.stands
+
+    some : (c : View) × IsTaken (empty_view n) (whole_of view) c × HasShape c
+    some = some_view h (replicate (length h) 0) v nothing (empty_view n) (whole_of view) lawful (zeros_closed h) closed none told
+        (length-replicate {A = ℕ} n 0) (zeros_below n nothing)
+
+    only : (c : View) → IsTaken (empty_view n) (whole_of view) c → c ≡ view
+    only c taken =
+        let front : length c.front ≡ n = ap (λ (u : List ℕ). length u) (taken.front ∙ join_zeros view.front) in
+        joined_none h v view c closed is.counts front is.stands
+        (take_law h (replicate (length h) 0) v nothing (empty_view n) c (whole_of view) lawful (zeros_closed h) closed none told (zeros_below n nothing) taken)

@@ -1,3 +1,4 @@
 pub mod Headline
 pub mod Machines
+pub mod Restarts
 pub mod Worlds

@@ -110,6 +110,14 @@ bytes_of = map (λ (bytes : Vec ℕ Global). bytes.items)
 abbrev pub IsExpired : State → ℕ → Id → Reply → Machine → Type 0
 IsExpired s node l reply m = (t : State) × Expires s node (Some l) reply t × IsWorldOf t m
 
+-- A step from state s: the event happens, and the world stands for the state after it; and the headline holds of that state
+-- and of `first`, a state long before or s itself
+pub record StepsTo (first s : State) (event : Event) (reply : Reply) (m : Machine) : Type 0 where
+  pub state : State
+  pub steps : Steps s event reply state
+  pub stands : IsWorldOf state m
+  pub converges : Converges first state
+
 -- A run: the events happen from state s, and lead to a state that the world stands for; and the headline holds from the one
 -- to the other
 pub record LeadsTo (s : State) (events : List Event) (replies : List Reply) (m : Machine) : Type 0 where
@@ -118,11 +126,10 @@ pub record LeadsTo (s : State) (events : List Event) (replies : List Reply) (m :
   pub stands : IsWorldOf state m
   pub converges : Converges s state
 
--- a run that stopped after the first so many events
-pub record StopsIn (s : State) (events : List Event) (m : Machine) : Type 0 where
-  pub done : ℕ
-  pub replies : List Reply
-  pub leads : LeadsTo s (take done events) replies m
+-- A run that stopped at an event: those before it happened and were replied so, and neither it nor a later one has happened
+pub record StopsIn (s : State) (events : List Event) (replies : List Reply) (m : Machine) : Type 0 where
+  pub left : length replies < length events
+  pub leads : LeadsTo s (take (length replies) events) replies m
 
 -- so many replicas, which are views of no facts of these nodes
 pub record AreEmpty (nodes count : ℕ) (replicas : List ReplicaState) : Type 0 where

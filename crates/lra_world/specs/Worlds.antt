@@ -182,3 +182,10 @@ Runs s [] [] t = t ≡ s
 Runs s (event ∷ events) (reply ∷ replies) t = (mid : State) × Steps s event reply mid × Runs mid events replies t
 Runs s [] (reply ∷ replies) t = ⊥
 Runs s (event ∷ events) [] t = ⊥
+
+-- a run leads from state s, which is one of a world, to state t
+pub record Leads (s t : State) : Type 0 where
+  pub world : IsWorld s
+  pub events : List Event
+  pub replies : List Reply
+  pub runs : Runs s events replies t

@@ -81,3 +81,10 @@ pub enum Reply {
     /// Nothing happened.
     Refused(Refusal),
 }
+
+/// A run stopped at an event, since memory was wanting: the events before it were replied so, and it has not happened.
+#[derive(Debug, Drop)]
+pub struct Stopped {
+    /// The replies to the events before it.
+    pub replies: Vec<Reply>,
+}

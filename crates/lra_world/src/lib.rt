@@ -6,5 +6,5 @@ pub mod laws;
 mod node;
 mod world;
 
-pub use event::{Event, Reply};
+pub use event::{Event, Reply, Stopped};
 pub use world::World;

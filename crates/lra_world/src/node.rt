@@ -20,7 +20,6 @@ use lra_id::{Front, NodeId};
 use lra_replica::{Prepared, Replica};
 use std::alloc::{AllocError, Global};
 
-/// Makes the changes of what was prepared, and answers its reply.
 fn enter(replica: &mut Replica, prepared: Prepared) -> CommandReply
     requires { IfSome prepared.patch (λ change. Fits change replica.old) }
     ensures reply { result ≡ prepared.reply }

@@ -1,5 +1,5 @@
 // The world: a replica for each node, and the frames that were sent.
-ghost use Rattle.std.specs.Prelude.{◌≡◌, ◌≤◌, ◌<◌, ◌+◌, ◌↔◌, ◌⊎◌, ◌∷◌, ◌++◌, ◌==◌, ◌-◌, ℕ, List, [], Some, None, Err, if◌then◌else◌, IfErr, IfOk, IsOk, IsTrue, OnOk, OnErr, length, nat_le, option_map, slice_get};
+ghost use Rattle.std.specs.Prelude.{◌≡◌, ◌≤◌, ◌<◌, ◌+◌, ◌↔◌, ◌⊎◌, ◌∷◌, ◌++◌, ◌==◌, ◌-◌, ℕ, List, [], Some, None, Err, if◌then◌else◌, IfErr, IfOk, IsErr, IsOk, IsTrue, OnOk, OnErr, length, nat_le, option_map, slice_get, vec_capacity};
 ghost use Rattle.lra_facts.specs.declared.fact.Fact.{Fact};
 ghost use Rattle.lra_forest.specs.Overdue.{IsLeastOverdue};
 ghost use Rattle.lra_history.specs.Growth.{IsSettled};
@@ -9,18 +9,19 @@ ghost use Rattle.lra_history.specs.Views.{StandsFor};
 ghost use Rattle.lra_world.specs.declared.event.Event.TheVariants.{Act, Deliver, Restart, Send, Tick};
 ghost use Rattle.lra_world.specs.declared.event.Reply.{Reply as Replies};
 ghost use Rattle.lra_world.specs.declared.event.Reply.TheVariants.{Restarted, Sent};
-ghost use Rattle.lra_world.specs.Machines.{AreEmpty, Happens, IsActed, IsChanged, IsExpired, IsWorldOf, LeadsTo, StopsIn, TakesBytes};
-ghost use Rattle.lra_world.specs.Worlds.{IsSpelled, IsViewOf, State, expired, front_of, set_of, start};
+ghost use Rattle.lra_world.specs.Headline.{member_at, shown_at};
+ghost use Rattle.lra_world.specs.Machines.{AreEmpty, Happens, IsActed, IsChanged, IsExpired, IsWorldOf, LeadsTo, StepsTo, StopsIn, TakesBytes};
+ghost use Rattle.lra_world.specs.Worlds.{IsSpelled, IsViewOf, Leads, State, expired, front_of, set_of, start};
 ghost use Rattle.lra_id.specs.Fronts.{IsBelow};
 ghost use Rattle.lra_facts.specs.declared.refusal.Refusal.TheVariants.{BadText, Gap, NoMemory};
 
 use crate::node::{act, bytes_since, restart, take_bytes};
-use crate::{Event, Reply};
+use crate::{Event, Reply, Stopped};
 use lra_facts::Refusal;
 use lra_history::{Command, CommandReply};
 use lra_id::{Front, LraId, NodeId};
 use lra_replica::Replica;
-use lra_states::Verdict;
+use lra_states::{LraStatus, MemberStatus, Verdict};
 use std::alloc::{AllocError, Global};
 use std::marker::Model;
 
@@ -88,7 +89,24 @@ impl World {
         &self.replicas[place]
     }
 
-    /// Whether there is such a node.
+    /// What a node shows of an LRA. E2 where the node's front doesn't count the id, E3 where it does and the LRA is not held.
+    pub fn status(&self, node: NodeId, id: LraId) -> Result<LraStatus, Refusal>
+        requires { node ≤ length self.now.replicas }
+        ensures { (s : State) → IsWorldOf s self.now → result ≡ shown_at s node id }
+    {
+        let _range = node.number();
+        self.replica(node).status(id)
+    }
+
+    /// What a node shows of a participant of an LRA. The same, and E5 where the LRA has no such participant.
+    pub fn member(&self, node: NodeId, id: LraId, member: u8) -> Result<MemberStatus, Refusal>
+        requires { node ≤ length self.now.replicas }
+        ensures { (s : State) → IsWorldOf s self.now → result ≡ member_at s node id member }
+    {
+        let _range = node.number();
+        self.replica(node).member(id, member)
+    }
+
     fn has(&self, node: NodeId) -> bool
         ensures value { result ≡ nat_le node (length self.now.replicas) }
         ensures some { 1 ≤ node }
@@ -96,14 +114,12 @@ impl World {
         usize::from(node.number()) <= self.replicas.len()
     }
 
-    /// Whether a frame of this number was sent.
     fn was_sent(&self, frame: usize) -> bool
         ensures { IsTrue result ↔ ((1 ≤ frame) × (frame ≤ length self.now.sent)) }
     {
         1 <= frame && frame <= self.frames.len()
     }
 
-    /// A node enters what a command asks, or refuses it.
     fn act_at(
         &mut self,
         alloc: Global,
@@ -149,7 +165,6 @@ impl World {
         take_bytes(alloc, &mut self.replicas[place], &self.frames[frame], kept)
     }
 
-    /// Of the LRAs of a node that are overdue, the one with the least number.
     fn overdue(&self, node: NodeId, now: u64) -> Option<LraId>
         requires { node ≤ length self.now.replicas }
         ensures { (s : State) → IsWorldOf s self.now → IsLeastOverdue (set_of s node) node now result }
@@ -158,7 +173,6 @@ impl World {
         self.replicas[place].expire(node, now)
     }
 
-    /// A node is asked to enter something.
     fn act(&mut self, alloc: Global, node: NodeId, command: Command) -> Result<Reply, AllocError>
         ensures step { (s : State) → IsWorldOf s self.old → IfOk result (λ reply. Happens s (Act node command) reply self.new) }
         ensures err { (s : State) → IsWorldOf s self.old → OnErr result (IsWorldOf s self.new) }
@@ -209,6 +223,16 @@ impl World {
     /// One event happens. Want of memory leaves the world as it was.
     pub fn step(&mut self, alloc: Global, event: Event) -> Result<Reply, AllocError>
         ensures step { (s : State) → IsWorldOf s self.old → IfOk result (λ reply. Happens s event reply self.new) }
+        // And the headline holds from whatever state led here.
+        ensures headline { (first s : State) → Leads first s → IsWorldOf s self.old →
+            IfOk result (λ reply. StepsTo first s event reply self.new) }
+        ensures err { (s : State) → IsWorldOf s self.old → OnErr result (IsWorldOf s self.new) }
+    {
+        self.happen(alloc, event)
+    }
+
+    fn happen(&mut self, alloc: Global, event: Event) -> Result<Reply, AllocError>
+        ensures step { (s : State) → IsWorldOf s self.old → IfOk result (λ reply. Happens s event reply self.new) }
         ensures err { (s : State) → IsWorldOf s self.old → OnErr result (IsWorldOf s self.new) }
     {
         match event {
@@ -220,22 +244,25 @@ impl World {
         }
     }
 
-    /// Many events happen, one after another. Want of memory leaves the world as it was after the last whole step.
-    pub fn run(&mut self, alloc: Global, events: &[Event]) -> Result<Vec<Reply>, AllocError>
+    /// Many events happen, one after another. Want of memory stops the run at an event that has not happened, and gives the
+    /// replies to those before it.
+    pub fn run(&mut self, alloc: Global, events: &[Event]) -> Result<Vec<Reply>, Stopped>
         ensures headline { (s : State) → IsWorldOf s self.old →
             IfOk result (λ replies. LeadsTo s events.now replies.items self.new) }
-        ensures err { (s : State) → IsWorldOf s self.old → OnErr result (StopsIn s events.now self.new) }
+        ensures err { (s : State) → IsWorldOf s self.old →
+            IfErr result (λ stopped. StopsIn s events.now stopped.replies.items self.new) }
     {
         let mut replies = Vec::new(alloc);
         for event in events {
             let Ok(()) = self.step_on(alloc, event, &mut replies) else {
-                return Err(AllocError);
+                return Err(Stopped { replies });
             };
         }
         Ok(replies)
     }
 
-    /// One event happens, and its reply is put at the end.
+    /// One event happens, and its reply is put at the end, in room that was made before. Want of memory puts nothing, and the
+    /// event has not happened.
     fn step_on(
         &mut self,
         alloc: Global,
@@ -244,16 +271,15 @@ impl World {
     ) -> Result<(), AllocError>
         ensures ok { (s : State) → IsWorldOf s self.old →
             OnOk result ((reply : Replies) × Happens s event.now reply self.new × (replies.new.items ≡ replies.old.items ++ reply ∷ [])) }
-        ensures err { (s : State) → IsWorldOf s self.old →
-            OnErr result (IsWorldOf s self.new ⊎ ((reply : Replies) × Happens s event.now reply self.new)) }
+        ensures err { (s : State) → IsWorldOf s self.old → OnErr result (IsWorldOf s self.new × (replies.new.items ≡ replies.old.items)) }
     {
         // Without a value of this type here the toolchain's borrow checker can't build its plan for a `Reply`.
         let _ = CommandReply::Refused(Refusal::NoMemory);
         let event = event.clone()?;
+        replies.reserve(1)?;
         keep(replies, self.step(alloc, event))
     }
 
-    /// A node is told the time.
     fn tick(&mut self, alloc: Global, node: NodeId, now: u64) -> Result<Reply, AllocError>
         ensures step { (s : State) → IsWorldOf s self.old → IfOk result (λ reply. Happens s (Tick node now) reply self.new) }
         ensures err { (s : State) → IsWorldOf s self.old → OnErr result (IsWorldOf s self.new) }
@@ -267,7 +293,6 @@ impl World {
         }
     }
 
-    /// An LRA that is overdue is cancelled.
     fn expire(&mut self, alloc: Global, node: NodeId, id: LraId) -> Result<Reply, AllocError>
         requires { node ≤ length self.old.replicas }
         ensures step { (s : State) → IsWorldOf s self.old → IfOk result (λ reply. IsExpired s node id reply self.new) }
@@ -324,7 +349,6 @@ impl World {
     }
 }
 
-/// So many replicas of as many nodes, that have no facts.
 fn empty_replicas(alloc: Global, nodes: usize) -> Result<Vec<Replica>, AllocError>
     requires { (1 ≤ nodes) × (nodes ≤ 8) }
     ensures { IfOk result (λ replicas. AreEmpty nodes nodes replicas.items) }
@@ -339,7 +363,6 @@ fn empty_replicas(alloc: Global, nodes: usize) -> Result<Vec<Replica>, AllocErro
     Ok(replicas)
 }
 
-/// What is replied to a tick that found this LRA overdue, by the reply to its cancelling.
 fn expired(id: LraId, reply: CommandReply) -> Reply
     ensures { result ≡ expired id reply }
 {
@@ -349,14 +372,18 @@ fn expired(id: LraId, reply: CommandReply) -> Reply
     }
 }
 
-/// Puts an item at the end. It is generic, since of a `Reply` the toolchain's borrow checker can't build this.
+/// Puts an item at the end, where there is room for it. It is generic, since of a `Reply` the toolchain's borrow checker can't
+/// build this.
 fn keep<T: Drop>(items: &mut Vec<T>, item: Result<T, AllocError>) -> Result<(), AllocError>
-    ensures ok { OnOk result (IfOk item (λ one. items.new.items ≡ items.old.items ++ one ∷ [])) }
-    ensures was { OnOk result (IsOk item) }
+    requires { length items.old.items < vec_capacity items.old }
+    ensures ok { IfOk item (λ one. IsOk result × (items.new.items ≡ items.old.items ++ one ∷ [])) }
+    ensures err { OnErr item (IsErr result × (items.new.items ≡ items.old.items)) }
 {
     match item {
         Ok(item) => {
-            items.push(item)?;
+            let Ok(()) = items.push(item) else {
+                unreachable!();
+            };
             Ok(())
         }
         Err(error) => Err(error),

@@ -36,7 +36,6 @@ pub fn hear_of(alloc: Global, mut words: Words<'_>, nodes: u8) -> Result<Option<
     }))
 }
 
-/// The node, the id, the member number and the kind of call that the next four words spell.
 fn next_call(words: &mut Words<'_>, nodes: u8) -> Option<(NodeId, LraId, u8, Kind)>
     requires { nodes ≤ 8 }
     ensures { MatchOption result ((node : ℕ) (id : Id) (m : ℕ) (kind : Kind) (rest : List (List ℕ)) → IsNodeOf nodes node → IsId id → IsMemberNumber m → words.old ≡ decimal node ∷ id_text id ∷ decimal m ∷ kind_name kind ∷ rest → ⊥) (λ p. IsNodeOf nodes p.0 × IsId p.1 × IsMemberNumber p.2 × (words.old ≡ decimal p.0 ∷ id_text p.1 ∷ decimal p.2 ∷ kind_name p.3 ∷ words.new)) }
@@ -46,7 +45,6 @@ fn next_call(words: &mut Words<'_>, nodes: u8) -> Option<(NodeId, LraId, u8, Kin
     Some((node, id, member, kind))
 }
 
-/// The kind of call that a word names.
 fn kind_of(word: &[u8]) -> Option<Kind>
     ensures { MatchOption result ((kind : Kind) → word.now ≡ kind_name kind → ⊥) (λ kind. word.now ≡ kind_name kind) }
 {
@@ -65,7 +63,6 @@ fn kind_of(word: &[u8]) -> Option<Kind>
     None
 }
 
-/// The answer that the last words of a line give: `broken`, or a code, and the rest of the line as the body.
 fn answer_of(alloc: Global, mut words: Words<'_>) -> Result<Option<Answer>, AllocError>
     ensures { IfOk result (λ found. MatchOption found ((answer : Answer) → IsAnswerInRange answer → GivesAnswer words.entry answer → ⊥) (λ answer. IsAnswerInRange answer × GivesAnswer words.entry answer)) }
 {

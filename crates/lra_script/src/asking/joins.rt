@@ -25,7 +25,6 @@ pub enum LinkName {
 }
 
 impl LinkName {
-    /// What a word begins with that gives the link of this name.
     fn mark(self) -> &'static str
         ensures { result.now ≡ mark_of self }
     {
@@ -52,7 +51,6 @@ pub fn join_of(alloc: Global, mut words: Words<'_>, nodes: u8) -> Result<Option<
     Ok(Some(Ask::Enter { node, command }))
 }
 
-/// The links that words give.
 fn links_of(alloc: Global, words: &Words<'_>) -> Result<Option<Links>, AllocError>
     ensures { IfOk result (λ found. MatchOption found ((links : Links) → GivesLinks words.now links → ⊥) (GivesLinks words.now)) }
 {
@@ -74,7 +72,6 @@ fn links_of(alloc: Global, words: &Words<'_>) -> Result<Option<Links>, AllocErro
     kept(alloc, complete, compensate, status, forget)
 }
 
-/// The links that are kept of texts, if each is a link.
 fn kept(
     alloc: Global,
     complete: Option<&str>,
@@ -91,7 +88,6 @@ fn kept(
     }
 }
 
-/// Whether each word gives a link, and none is given twice.
 fn are_link_words(words: &Words<'_>) -> bool
     ensures { result ≡ are_link_words words.now }
 {
@@ -125,7 +121,6 @@ fn is_link_word(word: &[u8]) -> bool
         || gives(LinkName::Forget, word)
 }
 
-/// Whether a word gives the link of this name.
 fn gives(name: LinkName, word: &[u8]) -> bool
     ensures { result ≡ gives name word.now }
 {
@@ -161,7 +156,6 @@ fn is_given(words: &Words<'_>, name: LinkName) -> bool
     }
 }
 
-/// The text that is given under this name, if any; none where it is no text.
 fn text_given<'a>(words: &Words<'a>, name: LinkName) -> Option<Option<&'a str>>
     ensures { MatchOption result (IsTextUnder name words.now → ⊥) (λ text. IsTextUnder name words.now × (option_copied text ≡ text_under name words.now)) }
 {
@@ -187,7 +181,6 @@ fn text_under<'a>(words: &Words<'a>, name: LinkName) -> Option<&'a [u8]>
     }
 }
 
-/// What stands behind the mark of a name.
 fn behind<'a>(name: LinkName, word: &'a [u8]) -> &'a [u8]
     requires { gives name word.now ≡ true }
     ensures { result.now ≡ drop (length (mark_of name)) word.now }

@@ -23,7 +23,6 @@ pub fn begin_of(mut words: Words<'_>, nodes: u8) -> Option<Ask>
     Some(Ask::Enter { node, command })
 }
 
-/// The parent that the last words of a begin name: none, where there are no words left.
 fn parent_of(mut words: Words<'_>) -> Option<Option<LraId>>
     ensures { MatchOption result ((parent : Option Id) → IfSome parent IsId → words.entry ≡ parent_words parent → ⊥) (λ parent. IfSome parent IsId × (words.entry ≡ parent_words parent)) }
 {
@@ -63,7 +62,6 @@ pub fn show_of(words: Words<'_>, nodes: u8) -> Option<Ask>
     Some(Ask::Show { node, id })
 }
 
-/// The node and the id that two words spell.
 fn node_and_id(mut words: Words<'_>, nodes: u8) -> Option<(NodeId, LraId)>
     requires { nodes ≤ 8 }
     ensures { MatchOption result ((node : ℕ) (id : Id) → IsNodeOf nodes node → IsId id → words.entry ≡ decimal node ∷ id_text id ∷ [] → ⊥) (λ p. IsNodeOf nodes p.0 × IsId p.1 × (words.entry ≡ decimal p.0 ∷ id_text p.1 ∷ [])) }

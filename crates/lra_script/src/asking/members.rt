@@ -56,7 +56,6 @@ pub fn report_of(mut words: Words<'_>, nodes: u8) -> Option<Ask>
     Some(Ask::Enter { node, command })
 }
 
-/// The node, the id and the member number that three words spell.
 fn participant_of(mut words: Words<'_>, nodes: u8) -> Option<(NodeId, LraId, u8)>
     requires { nodes ≤ 8 }
     ensures { MatchOption result ((node : ℕ) (id : Id) (m : ℕ) → IsNodeOf nodes node → IsId id → IsMemberNumber m → words.entry ≡ decimal node ∷ id_text id ∷ decimal m ∷ [] → ⊥) (λ p. IsNodeOf nodes p.0 × IsId p.1 × IsMemberNumber p.2 × (words.entry ≡ decimal p.0 ∷ id_text p.1 ∷ decimal p.2 ∷ [])) }
@@ -78,7 +77,6 @@ pub fn next_participant(words: &mut Words<'_>, nodes: u8) -> Option<(NodeId, Lra
     Some((node, id, member))
 }
 
-/// The act and the outcome that two words name.
 fn act_and_outcome(mut words: Words<'_>) -> Option<(Act, Outcome)>
     ensures { MatchOption result ((act : Act) (outcome : Outcome) → words.entry ≡ act_name act ∷ outcome_name outcome ∷ [] → ⊥) (λ p. words.entry ≡ act_name p.0 ∷ outcome_name p.1 ∷ []) }
 {
@@ -90,7 +88,6 @@ fn act_and_outcome(mut words: Words<'_>) -> Option<(Act, Outcome)>
     Some((act, outcome))
 }
 
-/// The act that a word names.
 fn act_of(word: &[u8]) -> Option<Act>
     ensures { MatchOption result ((act : Act) → word.now ≡ act_name act → ⊥) (λ act. word.now ≡ act_name act) }
 {
@@ -103,7 +100,6 @@ fn act_of(word: &[u8]) -> Option<Act>
     None
 }
 
-/// The outcome that a word names.
 fn outcome_of(word: &[u8]) -> Option<Outcome>
     ensures { MatchOption result ((outcome : Outcome) → word.now ≡ outcome_name outcome → ⊥) (λ outcome. word.now ≡ outcome_name outcome) }
 {

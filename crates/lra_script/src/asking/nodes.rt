@@ -98,7 +98,6 @@ pub fn send_of(mut words: Words<'_>, nodes: u8) -> Option<Ask>
     Some(Ask::Send { node, base })
 }
 
-/// The base that the last words of a send give: a count for each of so many nodes.
 fn base_of(mut words: Words<'_>, nodes: u8) -> Option<Front>
     requires some { 1 ≤ nodes }
     requires few { nodes ≤ 8 }

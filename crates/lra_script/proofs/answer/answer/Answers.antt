@@ -16,7 +16,7 @@ returns-clause-ok c S h =
     IfOk-weaker c.obey.result _ _
     (λ text d. (
       d.0,
-      done_answers c.args.nodes S c.args.line.now _ _ some (c.in-Some.ask, c.if-line-gt-MOST_IN_LINE.false, rw c.in-Some.is at c.in_ok-found.ensures, d.1),
+      done_answers c.args.nodes S c.args.line.now _ _ some (c.in-Some.ask, c.if-line-gt-MAX_LINE_BYTES.false, rw c.in-Some.is at c.in_ok-found.ensures, d.1),
       d.2,
     ))
     (c.obey.ensures.ok S h)

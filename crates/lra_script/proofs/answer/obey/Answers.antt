@@ -13,21 +13,17 @@ returns-in-Deliver-clause-ok c s w = rw c.in-Deliver.is (c.deliver.ensures.ok s 
 
 pub returns-in-Show-clause-ok : goal.returns-in-Show-clause-ok
 returns-in-Show-clause-ok c s w =
-    let node = c.in-Show.node in
-    rw c.in-Show.is
-    (IfOk-weaker c.show.result _ _ (λ text is. (s, (is, refl), w)) (c.show.ensures (set_of s node) (front_of s node) (c.held.ensures.holds s w)))
+    rw c.in-Show.is (IfOk-weaker c.show.result _ _ (λ text is. (s, (is, refl), w)) (c.show.ensures s w))
 
 pub returns-in-Member-clause-ok : goal.returns-in-Member-clause-ok
 returns-in-Member-clause-ok c s w =
-    let node = c.in-Member.node in
-    rw c.in-Member.is
-    (IfOk-weaker c.show_member.result _ _ (λ text is. (s, (is, refl), w)) (c.show_member.ensures (set_of s node) (front_of s node) (c.held-in-Member.ensures.holds s w)))
+    rw c.in-Member.is (IfOk-weaker c.show_member.result _ _ (λ text is. (s, (is, refl), w)) (c.show_member.ensures s w))
 
 pub returns-in-Duties-clause-ok : goal.returns-in-Duties-clause-ok
 returns-in-Duties-clause-ok c s w =
     let node = c.in-Duties.node in
     rw c.in-Duties.is
-    (IfOk-weaker c.show_duties.result _ _ (λ text h. (s, (h.0, h.1, h.2, refl), w)) (c.show_duties.ensures (set_of s node) (front_of s node) (c.held-in-Duties.ensures.holds s w)))
+    (IfOk-weaker c.show_duties.result _ _ (λ text h. (s, (h.0, h.1, h.2, refl), w)) (c.show_duties.ensures (set_of s node) (front_of s node) (c.held.ensures.holds s w)))
 
 pub returns-in-Same-clause-ok : goal.returns-in-Same-clause-ok
 returns-in-Same-clause-ok c s w =

@@ -3,15 +3,15 @@ use Rattle.lra_script.proofs.Runs.{part_none, runs_end, runs_fault, runs_line, r
 use Rattle.lra_script.proofs.course.script.Goals as goal
 
 pub returns-in_default-clause-part : goal.returns-in_default-clause-part
-returns-in_default-clause-part g c = part_none c.args.nodes (g.R.Source.stream c.args.reader.now) (g.W.Sink.stream c.args.writer.now)
+returns-in_default-clause-part g c = part_none c.args.nodes c.requires.some (g.R.Source.stream c.args.reader.now) (g.W.Sink.stream c.args.writer.now)
 
 pub returns-in_default-new-clause-part : goal.returns-in_default-new-clause-part
-returns-in_default-new-clause-part g c = part_none c.args.nodes (g.R.Source.stream c.args.reader.now) (g.W.Sink.stream c.args.writer.now)
+returns-in_default-new-clause-part g c = part_none c.args.nodes c.requires.some (g.R.Source.stream c.args.reader.now) (g.W.Sink.stream c.args.writer.now)
 
 pub lines-init : goal.lines-init
 lines-init g c =
     let running = runs_start c.args.nodes c.in-Ok-new.world (g.R.Source.stream c.args.reader.now) (g.W.Sink.stream c.args.writer.now)
-    (g.R.Source.calls c.args.reader.now) (g.W.Sink.calls c.args.writer.now) (rw c.from.ensures at c.in-Ok-new.ensures.start) in
+    (g.R.Source.calls c.args.reader.now) (g.W.Sink.calls c.args.writer.now) c.requires.some (rw c.from.ensures at c.in-Ok-new.ensures.start) in
     record {
       nodes = runs_nodes _ _ _ _ _ _ _ _ _ _ running;
       running = running;

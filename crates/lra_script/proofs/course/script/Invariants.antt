@@ -1,5 +1,5 @@
 use Rattle.std.proofs.Common.{◌+◌, ◌≤◌, ◌≡◌, length, vec_capacity}
-use Rattle.lra_script.specs.ScriptEnds.{most_reads}
+use Rattle.lra_script.specs.ScriptEnds.{max_reads}
 use Rattle.lra_script.proofs.Runs.{Runs}
 use Rattle.lra_script.proofs.course.script.Given as goal
 
@@ -9,7 +9,7 @@ invariant-lines g l = let s = g.R.Source in let t = g.W.Sink in record {
   running : Runs l.nodes l.world (s.stream l.fn.reader) (s.stream l.reader) (t.stream l.fn.writer) (t.stream l.writer)
       (s.calls l.fn.reader) (s.calls l.reader) (t.calls l.fn.writer) (t.calls l.writer);
   room : 4097 ≤ vec_capacity l.line;
-  spent : (s.calls l.fn.reader).made + most_reads ≤ (s.calls l.reader).made + l.reads_left;
+  spent : (s.calls l.fn.reader).made + max_reads ≤ (s.calls l.reader).made + l.reads_left;
 }
 
 abbrev pub decreases-lines : goal.decreases-lines

@@ -1,8 +1,9 @@
-use Rattle.std.proofs.Common.{inl, inr, ◌≡◌, List, [], ◌∷◌, ◌++◌, ◌+◌, drop, sym, subst, arith}
+use Rattle.std.proofs.Common.{◌≡◌, List, [], ◌∷◌, ◌+◌, drop, sym, subst, arith}
 use Rattle.std.proofs.lemmas.List.{drop_all}
 use Rattle.lra_facts.proofs.Chains.{drop_at}
 use Rattle.lra_world.specs.declared.event.Event.{Event}
 use Rattle.lra_world.specs.declared.event.Reply.{Reply}
+use Rattle.lra_world.specs.Machines.{StopsIn}
 use Rattle.lra_world.proofs.Happening.{IsRunning, running_ends, running_more, running_none, running_still, running_stops}
 use Rattle.lra_world.proofs.world.World.run.Goals as goal
 
@@ -31,8 +32,7 @@ returns-in_default-clause-err c s w =
     let i = c.loop-event.event-index in
     let event = c.event-item.result in
     let r = subst (λ (left : List Event). IsRunning s all left c.loop-event.replies.items c.loop-event.self) (drop_at all i event c.loop-event-test.true c.event-item.is) (c.loop-event.invariant s w) in
-    elim (c.in_default.ensures.err r.state r.stands) [
-      | inl same ↦ running_stops s all (event ∷ drop (i + 1) all) c.loop-event.replies.items c.step_on.new.self w.world (running_still s all (event ∷ drop (i + 1) all) c.loop-event.replies.items c.loop-event.self c.step_on.new.self r same)
-      | inr late ↦ running_stops s all (drop (i + 1) all) (c.loop-event.replies.items ++ late.0 ∷ []) c.step_on.new.self w.world
-          (running_more s all (drop (i + 1) all) event c.loop-event.replies.items late.0 c.loop-event.self c.step_on.new.self r late.1)
-    ]
+    let still = c.in_default.ensures.err r.state r.stands in
+    subst (λ (replies : List Reply). StopsIn s all replies c.step_on.new.self) (sym still.1)
+    (running_stops s all (drop (i + 1) all) event c.loop-event.replies.items c.step_on.new.self w.world
+    (running_still s all (event ∷ drop (i + 1) all) c.loop-event.replies.items c.loop-event.self c.step_on.new.self r still.0))

@@ -1,0 +1,10 @@
+use Rattle.std.proofs.Common.{◌≤◌, arith}
+use Rattle.lra_history.specs.Replies.{shown_of}
+use Rattle.lra_replica.specs.Replicas.{view_of}
+use Rattle.lra_world.proofs.Happening.{of_own}
+use Rattle.lra_world.proofs.world.World.status.Goals as goal
+
+pub returns : goal.returns
+returns c s w =
+    let some : 1 ≤ c.args.node = omega (arith, c.number-range.ensures.range, c.number-range.ensures.value) in
+    of_own s c.args.self.now c.args.node (view_of c.replica.result.now) _ (λ S v. shown_of S v c.args.id) w some c.requires (c.replica.ensures.view s w) c.status.ensures.settled
