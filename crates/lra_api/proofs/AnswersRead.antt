@@ -24,7 +24,9 @@ use Rattle.lra_http.specs.MessageTexts.{field_line, field_lines, line_end, phras
 use Rattle.lra_http.specs.WholeMessages.{IsPlain, IsSound}
 use Rattle.lra_http.specs.declared.fault.Fault.TheVariants as fault
 use Rattle.lra_http.specs.Faults.{fault_name}
+use Rattle.lra_http.proofs.PlainValues.{Short, decimal_visible, is_visible, length_is, lines_short, literal_visible, plain_visible, sized}
 use Rattle.lra_http.proofs.WholeMessages.{whole_response}
+use Rattle.lra_id.proofs.VisibleTexts.{text_length, text_visible}
 use Rattle.lra_states.specs.declared.status.LraStatus.TheVariants.{Active}
 use Rattle.lra_facts.specs.declared.refusal.Refusal.{Refusal}
 use Rattle.lra_facts.specs.declared.refusal.Refusal.TheVariants.{BadText, UnknownLra, NotHeld, NotHome, UnknownMember, NotActive, NotDue, NotEnded, NotRoot, StillToForget, MembersFull, DepthFull, LrasFull, NumbersSpent, Gap, BadFrame, NoMemory, JournalFailed, Stopped, RunFull, TrailLost, Strange}
@@ -45,111 +47,19 @@ use Rattle.lra_api.specs.declared.answers.FieldName.TheVariants.{Allow, Action, 
 use Rattle.lra_api.specs.Answers.{answer_of, bare, closing, code_of, command_answer, fault_answer, fault_code, field, field_name, json, of_length, of_type, refusal_answer, unrouted_answer, with_body}
 use Rattle.lra_api.specs.Texts.{join_body, member_body, page_body, recovery_path, refusal_body, status_body, urn}
 
--- Values that can be seen: no white space, no control byte, and ASCII alone
-
-abbrev pub seen : ℕ → Bool
-seen b = nat_lt 32 b && nat_lt b 127
-
-seen_passes : (b : ℕ) → IsTrue (seen b) → IsTrue (is_value_byte b)
-seen_passes b h = grind (arith, nat_tests)
-
-seen_stands : (b : ℕ) → IsTrue (seen b) → is_ows b ≡ false
-seen_stands b h = grind (arith, nat_tests)
-
-skip_seen : (v : List ℕ) → AllPass seen v → skip_ows v ≡ v
-skip_seen [] h = refl
-skip_seen (b ∷ bs) h = rw (seen_stands b (All-head (λ x. IsTrue (seen x)) b bs h)) refl
-
-trim_seen : (v : List ℕ) → AllPass seen v → trim_ows v ≡ v
-unfolding trim_ows
-trim_seen v h = rw (skip_seen v h, skip_seen (reverse v) (AllPass-reverse seen v h), reverse-reverse) refl
-
-plain_seen : (name value : List ℕ) → 0 < length name → list_all is_token_byte name ≡ true → AllPass seen value → IsPlain (record { name = name; value = value })
-plain_seen name value some token h = record {
-  name = (some, AllPass-from_list_all is_token_byte name token);
-  value = All-weaker (λ x. IsTrue (seen x)) (λ x. IsTrue (is_value_byte x)) seen_passes value h;
-  trimmed = trim_seen value h;
-}
+-- Fields of answers
 
 -- a field of an answer with such a value
-field_plain : (name : FieldName) (value : List ℕ) → AllPass seen value → IsPlain (field name value)
+field_plain : (name : FieldName) (value : List ℕ) → AllPass is_visible value → IsPlain (field name value)
 unfolding is_token_byte
-field_plain Allow value h = plain_seen (field_name Allow) value (omega arith) refl h
-field_plain Action value h = plain_seen (field_name Action) value (omega arith) refl h
-field_plain Recovery value h = plain_seen (field_name Recovery) value (omega arith) refl h
-field_plain ContentType value h = plain_seen (field_name ContentType) value (omega arith) refl h
-field_plain ContentLength value h = plain_seen (field_name ContentLength) value (omega arith) refl h
-field_plain Connection value h = plain_seen (field_name Connection) value (omega arith) refl h
-
-literal_seen : (v : List ℕ) → list_all seen v ≡ true → AllPass seen v
-literal_seen v h = AllPass-from_list_all seen v h
-
--- Ids and numbers
-
-seen_if : (b : Bool) (x y : ℕ) → IsTrue (seen x) → IsTrue (seen y) → IsTrue (seen (if b then x else y))
-seen_if true x y p q = p
-seen_if false x y p q = q
-
-hex_seen : (d : ℕ) → d < 16 → IsTrue (seen (hex_digit lower d))
-hex_seen d h = grind (arith, nat_tests)
-
-abbrev digit_at : List ℕ → ℕ → ℕ
-digit_at bytes k = if is_hyphen_place k then 45 else hex_digit lower (nibble bytes (digit_place k))
-
-id_seen : (id : Id) → AllPass seen (text_of id)
-id_seen id =
-    All-from_get_or (λ x. IsTrue (seen x)) (text_of id) 0 (λ i inside.
-    rw (by_index_at 36 (digit_at (layout id)) i 0 (rw (by_index_length 36 (digit_at (layout id))) at inside))
-    (seen_if (is_hyphen_place i) 45 (hex_digit lower (nibble (layout id) (digit_place i))) refl
-    (hex_seen (nibble (layout id) (digit_place i)) (nibble_small (layout id) (digit_place i)))))
-
-digits_seen : (ds : List ℕ) → AllDigits 10 ds → AllPass seen ds
-digits_seen [] h = All-nil (λ x. IsTrue (seen x))
-digits_seen (c ∷ cs) h =
-    let at = digit_from_value c h.0 in
-    All-cons (λ x. IsTrue (seen x)) c cs (grind (arith, nat_tests)) (digits_seen cs h.1)
-
-digits_pass : (ds : List ℕ) → AllDigits 10 ds → list_all is_ascii_digit ds ≡ true
-digits_pass [] h = refl
-digits_pass (c ∷ cs) h =
-    let at = digit_from_value c h.0 in
-    let first : is_ascii_digit c ≡ true = grind (arith, nat_tests) in
-    rw (first, digits_pass cs h.1) refl
-
-decimal_seen : (n : ℕ) → n < 2 ^ 64 → AllPass seen (decimal n)
-decimal_seen n fits = digits_seen (decimal n) (decimal_is_IsNumeral n fits).0.1
-
-number_of : (n : ℕ) → n < 2 ^ 64 → is_number (decimal n) ≡ true
-number_of n fits =
-    let some : nat_lt 0 (length (decimal n)) ≡ true = let more = decimal_nonempty n fits in grind (arith, nat_tests) in
-    rw (some, digits_pass (decimal n) (decimal_is_IsNumeral n fits).0.1) refl
-
-abbrev sized : ℕ → Result ℕ Fault
-sized n = Ok n
-
-length_is : (limit n : ℕ) → n < 2 ^ 64 → n ≤ limit → length_in limit (decimal n) ≡ sized n
-length_is limit n fits low = rw (number_of n fits, (decimal_is_IsNumeral n fits).1, le-ltb limit n low) refl
+field_plain Allow value h = plain_visible (field_name Allow) value (omega arith) refl h
+field_plain Action value h = plain_visible (field_name Action) value (omega arith) refl h
+field_plain Recovery value h = plain_visible (field_name Recovery) value (omega arith) refl h
+field_plain ContentType value h = plain_visible (field_name ContentType) value (omega arith) refl h
+field_plain ContentLength value h = plain_visible (field_name ContentLength) value (omega arith) refl h
+field_plain Connection value h = plain_visible (field_name Connection) value (omega arith) refl h
 
 -- Heads of few bytes
-
-abbrev Short : List Field → Type 0
-Short [] = Unit {0}
-Short (f ∷ fs) = (length f.name + length f.value ≤ 300) × Short fs
-
-line_length : (f : Field) → length (field_line f) ≡ length f.name + length f.value + 4
-line_length f =
-    let one = length-append f.name (codes ": " ++ (f.value ++ line_end)) in
-    let two = length-append f.value line_end in
-    omega (arith, one, two)
-
-lines_short : (fs : List Field) → Short fs → length (field_lines fs) ≤ 304 * length fs
-lines_short [] h = omega arith
-lines_short (f ∷ fs) h =
-    let one = length-append (field_line f) (field_lines fs) in
-    let rest = lines_short fs h.1 in
-    let line = line_length f in
-    let few = h.0 in
-    omega (arith, one, rest, line, few)
 
 head_short : (r : Response) → length (status_line r.status) ≤ 100 → Short r.fields → length r.fields ≤ 4 → length (response_head r) ≤ 16384
 head_short r status short few =
@@ -177,15 +87,15 @@ IsFirst ContentLength = ⊥
 IsFirst Connection = ⊥
 
 close_plain : IsPlain closing
-close_plain = field_plain Connection (codes "close") (literal_seen (codes "close") refl)
+close_plain = field_plain Connection (codes "close") (literal_visible (codes "close") refl)
 
 size_plain : (n : ℕ) → n < 2 ^ 64 → IsPlain (field ContentLength (decimal n))
-size_plain n fits = field_plain ContentLength (decimal n) (decimal_seen n fits)
+size_plain n fits = field_plain ContentLength (decimal n) (decimal_visible n fits)
 
 size_short : (n : ℕ) → n < 2 ^ 64 → length (decimal n) ≤ 20
 size_short n fits = length-decimal-le 20 n (omega arith) (omega arith) fits
 
-pub sound_with : (limit code : ℕ) (kind body : List ℕ) → IsCode code → AllPass seen kind → length kind ≤ 100 → length body < 2 ^ 64 → length body ≤ limit
+pub sound_with : (limit code : ℕ) (kind body : List ℕ) → IsCode code → AllPass is_visible kind → length kind ≤ 100 → length body < 2 ^ 64 → length body ≤ limit
     → IsSound limit (with_body code [] kind body)
 sound_with limit code kind body right clear few fits low =
     let size = size_short (length body) fits in
@@ -199,7 +109,7 @@ sound_with limit code kind body right clear few fits low =
     }
 
 pub sound_behind : (limit code : ℕ) (name : FieldName) (value kind body : List ℕ) → IsFirst name → IsPlain (field name value) → length value ≤ 200
-    → IsCode code → AllPass seen kind → length kind ≤ 100 → length body < 2 ^ 64 → length body ≤ limit
+    → IsCode code → AllPass is_visible kind → length kind ≤ 100 → length body < 2 ^ 64 → length body ≤ limit
     → IsSound limit (with_body code (field name value ∷ []) kind body)
 sound_behind limit code name value kind body first plain little right clear few fits low =
     let size = size_short (length body) fits in
@@ -334,27 +244,27 @@ fault_right fault.NoMemory = code_400
 
 -- Values of fields
 
-urn_seen : (id : Id) → AllPass seen (urn id)
+urn_visible : (id : Id) → AllPass is_visible (urn id)
 unfolding urn
-urn_seen id = All-append (λ x. IsTrue (seen x)) (codes "urn:uuid:") (text_of id) (literal_seen (codes "urn:uuid:") refl) (id_seen id)
+urn_visible id = All-append (λ x. IsTrue (is_visible x)) (codes "urn:uuid:") (text_of id) (literal_visible (codes "urn:uuid:") refl) (text_visible id)
 
 urn_short : (id : Id) → length (urn id) ≤ 200
 unfolding urn
 urn_short id =
-    let long : length (text_of id) ≡ 36 = by_index_length 36 (digit_at (layout id)) in
+    let long = text_length id in
     omega (arith, long)
 
-path_seen : (id : Id) (m : ℕ) → m < 2 ^ 64 → AllPass seen (recovery_path id m)
+path_visible : (id : Id) (m : ℕ) → m < 2 ^ 64 → AllPass is_visible (recovery_path id m)
 unfolding recovery_path
-path_seen id m fits =
-    All-append (λ x. IsTrue (seen x)) (codes "/lra/") _ (literal_seen (codes "/lra/") refl)
-    (All-append (λ x. IsTrue (seen x)) (text_of id) _ (id_seen id)
-    (All-append (λ x. IsTrue (seen x)) (codes "/member/") _ (literal_seen (codes "/member/") refl) (decimal_seen m fits)))
+path_visible id m fits =
+    All-append (λ x. IsTrue (is_visible x)) (codes "/lra/") _ (literal_visible (codes "/lra/") refl)
+    (All-append (λ x. IsTrue (is_visible x)) (text_of id) _ (text_visible id)
+    (All-append (λ x. IsTrue (is_visible x)) (codes "/member/") _ (literal_visible (codes "/member/") refl) (decimal_visible m fits)))
 
 path_short : (id : Id) (m : ℕ) → m < 2 ^ 64 → length (recovery_path id m) ≤ 200
 unfolding recovery_path
 path_short id m fits =
-    let long : length (text_of id) ≡ 36 = by_index_length 36 (digit_at (layout id)) in
+    let long = text_length id in
     let size = size_short m fits in
     let whole = length-append (text_of id) (codes "/member/" ++ decimal m) in
     omega (arith, long, size, whole)
@@ -363,12 +273,12 @@ path_short id m fits =
 
 sound_json : (limit code : ℕ) (body : List ℕ) → IsCode code → limit < 2 ^ 64 → length body ≤ limit → IsSound limit (json code [] body)
 sound_json limit code body right fits low =
-    sound_with limit code (codes "application/json") body right (literal_seen (codes "application/json") refl) (omega arith) (omega (arith, low, fits)) low
+    sound_with limit code (codes "application/json") body right (literal_visible (codes "application/json") refl) (omega arith) (omega (arith, low, fits)) low
 
 sound_first : (limit code : ℕ) (name : FieldName) (value body : List ℕ) → IsFirst name → IsPlain (field name value) → length value ≤ 200 → IsCode code
     → limit < 2 ^ 64 → length body ≤ limit → IsSound limit (json code (field name value ∷ []) body)
 sound_first limit code name value body first plain few right fits low =
-    sound_behind limit code name value (codes "application/json") body first plain few right (literal_seen (codes "application/json") refl) (omega arith)
+    sound_behind limit code name value (codes "application/json") body first plain few right (literal_visible (codes "application/json") refl) (omega arith)
     (omega (arith, low, fits)) low
 
 sound_refusal : (limit : ℕ) (refusal : Refusal) → limit < 2 ^ 64 → length (refusal_answer refusal).body ≤ limit → IsSound limit (refusal_answer refusal)
@@ -376,9 +286,9 @@ sound_refusal limit refusal fits low = sound_json limit (code_of refusal) (refus
 
 sound_command : (limit : ℕ) (r : CommandReply) → limit < 2 ^ 64 → IsNumberedCommand r → length (command_answer r).body ≤ limit → IsSound limit (command_answer r)
 sound_command limit (command.Began id m) fits small low =
-    sound_first limit 201 Action (urn id) (status_body id Active) tt (field_plain Action (urn id) (urn_seen id)) (urn_short id) code_201 fits low
+    sound_first limit 201 Action (urn id) (status_body id Active) tt (field_plain Action (urn id) (urn_visible id)) (urn_short id) code_201 fits low
 sound_command limit (command.Joined id m) fits small low =
-    sound_first limit 200 Recovery (recovery_path id m) (join_body id m) tt (field_plain Recovery (recovery_path id m) (path_seen id m small)) (path_short id m small) code_200 fits low
+    sound_first limit 200 Recovery (recovery_path id m) (join_body id m) tt (field_plain Recovery (recovery_path id m) (path_visible id m small)) (path_short id m small) code_200 fits low
 sound_command limit (command.Decided id status) fits small low = sound_json limit 200 (status_body id status) code_200 fits low
 sound_command limit command.Left fits small low = sound_bare limit
 sound_command limit command.Reported fits small low = sound_bare limit
@@ -391,7 +301,7 @@ sound_reply : (limit : ℕ) (r : Reply) → limit < 2 ^ 64 → IsNumbered r → 
 sound_reply limit (reply.Command r) fits small low = sound_command limit r fits small low
 sound_reply limit reply.Took fits small low = sound_bare limit
 sound_reply limit (reply.Gave delta) fits small low =
-    sound_with limit 200 (codes "application/octet-stream") (spelling delta) code_200 (literal_seen (codes "application/octet-stream") refl) (omega arith)
+    sound_with limit 200 (codes "application/octet-stream") (spelling delta) code_200 (literal_visible (codes "application/octet-stream") refl) (omega arith)
     (omega (arith, low, fits)) low
 sound_reply limit (reply.Shown id status) fits small low = sound_json limit 200 (status_body id status) code_200 fits low
 sound_reply limit (reply.ShownMember id m status) fits small low = sound_json limit 200 (member_body id m status) code_200 fits low

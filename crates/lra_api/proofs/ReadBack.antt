@@ -8,6 +8,7 @@ use Rattle.std.proofs.lemmas.List.Elements.{All-from_recursion}
 use Rattle.uuid.specs.Text.{lower, parsed}
 use Rattle.uuid.proofs.RoundTrips.{parses_hyphenated}
 use Rattle.uuid.proofs.TextLemmas.{by_index_length}
+use Rattle.lra_id.proofs.VisibleTexts.{text_length}
 use Rattle.lra_id.specs.Ids.{Id, IsId, layout, text_of}
 use Rattle.lra_states.specs.Names.{lra_name, member_name}
 use Rattle.lra_states.specs.declared.status.LraStatus.{LraStatus}
@@ -46,9 +47,6 @@ text_told a b p q e =
     let bytes : layout a ≡ layout b = some_same _ _ (bytes_back a p ∙ ap parsed e ∙ sym (bytes_back b q)) in
     sym (id_at_layout a p) ∙ ap id_at bytes ∙ id_at_layout b q
 
-long : (id : Id) → length (text_of id) ≡ 36
-long id = by_index_length 36 _
-
 urn_told : (a b : Id) → IsId a → IsId b → urn a ≡ urn b → a ≡ b
 unfolding urn
 urn_told a b p q e = text_told a b p q (append_cancel_left (codes "urn:uuid:") (text_of a) (text_of b) e)
@@ -56,7 +54,7 @@ urn_told a b p q e = text_told a b p q (append_cancel_left (codes "urn:uuid:") (
 -- an id, and what stands behind it
 id_told : (a b : Id) (r s : List ℕ) → IsId a → IsId b → text_of a ++ r ≡ text_of b ++ s → (a ≡ b) × (r ≡ s)
 id_told a b r s p q e =
-    (text_told a b p q (same_start 36 (text_of a) (text_of b) r s (long a) (long b) e), same_rest 36 (text_of a) (text_of b) r s (long a) (long b) e)
+    (text_told a b p q (same_start 36 (text_of a) (text_of b) r s (text_length a) (text_length b) e), same_rest 36 (text_of a) (text_of b) r s (text_length a) (text_length b) e)
 
 path_told : (a b : Id) (m n : ℕ) → IsId a → IsId b → m < 2 ^ 64 → n < 2 ^ 64 → recovery_path a m ≡ recovery_path b n → (a ≡ b) × (m ≡ n)
 unfolding recovery_path

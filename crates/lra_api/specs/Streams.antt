@@ -11,20 +11,20 @@ use Rattle.lra_http.specs.Streams.{AllWell, GivesWhat, IsFlushed, IsLost, Reads,
 -- Reading
 
 -- the most bytes of a request's body
-abbrev pub body_limit : ℕ
-body_limit = 65536
+abbrev pub max_body_bytes : ℕ
+max_body_bytes = 65536
 
 -- the most calls that take bytes of a request: a head that is too long is told at its last byte but one
-abbrev pub most_reads : ℕ
-most_reads = 16385 + body_limit
+abbrev pub max_reads : ℕ
+max_reads = 16385 + max_body_bytes
 
 -- What was given is one whole request, and no byte more; or it shows a fault, whatever follows. And a fault of the stream has its
 -- cause, no call follows one that failed, and there are at most so many
 abbrev pub IsReading : {R : Type 0} → OfSource R → (old new : R) → Result Request Fault → Type 0
 IsReading source old new (Ok request) =
-    GivesWhat (source.stream old) (source.stream new) (λ bytes. IsMessage body_limit bytes request) × AllWell most_reads 0 (source.calls old) (source.calls new)
+    GivesWhat (source.stream old) (source.stream new) (λ bytes. IsMessage max_body_bytes bytes request) × AllWell max_reads 0 (source.calls old) (source.calls new)
 IsReading source old new (Err f) =
-    Stops (source.stream old) (source.stream new) (Shows body_limit) f × Reads {A = Request} most_reads 0 (source.calls old) (source.calls new) (Err f)
+    Stops (source.stream old) (source.stream new) (Shows max_body_bytes) f × Reads {A = Request} max_reads 0 (source.calls old) (source.calls new) (Err f)
 
 -- Writing
 

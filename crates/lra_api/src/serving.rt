@@ -14,7 +14,9 @@ use crate::answers::{answer, fault_answer, refusal_answer, unrouted_answer};
 use crate::routing::{Unrouted, route_by};
 use lra_book::{Call, Clerk, Reply};
 use lra_facts::Refusal;
-use lra_http::{BODY_LIMIT, Fault, Request, Response, Sink, Source, read_request, write_response};
+use lra_http::{
+    Fault, MAX_BODY_BYTES, Request, Response, Sink, Source, read_request, write_response,
+};
 use std::alloc::{AllocError, Global};
 
 /// Why a request was not served as it was asked.
@@ -48,7 +50,6 @@ fn end_no_memory<W: Sink>(alloc: Global, writer: &mut W) -> Result<(), ServeErro
     Err(ServeError::Refused(Refusal::NoMemory))
 }
 
-/// What is told behind a whole answer.
 fn told(refusal: Option<Refusal>) -> Result<(), ServeError>
     ensures { result ≡ told refusal }
 {
@@ -58,7 +59,6 @@ fn told(refusal: Option<Refusal>) -> Result<(), ServeError>
     }
 }
 
-/// What is told where a write failed: a refusal goes before that.
 fn told_if_lost(refusal: Option<Refusal>) -> Result<(), ServeError>
     ensures { result ≡ told_if_lost refusal }
 {
@@ -68,7 +68,6 @@ fn told_if_lost(refusal: Option<Refusal>) -> Result<(), ServeError>
     }
 }
 
-/// Writes an answer, and tells the refusal behind it, if there is one.
 fn end_with<W: Sink>(
     alloc: Global,
     writer: &mut W,
@@ -104,7 +103,6 @@ fn end<W: Sink>(
     }
 }
 
-/// Writes the answer to a call that the clerk refused.
 fn end_refused<W: Sink>(alloc: Global, writer: &mut W, refusal: &Refusal) -> Result<(), ServeError>
     ensures { Ends W.Sink writer.old writer.new (refusal_answer refusal.now) (Some refusal.now) result }
 {
@@ -112,7 +110,6 @@ fn end_refused<W: Sink>(alloc: Global, writer: &mut W, refusal: &Refusal) -> Res
     end(alloc, writer, made, Some(*refusal))
 }
 
-/// Writes the answer to a reply.
 fn end_replied<W: Sink>(alloc: Global, writer: &mut W, reply: &Reply) -> Result<(), ServeError>
     ensures { Ends W.Sink writer.old writer.new (answer_of reply.now) None result }
 {
@@ -120,7 +117,6 @@ fn end_replied<W: Sink>(alloc: Global, writer: &mut W, reply: &Reply) -> Result<
     end(alloc, writer, made, None)
 }
 
-/// Makes a call, and writes the answer to what comes of it.
 fn serve_call<W: Sink, C: Clerk>(
     alloc: Global,
     writer: &mut W,
@@ -136,7 +132,6 @@ fn serve_call<W: Sink, C: Clerk>(
     }
 }
 
-/// Writes the answer to a request that asks for no call.
 fn end_unrouted<W: Sink>(
     alloc: Global,
     writer: &mut W,
@@ -148,7 +143,6 @@ fn end_unrouted<W: Sink>(
     end(alloc, writer, made, None)
 }
 
-/// Makes the call that a request asks for, if it asks for one, and writes the answer.
 fn serve_request<W: Sink, C: Clerk>(
     alloc: Global,
     paths: &Paths,
@@ -170,7 +164,6 @@ fn serve_request<W: Sink, C: Clerk>(
     }
 }
 
-/// Writes the answer to what is no whole request.
 fn end_fault<W: Sink>(alloc: Global, writer: &mut W, fault: Fault) -> Result<(), ServeError>
     ensures { Ends W.Sink writer.old writer.new (fault_answer fault) None result }
 {
@@ -178,7 +171,6 @@ fn end_fault<W: Sink>(alloc: Global, writer: &mut W, fault: Fault) -> Result<(),
     end(alloc, writer, made, None)
 }
 
-/// Writes the answer to what is no whole request, if anything is still to be written.
 fn serve_fault<W: Sink>(alloc: Global, writer: &mut W, fault: Fault) -> Result<(), ServeError>
     requires { fault ≢ OnWrite }
     ensures { ServesFault W.Sink writer.old writer.new fault result }
@@ -214,7 +206,7 @@ pub fn serve_one<R: Source, W: Sink, C: Clerk>(
         × IsReading R.Source reader.old reader.new read
         × Serves (clerk.new ≡ clerk.old) (Makes C.Clerk clerk.old clerk.new now) W.Sink writer.old writer.new now read result }
 {
-    match read_request(alloc, reader, BODY_LIMIT) {
+    match read_request(alloc, reader, MAX_BODY_BYTES) {
         Ok(request) => serve_request(alloc, paths, writer, clerk, &request, now),
         Err(fault) => serve_fault(alloc, writer, fault),
     }

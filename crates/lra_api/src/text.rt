@@ -10,21 +10,18 @@ use lra_replica::{Page, Row};
 use lra_states::{LraStatus, MemberStatus};
 use std::alloc::{AllocError, Global};
 
-/// Adds a text.
 fn push(body: &mut Vec<u8>, text: &str) -> Result<(), AllocError>
     ensures { OnOk result (body.new.items ≡ body.old.items ++ text.now) }
 {
     body.extend_from_slice(text.as_bytes())
 }
 
-/// Adds the text of an id.
 fn push_id(body: &mut Vec<u8>, id: LraId) -> Result<(), AllocError>
     ensures { OnOk result (body.new.items ≡ body.old.items ++ text_of id) }
 {
     body.extend_from_slice(&id.to_text())
 }
 
-/// Adds the id of a body about an LRA.
 #[tactic(auto, unfolding(crate::specs::Texts::of_lra))]
 fn push_lra(body: &mut Vec<u8>, id: LraId) -> Result<(), AllocError>
     ensures { OnOk result (body.new.items ≡ body.old.items ++ of_lra id) }
@@ -34,7 +31,6 @@ fn push_lra(body: &mut Vec<u8>, id: LraId) -> Result<(), AllocError>
     push(body, "\"")
 }
 
-/// Adds what is shown, at the end of a body.
 #[tactic(auto, unfolding(crate::specs::Texts::of_status))]
 fn push_name(body: &mut Vec<u8>, name: &str) -> Result<(), AllocError>
     ensures { OnOk result (body.new.items ≡ body.old.items ++ of_status name.now) }
@@ -44,7 +40,6 @@ fn push_name(body: &mut Vec<u8>, name: &str) -> Result<(), AllocError>
     push(body, "\"}")
 }
 
-/// Adds what an LRA shows.
 #[tactic(auto, unfolding(crate::specs::Texts::status_body))]
 fn push_status(body: &mut Vec<u8>, id: LraId, status: LraStatus) -> Result<(), AllocError>
     ensures { OnOk result (body.new.items ≡ body.old.items ++ status_body id status) }
@@ -62,7 +57,6 @@ pub fn status_body(alloc: Global, id: LraId, status: LraStatus) -> Result<Vec<u8
     Ok(body)
 }
 
-/// Adds a number in decimal.
 fn push_number(alloc: Global, body: &mut Vec<u8>, number: u8) -> Result<(), AllocError>
     ensures { OnOk result (body.new.items ≡ body.old.items ++ decimal number) }
 {
@@ -88,7 +82,6 @@ pub fn member_body(
     Ok(body)
 }
 
-/// Adds where the coordinator tells of a participant.
 #[tactic(auto, unfolding(crate::specs::Texts::recovery_path))]
 fn push_recovery(alloc: Global, body: &mut Vec<u8>, id: LraId, member: u8) -> Result<(), AllocError>
     ensures { OnOk result (body.new.items ≡ body.old.items ++ recovery_path id member) }
@@ -133,7 +126,6 @@ pub fn urn(alloc: Global, id: LraId) -> Result<Vec<u8>, AllocError>
     Ok(text)
 }
 
-/// Adds rows, each behind a comma.
 fn push_more_rows(body: &mut Vec<u8>, rows: &[Row]) -> Result<(), AllocError>
     ensures { OnOk result (body.new.items ≡ body.old.items ++ more_rows rows.now) }
 {
@@ -144,7 +136,6 @@ fn push_more_rows(body: &mut Vec<u8>, rows: &[Row]) -> Result<(), AllocError>
     Ok(())
 }
 
-/// Adds rows, parted by commas.
 fn push_rows(body: &mut Vec<u8>, rows: &[Row]) -> Result<(), AllocError>
     ensures { OnOk result (body.new.items ≡ body.old.items ++ rows_text rows.now) }
 {
@@ -157,7 +148,6 @@ fn push_rows(body: &mut Vec<u8>, rows: &[Row]) -> Result<(), AllocError>
     }
 }
 
-/// The LRA of the last row, where more follow.
 fn next_of(page: &Page) -> Option<LraId>
     ensures { result ≡ next_of page.now }
 {
@@ -170,7 +160,6 @@ fn next_of(page: &Page) -> Option<LraId>
     }
 }
 
-/// Adds an id as a string, or `null` for none.
 fn push_next(body: &mut Vec<u8>, next: Option<LraId>) -> Result<(), AllocError>
     ensures { OnOk result (body.new.items ≡ body.old.items ++ next_text next) }
 {

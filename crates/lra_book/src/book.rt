@@ -29,10 +29,10 @@ use std::marker::Model;
 use std::mem;
 
 /// The most entries of a run.
-pub const MOST_ENTRIES: usize = 1024;
+pub const MAX_ENTRIES: usize = 1024;
 
 /// The most of them that move a frame.
-pub const MOST_MOVES: usize = 16;
+pub const MAX_MOVES: usize = 16;
 
 /// What a node holds and its journal, with the calls of the run that is on.
 #[derive(Drop)]
@@ -62,7 +62,6 @@ impl<S: Alter> Model for Book<S> {
         × (IsSome b.opening → 1024 ≤ vec_capacity b.trail) };
 }
 
-/// How many calls of a trail move a frame.
 fn moves_in(trail: &[Entry]) -> usize
     ensures { result ≡ moves_in trail.now }
 {
@@ -75,11 +74,10 @@ fn moves_in(trail: &[Entry]) -> usize
     moves
 }
 
-/// Whether a run has room for one more entry of this call.
 fn has_room_for(trail: &[Entry], call: &Call) -> bool
     ensures { result ≡ has_room_for trail.now call.now }
 {
-    trail.len() < MOST_ENTRIES && (!call.is_move() || moves_in(trail) < MOST_MOVES)
+    trail.len() < MAX_ENTRIES && (!call.is_move() || moves_in(trail) < MAX_MOVES)
 }
 
 /// What is to be entered of a call, a copy of it, and what it changes, if anything.
@@ -130,14 +128,12 @@ fn make_ready(
     })
 }
 
-/// Two copies of a call.
 fn twice(call: &Call) -> Result<(Call, Call), AllocError>
     ensures { IfOk result (λ copies. (copies.0 ≡ call.now) × (copies.1 ≡ call.now)) }
 {
     Ok((call.clone()?, call.clone()?))
 }
 
-/// Puts an entry last, for which there is room.
 fn put(trail: &mut Vec<Entry>, entry: Entry)
     requires { length trail.old.items < vec_capacity trail.old }
     ensures items { trail.new.items ≡ trail.old.items ++ entry ∷ [] }
@@ -165,7 +161,6 @@ pub(crate) fn stands(trail: &[Entry], receipt: &Receipt) -> bool
     }
 }
 
-/// The lesser of an index and the one found so far.
 fn lesser(index: u64, found: Option<u64>) -> u64
     ensures { result ≡ lesser index found }
 {
@@ -175,7 +170,6 @@ fn lesser(index: u64, found: Option<u64>) -> u64
     }
 }
 
-/// The least index of a receipt that doesn't stand in the trail.
 fn lost_index(trail: &[Entry], receipts: &[Receipt]) -> Option<u64>
     ensures { result ≡ lost_from trail.now None receipts.now }
 {
@@ -257,13 +251,12 @@ impl<S: Alter> Book<S> {
             return Err(Refusal::Stopped);
         }
         let opening = self.replica.try_clone()?;
-        let trail = Vec::with_capacity(alloc, MOST_ENTRIES)?;
+        let trail = Vec::with_capacity(alloc, MAX_ENTRIES)?;
         self.opening = Some(opening);
         self.trail = trail;
         Ok(Pass::first())
     }
 
-    /// The refusal that a call meets before anything is done.
     fn refusal_at_once(&self, pass: &Pass, call: &Call) -> Option<Refusal>
         ensures { result ≡ refusal_at_once self.now pass.now call.now }
     {

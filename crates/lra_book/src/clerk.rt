@@ -33,7 +33,6 @@ pub trait Clerk {
             (λ _. IsOutcome (receipts self.old) (receipts self.new) call (Ok (last_reply (receipts self.new))) × called self.old self.new call now (Ok (last_reply (receipts self.new))))
             (λ refusal. IsOutcome (receipts self.old) (receipts self.new) call (Err refusal) × called self.old self.new call now (Err refusal)) };
 
-    /// Lends the reply to the last call that wasn't refused.
     fn reply(&self) -> &Reply
         requires { 0 < length (receipts self.now) }
         ensures { result.now ≡ last_reply (receipts self.now) };

@@ -69,7 +69,6 @@ impl<J: Run, S: Alter> Model for Locked<J, S> {
 }
 
 impl<J: Run, S: Alter> Locked<J, S> {
-    /// Makes a call at a moment, where the trail has all receipts, and counts it.
     fn enter(
         &mut self,
         alloc: Global,
@@ -106,7 +105,6 @@ pub struct Desk<J: Run, S: Alter> {
     locked: Mutex<Locked<J, S>>,
 }
 
-/// A pass with no receipts.
 fn new_pass<J: Run>(alloc: Global, share: Share<J>) -> DeskPass<J>
     requires { (share.parts ≡ 1) × (share.amount ≡ 0) }
     ensures { result ≡ new_pass }
@@ -118,7 +116,6 @@ fn new_pass<J: Run>(alloc: Global, share: Share<J>) -> DeskPass<J>
     }
 }
 
-/// A pass with no receipts for each part of the share.
 #[tactic(auto, using(crate::proofs::NewPasses::are_new_push))]
 fn passes<J: Run>(
     alloc: Global,
@@ -139,7 +136,6 @@ fn passes<J: Run>(
     Ok(made)
 }
 
-/// The shares of all passes in one.
 fn merged<J: Run>(mut passes: Vec<DeskPass<J>>) -> Option<Share<J>>
     ensures some { IfSome result (λ s. (s.parts ≡ vec_len passes) × (s.amount ≡ sum_by (λ p. p.share) passes.items)) }
     ensures none { IfNone result (vec_len passes ≡ 0) }
@@ -160,14 +156,12 @@ fn merged<J: Run>(mut passes: Vec<DeskPass<J>>) -> Option<Share<J>>
     Some(all)
 }
 
-/// Whether a receipt is that of the entry at an index.
 fn names(index: u64, entry: &Entry, receipt: &Receipt) -> bool
     ensures { result ≡ names index entry.now receipt.now }
 {
     receipt.index == index && tells(entry, receipt)
 }
 
-/// How many of the receipts name the entry at an index.
 fn count_in(receipts: &[Receipt], index: u64, entry: &Entry) -> usize
     ensures { result ≡ count_by (names index entry.now) receipts.now }
 {
@@ -180,7 +174,6 @@ fn count_in(receipts: &[Receipt], index: u64, entry: &Entry) -> usize
     count
 }
 
-/// Whether just one receipt of all passes names the entry.
 fn is_named_once<J: Run>(passes: &[DeskPass<J>], index: u64, entry: &Entry) -> bool
     ensures { result ≡ (sum_by (λ p. count_by (names index entry.now) p.receipts) passes.now == 1) }
 {
@@ -203,7 +196,6 @@ fn strange_entry<J: Run>(trail: &[Entry], passes: &[DeskPass<J>]) -> Option<u64>
     None
 }
 
-/// The index of the first of these receipts that names no entry.
 fn stray_in(trail: &[Entry], receipts: &[Receipt]) -> Option<u64>
     ensures { result ≡ first_stray trail.now receipts.now }
 {
@@ -215,7 +207,6 @@ fn stray_in(trail: &[Entry], receipts: &[Receipt]) -> Option<u64>
     None
 }
 
-/// The index of the first receipt of all passes that names no entry.
 fn stray<J: Run>(trail: &[Entry], passes: &[DeskPass<J>]) -> Option<u64>
     ensures { result ≡ first_stray trail.now (flat_map (λ p. p.receipts) passes.now) }
 {

@@ -14,7 +14,7 @@ mod preparing;
 mod receipts;
 mod sameness;
 
-pub use book::{Book, MOST_ENTRIES, MOST_MOVES};
+pub use book::{Book, MAX_ENTRIES, MAX_MOVES};
 pub use calls::{Call, Entry, PullBody, Receipt, Reply};
 pub use clerk::{BookClerk, Clerk, DeskClerk};
 pub use crossing::{

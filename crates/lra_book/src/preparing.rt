@@ -6,13 +6,15 @@ ghost use Rattle.lra_history.specs.Next.{member_shown_on, next_view, overdue_on,
 ghost use Rattle.lra_history.specs.Views.{View};
 ghost use Rattle.lra_replica.specs.Replicas.{Fits, view_of};
 ghost use Rattle.lra_peer.specs.PullBodies.{asked};
+ghost use Rattle.lra_callback.specs.ViewDuties.{duties_of};
 ghost use Rattle.lra_journal.specs.Keeping.{Keeps};
 ghost use Rattle.lra_journal.specs.Stands.{IsPatchOf, Stands};
 ghost use Rattle.lra_journal.specs.Tables.{IsJournal};
 ghost use Rattle.sqlite.specs.Held.{state};
 ghost use Rattle.sqlite.specs.State.{Survives};
+ghost use Rattle.lra_book.specs.declared.calls.Reply.TheVariants.{Due};
 ghost use Rattle.lra_book.specs.Books.{IsStoreFault};
-ghost use Rattle.lra_book.specs.Next.{AreDuties, IsListing, IsNext, IsTakeReply, expire_reply, expired, member_reply, pull_reply, status_reply, view_expired, with_patch};
+ghost use Rattle.lra_book.specs.Next.{IsListing, IsNext, IsTakeReply, expire_reply, expired, member_reply, pull_reply, status_reply, view_expired, with_patch};
 
 use crate::{Call, PullBody, Reply};
 use lra_callback::pick;
@@ -62,7 +64,6 @@ fn act(
     }
 }
 
-/// Prepares to take what another node tells.
 fn take(alloc: Global, replica: &mut Replica, delta: Delta) -> Result<Step, Refusal>
     ensures view { view_of replica.new ≡ view_of replica.old }
     ensures room { IfOk result (λ step. IfSome step.patch (λ change. Fits change replica.new)) }
@@ -102,7 +103,6 @@ fn give(alloc: Global, replica: &Replica, body: &PullBody) -> Result<Reply, Refu
     }
 }
 
-/// What an LRA shows.
 fn show(replica: &Replica, id: LraId) -> Reply
     ensures { result ≡ status_reply id (shown_on (view_of replica.now) id) }
 {
@@ -112,7 +112,6 @@ fn show(replica: &Replica, id: LraId) -> Reply
     }
 }
 
-/// What a participant shows.
 fn show_member(replica: &Replica, id: LraId, member: u8) -> Reply
     ensures { result ≡ member_reply id member (member_shown_on (view_of replica.now) id member) }
 {
@@ -122,7 +121,6 @@ fn show_member(replica: &Replica, id: LraId, member: u8) -> Reply
     }
 }
 
-/// The LRAs that are held.
 fn list(alloc: Global, replica: &Replica, after: Option<LraId>) -> Result<Reply, Refusal>
     ensures page { IfOk result (λ reply. IsListing (view_of replica.now) after reply) }
     ensures cause { IfErr result (λ refusal. refusal ≡ NoMemory) }
@@ -131,10 +129,9 @@ fn list(alloc: Global, replica: &Replica, after: Option<LraId>) -> Result<Reply,
     Ok(Reply::Listed(page))
 }
 
-/// The participants that are to be called.
 fn duties(alloc: Global, replica: &Replica, me: NodeId) -> Result<Reply, Refusal>
     requires { me ≤ length replica.now.front }
-    ensures due { IfOk result (λ reply. AreDuties (view_of replica.now) me reply) }
+    ensures due { IfOk result (λ reply. reply ≡ Due (duties_of (view_of replica.now) me)) }
     ensures cause { IfErr result (λ refusal. refusal ≡ NoMemory) }
 {
     let duties = pick(alloc, replica, me)?;
@@ -151,7 +148,6 @@ fn expired(id: LraId, reply: CommandReply) -> Reply
     }
 }
 
-/// Prepares to cancel the overdue LRA, if there is one.
 fn expire(alloc: Global, replica: &mut Replica, me: NodeId, now: u64) -> Result<Step, Refusal>
     requires { me ≤ length replica.old.front }
     ensures view { view_of replica.new ≡ view_of replica.old }
@@ -180,7 +176,6 @@ fn expire(alloc: Global, replica: &mut Replica, me: NodeId, now: u64) -> Result<
     }
 }
 
-/// A reply that changes nothing.
 fn answer(reply: Result<Reply, Refusal>) -> Result<Step, Refusal>
     ensures ok { IfOk result (λ step. (reply ≡ Ok step.reply) × (step.patch ≡ None)) }
     ensures err { IfErr result (λ refusal. reply ≡ Err refusal) }
@@ -223,7 +218,6 @@ pub fn prepare(
     }
 }
 
-/// Makes the changes of a patch, if there is one.
 fn change(replica: &mut Replica, patch: Option<Patch>)
     requires { IfSome patch (λ change. Fits change replica.old) }
     ensures view { view_of replica.new ≡ with_patch patch (view_of replica.old) }
@@ -234,7 +228,6 @@ fn change(replica: &mut Replica, patch: Option<Patch>)
     }
 }
 
-/// Stores a patch, if there is one.
 fn store<S: Alter>(
     alloc: Global,
     journal: &mut Journal<S>,

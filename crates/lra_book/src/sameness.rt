@@ -7,7 +7,6 @@ use lra_callback::Duties;
 use lra_history::Command;
 use lra_replica::Page;
 
-/// Whether two commands are the same.
 fn same_command(a: &Command, b: &Command) -> bool
     ensures { result ≡ same_command a.now b.now }
 {
@@ -88,14 +87,12 @@ pub fn same_call(a: &Call, b: &Call) -> bool
     }
 }
 
-/// Whether two pages are the same.
 fn same_page(a: &Page, b: &Page) -> bool
     ensures { result ≡ same_page a.now b.now }
 {
     a.rows() == b.rows() && a.more() == b.more()
 }
 
-/// Whether two lists of duties are the same.
 fn same_duties(a: &Duties, b: &Duties) -> bool
     ensures { result ≡ same_duties a.now b.now }
 {

@@ -24,7 +24,6 @@ pub fn ending_by(refusal: Refusal) -> Option<Refusal>
     }
 }
 
-/// The refusal that ends the run, where one did.
 fn ending_of(outcome: Result<(), ServeError>) -> Option<Refusal>
     ensures { result ≡ ending_of outcome }
 {
