@@ -6,7 +6,7 @@ ghost use Rattle.std.specs.Prelude.{ℕ, List, MatchOption, map, string_bytes};
 
 use log::sink::Console;
 use log::{Level, Logged};
-use lra_id::MOST_NODES;
+use lra_id::MAX_NODES;
 use lra_script::{arguments, code_of, node_of, play};
 use lra_server::{Folder, serve};
 use std::fs::File;
@@ -47,7 +47,6 @@ fn folder_of(rt: HostRuntime, mut words: Vec<String>) -> Folder {
     Folder::new(rt, words.pop().unwrap_or(String::new(rt.alloc())))
 }
 
-/// How many nodes a server is to have, and at which port the first is to listen, where the arguments ask for a server.
 fn asked_server(words: &[String]) -> Option<(u8, u16)>
     ensures { MatchOption result ((nodes port : ℕ) (folder : List ℕ) → AskServer (map string_bytes words.now) nodes port folder → ⊥)
         (λ asked. (folder : List ℕ) × AskServer (map string_bytes words.now) asked.0 asked.1 folder) }
@@ -58,7 +57,7 @@ fn asked_server(words: &[String]) -> Option<(u8, u16)>
     if command.as_str() != "serve" {
         return None;
     }
-    let last = node_of(count.as_bytes(), MOST_NODES)?;
+    let last = node_of(count.as_bytes(), MAX_NODES)?;
     let port = code_of(first.as_bytes())?;
     if port < FIRST_PORT || port > LAST_PORT {
         return None;

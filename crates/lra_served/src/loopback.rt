@@ -12,7 +12,7 @@ use std::thread;
 use std::time::{Clock, Duration};
 
 /// The most milliseconds that a test waits for something.
-pub(crate) const MOST_TURNS: u32 = 20_000;
+pub(crate) const MAX_TURNS: u32 = 20_000;
 
 /// Journals in memory.
 #[derive(Drop)]
@@ -37,7 +37,7 @@ pub(crate) struct Until<C: Clock> {
 
 impl<C: Clock> Read for Until<C> {
     fn read(&mut self, _buf: &mut [u8]) -> std::io::Result<usize> {
-        for _turn in 0..MOST_TURNS {
+        for _turn in 0..MAX_TURNS {
             if self.over.load(Ordering::SeqCst) == 1 {
                 return Ok(0);
             }
@@ -45,6 +45,11 @@ impl<C: Clock> Read for Until<C> {
         }
         Ok(0)
     }
+}
+
+/// An error where something isn't so.
+pub(crate) fn needs(is_so: bool, what: &str) -> Result<(), Fail> {
+    if is_so { Ok(()) } else { Err(Fail::new(what)) }
 }
 
 /// A port of the loopback interface.
@@ -56,7 +61,7 @@ pub(crate) fn address(port: u16) -> SocketAddr {
 fn hears(stream: &mut TcpStream, wanted: &[u8]) -> Result<bool, Fail> {
     let mut place = 0usize;
     let mut piece = [0u8; 256];
-    for _turn in 0..MOST_TURNS {
+    for _turn in 0..MAX_TURNS {
         let count = match stream.read(&mut piece) {
             Ok(count) => count,
             Err(error) if error.kind() == ErrorKind::Interrupted => 0,
@@ -86,6 +91,19 @@ pub(crate) fn answers<R: Net<Stream = TcpStream>>(
     let mut stream = TcpStream::connect(rt, address(port))?;
     stream.write_all(request.as_bytes())?;
     hears(&mut stream, wanted.as_bytes())
+}
+
+/// Sends a request to a port, and says whether it is answered with one of the codes that tell of success.
+pub(crate) fn is_done<R: Net<Stream = TcpStream>>(
+    rt: &R,
+    port: u16,
+    request: &str,
+) -> Result<bool, Fail> {
+    let mut stream = TcpStream::connect(rt, address(port))?;
+    stream.write_all(request.as_bytes())?;
+    let mut start = [0u8; 10];
+    stream.read_exact(&mut start)?;
+    Ok(start == *b"HTTP/1.1 2")
 }
 
 /// Whether a port takes connections.
@@ -124,7 +142,7 @@ pub(crate) fn stopped<R: Net<Stream = TcpStream>>(
 /// came.
 pub(crate) fn take_part<R: Clock>(rt: &R, listener: &TcpListener) -> Result<bool, Fail> {
     listener.set_nonblocking(true)?;
-    for _turn in 0..MOST_TURNS {
+    for _turn in 0..MAX_TURNS {
         if let Ok((mut stream, _)) = listener.accept() {
             let mut piece = [0u8; 512];
             let count = stream.read(&mut piece)?;

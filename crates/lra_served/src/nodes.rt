@@ -1,6 +1,7 @@
 // Nodes on loopback.
 
-use crate::loopback::{InMemory, Until, address, answers, comes_to, stopped, take_part};
+use crate::hanging;
+use crate::loopback::{InMemory, Until, address, answers, comes_to, needs, stopped, take_part};
 use log::sink::Console;
 use log::{Level, Log, Logged};
 use lra_server::serve;
@@ -16,6 +17,9 @@ use std::time::Clock;
 const PORT: u16 = 18_470;
 
 const PARTICIPANT: u16 = 18_477;
+
+/// The number of node 1's next fact, behind a begin, a join, a close and what was heard.
+const NEXT: u64 = 5;
 
 const BEGIN: &str = "POST /lra HTTP/1.1\r\nHost: p\r\nContent-Length: 2\r\n\r\n{}";
 
@@ -38,11 +42,6 @@ const STATUS: &str = "GET /lra/00000000-0000-8001-8000-000000000001 HTTP/1.1\r\n
 
 const CLOSED: &str =
     "HTTP/1.1 200 OK\r\nContent-Type: application/json\r\nContent-Length: 64\r\nConnection: close\r\n\r\n{\"lra\":\"00000000-0000-8001-8000-000000000001\",\"status\":\"Closed\"}";
-
-/// An error where something isn't so.
-fn needs(is_so: bool, what: &str) -> Result<(), Fail> {
-    if is_so { Ok(()) } else { Err(Fail::new(what)) }
-}
 
 /// Begins an LRA at node 1, has a participant join, closes it, and waits until node 2 shows it closed; while four connections say
 /// nothing and two have sent half a request.
@@ -86,7 +85,10 @@ where
         rt,
         || serve(rt, log, host, alloc, 2, PORT, &stores, input),
         || {
-            let visited = visit(rt);
+            let visited = match visit(rt) {
+                Ok(()) => hanging::visit(rt, alloc, PORT, NEXT),
+                Err(failed) => Err(failed),
+            };
             over.store(1, Ordering::SeqCst);
             visited
         },

@@ -93,10 +93,11 @@ pub fn call_out<R: Wait + Clock + Net<Listener = TcpListener, Stream = TcpStream
     node: &Node,
 ) {
     for _ in rt.forever() {
-        let Some(duty) = node.post.next_duty(rt) else {
+        let Some(duty) = node.post.next_duty(rt, alloc) else {
             return;
         };
+        let began = rt.monotonic().unwrap_or(Duration::from_millis(0));
         let heard = call_one(rt, alloc, node, &duty);
-        node.post.tell(rt, duty, heard);
+        node.post.tell(rt, duty, began, heard);
     }
 }

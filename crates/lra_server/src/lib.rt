@@ -8,6 +8,7 @@ mod calling;
 mod crew;
 mod ends;
 mod guest;
+mod hosts;
 mod node;
 mod opening;
 mod patient;

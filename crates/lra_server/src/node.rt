@@ -29,7 +29,7 @@ const HELPERS: usize = 5;
 const PAUSE: u64 = 10;
 
 /// How often it tries that.
-const MOST_TURNS: u32 = 100;
+const MAX_TURNS: u32 = 100;
 
 /// What the threads of a node share besides the desk.
 #[derive(Drop)]
@@ -70,7 +70,7 @@ impl Node {
             return;
         }
         self.post.wake(rt);
-        for _turn in 0..MOST_TURNS {
+        for _turn in 0..MAX_TURNS {
             if TcpStream::connect(rt, address_of(self.first_port, self.number)).is_ok() {
                 return;
             }

@@ -11,7 +11,7 @@ use std::time::{Clock, Duration};
 const GRACE: u64 = 500;
 
 // A message of ten seconds takes 500 slices of 20 milliseconds.
-const MOST_TURNS: u32 = 10_000;
+const MAX_TURNS: u32 = 10_000;
 
 /// When a connection is hurried.
 #[derive(Clone, Copy, PartialEq, Eq)]
@@ -83,7 +83,7 @@ impl<'a, R: Wait + Clock> Patient<'a, R> {
 
 impl<'a, R: Wait + Clock> Read for Patient<'a, R> {
     fn read(&mut self, buf: &mut [u8]) -> io::Result<usize> {
-        for _turn in 0..MOST_TURNS {
+        for _turn in 0..MAX_TURNS {
             self.look()?;
             match self.stream.read(buf) {
                 Err(error) if error.kind() == ErrorKind::WouldBlock => {}
@@ -96,7 +96,7 @@ impl<'a, R: Wait + Clock> Read for Patient<'a, R> {
 
 impl<'a, R: Wait + Clock> Write for Patient<'a, R> {
     fn write(&mut self, buf: &[u8]) -> io::Result<usize> {
-        for _turn in 0..MOST_TURNS {
+        for _turn in 0..MAX_TURNS {
             self.look()?;
             match self.stream.write(buf) {
                 Err(error) if error.kind() == ErrorKind::WouldBlock => {}

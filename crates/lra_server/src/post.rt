@@ -3,6 +3,7 @@
 
 ghost use Rattle.std.specs.Prelude.{◌≤◌};
 
+use crate::hosts::{Hosts, Pace};
 use lra_callback::{Duties, Duty, Heard};
 use lra_delta::Delta;
 use lra_id::{Front, LraId};
@@ -20,6 +21,9 @@ const FIRST_PAUSE: u64 = 250;
 
 /// The longest, in milliseconds.
 const LAST_PAUSE: u64 = 30_000;
+
+/// From how long a call on its host is slow, in milliseconds.
+const SLOW: u64 = 1_000;
 
 /// What was heard of a participant that was called for a duty.
 #[derive(Drop)]
@@ -87,10 +91,20 @@ impl Slip {
     }
 }
 
+/// How a host answers whose call took so long.
+fn pace_of(time: Duration) -> Pace {
+    if time < Duration::from_millis(SLOW) {
+        Pace::Quick
+    } else {
+        Pace::Slow
+    }
+}
+
 // What lies under the lock.
 #[derive(Drop)]
 struct Mail {
     due: VecDeque<Duty>,
+    hosts: Hosts,
     slips: Vec<Slip>,
     letters: VecDeque<Letter>,
     delta: Option<Delta>,
@@ -147,6 +161,14 @@ impl Mail {
             Ok(false) => {}
             Err(_) => self.lost = true,
         }
+    }
+
+    /// The duty that is called for next, if one may be. Its call counts as begun.
+    fn take_duty(&mut self, alloc: Global) -> Option<Duty> {
+        let place = self.hosts.next_of(&self.due)?;
+        let duty = self.due.remove(place)?;
+        self.hosts.begin(alloc, &duty);
+        Some(duty)
     }
 
     /// Takes the duties back that no thread has begun with: who is to be called may be others by now.
@@ -208,6 +230,7 @@ impl Post {
         Post {
             mail: Mutex::new(Mail {
                 due: VecDeque::new(alloc),
+                hosts: Hosts::new(alloc),
                 slips: Vec::new(alloc),
                 letters: VecDeque::new(alloc),
                 delta: None,
@@ -300,21 +323,23 @@ impl Post {
         self.due.notify_all();
     }
 
-    /// A participant that is to be called. It waits for one, and gives none once the program is to end.
-    pub fn next_duty<R: Wait>(&self, rt: &R) -> Option<Duty> {
+    /// A participant that is to be called. It waits for one whose host may be called, and gives none once the program is to end.
+    pub fn next_duty<R: Wait>(&self, rt: &R, alloc: Global) -> Option<Duty> {
         let mut mail = self.due.wait_while(rt, self.mail.lock(rt), |mail| {
-            mail.due.is_empty() && !mail.ended
+            mail.hosts.next_of(&mail.due).is_none() && !mail.ended
         });
         if mail.ended {
             return None;
         }
-        mail.due.pop_front()
+        mail.take_duty(alloc)
     }
 
-    /// Tells what was heard of a participant. One that is to be called again pauses first.
-    pub fn tell<R: Wait + Clock>(&self, rt: &R, duty: Duty, heard: Heard) {
+    /// Tells what was heard of a participant that was called at this moment. One that is to be called again pauses first.
+    pub fn tell<R: Wait + Clock>(&self, rt: &R, duty: Duty, began: Duration, heard: Heard) {
         let now = rt.monotonic().unwrap_or(Duration::from_millis(0));
         let mut mail = self.mail.lock(rt);
+        mail.hosts.end(&duty, pace_of(now.saturating_sub(began)));
+        self.due.notify_all();
         match heard {
             Heard::Again => mail.pause(&duty, now),
             Heard::Told(_) | Heard::Forgotten => mail.put_letter(Letter { duty, heard }),

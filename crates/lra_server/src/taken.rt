@@ -24,7 +24,7 @@ const ANSWER: u64 = 10_000;
 const REST: u64 = 2;
 
 /// How many waiting connections are closed at most so that there are files for one that speaks.
-const MOST_CLOSED: u32 = 8;
+const MAX_CLOSED: u32 = 8;
 
 /// How many bytes are read at once.
 const BUFFER: usize = 4096;
@@ -64,7 +64,7 @@ impl<'a, R: Wait + Clock> Taken<'a, R> {
 
     // A socket once more. Where there are no files left for that, the connections are closed that have waited longest.
     fn more_of(&self, stream: &TcpStream) -> io::Result<TcpStream> {
-        for _turn in 0..MOST_CLOSED {
+        for _turn in 0..MAX_CLOSED {
             if let Ok(more) = stream.try_clone() {
                 return Ok(more);
             }

@@ -1,6 +1,6 @@
 // How much of a run is used up.
 
-use lra_book::{MOST_ENTRIES, MOST_MOVES};
+use lra_book::{MAX_ENTRIES, MAX_MOVES};
 use std::sync::atomic::{AtomicU64, Ordering};
 
 /// How many entries are left for those who are in the midst of a call when a run is ended early.
@@ -34,7 +34,7 @@ impl Tally {
     pub fn is_spent_by(&self, is_move: bool) -> bool {
         let calls = self.calls.fetch_add(1, Ordering::SeqCst);
         let moves = self.moves.fetch_add(u64::from(is_move), Ordering::SeqCst);
-        calls.saturating_add(ENTRIES_LEFT) >= MOST_ENTRIES as u64
-            || moves.saturating_add(MOVES_LEFT + 1) >= MOST_MOVES as u64
+        calls.saturating_add(ENTRIES_LEFT) >= MAX_ENTRIES as u64
+            || moves.saturating_add(MOVES_LEFT + 1) >= MAX_MOVES as u64
     }
 }
