@@ -1,7 +1,7 @@
 // Where paths lead, by which methods, and which call is routed.
 use crate::served::{answer_of, fresh, request_of, serve};
 use lra_api::route;
-use lra_http::{BODY_LIMIT, OverRead, read_request};
+use lra_http::{MAX_BODY_BYTES, OverRead, read_request};
 use std::alloc::Global;
 use std::test::Fail;
 
@@ -91,7 +91,11 @@ fn what_leads_nowhere(rt: HostRuntime) -> Result<(), Fail> {
 /// The call that a request is routed to at a moment, or why to none.
 pub(crate) fn routed(alloc: Global, asked: &str, body: &[u8], now: u64) -> Result<String, Fail> {
     let request = request_of(alloc, asked, body)?;
-    let request = read_request(alloc, &mut OverRead::new(request.as_slice()), BODY_LIMIT)?;
+    let request = read_request(
+        alloc,
+        &mut OverRead::new(request.as_slice()),
+        MAX_BODY_BYTES,
+    )?;
     Ok(match route(alloc, &request, now) {
         Ok(call) => format!(in alloc; "{call:?}")?,
         Err(unrouted) => format!(in alloc; "{unrouted:?}")?,

@@ -25,4 +25,6 @@ mod random_runs;
 #[cfg(test)]
 mod round_trips;
 #[cfg(test)]
+mod sizes;
+#[cfg(test)]
 mod worlds;

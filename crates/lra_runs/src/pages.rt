@@ -1,6 +1,6 @@
 // Pages, comparisons and copies, each once where memory is ample.
 use lra_id::{LraId, NodeId};
-use lra_replica::{MOST_ROWS, Replica, Row};
+use lra_replica::{MAX_ROWS, Replica, Row};
 use lra_states::LraStatus;
 use std::alloc::Global;
 use std::test::Fail;
@@ -28,11 +28,11 @@ fn sixty_five_lras_fill_a_page_and_begin_another(rt: HostRuntime) -> Result<(), 
     let alloc = rt.alloc();
     let mut replica = Replica::new(alloc, 2)?;
     begin(&mut replica, alloc, 2)?;
-    for _ in 0..MOST_ROWS {
+    for _ in 0..MAX_ROWS {
         begin(&mut replica, alloc, 1)?;
     }
     let first = replica.page(alloc, None)?;
-    assert_eq!(rt; first.rows().len(), MOST_ROWS);
+    assert_eq!(rt; first.rows().len(), MAX_ROWS);
     assert!(rt; first.more());
     let active = Row {
         id: lra(1, 64)?,

@@ -6,7 +6,7 @@ use lra_delta::{encode, prepare};
 use lra_facts::Refusal;
 use lra_history::Command;
 use lra_http::{
-    BODY_LIMIT, Bytes, Fault, Field, Fields, OverRead, OverWrite, Response, read_request,
+    Bytes, Fault, Field, Fields, MAX_BODY_BYTES, OverRead, OverWrite, Response, read_request,
     write_response,
 };
 use lra_id::{Front, LraId, NodeId};
@@ -168,7 +168,7 @@ fn asked(alloc: Global, front: &Front) -> Result<Vec<u8>, Fail> {
 
 /// What a node answers to the bytes of a request.
 fn answered(alloc: Global, request: &[u8], server: &Replica) -> Result<Vec<u8>, Fail> {
-    let request = read_request(alloc, &mut OverRead::new(request), BODY_LIMIT)?;
+    let request = read_request(alloc, &mut OverRead::new(request), MAX_BODY_BYTES)?;
     if request.method.as_str() != "POST" || request.target.as_str() != "/peer/pull" {
         return Err("another request")?;
     }

@@ -1,7 +1,7 @@
 // Frames of replicas of every kind: read again, spelled again and taken.
 use crate::commands::enter;
 use lra_delta::{Delta, encode, prepare};
-use lra_facts::{LINK_LIMIT, Links};
+use lra_facts::{Links, MAX_LINK_BYTES};
 use lra_history::Command;
 use lra_id::{Front, LraId, NodeId};
 use lra_replica::Replica;
@@ -152,7 +152,7 @@ fn a_link_of_127_bytes(rt: HostRuntime) -> Result<(), Fail> {
     let mut replica = Replica::new(alloc, 1)?;
     begin(&mut replica, alloc, 1, None, 0)?;
     let mut text = String::from_str(alloc, "http://p/")?;
-    for _ in 9..LINK_LIMIT {
+    for _ in 9..MAX_LINK_BYTES {
         text.push('a')?;
     }
     join(&mut replica, alloc, lra(1, 1)?, &text)?;

@@ -2,26 +2,37 @@
 use lra_facts::{Links, Refusal};
 use lra_history::{Command, CommandReply};
 use lra_id::{Front, LraId, NodeId};
-use lra_states::{Act, LraStatus, Outcome, Verdict};
+use lra_states::{Act, LraStatus, MemberStatus, Outcome, Verdict};
 use lra_world::{Event, Reply, World};
 use std::alloc::Global;
 use std::test::Fail;
 
-/// A world of two nodes that is asked step by step.
+/// A world of two nodes that is asked step by step, what happened in it, and what was replied.
 #[derive(Drop)]
 struct Played {
     alloc: Global,
     world: World,
+    events: Vec<Event>,
+    told: Vec<Reply>,
 }
 
 impl Played {
     fn new(alloc: Global, nodes: usize) -> Result<Played, Fail> {
         let world = World::new(alloc, nodes)?;
-        Ok(Played { alloc, world })
+        let events = Vec::new(alloc);
+        let told = Vec::new(alloc);
+        Ok(Played {
+            alloc,
+            world,
+            events,
+            told,
+        })
     }
 
     /// An event happens, and is replied so.
     fn step(&mut self, event: Event, reply: Reply) -> Result<(), Fail> {
+        self.events.push(event.clone()?)?;
+        self.told.push(reply)?;
         let told = self.world.step(self.alloc, event)?;
         if told != reply {
             return Err(told)?;
@@ -128,7 +139,53 @@ impl Played {
         if usize::from(node.number()) > self.world.nodes() {
             return Err("no such node")?;
         }
-        Ok(self.world.replica(node).status(id))
+        Ok(self.world.status(node, id))
+    }
+
+    /// What a node shows of a participant of an LRA of node 1.
+    fn shows_member(
+        &self,
+        number: u8,
+        num: u64,
+        member: u8,
+    ) -> Result<Result<MemberStatus, Refusal>, Fail> {
+        let node = NodeId::new(number)?;
+        let id = lra(num)?;
+        if usize::from(node.number()) > self.world.nodes() {
+            return Err("no such node")?;
+        }
+        Ok(self.world.member(node, id, member))
+    }
+
+    /// Whether a node that starts again holds what it held.
+    fn restarts(&mut self, number: u8) -> Result<bool, Fail> {
+        let node = NodeId::new(number)?;
+        if usize::from(node.number()) > self.world.nodes() {
+            return Err("no such node")?;
+        }
+        let before = self.world.replica(node).try_clone()?;
+        self.step(Event::Restart { node }, Reply::Restarted)?;
+        if usize::from(node.number()) > self.world.nodes() {
+            return Err("no such node")?;
+        }
+        Ok(self.world.replica(node).same(&before))
+    }
+
+    /// Whether a run of all that happened replies to each event as its step did.
+    fn runs_alike(&self) -> Result<bool, Fail> {
+        let mut world = World::new(self.alloc, 2)?;
+        let Ok(replies) = world.run(self.alloc, &self.events) else {
+            return Err("no memory")?;
+        };
+        if replies.len() != self.told.len() {
+            return Ok(false);
+        }
+        for place in 0..replies.len() {
+            if replies[place] != self.told[place] {
+                return Ok(false);
+            }
+        }
+        Ok(true)
     }
 
     /// Whether the first two nodes hold the same.
@@ -177,7 +234,9 @@ fn an_lra_is_begun_and_expires(rt: HostRuntime) -> Result<(), Fail> {
     events.push(Event::Restart {
         node: NodeId::new(3)?,
     })?;
-    let replies = world.run(alloc, &events)?;
+    let Ok(replies) = world.run(alloc, &events) else {
+        return Err("no memory")?;
+    };
     assert_eq!(rt; replies.len(), 6);
     assert_eq!(rt; replies[0], Reply::Answered(CommandReply::Began(id, 0)));
     assert_eq!(rt; replies[1], Reply::Restarted);
@@ -201,6 +260,7 @@ fn frames_come_again_and_late(rt: HostRuntime) -> Result<(), Fail> {
     play.deliver(1, 2, Reply::Took)?;
     assert_eq!(rt; play.shows(2, 1)?, Ok(LraStatus::Closed));
     assert!(rt; play.agree()?);
+    assert!(rt; play.runs_alike()?);
     Ok(())
 }
 
@@ -236,6 +296,7 @@ fn an_old_frame_brings_nothing_purged_back(rt: HostRuntime) -> Result<(), Fail> 
     play.deliver(3, 2, Reply::Took)?;
     assert_eq!(rt; play.shows(2, 1)?, Err(Refusal::NotHeld));
     assert!(rt; play.agree()?);
+    assert!(rt; play.restarts(2)?);
     Ok(())
 }
 
@@ -257,12 +318,8 @@ fn a_closed_child_of_a_cancelled_parent(rt: HostRuntime) -> Result<(), Fail> {
     play.deliver(2, 2, Reply::Took)?;
     assert_eq!(rt; play.shows(2, 2)?, Ok(LraStatus::Cancelled));
     assert!(rt; play.agree()?);
-    play.step(
-        Event::Restart {
-            node: NodeId::new(2)?,
-        },
-        Reply::Restarted,
-    )?;
+    assert!(rt; play.restarts(1)?);
+    assert!(rt; play.restarts(2)?);
     assert!(rt; play.agree()?);
     Ok(())
 }
@@ -293,6 +350,11 @@ fn failure_and_success_are_heard_at_two_nodes(rt: HostRuntime) -> Result<(), Fai
     play.deliver(3, 1, Reply::Took)?;
     assert_eq!(rt; play.shows(1, 1)?, Ok(LraStatus::FailedToClose));
     assert_eq!(rt; play.shows(2, 1)?, Ok(LraStatus::FailedToClose));
+    assert_eq!(rt;
+        play.shows_member(2, 1, 1)?,
+        Ok(MemberStatus::FailedToComplete)
+    );
+    assert_eq!(rt; play.shows_member(2, 1, 2)?, Err(Refusal::UnknownMember));
     assert!(rt; play.agree()?);
     Ok(())
 }

@@ -1,5 +1,5 @@
 // Callbacks of small trees: what is called for, and what is heard of an answer.
-use lra_callback::{Answer, Heard, Kind, hear, pick};
+use lra_callback::{Answer, Duty, Heard, Kind, hear, pick};
 use lra_facts::Links;
 use lra_history::Command;
 use lra_http::Bytes;
@@ -207,6 +207,50 @@ fn completions_come_before_compensations(rt: HostRuntime) -> Result<(), Fail> {
     decide(alloc, &mut replica, 3, Verdict::Close)?;
     let both = "complete complete 1.3 1 http://p/k;compensate compensate 1.1 1 http://p/c;";
     assert_eq!(rt; duties(alloc, &replica)?.as_str(), both);
+    Ok(())
+}
+
+/// Begins the LRA that gets this number, and joins as many participants as one may have, each with a link to complete.
+fn begin_crowded(alloc: Global, replica: &mut Replica, num: u64) -> Result<(), Fail> {
+    begin(alloc, replica, None)?;
+    for _ in 0..32 {
+        join(alloc, replica, num, K, None, None)?;
+    }
+    Ok(())
+}
+
+/// Whether the duties are to complete the members of three LRAs, which were begun by these facts, LRA by LRA.
+fn are_in_order(duties: &[Duty], begins: [u64; 3]) -> bool {
+    for (place, duty) in duties.iter().enumerate() {
+        let (num, member) = (begins[place / 32 % 3], place % 32 + 1);
+        if duty.id.num() != num
+            || usize::from(duty.member) != member
+            || duty.kind != Kind::Complete
+        {
+            return false;
+        }
+    }
+    true
+}
+
+#[test]
+fn ninety_six_are_called_lra_by_lra(rt: HostRuntime) -> Result<(), Fail> {
+    let alloc = rt.alloc();
+    let mut replica = Replica::new(alloc, 1)?;
+    let begins = [1, 34, 67];
+    for num in begins {
+        begin_crowded(alloc, &mut replica, num)?;
+    }
+    for num in begins {
+        decide(alloc, &mut replica, num, Verdict::Close)?;
+    }
+    let me = NodeId::new(1)?;
+    if usize::from(me.number()) > replica.front().nodes() {
+        return Err("no such node")?;
+    }
+    let duties = pick(alloc, &replica, me)?;
+    assert_eq!(rt; duties.as_slice().len(), 96);
+    assert!(rt; are_in_order(duties.as_slice(), begins));
     Ok(())
 }
 

@@ -413,6 +413,8 @@ struct Refused;
 impl Caller for Refused {
     ghost answered = { λ old new request answer. IsBroken answer };
 
+    ghost unanswered = { λ old new request. ⊥ };
+
     fn call(&mut self, _: Global, _: &CallRequest) -> Result<Answer, NoMemory> {
         Ok(Answer::Broken)
     }

@@ -2,8 +2,8 @@
 use crate::calls::{COMPLETE, DONE, completion};
 use lra_callback::{Answer, NetCaller};
 use lra_http::{
-    BODY_LIMIT, CallRequest, Fault, OverRead, OverWrite, read_byte, read_request, read_response,
-    write_request, write_response,
+    CallRequest, Fault, MAX_BODY_BYTES, OverRead, OverWrite, read_byte, read_request,
+    read_response, write_request, write_response,
 };
 use std::alloc::Global;
 use std::io;
@@ -177,7 +177,7 @@ fn make_reader(bytes: &'static [u8], before: usize, kind: ErrorKind) -> OnceRead
 /// Reads a request of which the call behind so many bytes fails.
 fn request_once(alloc: Global, bytes: &'static [u8], before: usize, kind: ErrorKind) -> Outcome {
     let mut reader = make_reader(bytes, before, kind);
-    let fault = read_request(alloc, &mut OverRead::new(&mut reader), BODY_LIMIT).err();
+    let fault = read_request(alloc, &mut OverRead::new(&mut reader), MAX_BODY_BYTES).err();
     Outcome {
         fault,
         turns: reader.once.turns,
@@ -187,7 +187,7 @@ fn request_once(alloc: Global, bytes: &'static [u8], before: usize, kind: ErrorK
 /// The same of a response.
 fn response_once(alloc: Global, bytes: &'static [u8], before: usize, kind: ErrorKind) -> Outcome {
     let mut reader = make_reader(bytes, before, kind);
-    let fault = read_response(alloc, &mut OverRead::new(&mut reader), BODY_LIMIT).err();
+    let fault = read_response(alloc, &mut OverRead::new(&mut reader), MAX_BODY_BYTES).err();
     Outcome {
         fault,
         turns: reader.once.turns,
@@ -291,7 +291,7 @@ impl Read for Endless {
 fn a_head_without_an_end_takes_so_many_calls(rt: HostRuntime) {
     let alloc = rt.alloc();
     let mut reader = Endless { calls: 0 };
-    let fault = read_request(alloc, &mut OverRead::new(&mut reader), BODY_LIMIT).err();
+    let fault = read_request(alloc, &mut OverRead::new(&mut reader), MAX_BODY_BYTES).err();
     assert_eq!(rt; fault, Some(Fault::HeadTooLong));
     assert_eq!(rt; reader.calls, 16_385);
 }
@@ -326,7 +326,7 @@ fn is_past(fault: Option<Fault>, writer: &OnceWriter, text: &[u8]) -> bool {
 fn a_write_that_fails_once_is_the_last(rt: HostRuntime) -> Result<(), Fail> {
     let alloc = rt.alloc();
     let request = completion(alloc)?;
-    let response = read_response(alloc, &mut OverRead::new(RESPONSE), BODY_LIMIT)?;
+    let response = read_response(alloc, &mut OverRead::new(RESPONSE), MAX_BODY_BYTES)?;
     for kind in FAILURES {
         for n in 0..=COMPLETE.len() {
             let mut writer = make_writer(alloc, n, kind);

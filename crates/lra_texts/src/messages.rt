@@ -6,8 +6,9 @@ mod streams;
 mod texts;
 
 use lra_http::{
-    BODY_LIMIT, CallError, Count, Fault, MOST_INTERRUPTED, OverRead, OverWrite, ReadFault, Request,
-    Response, Sink, Source, WriteFault, flush, read_byte, read_request, read_response, write_all,
+    CallError, Count, Fault, MAX_BODY_BYTES, OverRead, OverWrite, ReadFault, Request, Response,
+    Sink, Source, TOO_MANY_INTERRUPTED, WriteFault, flush, read_byte, read_request, read_response,
+    write_all,
 };
 use std::alloc::Global;
 use std::io;
@@ -84,7 +85,7 @@ fn is_left<S: Source>(source: &mut S, rest: &[u8]) -> bool {
 
 /// Why no request is read from these bytes.
 fn request_fault(alloc: Global, bytes: &[u8]) -> Option<Fault> {
-    match read_request(alloc, &mut OverRead::new(bytes), BODY_LIMIT) {
+    match read_request(alloc, &mut OverRead::new(bytes), MAX_BODY_BYTES) {
         Ok(_) => None,
         Err(fault) => Some(fault),
     }
@@ -92,7 +93,7 @@ fn request_fault(alloc: Global, bytes: &[u8]) -> Option<Fault> {
 
 /// Why no response is read from these bytes.
 fn response_fault(alloc: Global, bytes: &[u8]) -> Option<Fault> {
-    match read_response(alloc, &mut OverRead::new(bytes), BODY_LIMIT) {
+    match read_response(alloc, &mut OverRead::new(bytes), MAX_BODY_BYTES) {
         Ok(_) => None,
         Err(fault) => Some(fault),
     }
@@ -149,14 +150,14 @@ fn a_message_of_1024_interruptions_is_a_fault(rt: HostRuntime) {
     let mut source = OverRead::new(make_slow(rt.alloc(), 1024, 1));
     let mut interrupted = 0;
     assert_eq!(rt; read_byte(&mut source, &mut interrupted), Err(ReadFault));
-    assert_eq!(rt; interrupted, MOST_INTERRUPTED);
+    assert_eq!(rt; interrupted, TOO_MANY_INTERRUPTED);
     let mut sink = OverWrite::new(make_slow(rt.alloc(), 1024, 3));
     let mut interrupted = 0;
     assert_eq!(rt;
         write_all(&mut sink, b"abc", &mut interrupted),
         Err(WriteFault)
     );
-    assert_eq!(rt; interrupted, MOST_INTERRUPTED);
+    assert_eq!(rt; interrupted, TOO_MANY_INTERRUPTED);
     assert!(rt; sink.into_inner().taken.is_empty());
 }
 

@@ -1,6 +1,6 @@
 // Requests as clients send them, and those that are refused.
 use crate::messages::{is_left, request_fault};
-use lra_http::{BODY_LIMIT, Fault, OverRead, read_request};
+use lra_http::{Fault, MAX_BODY_BYTES, OverRead, read_request};
 use std::alloc::Global;
 
 /// A text that is a whole request and then `rest`, and what is read of it. `name` and `value` are of one field.
@@ -20,7 +20,7 @@ struct Taken {
 /// Whether the request is read so.
 fn is_taken(alloc: Global, case: &Taken) -> bool {
     let mut source = OverRead::new(case.text.as_bytes());
-    let Ok(request) = read_request(alloc, &mut source, BODY_LIMIT) else {
+    let Ok(request) = read_request(alloc, &mut source, MAX_BODY_BYTES) else {
         return false;
     };
     request.method.as_str() == case.method

@@ -1,6 +1,6 @@
 // Responses as servers send them, and those that are refused.
 use crate::messages::{is_left, response_fault};
-use lra_http::{BODY_LIMIT, Fault, OverRead, read_response};
+use lra_http::{Fault, MAX_BODY_BYTES, OverRead, read_response};
 use std::alloc::Global;
 
 /// A text that is a whole response and then `rest`, and what is read of it. `name` and `value` are of one field.
@@ -18,7 +18,7 @@ struct Taken {
 /// Whether the response is read so.
 fn is_taken(alloc: Global, case: &Taken) -> bool {
     let mut source = OverRead::new(case.text.as_bytes());
-    let Ok(response) = read_response(alloc, &mut source, BODY_LIMIT) else {
+    let Ok(response) = read_response(alloc, &mut source, MAX_BODY_BYTES) else {
         return false;
     };
     response.status.as_u16() == case.code

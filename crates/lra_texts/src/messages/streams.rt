@@ -1,6 +1,6 @@
 // Messages that are cut, fail or are interrupted at each byte.
 use crate::messages::{request_fault, response_fault};
-use lra_http::{BODY_LIMIT, Fault, OverRead, read_request, read_response};
+use lra_http::{Fault, MAX_BODY_BYTES, OverRead, read_request, read_response};
 use std::alloc::Global;
 use std::io;
 use std::io::{ErrorKind, Read};
@@ -75,11 +75,11 @@ fn faults_over(
     first: Bumpy<'_>,
     second: Bumpy<'_>,
 ) -> (Option<Fault>, Option<Fault>) {
-    let of_request = match read_request(alloc, &mut OverRead::new(first), BODY_LIMIT) {
+    let of_request = match read_request(alloc, &mut OverRead::new(first), MAX_BODY_BYTES) {
         Ok(_) => None,
         Err(fault) => Some(fault),
     };
-    let of_response = match read_response(alloc, &mut OverRead::new(second), BODY_LIMIT) {
+    let of_response = match read_response(alloc, &mut OverRead::new(second), MAX_BODY_BYTES) {
         Ok(_) => None,
         Err(fault) => Some(fault),
     };
@@ -112,7 +112,7 @@ fn a_read_that_fails_is_a_read_fault(rt: HostRuntime) {
         let mut reader = interrupted_at(REQUEST, left, 0);
         reader.fails = true;
         let mut source = OverRead::new(reader);
-        let fault = match read_request(rt.alloc(), &mut source, BODY_LIMIT) {
+        let fault = match read_request(rt.alloc(), &mut source, MAX_BODY_BYTES) {
             Ok(_) => None,
             Err(fault) => Some(fault),
         };
@@ -122,7 +122,7 @@ fn a_read_that_fails_is_a_read_fault(rt: HostRuntime) {
         let mut reader = interrupted_at(RESPONSE, left, 0);
         reader.fails = true;
         let mut source = OverRead::new(reader);
-        let fault = match read_response(rt.alloc(), &mut source, BODY_LIMIT) {
+        let fault = match read_response(rt.alloc(), &mut source, MAX_BODY_BYTES) {
             Ok(_) => None,
             Err(fault) => Some(fault),
         };

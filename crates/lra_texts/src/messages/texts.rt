@@ -2,7 +2,7 @@
 use crate::messages::{Slow, make_slow};
 use http::{Method, StatusCode};
 use lra_http::{
-    BODY_LIMIT, Bytes, CallRequest, Fault, Field, Fields, OverRead, OverWrite, Response, Text,
+    Bytes, CallRequest, Fault, Field, Fields, MAX_BODY_BYTES, OverRead, OverWrite, Response, Text,
     read_request, read_response, write_request, write_response,
 };
 use std::alloc::{AllocError, AllocFailed, Global};
@@ -89,7 +89,7 @@ fn messages_are_written_and_read_back(rt: HostRuntime) -> Result<(), Fail> {
     write_response(alloc, &mut sink, &answer(alloc)?)?;
     let text = sink.into_inner();
     assert!(rt; text.as_slice() == ANSWER);
-    let response = read_response(alloc, &mut OverRead::new(text.as_slice()), BODY_LIMIT)?;
+    let response = read_response(alloc, &mut OverRead::new(text.as_slice()), MAX_BODY_BYTES)?;
     let mut sink = OverWrite::new(Vec::new(alloc));
     write_response(alloc, &mut sink, &response)?;
     assert!(rt; sink.into_inner().as_slice() == ANSWER);
@@ -97,7 +97,7 @@ fn messages_are_written_and_read_back(rt: HostRuntime) -> Result<(), Fail> {
     write_request(alloc, &mut sink, &call(alloc)?)?;
     let text = sink.into_inner();
     assert!(rt; text.as_slice() == CALL);
-    let request = read_request(alloc, &mut OverRead::new(text.as_slice()), BODY_LIMIT)?;
+    let request = read_request(alloc, &mut OverRead::new(text.as_slice()), MAX_BODY_BYTES)?;
     assert_eq!(rt; request.method.as_str(), "PUT");
     assert_eq!(rt; request.target.as_str(), "/k");
     assert!(rt; request.host() == Some(b"p".as_slice()));
