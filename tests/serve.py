@@ -2,9 +2,7 @@
 """Tests the built server as a user meets it: python3 tests/serve.py [PROGRAM]. Standard library alone; half a minute.
 
 PROGRAM is crates/lra_node/out/lra_node, which ./coordinator builds. Each check prints a line; the status is 1 where one fails."""
-import http.client
 import http.server
-import json
 import os
 import shutil
 import socket
@@ -15,68 +13,7 @@ import tempfile
 import threading
 import time
 
-TOP = os.path.dirname(os.path.dirname(os.path.abspath(__file__)))
-PROGRAM = sys.argv[1] if len(sys.argv) > 1 else f"{TOP}/crates/lra_node/out/lra_node"
-PORT = 18200
-failures = []
-
-
-def check(what, is_so, seen=""):
-    print(("ok      " if is_so else "FAILED  ") + what + ("" if is_so else f": {seen}"), flush=True)
-    if not is_so:
-        failures.append(what)
-
-
-class Server:
-    """Nodes in one process, over a folder."""
-
-    def __init__(self, nodes, folder, port=PORT, **how):
-        self.nodes, self.port = nodes, port
-        words = [PROGRAM, "serve", str(nodes), str(port), folder]
-        self.process = subprocess.Popen(words, stdin=subprocess.PIPE, stderr=subprocess.PIPE, **how)
-
-    def wait_until_up(self):
-        for _ in range(500):
-            if all(self.is_up(i) for i in range(self.nodes)):
-                return self
-            time.sleep(0.02)
-        raise SystemExit("the server doesn't come up")
-
-    def is_up(self, i):
-        try:
-            socket.create_connection(("127.0.0.1", self.port + i), 1).close()
-            return True
-        except OSError:
-            return False
-
-    def end(self):
-        """Ends the input, and gives the status and what stood on standard error."""
-        self.process.stdin.close()
-        self.process.wait(20)
-        return self.process.returncode, self.process.stderr.read().decode()
-
-
-def ask(method, path, body=None, node=1, port=PORT):
-    """One request; its status and body. A 503 for a run's end is asked again."""
-    for _ in range(20):
-        connection = http.client.HTTPConnection("127.0.0.1", port + node - 1, timeout=20)
-        connection.request(method, path, None if body is None else json.dumps(body))
-        answer = connection.getresponse()
-        text = answer.read()
-        connection.close()
-        if answer.status != 503:
-            return answer.status, json.loads(text) if text else None
-        time.sleep(0.01)
-    return 503, None
-
-
-def comes_to(seconds, test):
-    end = time.time() + seconds
-    while time.time() < end:
-        if test():
-            return True
-        time.sleep(0.05)
-    return False
+from coordinator import PORT, Server, ask, check, comes_to, finish
 
 
 def status(lra, node=1):
@@ -171,6 +108,26 @@ def restart(folder, lra, trip):
             check(f"the journal of node {i} is whole", database.execute("PRAGMA integrity_check").fetchone() == ("ok",))
 
 
+def hanging(folder):
+    """One that takes connections and never answers, in eight LRAs, beside one that answers."""
+    server, part = Server(1, folder).wait_until_up(), Participant()
+    with socket.create_server(("127.0.0.1", 0), backlog=64) as silent:
+        links = [f"http://127.0.0.1:{silent.getsockname()[1]}/k"] * 8 + [f"{part.url}/k"]
+        lras = [ask("POST", "/lra", {})[1]["lra"] for _ in links]
+        for lra, link in zip(lras, links):
+            ask("PUT", f"/lra/{lra}/join", {"compensate": link, "complete": link})
+            ask("PUT", f"/lra/{lra}/close")
+        began = time.time()
+        is_called = comes_to(30, lambda: part.calls)
+        took = time.time() - began
+        check(f"one that hangs in eight LRAs holds up no other (called after {took:.1f} seconds)", is_called and took < 5, part.calls)
+        check("the other's LRA is closed", comes_to(5, lambda: status(lras[8]) == "Closed"), status(lras[8]))
+        check("those of the one that hangs are closing", {status(lra) for lra in lras[:8]} == {"Closing"})
+        began = time.time()
+        ended = server.end()
+        check("it ends while calls hang", ended == (0, "") and time.time() - began < 5, ended)
+
+
 def many(folder):
     server, lost, asked = Server(1, folder).wait_until_up(), [], 5000
     lra = ask("POST", "/lra", {})[1]["lra"]
@@ -220,21 +177,22 @@ def refusals(folder):
     server.process.wait(20)
     check("a journal of another node", server.end() == (1, "journal 1\n"))
     for words in ([], ["serve", "9", "8070", "."], ["serve", "1", "80", "."], ["serve", "01", "8070", "."]):
-        ran = subprocess.run([PROGRAM, *words], stdin=subprocess.DEVNULL, capture_output=True)
+        ran = subprocess.run([Server.program, *words], stdin=subprocess.DEVNULL, capture_output=True)
         check("other arguments: " + " ".join(words), ran.returncode == 2 and ran.stderr.startswith(b"usage: "), ran)
 
 
 def main():
-    if not os.path.exists(PROGRAM):
-        raise SystemExit(f"{PROGRAM} isn't there: ./coordinator builds it")
+    if len(sys.argv) > 1:
+        Server.program = sys.argv[1]
     with tempfile.TemporaryDirectory() as folder:
         restart(folder, *three_nodes(folder))
+    with tempfile.TemporaryDirectory() as folder:
+        hanging(folder)
     with tempfile.TemporaryDirectory() as folder:
         many(folder)
     with tempfile.TemporaryDirectory() as folder:
         refusals(folder)
-    print(f"{len(failures)} failed")
-    sys.exit(bool(failures))
+    finish()
 
 
 main()
