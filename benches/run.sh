@@ -1,6 +1,6 @@
 #!/bin/sh
-# Runs a benchmark: `benches/run.sh status`, `prepare`, `duties`, `merge`, `frame`, `world`, `http` or `api`. It copies the repository to a
-# folder of its own, adds the program of that name there, proves it and runs it.
+# Runs a benchmark: `benches/run.sh status`, `prepare`, `duties`, `merge`, `frame`, `world`, `http`, `api` or `journal`. It copies the
+# repository to a folder of its own, adds the program of that name there, proves it and runs it.
 #   status   what an LRA shows, by the records of its home and by the slow evaluators over the same facts
 #   prepare  a join that is prepared and applied, at homes of 16, 64 and 256 LRAs
 #   duties   the list of duties of a home of 16, 64 and 256 LRAs, as roots and as one tree of depth 8, by participants
@@ -9,6 +9,7 @@
 #   world    runs of a world of 2 and 8 nodes, at homes of 16 and 256 LRAs
 #   http     requests of 200 bytes, 1 KiB and 64 KiB that are read, from memory and through a buffer, and their parser alone
 #   api      requests that a clerk serves from memory to memory, with a journal in memory, and their parser alone
+#   journal  begins and joins stored in a file, and the opening of 2,048 LRAs, beside the C library (it needs python3)
 set -eu
 name=$1
 top=$(cd "$(dirname "$0")/.." && pwd)
@@ -20,5 +21,7 @@ cp "$top/benches/$name/main.rt.txt" "$copy/crates/bench_$name/src/main.rt"
 uses="lra_id lra_states lra_facts lra_forest lra_history lra_replica lra_delta lra_world lra_http lra_callback anyhow"
 if [ "$name" = http ]; then uses="lra_http httparse anyhow"; fi
 if [ "$name" = api ]; then uses="lra_id lra_http lra_book lra_api httparse sqlite anyhow"; fi
+if [ "$name" = journal ]; then uses="lra_id lra_facts lra_history lra_replica lra_delta lra_journal sqlite anyhow"; fi
 echo "bench_$name: $uses" >> "$copy/crates.txt"
 cd "$copy" && git init -q . && cd "crates/bench_$name" && rt run
+if [ "$name" = journal ]; then python3 "$top/benches/journal.py" out/bench_journal; fi
