@@ -1,9 +1,9 @@
 // Desks: of one worker, who makes every call once, and of two, on two threads.
 ghost use Rattle.std.specs.Prelude.{◌≡◌, [], Some};
 
-use crate::asking::{begin, begun, lra};
+use crate::asking::{begin, begun};
 use crate::script::{CALLS, play};
-use lra_book::{Book, Call, Desk, DeskClerk, DeskPass, Reply, Run};
+use lra_book::{Book, Desk, DeskClerk, DeskPass, Run};
 use sqlite::{Alter, Connection};
 use std::alloc::Global;
 use std::marker::Brand;
@@ -22,7 +22,8 @@ fn by_one<J: Run, S: Alter + Drop, R: Wait>(
     book: Book<S>,
     blank: Blank,
 ) -> Result<(), Fail>
-    requires run { (book.opening ≡ Some J.opening.view) × (book.me ≡ J.opening.node) × (book.trail ≡ []) }
+    requires run { (book.opening ≡ Some J.opening.view)
+        × (book.me ≡ J.opening.node) × (book.trail ≡ []) }
     requires blank { (blank.name ≡ J.name) × (blank.parts ≡ J.parts) × (blank.parts ≡ 1) }
 {
     let Ok((desk, mut passes)) = Desk::<J, S>::new(alloc, book, blank, 1) else {
@@ -41,49 +42,6 @@ fn by_one<J: Run, S: Alter + Drop, R: Wait>(
     }
     book.start_run(alloc)?;
     Ok(())
-}
-
-/// Makes two calls at a desk of one worker, and looks at the receipts that it lends.
-fn lent<J: Run, S: Alter + Drop, R: Wait>(
-    rt: &R,
-    alloc: Global,
-    desk: &Desk<J, S>,
-    pass: &mut DeskPass<J>,
-) -> Result<(), Fail> {
-    let first = pass.call(desk, alloc, rt, begin(0), 0)?;
-    if first.index != 0 || !matches!(first.reply, Reply::Command(_)) {
-        return Err(Fail::new("another receipt"));
-    }
-    let second = desk.call(alloc, rt, pass, Call::Status(lra(2, 1)?), 0)?;
-    if second.index != 1 || !matches!(second.reply, Reply::Refused(_)) {
-        return Err(Fail::new("another receipt"));
-    }
-    Ok(())
-}
-
-/// Two calls at a desk of one worker, by its pass.
-fn by_a_pass<J: Run, S: Alter + Drop, R: Wait>(
-    rt: &R,
-    alloc: Global,
-    book: Book<S>,
-    blank: Blank,
-) -> Result<(), Fail>
-    requires run { (book.opening ≡ Some J.opening.view) × (book.me ≡ J.opening.node) × (book.trail ≡ []) }
-    requires blank { (blank.name ≡ J.name) × (blank.parts ≡ J.parts) × (blank.parts ≡ 1) }
-{
-    let Ok((desk, mut passes)) = Desk::<J, S>::new(alloc, book, blank, 1) else {
-        return Err(Fail::new("no desk"));
-    };
-    let Some(mut pass) = passes.pop() else {
-        return Err(Fail::new("no pass"));
-    };
-    lent(rt, alloc, &desk, &mut pass)?;
-    passes.push(pass)?;
-    let (_book, trail, found) = desk.close(passes);
-    if trail.len() != 2 {
-        return Err(Fail::new("another trail"));
-    }
-    Ok(found?)
 }
 
 /// Waits, 10,000 turns at most, until two have come here. Whether they have.
@@ -140,7 +98,8 @@ fn by_two<J: Run + Send + Sync, S: Alter + Send + Drop, R: Threads + Wait + Cloc
     book: Book<S>,
     blank: Blank,
 ) -> Result<(), Fail>
-    requires run { (book.opening ≡ Some J.opening.view) × (book.me ≡ J.opening.node) × (book.trail ≡ []) }
+    requires run { (book.opening ≡ Some J.opening.view)
+        × (book.me ≡ J.opening.node) × (book.trail ≡ []) }
     requires blank { (blank.name ≡ J.name) × (blank.parts ≡ J.parts) × (blank.parts ≡ 2) }
 {
     let Ok((desk, mut passes)) = Desk::<J, S>::new(alloc, book, blank, 2) else {
@@ -167,13 +126,6 @@ fn every_call_once_at_a_desk(rt: HostRuntime) -> Result<(), Fail> {
     let alloc = rt.alloc();
     let (book, _pass) = begun(alloc, Connection::open_in_memory(alloc)?)?;
     by_one::<Brand, _, _>(&rt, alloc, book, Blank::new(1))
-}
-
-#[test]
-fn a_desk_lends_receipts(rt: HostRuntime) -> Result<(), Fail> {
-    let alloc = rt.alloc();
-    let (book, _pass) = begun(alloc, Connection::open_in_memory(alloc)?)?;
-    by_a_pass::<Brand, _, _>(&rt, alloc, book, Blank::new(1))
 }
 
 #[test]

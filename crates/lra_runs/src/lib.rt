@@ -3,11 +3,7 @@
 #![tactic(auto)]
 
 #[cfg(test)]
-mod changed_bytes;
-#[cfg(test)]
 mod commands;
-#[cfg(test)]
-mod frames;
 #[cfg(test)]
 mod limits;
 #[cfg(test)]
@@ -18,8 +14,6 @@ mod pages;
 mod places;
 #[cfg(test)]
 mod pulls;
-#[cfg(test)]
-mod purges;
 #[cfg(test)]
 mod random_runs;
 #[cfg(test)]

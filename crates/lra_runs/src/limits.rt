@@ -2,7 +2,7 @@
 ghost use Rattle.std.specs.Prelude.{◌≡◌, IfOk, length};
 
 use crate::commands::prepared;
-use lra_facts::{Links, Refusal};
+use lra_facts::Refusal;
 use lra_forest::{Forest, Members, Record, Told};
 use lra_history::{Command, CommandReply};
 use lra_id::{Front, LAST_NUMBER, LraId, NodeId};
@@ -79,26 +79,6 @@ fn reply(
     Ok(reply)
 }
 
-/// The commands that only the home of an LRA enters.
-fn of_the_home(alloc: Global, kind: u8, id: LraId) -> Result<Command, Fail> {
-    let (parent, deadline, member) = (Some(id), 0, 1);
-    let verdict = if kind == 3 {
-        Verdict::Close
-    } else {
-        Verdict::Cancel
-    };
-    Ok(match kind {
-        0 => Command::Begin { parent, deadline },
-        1 => Command::Join {
-            id,
-            links: Links::read(alloc, None, Some("http://p/c"), None, None)?,
-        },
-        2 => Command::Leave { id, member },
-        3 | 4 => Command::Decide { id, verdict },
-        _ => Command::Purge { root: id },
-    })
-}
-
 #[test]
 fn records_fill_a_home_and_one_more_is_refused(rt: HostRuntime) -> Result<(), Fail> {
     let alloc = rt.alloc();
@@ -131,22 +111,5 @@ fn a_node_without_a_number_left_enters_nothing(rt: HostRuntime) -> Result<(), Fa
     let id = LraId::new(NodeId::new(1)?, 1)?;
     let told = reply(&mut spent, alloc, 1, Command::Decide { id, verdict })?;
     assert_eq!(rt; told, CommandReply::Refused(Refusal::NumbersSpent));
-    Ok(())
-}
-
-#[test]
-fn what_only_the_home_enters(rt: HostRuntime) -> Result<(), Fail> {
-    let alloc = rt.alloc();
-    let (parent, deadline) = (None, 0);
-    let home = NodeId::new(1)?;
-    let mut replica = Replica::new(alloc, 2)?;
-    let id = LraId::new(home, 1)?;
-    let told = reply(&mut replica, alloc, 1, Command::Begin { parent, deadline })?;
-    assert_eq!(rt; told, CommandReply::Began(id, 0));
-    for kind in 0..6 {
-        let command = of_the_home(alloc, kind, id)?;
-        let told = reply(&mut replica, alloc, 2, command)?;
-        assert_eq!(rt; told, CommandReply::Refused(Refusal::NotHome(home)));
-    }
     Ok(())
 }

@@ -78,7 +78,7 @@ fn told(alloc: Global, replica: &Replica, count: u64) -> Result<Vec<u8>, Fail> {
 }
 
 #[test]
-fn the_worked_frames_are_spelled(rt: HostRuntime) -> Result<(), Fail> {
+fn the_worked_frames_are_encoded(rt: HostRuntime) -> Result<(), Fail> {
     let alloc = rt.alloc();
     let replica = closed(alloc)?;
     assert_eq!(rt; told(alloc, &replica, 0)?.as_slice(), FIRST);
@@ -157,7 +157,7 @@ fn a_frame_of_another_length_is_refused(rt: HostRuntime) -> Result<(), Fail> {
 }
 
 #[test]
-fn a_record_is_read_and_spelled_again(rt: HostRuntime) -> Result<(), Fail> {
+fn a_record_is_read_and_encoded_again(rt: HostRuntime) -> Result<(), Fail> {
     let alloc = rt.alloc();
     let mut front = Front::zero(2);
     front.set(NodeId::new(2)?, 9);

@@ -203,11 +203,33 @@ fn catch_up(
     Ok(records)
 }
 
-/// Why these bytes give no delta to one that asks from a front of one node.
+/// Why one that asks from a front of one node has no delta, over this reader and this writer; and the writer.
+fn pulled<R: Read + Drop, W: Write + Drop>(
+    alloc: Global,
+    reader: R,
+    writer: W,
+) -> (Option<PullError>, W) {
+    let mut writer = OverWrite::new(writer);
+    let error = pull(
+        alloc,
+        &mut OverRead::new(reader),
+        &mut writer,
+        &Front::zero(1),
+    )
+    .err();
+    (error, writer.into_inner())
+}
+
+/// Why these bytes give it no delta.
 fn stopped(alloc: Global, answer: &[u8]) -> Option<PullError> {
-    let front = Front::zero(1);
-    let mut writer = OverWrite::new(Vec::new(alloc));
-    pull(alloc, &mut OverRead::new(answer), &mut writer, &front).err()
+    pulled(alloc, answer, Vec::new(alloc)).0
+}
+
+/// A response with the first worked frame.
+fn whole_answer(alloc: Global) -> Result<Vec<u8>, Fail> {
+    let mut answer = Vec::from_slice(alloc, b"HTTP/1.1 200 OK\r\nContent-Length: 65\r\n\r\n")?;
+    answer.extend_from_slice(FIRST)?;
+    Ok(answer)
 }
 
 #[test]
@@ -294,54 +316,123 @@ fn answers_that_give_no_delta(rt: HostRuntime) -> Result<(), Fail> {
 #[test]
 fn an_answer_that_is_cut(rt: HostRuntime) -> Result<(), Fail> {
     let alloc = rt.alloc();
-    let mut answer = Vec::from_slice(alloc, b"HTTP/1.1 200 OK\r\nContent-Length: 65\r\n\r\n")?;
-    answer.extend_from_slice(FIRST)?;
+    let mut answer = whole_answer(alloc)?;
     for end in 0..answer.len() {
         let error = PullError::Fault(Fault::Cut);
         assert_eq!(rt; stopped(alloc, &answer[..end]), Some(error));
     }
     assert_eq!(rt; stopped(alloc, &answer), None);
-    answer[39 + 55] = 3;
+    match answer.get_mut(39 + 55) {
+        Some(byte) => *byte = 3,
+        None => return Err("no such byte")?,
+    }
     assert_eq!(rt; stopped(alloc, &answer), Some(PullError::BadFrame(55)));
     Ok(())
 }
 
-// Every call fails.
+/// Which call fails, once, and how: the one behind so many others.
 #[derive(Drop)]
-struct Broken;
+struct Once {
+    before: usize,
+    kind: Option<ErrorKind>,
+}
 
-impl Read for Broken {
-    fn read(&mut self, _: &mut [u8]) -> io::Result<usize> {
-        Err(io::Error::from(ErrorKind::ConnectionReset))
+impl Once {
+    fn new(before: usize, kind: ErrorKind) -> Once {
+        let kind = Some(kind);
+        Once { before, kind }
+    }
+
+    fn turn(&mut self) -> io::Result<()> {
+        if self.before > 0 {
+            self.before -= 1;
+            return Ok(());
+        }
+        match self.kind.take() {
+            Some(kind) => Err(io::Error::from(kind)),
+            None => Ok(()),
+        }
     }
 }
 
-impl Write for Broken {
-    fn write(&mut self, _: &[u8]) -> io::Result<usize> {
-        Err(io::Error::from(ErrorKind::BrokenPipe))
+/// Gives one byte a call.
+#[derive(Drop)]
+struct OnceReader<'a> {
+    bytes: &'a [u8],
+    once: Once,
+}
+
+impl<'a> Read for OnceReader<'a> {
+    fn read(&mut self, buffer: &mut [u8]) -> io::Result<usize> {
+        self.once.turn()?;
+        let count = buffer.len().min(self.bytes.len()).min(1);
+        buffer[..count].copy_from_slice(&self.bytes[..count]);
+        self.bytes = &self.bytes[count..];
+        Ok(count)
+    }
+}
+
+/// Takes one byte a call.
+#[derive(Drop)]
+struct OnceWriter {
+    taken: Vec<u8>,
+    once: Once,
+}
+
+impl Write for OnceWriter {
+    fn write(&mut self, bytes: &[u8]) -> io::Result<usize> {
+        self.once.turn()?;
+        let count = bytes.len().min(1);
+        self.taken.extend_from_slice(&bytes[..count])?;
+        Ok(count)
     }
 
     fn flush(&mut self) -> io::Result<()> {
-        Ok(())
+        self.once.turn()
     }
 }
 
 #[test]
-fn calls_that_fail(rt: HostRuntime) -> Result<(), Fail> {
-    let alloc = rt.alloc();
-    let front = Front::zero(1);
-    let mut reader = OverRead::new(Broken);
-    let mut writer = OverWrite::new(Vec::new(alloc));
-    assert_eq!(rt;
-        pull(alloc, &mut reader, &mut writer, &front).err(),
-        Some(PullError::Fault(Fault::ReadFault))
-    );
-    assert_eq!(rt; writer.into_inner().as_slice(), ASKED_OF_ONE);
-    let mut writer = OverWrite::new(Broken);
-    assert_eq!(rt;
-        pull(alloc, &mut reader, &mut writer, &front).err(),
-        Some(PullError::Fault(Fault::WriteFault))
-    );
+fn a_read_that_fails_once(rt: HostRuntime) -> Result<(), Fail> {
+    let answer = whole_answer(rt.alloc())?;
+    let lost = Some(PullError::Fault(Fault::ReadFault));
+    for (kind, error) in [
+        (ErrorKind::ConnectionReset, lost),
+        (ErrorKind::Interrupted, None),
+    ] {
+        for before in 0..answer.len() {
+            let once = Once::new(before, kind);
+            let bytes = answer.as_slice();
+            let reader = OnceReader { bytes, once };
+            let (found, written) = pulled(rt.alloc(), reader, Vec::new(rt.alloc()));
+            assert_eq!(rt; found, error, "{before}");
+            assert!(rt; written.as_slice() == ASKED_OF_ONE, "{before}");
+        }
+    }
+    Ok(())
+}
+
+// The last call passes on what was written.
+#[test]
+fn a_write_that_fails_once(rt: HostRuntime) -> Result<(), Fail> {
+    let answer = whole_answer(rt.alloc())?;
+    for before in 0..=ASKED_OF_ONE.len() {
+        for (kind, size) in [
+            (ErrorKind::BrokenPipe, before),
+            (ErrorKind::Interrupted, ASKED_OF_ONE.len()),
+        ] {
+            let once = Once::new(before, kind);
+            let taken = Vec::new(rt.alloc());
+            let writer = OnceWriter { taken, once };
+            let (found, writer) = pulled(rt.alloc(), answer.as_slice(), writer);
+            let lost = found == Some(PullError::Fault(Fault::WriteFault));
+            assert_eq!(rt; lost, kind == ErrorKind::BrokenPipe, "{before}");
+            assert!(rt;
+                writer.taken.as_slice() == &ASKED_OF_ONE[..size],
+                "{before}"
+            );
+        }
+    }
     Ok(())
 }
 

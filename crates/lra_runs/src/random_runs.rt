@@ -351,26 +351,17 @@ fn play(alloc: Global, nodes: usize, events: u64) -> Result<(), Fail> {
 }
 
 #[test]
-fn one_node(rt: HostRuntime) -> Result<(), Fail> {
-    play(rt.alloc(), 1, 1_000)
+fn up_to_three_nodes(rt: HostRuntime) -> Result<(), Fail> {
+    for nodes in 1..4 {
+        play(rt.alloc(), nodes, 1_000)?;
+    }
+    Ok(())
 }
 
 #[test]
-fn two_nodes(rt: HostRuntime) -> Result<(), Fail> {
-    play(rt.alloc(), 2, 1_000)
-}
-
-#[test]
-fn three_nodes(rt: HostRuntime) -> Result<(), Fail> {
-    play(rt.alloc(), 3, 1_000)
-}
-
-#[test]
-fn five_nodes(rt: HostRuntime) -> Result<(), Fail> {
-    play(rt.alloc(), 5, 1_000)
-}
-
-#[test]
-fn eight_nodes(rt: HostRuntime) -> Result<(), Fail> {
-    play(rt.alloc(), 8, 1_000)
+fn five_and_eight_nodes(rt: HostRuntime) -> Result<(), Fail> {
+    for nodes in [5, 8] {
+        play(rt.alloc(), nodes, 1_000)?;
+    }
+    Ok(())
 }

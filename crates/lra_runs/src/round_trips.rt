@@ -1,4 +1,4 @@
-// Frames of replicas of every kind: read again, spelled again and taken.
+// Frames of replicas of every kind: read again, encoded again and taken.
 use crate::commands::enter;
 use lra_delta::{Delta, encode, prepare};
 use lra_facts::{Links, MAX_LINK_BYTES};
@@ -85,7 +85,7 @@ fn travel(alloc: Global, replica: &Replica) -> Result<usize, Fail> {
     let told = encode(alloc, &Delta::since(alloc, replica, &base)?)?;
     let read = Delta::decode(alloc, &told)?;
     if encode(alloc, &read)? != told {
-        return Err("another spelling")?;
+        return Err("another encoding")?;
     }
     let mut taker = Replica::new(alloc, base.nodes())?;
     let patch = prepare(alloc, &mut taker, read)?;

@@ -124,6 +124,22 @@ fn a_home_is_purged_and_filled_again(rt: HostRuntime) -> Result<(), Fail> {
     Ok(())
 }
 
+#[test]
+fn a_thousand_and_one_frames_are_kept(rt: HostRuntime) -> Result<(), Fail> {
+    let alloc = rt.alloc();
+    let mut play = Play::new(alloc);
+    play.line("begin 1 0", "began 1.1")?;
+    for number in 1..1_002_u16 {
+        let sent = format!(in alloc; "frame {number}")?;
+        play.line("send 1 0", &sent)?;
+    }
+    play.line("deliver 1001 1", "took")?;
+    play.line("deliver 1 1", "took")?;
+    play.line("deliver 1002 1", "refused E1 BadText")?;
+    assert!(rt; play.is_printed(alloc));
+    Ok(())
+}
+
 /// Where the fields begin of the frame of a node, the only one, that began an LRA and closed it.
 const FIELDS: [usize; 16] = [0, 4, 5, 9, 10, 18, 26, 34, 35, 37, 38, 46, 47, 55, 56, 64];
 

@@ -1,16 +1,17 @@
 // Participants: joins, leaves and reports.
-use crate::scripts::{prints, run};
+use crate::scripts::{plays, prints, run};
 use std::alloc::{AllocError, Global};
 use std::test::Fail;
 
-#[test]
-fn a_participant_without_complete_is_completed_at_the_close(rt: HostRuntime) {
-    let input =
-        b"begin 1 0\njoin 1 1.1 compensate=http://p/c\nclose 1 1.1\nmember 1 1.1 1\nleave 1 1.1 1\nreport 1 1.1 1 complete done\nleave 1 1.1 2\n";
-    let output =
-        b"began 1.1\njoined 1\nClosed\nCompleted\nrefused E6 NotActive Closed\nrefused E7 NotDue Closed\nrefused E5 UnknownMember\n";
-    assert!(rt; prints(rt.alloc(), input, output));
-}
+const A_PARTICIPANT_WITHOUT_COMPLETE_IS_COMPLETED_AT_THE_CLOSE: [(&str, &str); 7] = [
+    ("begin 1 0", "began 1.1"),
+    ("join 1 1.1 compensate=http://p/c", "joined 1"),
+    ("close 1 1.1", "Closed"),
+    ("member 1 1.1 1", "Completed"),
+    ("leave 1 1.1 1", "refused E6 NotActive Closed"),
+    ("report 1 1.1 1 complete done", "refused E7 NotDue Closed"),
+    ("leave 1 1.1 2", "refused E5 UnknownMember"),
+];
 
 #[test]
 fn links_that_are_refused(rt: HostRuntime) -> Result<(), Fail> {
@@ -61,32 +62,58 @@ fn text_after_joins(alloc: Global, joins: usize) -> Result<Vec<u8>, AllocError> 
     Ok(text)
 }
 
-#[test]
-fn a_closed_nested_lra_is_compensated_where_its_parent_is_cancelled(rt: HostRuntime) {
-    let input =
-        b"begin 1 0\nbegin 1 0 1.1\njoin 1 1.2 compensate=http://p/c complete=http://p/k\nclose 1 1.2\nreport 1 1.2 1 complete done\nreport 1 1.2 1 complete done\nshow 1 1.2\ncancel 1 1.1\nmember 1 1.2 1\nreport 1 1.2 1 compensate done\nshow 1 1.2\nshow 1 1.1\n";
-    let output =
-        b"began 1.1\nbegan 1.2 member 1\njoined 1\nClosing\nreported\nknown\nClosed\nCancelling\nCompensating\nreported\nCancelled\nCancelled\n";
-    assert!(rt; prints(rt.alloc(), input, output));
-}
+const A_CLOSED_NESTED_LRA_IS_COMPENSATED_WHERE_ITS_PARENT_IS_CANCELLED: [(&str, &str); 12] = [
+    ("begin 1 0", "began 1.1"),
+    ("begin 1 0 1.1", "began 1.2 member 1"),
+    (
+        "join 1 1.2 compensate=http://p/c complete=http://p/k",
+        "joined 1",
+    ),
+    ("close 1 1.2", "Closing"),
+    ("report 1 1.2 1 complete done", "reported"),
+    ("report 1 1.2 1 complete done", "known"),
+    ("show 1 1.2", "Closed"),
+    ("cancel 1 1.1", "Cancelling"),
+    ("member 1 1.2 1", "Compensating"),
+    ("report 1 1.2 1 compensate done", "reported"),
+    ("show 1 1.2", "Cancelled"),
+    ("show 1 1.1", "Cancelled"),
+];
 
-#[test]
-fn reports_below_what_was_heard_are_known(rt: HostRuntime) {
-    let input =
-        b"begin 1 0\njoin 1 1.1 complete=http://p/k compensate=http://p/c\nreport 1 1.1 1 complete busy\nclose 1 1.1\nreport 1 1.1 1 complete busy\nreport 1 1.1 1 complete failed\nreport 1 1.1 1 complete done\nreport 1 1.1 1 compensate done\nmember 1 1.1 1\nbegin 1 0\n";
-    let output =
-        b"began 1.1\njoined 1\nrefused E7 NotDue Active\nClosing\nreported\nreported\nknown\nrefused E7 NotDue FailedToClose\nFailedToComplete\nbegan 1.6\n";
-    assert!(rt; prints(rt.alloc(), input, output));
-}
+const REPORTS_BELOW_WHAT_WAS_HEARD_ARE_KNOWN: [(&str, &str); 10] = [
+    ("begin 1 0", "began 1.1"),
+    (
+        "join 1 1.1 complete=http://p/k compensate=http://p/c",
+        "joined 1",
+    ),
+    ("report 1 1.1 1 complete busy", "refused E7 NotDue Active"),
+    ("close 1 1.1", "Closing"),
+    ("report 1 1.1 1 complete busy", "reported"),
+    ("report 1 1.1 1 complete failed", "reported"),
+    ("report 1 1.1 1 complete done", "known"),
+    (
+        "report 1 1.1 1 compensate done",
+        "refused E7 NotDue FailedToClose",
+    ),
+    ("member 1 1.1 1", "FailedToComplete"),
+    ("begin 1 0", "began 1.6"),
+];
 
-#[test]
-fn joins_and_nested_lras_are_numbered_together(rt: HostRuntime) {
-    let input =
-        b"begin 1 0\njoin 1 1.1 compensate=http://p/c\nbegin 1 0 1.1\njoin 1 1.1 compensate=http://p/c\nleave 1 1.1 2\nleave 1 1.1 1\nmember 1 1.1 1\nclose 1 1.1\njoin 1 1.1 compensate=http://p/c\nbegin 1 0 1.1\n";
-    let output =
-        b"began 1.1\njoined 1\nbegan 1.3 member 2\njoined 3\nrefused E5 UnknownMember\nleft\nrefused E5 UnknownMember\nClosed\nrefused E6 NotActive Closed\nrefused E6 NotActive Closed\n";
-    assert!(rt; prints(rt.alloc(), input, output));
-}
+const JOINS_AND_NESTED_LRAS_ARE_NUMBERED_TOGETHER: [(&str, &str); 10] = [
+    ("begin 1 0", "began 1.1"),
+    ("join 1 1.1 compensate=http://p/c", "joined 1"),
+    ("begin 1 0 1.1", "began 1.3 member 2"),
+    ("join 1 1.1 compensate=http://p/c", "joined 3"),
+    ("leave 1 1.1 2", "refused E5 UnknownMember"),
+    ("leave 1 1.1 1", "left"),
+    ("member 1 1.1 1", "refused E5 UnknownMember"),
+    ("close 1 1.1", "Closed"),
+    (
+        "join 1 1.1 compensate=http://p/c",
+        "refused E6 NotActive Closed",
+    ),
+    ("begin 1 0 1.1", "refused E6 NotActive Closed"),
+];
 
 #[test]
 fn joins_that_fit_no_form(rt: HostRuntime) {
@@ -112,10 +139,28 @@ fn joins_that_fit_no_form(rt: HostRuntime) {
     }
 }
 
+const ALL_FOUR_LINKS_IN_ANY_ORDER: [(&str, &str); 5] = [
+    ("begin 1 0", "began 1.1"),
+    (
+        "join 1 1.1 forget=http://p/f status=http://p/s complete=http://p/k compensate=http://p/c",
+        "joined 1",
+    ),
+    ("join 1 1.2 compensate=http://p/c", "refused E3 NotHeld"),
+    ("join 1 1.3 compensate=http://p/c", "refused E2 UnknownLra"),
+    ("close 1 1.1", "Closing"),
+];
+
 #[test]
-fn all_four_links_in_any_order(rt: HostRuntime) {
-    let input =
-        b"begin 1 0\njoin 1 1.1 forget=http://p/f status=http://p/s complete=http://p/k compensate=http://p/c\njoin 1 1.2 compensate=http://p/c\njoin 1 1.3 compensate=http://p/c\nclose 1 1.1\n";
-    let output = b"began 1.1\njoined 1\nrefused E3 NotHeld\nrefused E2 UnknownLra\nClosing\n";
-    assert!(rt; prints(rt.alloc(), input, output));
+fn participants(rt: HostRuntime) -> Result<(), Fail> {
+    let plans: [&[(&str, &str)]; 5] = [
+        &A_PARTICIPANT_WITHOUT_COMPLETE_IS_COMPLETED_AT_THE_CLOSE,
+        &A_CLOSED_NESTED_LRA_IS_COMPENSATED_WHERE_ITS_PARENT_IS_CANCELLED,
+        &REPORTS_BELOW_WHAT_WAS_HEARD_ARE_KNOWN,
+        &JOINS_AND_NESTED_LRAS_ARE_NUMBERED_TOGETHER,
+        &ALL_FOUR_LINKS_IN_ANY_ORDER,
+    ];
+    for steps in plans {
+        assert!(rt; plays(rt.alloc(), 1, steps)?, "{steps:?}");
+    }
+    Ok(())
 }

@@ -1,38 +1,52 @@
 // What is asked of nodes: fronts, and what a tick does.
-use crate::scripts::prints;
+use crate::scripts::{plays, prints};
+use std::test::Fail;
 
-#[test]
-fn overdue_lras_are_cancelled_one_a_tick(rt: HostRuntime) {
-    let input =
-        b"begin 1 1000\ntick 1 999\ntick 1 1000\nshow 1 1.1\nbegin 1 1001\ntick 1 1000\nbegin 1 0\ntick 1 18446744073709551615\ntick 1 18446744073709551615\nshow 1 1.4\n";
-    let output =
-        b"began 1.1\nquiet\nexpired 1.1\nCancelled\nbegan 1.3\nquiet\nbegan 1.4\nexpired 1.3\nquiet\nActive\n";
-    assert!(rt; prints(rt.alloc(), input, output));
-}
+const OVERDUE_LRAS_ARE_CANCELLED_ONE_A_TICK: [(&str, &str); 10] = [
+    ("begin 1 1000", "began 1.1"),
+    ("tick 1 999", "quiet"),
+    ("tick 1 1000", "expired 1.1"),
+    ("show 1 1.1", "Cancelled"),
+    ("begin 1 1001", "began 1.3"),
+    ("tick 1 1000", "quiet"),
+    ("begin 1 0", "began 1.4"),
+    ("tick 1 18446744073709551615", "expired 1.3"),
+    ("tick 1 18446744073709551615", "quiet"),
+    ("show 1 1.4", "Active"),
+];
 
-#[test]
-fn of_two_that_are_overdue_the_lesser_number_is_first(rt: HostRuntime) {
-    let input =
-        b"begin 1 7\nbegin 1 5\nbegin 1 6 1.1\ntick 1 9\nshow 1 1.3\ntick 1 9\ntick 1 9\nfront 1\n";
-    let output =
-        b"began 1.1\nbegan 1.2\nbegan 1.3 member 1\nexpired 1.1\nCancelled\nexpired 1.2\nquiet\nfront 5\n";
-    assert!(rt; prints(rt.alloc(), input, output));
-}
+const OF_TWO_THAT_ARE_OVERDUE_THE_LESSER_NUMBER_IS_FIRST: [(&str, &str); 8] = [
+    ("begin 1 7", "began 1.1"),
+    ("begin 1 5", "began 1.2"),
+    ("begin 1 6 1.1", "began 1.3 member 1"),
+    ("tick 1 9", "expired 1.1"),
+    ("show 1 1.3", "Cancelled"),
+    ("tick 1 9", "expired 1.2"),
+    ("tick 1 9", "quiet"),
+    ("front 1", "front 5"),
+];
 
-#[test]
-fn what_is_closed_is_not_overdue(rt: HostRuntime) {
-    let input =
-        b"tick 1 1\nbegin 1 5\njoin 1 1.1 compensate=http://p/c complete=http://p/k\nclose 1 1.1\ntick 1 9\nshow 1 1.1\n";
-    let output = b"quiet\nbegan 1.1\njoined 1\nClosing\nquiet\nClosing\n";
-    assert!(rt; prints(rt.alloc(), input, output));
-}
+const WHAT_IS_CLOSED_IS_NOT_OVERDUE: [(&str, &str); 6] = [
+    ("tick 1 1", "quiet"),
+    ("begin 1 5", "began 1.1"),
+    (
+        "join 1 1.1 compensate=http://p/c complete=http://p/k",
+        "joined 1",
+    ),
+    ("close 1 1.1", "Closing"),
+    ("tick 1 9", "quiet"),
+    ("show 1 1.1", "Closing"),
+];
 
-#[test]
-fn fronts_count_what_was_entered(rt: HostRuntime) {
-    let input = b"front 1\nsame 1 1\nbegin 1 0\nclose 1 1.1\nclose 1 1.1\nfront 1\nsame 1 1\n";
-    let output = b"front 0\nsame\nbegan 1.1\nClosed\nrefused E6 NotActive Closed\nfront 2\nsame\n";
-    assert!(rt; prints(rt.alloc(), input, output));
-}
+const FRONTS_COUNT_WHAT_WAS_ENTERED: [(&str, &str); 7] = [
+    ("front 1", "front 0"),
+    ("same 1 1", "same"),
+    ("begin 1 0", "began 1.1"),
+    ("close 1 1.1", "Closed"),
+    ("close 1 1.1", "refused E6 NotActive Closed"),
+    ("front 1", "front 2"),
+    ("same 1 1", "same"),
+];
 
 #[test]
 fn lines_that_ask_nothing_of_a_node(rt: HostRuntime) {
@@ -75,4 +89,18 @@ fn lines_that_ask_nothing_of_a_node(rt: HostRuntime) {
             "{line:?}"
         );
     }
+}
+
+#[test]
+fn deadlines_and_fronts(rt: HostRuntime) -> Result<(), Fail> {
+    let plans: [&[(&str, &str)]; 4] = [
+        &OVERDUE_LRAS_ARE_CANCELLED_ONE_A_TICK,
+        &OF_TWO_THAT_ARE_OVERDUE_THE_LESSER_NUMBER_IS_FIRST,
+        &WHAT_IS_CLOSED_IS_NOT_OVERDUE,
+        &FRONTS_COUNT_WHAT_WAS_ENTERED,
+    ];
+    for steps in plans {
+        assert!(rt; plays(rt.alloc(), 1, steps)?, "{steps:?}");
+    }
+    Ok(())
 }

@@ -1,29 +1,54 @@
 // What is forgotten and purged, and what is shown then.
-use crate::scripts::prints;
+use crate::scripts::plays;
+use std::test::Fail;
+
+const WHAT_WAS_PURGED_IS_NOT_HELD: [(&str, &str); 7] = [
+    ("begin 1 0", "began 1.1"),
+    ("join 1 1.1 compensate=http://p/c", "joined 1"),
+    ("show 1 1.2", "refused E3 NotHeld"),
+    ("close 1 1.1", "Closed"),
+    ("purge 1 1.1", "purged"),
+    ("show 1 1.1", "refused E3 NotHeld"),
+    ("show 1 1.5", "refused E2 UnknownLra"),
+];
+
+const FORGOTTEN_BEFORE_THE_PURGE: [(&str, &str); 13] = [
+    ("begin 1 0", "began 1.1"),
+    ("begin 1 0 1.1", "began 1.2 member 1"),
+    (
+        "join 1 1.2 compensate=http://p/c forget=http://p/f",
+        "joined 1",
+    ),
+    ("close 1 1.2", "Closed"),
+    ("forgot 1 1.2 1", "refused E7 NotDue Closed"),
+    ("purge 1 1.2", "refused E9 NotRoot"),
+    ("purge 1 1.1", "refused E8 NotEnded Active"),
+    ("close 1 1.1", "Closed"),
+    ("purge 1 1.1", "refused E10 StillToForget 1.2 1"),
+    ("forgot 1 1.2 1", "forgot"),
+    ("forgot 1 1.2 1", "known"),
+    ("purge 1 1.1", "purged"),
+    ("show 1 1.2", "refused E3 NotHeld"),
+];
+
+const WORDS_THAT_PURGE_NOTHING: [(&str, &str); 6] = [
+    ("begin 1 0", "began 1.1"),
+    ("purge 1", "refused E1 BadText"),
+    ("purge 1 1.1 1", "refused E1 BadText"),
+    ("forgot 1 1.1", "refused E1 BadText"),
+    ("forgot 1 1.1 0", "refused E1 BadText"),
+    ("forgot 1 1.1 33", "refused E1 BadText"),
+];
 
 #[test]
-fn what_was_purged_is_not_held(rt: HostRuntime) {
-    let input =
-        b"begin 1 0\njoin 1 1.1 compensate=http://p/c\nshow 1 1.2\nclose 1 1.1\npurge 1 1.1\nshow 1 1.1\nshow 1 1.5\n";
-    let output =
-        b"began 1.1\njoined 1\nrefused E3 NotHeld\nClosed\npurged\nrefused E3 NotHeld\nrefused E2 UnknownLra\n";
-    assert!(rt; prints(rt.alloc(), input, output));
-}
-
-#[test]
-fn forgotten_before_the_purge(rt: HostRuntime) {
-    let input =
-        b"begin 1 0\nbegin 1 0 1.1\njoin 1 1.2 compensate=http://p/c forget=http://p/f\nclose 1 1.2\nforgot 1 1.2 1\npurge 1 1.2\npurge 1 1.1\nclose 1 1.1\npurge 1 1.1\nforgot 1 1.2 1\nforgot 1 1.2 1\npurge 1 1.1\nshow 1 1.2\n";
-    let output =
-        b"began 1.1\nbegan 1.2 member 1\njoined 1\nClosed\nrefused E7 NotDue Closed\nrefused E9 NotRoot\nrefused E8 NotEnded Active\nClosed\nrefused E10 StillToForget 1.2 1\nforgot\nknown\npurged\nrefused E3 NotHeld\n";
-    assert!(rt; prints(rt.alloc(), input, output));
-}
-
-#[test]
-fn words_that_purge_nothing(rt: HostRuntime) {
-    let input =
-        b"begin 1 0\npurge 1\npurge 1 1.1 1\nforgot 1 1.1\nforgot 1 1.1 0\nforgot 1 1.1 33\n";
-    let output =
-        b"began 1.1\nrefused E1 BadText\nrefused E1 BadText\nrefused E1 BadText\nrefused E1 BadText\nrefused E1 BadText\n";
-    assert!(rt; prints(rt.alloc(), input, output));
+fn purges(rt: HostRuntime) -> Result<(), Fail> {
+    let plans: [&[(&str, &str)]; 3] = [
+        &WHAT_WAS_PURGED_IS_NOT_HELD,
+        &FORGOTTEN_BEFORE_THE_PURGE,
+        &WORDS_THAT_PURGE_NOTHING,
+    ];
+    for steps in plans {
+        assert!(rt; plays(rt.alloc(), 1, steps)?, "{steps:?}");
+    }
+    Ok(())
 }

@@ -44,38 +44,42 @@ fn push_line(text: &mut Vec<u8>, line: &str) -> Result<(), AllocError> {
     text.extend_from_slice(b"\n")
 }
 
-#[test]
-fn id_texts(rt: HostRuntime) {
-    let input =
-        b"text 3.7\nread 00000000-0000-8003-8000-000000000007\nread 00000000-0000-4003-8000-000000000007\n";
-    let output = b"00000000-0000-8003-8000-000000000007\n3.7\nrefused E1 BadText\n";
-    assert!(rt; prints(rt.alloc(), input, output));
-}
+const ID_TEXTS: [(&str, &str); 3] = [
+    ("text 3.7", "00000000-0000-8003-8000-000000000007"),
+    ("read 00000000-0000-8003-8000-000000000007", "3.7"),
+    (
+        "read 00000000-0000-4003-8000-000000000007",
+        "refused E1 BadText",
+    ),
+];
 
-#[test]
-fn close_then_cancel(rt: HostRuntime) {
-    let input = b"begin 1 0\nshow 1 1.1\nclose 1 1.1\nshow 1 1.1\ncancel 1 1.1\n";
-    let output = b"began 1.1\nActive\nClosed\nClosed\nrefused E6 NotActive Closed\n";
-    assert!(rt; prints(rt.alloc(), input, output));
-}
+const CLOSE_THEN_CANCEL: [(&str, &str); 5] = [
+    ("begin 1 0", "began 1.1"),
+    ("show 1 1.1", "Active"),
+    ("close 1 1.1", "Closed"),
+    ("show 1 1.1", "Closed"),
+    ("cancel 1 1.1", "refused E6 NotActive Closed"),
+];
 
-#[test]
-fn a_refused_command_spends_no_number(rt: HostRuntime) {
-    let input =
-        b"close 1 1.1\nbegin 1 0\ncancel 1 1.1\nclose 1 1.1\nbegin 1 5\nshow 1 1.1\nshow 1 1.3\n";
-    let output =
-        b"refused E2 UnknownLra\nbegan 1.1\nCancelled\nrefused E6 NotActive Cancelled\nbegan 1.3\nCancelled\nActive\n";
-    assert!(rt; prints(rt.alloc(), input, output));
-}
+const A_REFUSED_COMMAND_SPENDS_NO_NUMBER: [(&str, &str); 7] = [
+    ("close 1 1.1", "refused E2 UnknownLra"),
+    ("begin 1 0", "began 1.1"),
+    ("cancel 1 1.1", "Cancelled"),
+    ("close 1 1.1", "refused E6 NotActive Cancelled"),
+    ("begin 1 5", "began 1.3"),
+    ("show 1 1.1", "Cancelled"),
+    ("show 1 1.3", "Active"),
+];
 
-#[test]
-fn ids_that_name_no_lra(rt: HostRuntime) {
-    let input =
-        b"begin 1 0\nclose 1 1.1\nshow 1 1.2\ncancel 1 1.2\nshow 1 1.3\nshow 1 2.1\nclose 1 2.1\n";
-    let output =
-        b"began 1.1\nClosed\nrefused E3 NotHeld\nrefused E3 NotHeld\nrefused E2 UnknownLra\nrefused E2 UnknownLra\nrefused E2 UnknownLra\n";
-    assert!(rt; prints(rt.alloc(), input, output));
-}
+const IDS_THAT_NAME_NO_LRA: [(&str, &str); 7] = [
+    ("begin 1 0", "began 1.1"),
+    ("close 1 1.1", "Closed"),
+    ("show 1 1.2", "refused E3 NotHeld"),
+    ("cancel 1 1.2", "refused E3 NotHeld"),
+    ("show 1 1.3", "refused E2 UnknownLra"),
+    ("show 1 2.1", "refused E2 UnknownLra"),
+    ("close 1 2.1", "refused E2 UnknownLra"),
+];
 
 #[test]
 fn lines_that_fit_no_command(rt: HostRuntime) {
@@ -227,6 +231,20 @@ fn a_script_that_is_asked_for_ends_with_0(rt: HostRuntime) -> Result<(), Fail> {
         let (status, text) = ended(alloc, &words, b"begin 1 0");
         assert_eq!(rt; status, 0);
         assert!(rt; text.as_slice() == b"began 1.1\n".as_slice());
+    }
+    Ok(())
+}
+
+#[test]
+fn scripts_of_one_node(rt: HostRuntime) -> Result<(), Fail> {
+    let plans: [&[(&str, &str)]; 4] = [
+        &ID_TEXTS,
+        &CLOSE_THEN_CANCEL,
+        &A_REFUSED_COMMAND_SPENDS_NO_NUMBER,
+        &IDS_THAT_NAME_NO_LRA,
+    ];
+    for steps in plans {
+        assert!(rt; plays(rt.alloc(), 1, steps)?, "{steps:?}");
     }
     Ok(())
 }

@@ -15,7 +15,7 @@ const ANSWERING: u16 = 18_479;
 const LRAS: u64 = 7;
 
 /// How long the one that answers may wait for its call, in milliseconds. Each call of the other takes 10,000.
-const MOST_WAIT: u64 = 5_000;
+const MAX_WAIT: u64 = 5_000;
 
 const BEGIN: &str = "POST /lra HTTP/1.1\r\nHost: p\r\nContent-Length: 0\r\n\r\n";
 
@@ -71,7 +71,7 @@ pub(crate) fn visit<R: Net<Listener = TcpListener, Stream = TcpStream> + Clock>(
     )?;
     let waited = rt.monotonic()?.saturating_sub(begun);
     needs(
-        waited < Duration::from_millis(MOST_WAIT),
+        waited < Duration::from_millis(MAX_WAIT),
         "one that hangs holds the other up",
     )
 }

@@ -118,7 +118,8 @@ fn by_two<J: Run + Send + Sync, S: Alter + Send + Drop, R: Threads + Wait + Cloc
     book: Book<S>,
     blank: Blank,
 ) -> Result<(), Fail>
-    requires run { (book.opening ≡ Some J.opening.view) × (book.me ≡ J.opening.node) × (book.trail ≡ []) }
+    requires run { (book.opening ≡ Some J.opening.view)
+        × (book.me ≡ J.opening.node) × (book.trail ≡ []) }
     requires blank { (blank.name ≡ J.name) × (blank.parts ≡ J.parts) × (blank.parts ≡ 2) }
 {
     let Ok((desk, mut passes)) = Desk::<J, S>::new(alloc, book, blank, 2) else {

@@ -108,108 +108,6 @@ pub fn answer(alloc: Global, replica: &mut Replica, answer: &Answer) -> Result<H
     Ok(heard)
 }
 
-/// The duties of node 1: what for, of which act, of whom, at which link, and under which parent.
-fn duties(alloc: Global, replica: &Replica) -> Result<String, Fail> {
-    let me = NodeId::new(1)?;
-    let mut text = String::new(alloc);
-    if usize::from(me.number()) > replica.front().nodes() {
-        return Ok(text);
-    }
-    let duties = pick(alloc, replica, me)?;
-    for duty in duties.as_slice() {
-        let kind = duty.kind;
-        let act = duty.act;
-        let (id, member) = (duty.id, duty.member);
-        let link = duty.link.as_str();
-        let line = format!(in alloc; "{kind} {act} {id} {member} {link};")?;
-        text.push_str(&line)?;
-        if let Some(parent) = duty.parent {
-            let under = format!(in alloc; " in {parent};")?;
-            text.push_str(&under)?;
-        }
-    }
-    Ok(text)
-}
-
-#[test]
-fn a_busy_one_is_asked_for_its_status(rt: HostRuntime) -> Result<(), Fail> {
-    let alloc = rt.alloc();
-    let mut replica = Replica::new(alloc, 1)?;
-    begin(alloc, &mut replica, None)?;
-    join(alloc, &mut replica, 1, K, None, None)?;
-    join(alloc, &mut replica, 1, K, S, None)?;
-    decide(alloc, &mut replica, 1, Verdict::Close)?;
-    let both = "complete complete 1.1 1 http://p/k;complete complete 1.1 2 http://p/k;";
-    assert_eq!(rt; duties(alloc, &replica)?.as_str(), both);
-    let busy = code(alloc, 202, "")?;
-    assert_eq!(rt;
-        answer(alloc, &mut replica, &busy)?,
-        Heard::Told(Outcome::Busy)
-    );
-    assert_eq!(rt; duties(alloc, &replica)?.as_str(), both);
-    let done = code(alloc, 200, "")?;
-    assert_eq!(rt;
-        answer(alloc, &mut replica, &done)?,
-        Heard::Told(Outcome::Done)
-    );
-    assert_eq!(rt;
-        answer(alloc, &mut replica, &busy)?,
-        Heard::Told(Outcome::Busy)
-    );
-    let status = "status complete 1.1 2 http://p:81/s?m=1;";
-    assert_eq!(rt; duties(alloc, &replica)?.as_str(), status);
-    let other = code(alloc, 200, "Compensated")?;
-    assert_eq!(rt; answer(alloc, &mut replica, &other)?, Heard::Again);
-    let named = code(alloc, 200, " \"Completed\"\r\n")?;
-    assert_eq!(rt;
-        answer(alloc, &mut replica, &named)?,
-        Heard::Told(Outcome::Done)
-    );
-    assert_eq!(rt; duties(alloc, &replica)?.as_str(), "");
-    Ok(())
-}
-
-#[test]
-fn a_saga_is_called_from_its_end(rt: HostRuntime) -> Result<(), Fail> {
-    let alloc = rt.alloc();
-    let mut replica = Replica::new(alloc, 1)?;
-    begin(alloc, &mut replica, None)?;
-    join(alloc, &mut replica, 1, None, None, None)?;
-    begin(alloc, &mut replica, Some(lra(1)?))?;
-    join(alloc, &mut replica, 3, None, None, None)?;
-    join(alloc, &mut replica, 3, None, None, F)?;
-    decide(alloc, &mut replica, 1, Verdict::Cancel)?;
-    let next = [
-        "compensate compensate 1.3 2 http://p/c; in 1.1;",
-        "compensate compensate 1.3 1 http://p/c; in 1.1;",
-        "compensate compensate 1.1 1 http://p/c;",
-    ];
-    let codes = [409, 410, 204];
-    for place in 0..3 {
-        assert_eq!(rt; duties(alloc, &replica)?.as_str(), next[place]);
-        let last = code(alloc, codes[place], "")?;
-        assert!(rt; answer(alloc, &mut replica, &last)? != Heard::Again);
-    }
-    let forget = "forget compensate 1.3 2 http://p/f; in 1.1;";
-    assert_eq!(rt; duties(alloc, &replica)?.as_str(), forget);
-    Ok(())
-}
-
-#[test]
-fn completions_come_before_compensations(rt: HostRuntime) -> Result<(), Fail> {
-    let alloc = rt.alloc();
-    let mut replica = Replica::new(alloc, 1)?;
-    begin(alloc, &mut replica, None)?;
-    join(alloc, &mut replica, 1, None, None, None)?;
-    begin(alloc, &mut replica, None)?;
-    join(alloc, &mut replica, 3, K, None, None)?;
-    decide(alloc, &mut replica, 1, Verdict::Cancel)?;
-    decide(alloc, &mut replica, 3, Verdict::Close)?;
-    let both = "complete complete 1.3 1 http://p/k;compensate compensate 1.1 1 http://p/c;";
-    assert_eq!(rt; duties(alloc, &replica)?.as_str(), both);
-    Ok(())
-}
-
 /// Begins the LRA that gets this number, and joins as many participants as one may have, each with a link to complete.
 fn begin_crowded(alloc: Global, replica: &mut Replica, num: u64) -> Result<(), Fail> {
     begin(alloc, replica, None)?;
@@ -254,37 +152,6 @@ fn ninety_six_are_called_lra_by_lra(rt: HostRuntime) -> Result<(), Fail> {
     Ok(())
 }
 
-#[test]
-fn a_status_is_named_between_blanks_and_quotes(rt: HostRuntime) -> Result<(), Fail> {
-    let alloc = rt.alloc();
-    let done = Heard::Told(Outcome::Done);
-    let failed = Heard::Told(Outcome::Failed);
-    for (body, heard) in [
-        ("Completed", done),
-        ("\r\n \"Completed\" \n", done),
-        ("\"FailedToComplete\"", failed),
-        ("\" Completed\"", Heard::Again),
-        ("\"\"Completed\"\"", Heard::Again),
-        ("\"Completed", Heard::Again),
-        ("\"", Heard::Again),
-        ("", Heard::Again),
-        ("\tCompleted", Heard::Again),
-        ("Compensated", Heard::Again),
-        ("completed", Heard::Again),
-    ] {
-        let said = code(alloc, 200, body)?;
-        assert_eq!(rt; hear(Act::Complete, Kind::Status, &said), heard);
-    }
-    let gone = code(alloc, 404, "")?;
-    assert_eq!(rt; hear(Act::Complete, Kind::Forget, &gone), Heard::Forgotten);
-    assert_eq!(rt; hear(Act::Complete, Kind::Complete, &gone), Heard::Again);
-    assert_eq!(rt;
-        hear(Act::Complete, Kind::Complete, &Answer::Broken),
-        Heard::Again
-    );
-    Ok(())
-}
-
 /// What a code without a body is heard as, of a call to complete or compensate, for a status, and to forget.
 fn heard_of_code(code: u16) -> (Heard, Heard, Heard) {
     let done = Heard::Told(Outcome::Done);
@@ -326,31 +193,55 @@ const NAMES: [(Act, &str, Outcome); 4] = [
     (Act::Compensate, "FailedToCompensate", Outcome::Failed),
 ];
 
+/// What is heard where a status is asked for, of a code and a body.
+fn heard_of_status(alloc: Global, act: Act, code: u16, body: &[u8]) -> Result<Heard, Fail> {
+    let body = Bytes::new(Vec::from_slice(alloc, body)?);
+    Ok(hear(act, Kind::Status, &Answer::Code(code, body)))
+}
+
 #[test]
-fn names_of_statuses_whole_and_cut(rt: HostRuntime) -> Result<(), Fail> {
-    let alloc = rt.alloc();
+fn names_of_statuses_between_blanks(rt: HostRuntime) -> Result<(), Fail> {
     for (act, name, outcome) in NAMES {
         for (before, after) in [("", ""), ("\"", "\""), ("  ", " \r\n"), ("\r\n \"", "\" ")] {
-            let body = format!(in alloc; "{before}{name}{after}")?;
-            let said = code(alloc, 200, &body)?;
-            assert_eq!(rt;
-                hear(act, Kind::Status, &said),
-                Heard::Told(outcome),
-                "{body}"
-            );
-            let accepted = code(alloc, 202, &body)?;
-            assert_eq!(rt; hear(act, Kind::Status, &accepted), Heard::Again, "{body}");
+            let body = format!(in rt.alloc(); "{before}{name}{after}")?;
+            for (code, heard) in [(200, Heard::Told(outcome)), (202, Heard::Again)] {
+                let found = heard_of_status(rt.alloc(), act, code, body.as_bytes())?;
+                assert_eq!(rt; found, heard, "{code} {body}");
+            }
+        }
+    }
+    Ok(())
+}
+
+#[test]
+fn names_of_statuses_cut_and_in_lower_case(rt: HostRuntime) -> Result<(), Fail> {
+    for (act, name, _) in NAMES {
+        let mut small = name.as_bytes().to_vec(rt.alloc())?;
+        small.make_ascii_lowercase();
+        for end in 0..=name.len() {
+            let found = heard_of_status(rt.alloc(), act, 200, &small[..end])?;
+            assert_eq!(rt; found, Heard::Again, "{name} {end}");
         }
         for end in 0..name.len() {
-            let cut = Bytes::new(name.as_bytes()[..end].to_vec(alloc)?);
-            let said = Answer::Code(200, cut);
-            assert_eq!(rt; hear(act, Kind::Status, &said), Heard::Again, "{end}");
+            let found = heard_of_status(rt.alloc(), act, 200, &name.as_bytes()[..end])?;
+            assert_eq!(rt; found, Heard::Again, "{name} {end}");
         }
-        let mut small = name.as_bytes().to_vec(alloc)?;
-        small.make_ascii_lowercase();
-        let said = Answer::Code(200, Bytes::new(small));
-        assert_eq!(rt; hear(act, Kind::Status, &said), Heard::Again, "{name}");
-        assert_eq!(rt; hear(act, Kind::Status, &Answer::Broken), Heard::Again);
+    }
+    Ok(())
+}
+
+#[test]
+fn bodies_that_name_no_status(rt: HostRuntime) -> Result<(), Fail> {
+    for body in [
+        "\" Completed\"",
+        "\"\"Completed\"\"",
+        "\"Completed",
+        "\"",
+        "\tCompleted",
+        "Compensated",
+    ] {
+        let found = heard_of_status(rt.alloc(), Act::Complete, 200, body.as_bytes())?;
+        assert_eq!(rt; found, Heard::Again, "{body}");
     }
     Ok(())
 }

@@ -7,8 +7,6 @@ mod callbacks;
 #[cfg(test)]
 mod calls;
 #[cfg(test)]
-mod duties;
-#[cfg(test)]
 mod facts;
 #[cfg(test)]
 mod forest;

@@ -3,7 +3,7 @@ use crate::calls::{COMPLETE, DONE, completion};
 use lra_callback::{Answer, NetCaller};
 use lra_http::{
     CallRequest, Fault, MAX_BODY_BYTES, OverRead, OverWrite, read_byte, read_request,
-    read_response, write_request, write_response,
+    read_response, write_request,
 };
 use std::alloc::Global;
 use std::io;
@@ -313,44 +313,17 @@ fn is_last(fault: Option<Fault>, writer: &OnceWriter, text: &[u8]) -> bool {
         && writer.taken.as_slice() == text
 }
 
-/// Whether all of the text was written and passed on, past an interrupted call.
-fn is_past(fault: Option<Fault>, writer: &OnceWriter, text: &[u8]) -> bool {
-    fault.is_none()
-        && writer.once.turns == PAST
-        && writer.flushed
-        && writer.taken.as_slice() == text
-}
-
 // The last one of these calls passes on what was written.
 #[test]
 fn a_write_that_fails_once_is_the_last(rt: HostRuntime) -> Result<(), Fail> {
     let alloc = rt.alloc();
     let request = completion(alloc)?;
-    let response = read_response(alloc, &mut OverRead::new(RESPONSE), MAX_BODY_BYTES)?;
     for kind in FAILURES {
         for n in 0..=COMPLETE.len() {
             let mut writer = make_writer(alloc, n, kind);
             let fault = write_request(alloc, &mut OverWrite::new(&mut writer), &request).err();
             assert!(rt; is_last(fault, &writer, &COMPLETE.as_bytes()[..n]), "{n}");
         }
-        for n in 0..=RESPONSE.len() {
-            let mut writer = make_writer(alloc, n, kind);
-            let fault = write_response(alloc, &mut OverWrite::new(&mut writer), &response).err();
-            assert!(rt; is_last(fault, &writer, &RESPONSE[..n]), "{n}");
-        }
-    }
-    Ok(())
-}
-
-#[test]
-fn a_write_that_is_interrupted_once_is_made_again(rt: HostRuntime) -> Result<(), Fail> {
-    let alloc = rt.alloc();
-    let request = completion(alloc)?;
-    let kind = ErrorKind::Interrupted;
-    for n in 0..=COMPLETE.len() {
-        let mut writer = make_writer(alloc, n, kind);
-        let fault = write_request(alloc, &mut OverWrite::new(&mut writer), &request).err();
-        assert!(rt; is_past(fault, &writer, COMPLETE.as_bytes()), "{n}");
     }
     Ok(())
 }

@@ -1,5 +1,5 @@
-// Texts of ids from outside, printed texts, and each call once where memory is ample.
-use lra_id::{BadText, Front, LAST_NUMBER, LraId, NodeId};
+// Texts of ids from outside.
+use lra_id::{BadText, LAST_NUMBER, LraId, NodeId};
 use std::test::Fail;
 
 // The id that this home's begin of this number has.
@@ -70,65 +70,4 @@ fn other_texts_are_refused(rt: HostRuntime) {
         assert_eq!(rt; LraId::from_text(text), Err(BadText), "{text}");
     }
     assert_eq!(rt; LraId::from_ascii(&[0xff; 36]), Err(BadText));
-}
-
-#[test]
-fn numbers_out_of_range_are_refused(rt: HostRuntime) -> Result<(), Fail> {
-    assert_eq!(rt; NodeId::new(0), Err(BadText));
-    assert_eq!(rt; NodeId::new(9), Err(BadText));
-    assert_eq!(rt; NodeId::new(8)?.number(), 8);
-    assert_eq!(rt; lra(1, 0), Err(BadText));
-    assert_eq!(rt; lra(1, 281_474_976_710_655)?.num(), 281_474_976_710_655);
-    assert_eq!(rt; lra(1, 281_474_976_710_656), Err(BadText));
-    Ok(())
-}
-
-#[test]
-fn names_and_fronts_print(rt: HostRuntime) -> Result<(), Fail> {
-    let node = NodeId::new(1)?;
-    assert_eq!(rt; node.to_string(rt.alloc())?.as_str(), "1");
-    assert_eq!(rt; lra(3, 7)?.to_string(rt.alloc())?.as_str(), "3.7");
-    let mut front = Front::zero(2);
-    front.set(node, 4);
-    assert_eq!(rt; front.to_string(rt.alloc())?.as_str(), "4 0");
-    let mut front = Front::zero(1);
-    front.set(node, 2);
-    assert_eq!(rt; front.to_string(rt.alloc())?.as_str(), "2");
-    Ok(())
-}
-
-#[test]
-fn a_front_counts_each_node(rt: HostRuntime) -> Result<(), Fail> {
-    let (first, third, last) = (NodeId::new(1)?, NodeId::new(3)?, NodeId::new(8)?);
-    let mut front = Front::zero(8);
-    assert_eq!(rt; front.nodes(), 8);
-    front.set(third, 5);
-    front.set(last, u64::MAX);
-    assert_eq!(rt; front.count(first), 0);
-    assert_eq!(rt; front.count(third), 5);
-    assert_eq!(rt; front.count(last), u64::MAX);
-    // There is no third node here.
-    assert_eq!(rt; Front::zero(2).count(third), 0);
-    assert_ne!(rt; Front::zero(2), Front::zero(1));
-    Ok(())
-}
-
-#[test]
-fn fronts_are_a_lattice(rt: HostRuntime) -> Result<(), Fail> {
-    let one = NodeId::new(1)?;
-    let two = NodeId::new(2)?;
-    let mut early = Front::zero(2);
-    early.set(one, 4);
-    let mut late = Front::zero(2);
-    late.set(one, 3);
-    late.set(two, 1);
-    let joined = early.join(&late);
-    let met = early.meet(&late);
-    assert_eq!(rt; (joined.count(one), joined.count(two)), (4, 1));
-    assert_eq!(rt; (met.count(one), met.count(two)), (3, 0));
-    assert!(rt; early.below(&joined) && late.below(&joined) && met.below(&early));
-    assert!(rt; !early.below(&late) && !late.below(&early));
-    assert!(rt; early.covers(LraId::new(one, 4)?) && !early.covers(LraId::new(one, 5)?));
-    assert!(rt; !early.covers(LraId::new(NodeId::new(3)?, 1)?));
-    Ok(())
 }

@@ -1,4 +1,4 @@
-//! Tests of ids, names and HTTP messages by the public calls of the crates below. They stand here since a crate is proved
+//! Tests of ids and HTTP messages by the public calls of the crates below. They stand here since a crate is proved
 //! twice where it has tests.
 #![tactic(auto)]
 
@@ -6,5 +6,3 @@
 mod ids;
 #[cfg(test)]
 mod messages;
-#[cfg(test)]
-mod names;

@@ -1,6 +1,6 @@
 // Limits to the byte, and heads without an end.
 use crate::messages::{request_fault, response_fault};
-use lra_http::{Fault, OverRead, read_request, read_response};
+use lra_http::Fault;
 use std::alloc::{AllocError, Global};
 use std::io;
 use std::io::Read;
@@ -83,7 +83,11 @@ fn a_request_is_bounded(rt: HostRuntime) -> Result<(), Fail> {
     ];
     for (prefix, piece, count, end, want) in cases {
         let text = repeated(alloc, prefix, piece, count, end)?;
-        assert_eq!(rt; request_fault(alloc, &text), want, "{prefix} {count}");
+        assert_eq!(rt;
+            request_fault(alloc, text.as_slice()),
+            want,
+            "{prefix} {count}"
+        );
     }
     Ok(())
 }
@@ -127,7 +131,11 @@ fn heads_of_a_response_are_bounded_together(rt: HostRuntime) -> Result<(), Fail>
     ];
     for (prefix, piece, count, end, want) in cases {
         let text = repeated(alloc, prefix, piece, count, end)?;
-        assert_eq!(rt; response_fault(alloc, &text), want, "{prefix} {count}");
+        assert_eq!(rt;
+            response_fault(alloc, text.as_slice()),
+            want,
+            "{prefix} {count}"
+        );
     }
     Ok(())
 }
@@ -149,17 +157,13 @@ impl Read for Endless {
 #[test]
 fn a_head_without_end_is_too_long(rt: HostRuntime) {
     for byte in [b'\n', b'x'] {
-        let mut source = OverRead::new(Endless { byte });
-        let of_request = match read_request(rt.alloc(), &mut source, 0) {
-            Ok(_) => None,
-            Err(fault) => Some(fault),
-        };
-        assert_eq!(rt; of_request, Some(Fault::HeadTooLong));
+        assert_eq!(rt;
+            request_fault(rt.alloc(), Endless { byte }),
+            Some(Fault::HeadTooLong)
+        );
     }
-    let mut source = OverRead::new(Endless { byte: b'\n' });
-    let of_response = match read_response(rt.alloc(), &mut source, 0) {
-        Ok(_) => None,
-        Err(fault) => Some(fault),
-    };
-    assert_eq!(rt; of_response, Some(Fault::HeadTooLong));
+    assert_eq!(rt;
+        response_fault(rt.alloc(), Endless { byte: b'\n' }),
+        Some(Fault::HeadTooLong)
+    );
 }

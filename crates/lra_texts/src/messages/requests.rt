@@ -224,14 +224,18 @@ fn doubtful_lengths_are_refused(rt: HostRuntime) {
             && text.extend_from_slice(lines.as_bytes()).is_ok()
             && text.extend_from_slice(b"\r\n\r\n0").is_ok();
         assert!(rt; whole);
-        assert_eq!(rt; request_fault(rt.alloc(), &text), Some(fault), "{lines}");
+        assert_eq!(rt;
+            request_fault(rt.alloc(), text.as_slice()),
+            Some(fault),
+            "{lines}"
+        );
     }
 }
 
 // A target that is no UTF-8 is told at the space behind it, and is cut before.
 #[test]
 fn a_target_is_a_text(rt: HostRuntime) {
-    let text = b"GET /\xff\xfe HTTP/1.1\r\nHost: p\r\n\r\n";
+    let text = b"GET /\xff\xfe HTTP/1.1\r\nHost: p\r\n\r\n".as_slice();
     assert_eq!(rt; request_fault(rt.alloc(), text), Some(Fault::BadHead));
     assert_eq!(rt; request_fault(rt.alloc(), &text[..7]), Some(Fault::Cut));
 }

@@ -167,18 +167,3 @@ fn damaged_responses_are_refused(rt: HostRuntime) {
         );
     }
 }
-
-// The limit is the caller's.
-#[test]
-fn a_limit_is_met_to_the_byte(rt: HostRuntime) {
-    let text = b"HTTP/1.1 200 x\r\nContent-Length: 3\r\n\r\nabc";
-    let mut source = OverRead::new(text.as_slice());
-    assert!(rt; read_response(rt.alloc(), &mut source, 3).is_ok());
-    let mut source = OverRead::new(text.as_slice());
-    let Err(fault) = read_response(rt.alloc(), &mut source, 2) else {
-        assert!(rt; false);
-        return;
-    };
-    assert_eq!(rt; fault, Fault::BodyTooLong);
-    assert!(rt; is_left(&mut source, b"abc"));
-}

@@ -1,7 +1,6 @@
 // Messages that are cut, fail or are interrupted at each byte.
 use crate::messages::{request_fault, response_fault};
-use lra_http::{Fault, MAX_BODY_BYTES, OverRead, read_request, read_response};
-use std::alloc::Global;
+use lra_http::Fault;
 use std::io;
 use std::io::{ErrorKind, Read};
 
@@ -69,23 +68,6 @@ fn interrupted_by(bytes: &[u8], every: u16) -> Bumpy<'_> {
     }
 }
 
-/// What both readers answer over the two messages: of the request, and of the response.
-fn faults_over(
-    alloc: Global,
-    first: Bumpy<'_>,
-    second: Bumpy<'_>,
-) -> (Option<Fault>, Option<Fault>) {
-    let of_request = match read_request(alloc, &mut OverRead::new(first), MAX_BODY_BYTES) {
-        Ok(_) => None,
-        Err(fault) => Some(fault),
-    };
-    let of_response = match read_response(alloc, &mut OverRead::new(second), MAX_BODY_BYTES) {
-        Ok(_) => None,
-        Err(fault) => Some(fault),
-    };
-    (of_request, of_response)
-}
-
 #[test]
 fn a_message_that_is_cut_is_cut(rt: HostRuntime) {
     for n in 0..REQUEST.len() {
@@ -111,22 +93,20 @@ fn a_read_that_fails_is_a_read_fault(rt: HostRuntime) {
     for left in 1..=REQUEST.len() {
         let mut reader = interrupted_at(REQUEST, left, 0);
         reader.fails = true;
-        let mut source = OverRead::new(reader);
-        let fault = match read_request(rt.alloc(), &mut source, MAX_BODY_BYTES) {
-            Ok(_) => None,
-            Err(fault) => Some(fault),
-        };
-        assert_eq!(rt; fault, Some(Fault::ReadFault), "{left}");
+        assert_eq!(rt;
+            request_fault(rt.alloc(), reader),
+            Some(Fault::ReadFault),
+            "{left}"
+        );
     }
     for left in 1..=RESPONSE.len() {
         let mut reader = interrupted_at(RESPONSE, left, 0);
         reader.fails = true;
-        let mut source = OverRead::new(reader);
-        let fault = match read_response(rt.alloc(), &mut source, MAX_BODY_BYTES) {
-            Ok(_) => None,
-            Err(fault) => Some(fault),
-        };
-        assert_eq!(rt; fault, Some(Fault::ReadFault), "{left}");
+        assert_eq!(rt;
+            response_fault(rt.alloc(), reader),
+            Some(Fault::ReadFault),
+            "{left}"
+        );
     }
 }
 
@@ -135,12 +115,10 @@ fn a_read_that_fails_is_a_read_fault(rt: HostRuntime) {
 fn interruptions_at_one_byte(rt: HostRuntime) {
     for (interruptions, want) in [(1023, None), (1024, Some(Fault::ReadFault))] {
         for left in 1..=REQUEST.len() {
-            let found = faults_over(
-                rt.alloc(),
-                interrupted_at(REQUEST, left, interruptions),
-                interrupted_at(RESPONSE, left, interruptions),
-            );
-            assert_eq!(rt; found, (want, want), "{left}");
+            let reader = interrupted_at(REQUEST, left, interruptions);
+            assert_eq!(rt; request_fault(rt.alloc(), reader), want, "{left}");
+            let reader = interrupted_at(RESPONSE, left, interruptions);
+            assert_eq!(rt; response_fault(rt.alloc(), reader), want, "{left}");
         }
     }
 }
@@ -148,16 +126,16 @@ fn interruptions_at_one_byte(rt: HostRuntime) {
 // They are counted over the whole message: 52 bytes of a request, and 66 of a response.
 #[test]
 fn interruptions_are_summed(rt: HostRuntime) {
-    let found = faults_over(
-        rt.alloc(),
-        interrupted_by(REQUEST, 19),
-        interrupted_by(RESPONSE, 15),
-    );
-    assert_eq!(rt; found, (None, None));
-    let found = faults_over(
-        rt.alloc(),
-        interrupted_by(REQUEST, 20),
-        interrupted_by(RESPONSE, 16),
-    );
-    assert_eq!(rt; found, (Some(Fault::ReadFault), Some(Fault::ReadFault)));
+    for (every, want) in [(19, None), (20, Some(Fault::ReadFault))] {
+        assert_eq!(rt;
+            request_fault(rt.alloc(), interrupted_by(REQUEST, every)),
+            want
+        );
+    }
+    for (every, want) in [(15, None), (16, Some(Fault::ReadFault))] {
+        assert_eq!(rt;
+            response_fault(rt.alloc(), interrupted_by(RESPONSE, every)),
+            want
+        );
+    }
 }
