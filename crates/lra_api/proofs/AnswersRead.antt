@@ -1,26 +1,17 @@
 -- The text of an answer is one whole response again.
-use Rattle.std.proofs.Common.{◌≡◌, ◌<◌, ◌≤◌, ◌+◌, ◌*◌, ◌^◌, ◌&&◌, ℕ, Bool, true, false, IsTrue, List, [], ◌∷◌, ◌++◌, codes, length, map, reverse, refl, arith, if◌then◌else◌, nat_lt, Result, Ok}
+use Rattle.std.proofs.Common.{◌≡◌, ◌<◌, ◌≤◌, ◌+◌, ◌^◌, ℕ, Bool, true, false, IsTrue, List, [], ◌∷◌, ◌++◌, codes, length, map, refl, arith, nat_lt}
 use Rattle.std.specs.Fmt.{decimal}
 use Rattle.std.specs.List.{list_all}
-use Rattle.std.specs.Char.{is_ascii_digit}
-use Rattle.std.specs.Str.Parse.{AllDigits}
-use Rattle.std.proofs.lemmas.Bool.{le-ltb}
-use Rattle.std.proofs.lemmas.Bool.Decides.{nat_tests}
-use Rattle.std.proofs.lemmas.Fmt.{decimal_is_IsNumeral, decimal_nonempty, length-decimal-le}
-use Rattle.std.proofs.lemmas.List.{length-append, reverse-reverse}
-use Rattle.std.proofs.lemmas.List.Elements.{All-append, All-cons, All-from_get_or, All-from_recursion, All-head, All-nil, All-weaker}
+use Rattle.std.proofs.lemmas.Fmt.{length-decimal-le}
+use Rattle.std.proofs.lemmas.List.{length-append}
+use Rattle.std.proofs.lemmas.List.Elements.{All-append, All-from_recursion}
 use Rattle.std.proofs.lemmas.List.Sums.{AllPass-from_list_all}
-use Rattle.std.proofs.lemmas.Str.Parse.{digit_from_value}
-use Rattle.httparse.specs.Grammar.{AllPass, is_ows, is_token_byte, is_value_byte, skip_ows, trim_ows}
-use Rattle.httparse.proofs.TrimLemmas.{AllPass-reverse}
-use Rattle.uuid.specs.Text.{hex_digit, is_hyphen_place, digit_place, nibble, lower}
-use Rattle.uuid.proofs.TextLemmas.{by_index_at, by_index_length, nibble_small}
-use Rattle.lra_id.specs.Ids.{Id, layout, text_of}
+use Rattle.httparse.specs.Grammar.{AllPass, is_token_byte, is_value_byte, trim_ows}
+use Rattle.lra_id.specs.Ids.{Id, text_of}
 use Rattle.lra_http.specs.declared.fault.Fault.{Fault}
-use Rattle.lra_http.specs.declared.message.Field.{Field}
 use Rattle.lra_http.specs.declared.message.Response.{Response}
-use Rattle.lra_http.specs.HeadFields.{field_bytes, is_bare, is_number, length_in, response_length}
-use Rattle.lra_http.specs.MessageTexts.{field_line, field_lines, line_end, phrase, response_head, status_line}
+use Rattle.lra_http.specs.HeadFields.{field_bytes, is_bare, response_length}
+use Rattle.lra_http.specs.MessageTexts.{field_lines, line_end, phrase, response_head, status_line}
 use Rattle.lra_http.specs.WholeMessages.{IsPlain, IsSound}
 use Rattle.lra_http.specs.declared.fault.Fault.TheVariants as fault
 use Rattle.lra_http.specs.Faults.{fault_name}
@@ -33,7 +24,7 @@ use Rattle.lra_facts.specs.declared.refusal.Refusal.TheVariants.{BadText, Unknow
 use Rattle.lra_facts.specs.RefusalTexts.{refusal_text}
 use Rattle.lra_history.specs.declared.command.CommandReply.{CommandReply}
 use Rattle.lra_history.specs.declared.command.CommandReply.TheVariants as command
-use Rattle.lra_delta.specs.Spelling.{spelling}
+use Rattle.lra_delta.specs.Encoding.{encoding}
 use Rattle.lra_book.specs.declared.calls.Reply.{Reply}
 use Rattle.lra_book.specs.declared.calls.Reply.TheVariants as reply
 use Rattle.lra_api.specs.declared.routing.Unrouted.{Unrouted}
@@ -301,7 +292,7 @@ sound_reply : (limit : ℕ) (r : Reply) → limit < 2 ^ 64 → IsNumbered r → 
 sound_reply limit (reply.Command r) fits small low = sound_command limit r fits small low
 sound_reply limit reply.Took fits small low = sound_bare limit
 sound_reply limit (reply.Gave delta) fits small low =
-    sound_with limit 200 (codes "application/octet-stream") (spelling delta) code_200 (literal_visible (codes "application/octet-stream") refl) (omega arith)
+    sound_with limit 200 (codes "application/octet-stream") (encoding delta) code_200 (literal_visible (codes "application/octet-stream") refl) (omega arith)
     (omega (arith, low, fits)) low
 sound_reply limit (reply.Shown id status) fits small low = sound_json limit 200 (status_body id status) code_200 fits low
 sound_reply limit (reply.ShownMember id m status) fits small low = sound_json limit 200 (member_body id m status) code_200 fits low

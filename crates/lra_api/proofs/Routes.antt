@@ -6,7 +6,7 @@ use Rattle.matchit.specs.declared.error.InsertError.{InsertError}
 use Rattle.matchit.specs.declared.error.InsertError.TheVariants.{Conflict, InvalidParam, InvalidParamSegment, InvalidCatchAll, OutOfMemory}
 use Rattle.lra_api.specs.declared.table.Place.{Place}
 
--- a route that conflicts with none is refused for want of memory alone
+-- a route that conflicts with none is refused for lack of memory alone
 pub only_memory : (p : List ℕ) (rows : RowsOf (RouteOf Place)) (e : InsertError) → nearest p rows ≡ None → Refused p rows e → e ≡ OutOfMemory
 only_memory p rows OutOfMemory none r = refl
 only_memory p rows (Conflict with) none r = let both : Some r.0 ≡ None = sym r.1 ∙ none in cc

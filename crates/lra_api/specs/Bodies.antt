@@ -16,7 +16,7 @@ use Rattle.lra_facts.specs.declared.refusal.Refusal.TheVariants.{BadText, NoMemo
 use Rattle.lra_facts.specs.Links.{kept_links}
 use Rattle.lra_api.specs.Names.{id_of}
 
--- why what was to be read is not there: it breaks its grammar, or the memory is wanting
+-- why what was to be read is not there: it breaks its grammar, or memory runs out
 abbrev pub IsUnread : {A : Type 0} → Option A → Refusal → Type 0
 IsUnread found BadText = found ≡ None
 IsUnread found NoMemory = ⊤

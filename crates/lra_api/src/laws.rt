@@ -15,18 +15,21 @@ ghost use Rattle.lra_api.specs.Wholes.{IsNumbered, IsWhole};
 /// knows for which number it asked.
 pub fn an_answer_tells_its_reply()
     ensures begun { (a b : Id) → IsId a → IsId b → begun a ≡ begun b → a ≡ b }
-    ensures joined { (a b : Id) (m n : ℕ) → IsId a → IsId b → m < 2 ^ 64 → n < 2 ^ 64 → joined a m ≡ joined b n → (a ≡ b) × (m ≡ n) }
-    ensures shown { (a b : Id) (x y : TheLraStatus) → IsId a → IsId b → shown a x ≡ shown b y → (a ≡ b) × (x ≡ y) }
-    ensures member { (a b : Id) (m : ℕ) (x y : TheMemberStatus) → IsId a → IsId b → found (member_body a m x) ≡ found (member_body b m y) → (a ≡ b) × (x ≡ y) }
+    ensures joined { (a b : Id) (m n : ℕ) →
+        IsId a → IsId b → m < 2 ^ 64 → n < 2 ^ 64 → joined a m ≡ joined b n → (a ≡ b) × (m ≡ n) }
+    ensures shown { (a b : Id) (x y : TheLraStatus) →
+        IsId a → IsId b → shown a x ≡ shown b y → (a ≡ b) × (x ≡ y) }
+    ensures member { (a b : Id) (m : ℕ) (x y : TheMemberStatus) → IsId a →
+        IsId b → found (member_body a m x) ≡ found (member_body b m y) → (a ≡ b) × (x ≡ y) }
 {}
 
 /// The text of each answer is one whole response with its status, fields and body, for any reader whose limit on bodies is at
 /// least the body's length, and whatever follows it.
 pub fn an_answer_is_a_whole_response()
-    ensures reply { (limit : ℕ) (r : TheReply) (rest : List ℕ) → limit < 2 ^ 64 → IsNumbered r → length (answer_of r).body ≤ limit →
-        IsWhole limit (answer_of r) rest }
-    ensures unrouted { (limit : ℕ) (u : TheUnrouted) (rest : List ℕ) → limit < 2 ^ 64 → length (unrouted_answer u).body ≤ limit →
-        IsWhole limit (unrouted_answer u) rest }
-    ensures fault { (limit : ℕ) (f : TheFault) (rest : List ℕ) → limit < 2 ^ 64 → length (fault_answer f).body ≤ limit →
-        IsWhole limit (fault_answer f) rest }
+    ensures reply { (limit : ℕ) (r : TheReply) (rest : List ℕ) → limit < 2 ^ 64 →
+        IsNumbered r → length (answer_of r).body ≤ limit → IsWhole limit (answer_of r) rest }
+    ensures unrouted { (limit : ℕ) (u : TheUnrouted) (rest : List ℕ) → limit < 2 ^ 64 →
+        length (unrouted_answer u).body ≤ limit → IsWhole limit (unrouted_answer u) rest }
+    ensures fault { (limit : ℕ) (f : TheFault) (rest : List ℕ) → limit < 2 ^ 64 →
+        length (fault_answer f).body ≤ limit → IsWhole limit (fault_answer f) rest }
 {}

@@ -104,7 +104,8 @@ fn end<W: Sink>(
 }
 
 fn end_refused<W: Sink>(alloc: Global, writer: &mut W, refusal: &Refusal) -> Result<(), ServeError>
-    ensures { Ends W.Sink writer.old writer.new (refusal_answer refusal.now) (Some refusal.now) result }
+    ensures { Ends W.Sink writer.old writer.new
+        (refusal_answer refusal.now) (Some refusal.now) result }
 {
     let made = refusal_answer(alloc, *refusal);
     end(alloc, writer, made, Some(*refusal))
@@ -124,7 +125,8 @@ fn serve_call<W: Sink, C: Clerk>(
     call: Call,
     now: u64,
 ) -> Result<(), ServeError>
-    ensures { ServesCall (Makes C.Clerk clerk.old clerk.new now call) W.Sink writer.old writer.new result }
+    ensures { ServesCall
+        (Makes C.Clerk clerk.old clerk.new now call) W.Sink writer.old writer.new result }
 {
     match clerk.call(alloc, call, now) {
         Ok(()) => end_replied(alloc, writer, clerk.reply()),
@@ -151,7 +153,8 @@ fn serve_request<W: Sink, C: Clerk>(
     request: &Request,
     now: u64,
 ) -> Result<(), ServeError>
-    ensures { ServesRequest (clerk.new ≡ clerk.old) (Makes C.Clerk clerk.old clerk.new now) W.Sink writer.old writer.new (routed now request.now) result }
+    ensures { ServesRequest (clerk.new ≡ clerk.old) (Makes C.Clerk clerk.old clerk.new now)
+        W.Sink writer.old writer.new (routed now request.now) result }
 {
     match route_by(alloc, paths, request, now) {
         Ok(call) => serve_call(alloc, writer, clerk, call, now),
@@ -203,8 +206,8 @@ pub fn serve_one<R: Source, W: Sink, C: Clerk>(
     // and the text of the answer to its reply or refusal is written; else none is made, and the text of the answer to what is wrong
     // is written.
     ensures served { (read : Result TheRequest TheFault)
-        × IsReading R.Source reader.old reader.new read
-        × Serves (clerk.new ≡ clerk.old) (Makes C.Clerk clerk.old clerk.new now) W.Sink writer.old writer.new now read result }
+        × IsReading R.Source reader.old reader.new read × Serves (clerk.new ≡ clerk.old)
+        (Makes C.Clerk clerk.old clerk.new now) W.Sink writer.old writer.new now read result }
 {
     match read_request(alloc, reader, MAX_BODY_BYTES) {
         Ok(request) => serve_request(alloc, paths, writer, clerk, &request, now),

@@ -14,7 +14,6 @@ mod Pulls
 mod Refusals
 pub mod RepliesOfSets
 mod SameAsItself
-mod SettledViews
 mod Stands
 mod Stops
 mod Strange

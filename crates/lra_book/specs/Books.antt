@@ -72,13 +72,13 @@ pub record Stays {S : Type 0} (old new : BookState S) : Type 0 where
   pub opening : new.opening ≡ old.opening
   pub trail : new.trail ≡ old.trail
 
--- What is refused later: for want of memory, and the book goes on; or since the database refused, and it stops
+-- What is refused later: for lack of memory, and the book goes on; or since the database refused, and it stops
 abbrev pub IsRefusedLate : {S : Type 0} → (old new : BookState S) → Refusal → Type 0
 IsRefusedLate old new NoMemory = Stays old new × (new.stopped ≡ false)
 IsRefusedLate old new JournalFailed = Stays old new × (new.stopped ≡ true) × IsCounted old.journal.refusals new.journal.refusals
 IsRefusedLate old new _ = ⊥
 
--- why a patch isn't stored: for want of memory, or since the database refused, which is counted
+-- why a patch isn't stored: for lack of memory, or since the database refused, which is counted
 abbrev pub IsStoreFault : {S : Type 0} → (old new : JournalState S) → Refusal → Type 0
 IsStoreFault old new NoMemory = new.refusals ≡ old.refusals
 IsStoreFault old new JournalFailed = IsCounted old.refusals new.refusals

@@ -56,9 +56,24 @@ impl<S: Alter> Model for Book<S> {
 
     ghost coded = { Prim.hlevel (codes, held_code S.code) };
 
-    ghost view = { λ b. record { me = b.me; records = view_of b.replica; journal = b.journal; opening = option_map view_of b.opening; trail = b.trail.items; stopped = b.stopped } };
+    ghost view = { λ b. record {
+      me = b.me;
+      records = view_of b.replica;
+      journal = b.journal;
+      opening = option_map view_of b.opening;
+      trail = b.trail.items;
+      stopped = b.stopped;
+    } };
 
-    ghost invariant = { λ b. IsBook S.Store (record { me = b.me; records = view_of b.replica; journal = b.journal; opening = option_map view_of b.opening; trail = b.trail.items; stopped = b.stopped })
+    ghost invariant = { λ b.
+        IsBook S.Store (record {
+          me = b.me;
+          records = view_of b.replica;
+          journal = b.journal;
+          opening = option_map view_of b.opening;
+          trail = b.trail.items;
+          stopped = b.stopped;
+        })
         × (IsSome b.opening → 1024 ≤ vec_capacity b.trail) };
 }
 
@@ -108,7 +123,8 @@ fn make_ready(
     ensures room { IfOk result (λ ready. IfSome ready.patch (λ change. Fits change replica.new)) }
     ensures entry { IfOk result (λ ready. ready.entry ≡ entry call now ready.copy.reply) }
     ensures copy { IfOk result (λ ready. ready.copy.call ≡ call) }
-    ensures next { IfOk result (λ ready. IsNext me (view_of replica.old) call now ready.copy.reply (with_patch ready.patch (view_of replica.old))) }
+    ensures next { IfOk result (λ ready. IsNext me (view_of replica.old) call now ready.copy.reply
+        (with_patch ready.patch (view_of replica.old))) }
     ensures cause { IfErr result (λ refusal. refusal ≡ NoMemory) }
 {
     let (first, second) = twice(&call)?;
@@ -193,23 +209,34 @@ impl<S: Alter> Book<S> {
         requires me { me ≤ nodes }
         requires some { 1 ≤ nodes }
         requires nodes { nodes ≤ 8 }
-        ensures opened { IfOk result (λ book. IsOpened me nodes book × (book.journal.opened ≡ connection)) }
+        ensures opened { IfOk result (λ book. IsOpened me nodes book
+            × (book.journal.opened ≡ connection)) }
         ensures rows { IfOk result (λ book. Keeps S.Store me book.journal book.records) }
         // A new store gets the rows of a view of no facts; of a journal's rows the records are those that they stand for.
-        ensures made { IfOk result (λ book. HasCleanDisk (state S.Store book.journal.connection) → IsNew (state S.Store connection) → book.records ≡ empty_view nodes) }
-        ensures reads { IfOk result (λ book. HasCleanDisk (state S.Store book.journal.connection) → IsJournal (state S.Store connection) →
+        ensures made { IfOk result (λ book. HasCleanDisk (state S.Store book.journal.connection) →
+            IsNew (state S.Store connection) → book.records ≡ empty_view nodes) }
+        ensures reads { IfOk result (λ book. HasCleanDisk (state S.Store book.journal.connection) →
+            IsJournal (state S.Store connection) →
             Stands me (state S.Store connection).now.trees book.records) }
-        // Why it is refused: where the rows break the format, for want of memory, or by the database. What the connection shows
+        // Why it is refused: where the rows break the format, for lack of memory, or by the database. What the connection shows
         // is left, while it is open.
-        ensures place { IfErr result (λ e. HasCleanDisk (state S.Store e.1) → IsJournal (state S.Store connection) →
-            (k : ℕ) → e.0 ≡ BadFrame k → IsBrokenAt me nodes (state S.Store connection).now.trees k) }
-        ensures unbroken { IfErr result (λ e. HasCleanDisk (state S.Store e.1) → IsNew (state S.Store connection) → (k : ℕ) → e.0 ≢ BadFrame k) }
-        ensures unchanged { IfErr result (λ e. HasCleanDisk (state S.Store e.1) → IsOwn (state S.Store connection) → IsTrue (state S.Store e.1).is_open →
+        ensures place { IfErr result (λ e. HasCleanDisk (state S.Store e.1) →
+            IsJournal (state S.Store connection) → (k : ℕ) →
+            e.0 ≡ BadFrame k → IsBrokenAt me nodes (state S.Store connection).now.trees k) }
+        ensures unbroken { IfErr result (λ e. HasCleanDisk (state S.Store e.1) →
+            IsNew (state S.Store connection) → (k : ℕ) → e.0 ≢ BadFrame k) }
+        ensures unchanged { IfErr result (λ e. HasCleanDisk (state S.Store e.1) →
+            IsOwn (state S.Store connection) → IsTrue (state S.Store e.1).is_open →
             (state S.Store e.1).now ≡ (state S.Store connection).now) }
-        ensures cause { IfErr result (λ e. (e.0 ≡ NoMemory) ⊎ ((e.0 ≡ JournalFailed) ⊎ ((k : ℕ) × (e.0 ≡ BadFrame k)))) }
+        ensures cause { IfErr result (λ e. (e.0 ≡ NoMemory)
+            ⊎ ((e.0 ≡ JournalFailed) ⊎ ((k : ℕ) × (e.0 ≡ BadFrame k)))) }
         // A stop leaves what it left before, or in the first opening the rows of a view of no facts.
-        ensures crash { IfOk result (λ book. Survives (state S.Store connection) (state S.Store book.journal.connection) (λ db. IsNew (state S.Store connection) → Stands me db (empty_view nodes))) }
-        ensures crash_refused { IfErr result (λ e. Survives (state S.Store connection) (state S.Store e.1) (λ db. IsNew (state S.Store connection) → Stands me db (empty_view nodes))) }
+        ensures crash { IfOk result
+            (λ book. Survives (state S.Store connection) (state S.Store book.journal.connection)
+            (λ db. IsNew (state S.Store connection) → Stands me db (empty_view nodes))) }
+        ensures crash_refused { IfErr result
+            (λ e. Survives (state S.Store connection) (state S.Store e.1)
+            (λ db. IsNew (state S.Store connection) → Stands me db (empty_view nodes))) }
     {
         match Journal::open(alloc, connection, me, nodes) {
             Ok((journal, replica)) => Ok(Book {
@@ -245,7 +272,8 @@ impl<S: Alter> Book<S> {
         requires { self.old.opening ≡ None }
         ensures pass { IfOk result (λ pass. pass ≡ 0) }
         ensures begun { OnOk result (IsBegun self.old self.new) }
-        ensures refused { IfErr result (λ refusal. IsNotBegun self.old refusal × (self.new ≡ self.old)) }
+        ensures refused { IfErr result (λ refusal. IsNotBegun self.old refusal
+            × (self.new ≡ self.old)) }
     {
         if self.stopped {
             return Err(Refusal::Stopped);
@@ -285,15 +313,19 @@ impl<S: Alter> Book<S> {
         now: u64,
     ) -> Result<Receipt, Refusal>
         requires { IsSome self.old.opening }
-        ensures entered { IfOk result (λ receipt. IsEntered self.old pass.old self.new call now receipt) }
+        ensures entered { IfOk result
+            (λ receipt. IsEntered self.old pass.old self.new call now receipt) }
         ensures legal { IsLegal self.new }
         // Whatever comes, the journal's rows stand for the records.
         ensures rows { Keeps S.Store self.new.me self.new.journal self.new.records }
         ensures first { self.new.journal.opened ≡ self.old.journal.opened }
         // A stop leaves what it left before, or rows for the view that comes next.
-        ensures crash { Survives (state S.Store self.old.journal.connection) (state S.Store self.new.journal.connection) (MayCommit S.Store self.old call now) }
-        ensures seen { IfOk result (λ receipt. (pass.old ≤ receipt.index) × (pass.new ≡ receipt.index + 1)) }
-        ensures refused { IfErr result (λ refusal. IsNotEntered self.old pass.old self.new call refusal) }
+        ensures crash { Survives (state S.Store self.old.journal.connection)
+            (state S.Store self.new.journal.connection) (MayCommit S.Store self.old call now) }
+        ensures seen { IfOk result (λ receipt. (pass.old ≤ receipt.index)
+            × (pass.new ≡ receipt.index + 1)) }
+        ensures refused { IfErr result
+            (λ refusal. IsNotEntered self.old pass.old self.new call refusal) }
         ensures lost { IfErr result (IsLostBelow pass.old) }
         ensures kept { OnErr result (Stays self.old self.new × (pass.new ≡ pass.old)) }
     {
@@ -324,7 +356,8 @@ impl<S: Alter> Book<S> {
     /// the least such index: looked at in this order.
     pub fn look(&self, pass: &Pass, receipts: &[Receipt]) -> Result<(), Refusal>
         ensures ok { OnOk result (look_of self.now pass.now receipts.now ≡ None) }
-        ensures refused { IfErr result (λ refusal. look_of self.now pass.now receipts.now ≡ Some refusal) }
+        ensures refused { IfErr result
+            (λ refusal. look_of self.now pass.now receipts.now ≡ Some refusal) }
         // E21 is at a place that the pass has seen, if its receipts are of entries that it has seen.
         ensures lost { AreSeen pass.now receipts.now → IfErr result (IsLostBelow pass.now) }
     {

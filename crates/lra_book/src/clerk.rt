@@ -29,9 +29,11 @@ pub trait Clerk {
 
     /// Makes a call at a moment, and puts its receipt last on the list; or refuses it, E17 to E21, and leaves the list.
     fn call(&mut self, alloc: Global, call: Call, now: u64) -> Result<(), Refusal>
-        ensures { MatchResult result
-            (λ _. IsOutcome (receipts self.old) (receipts self.new) call (Ok (last_reply (receipts self.new))) × called self.old self.new call now (Ok (last_reply (receipts self.new))))
-            (λ refusal. IsOutcome (receipts self.old) (receipts self.new) call (Err refusal) × called self.old self.new call now (Err refusal)) };
+        ensures { MatchResult result (λ _. IsOutcome
+            (receipts self.old) (receipts self.new) call (Ok (last_reply (receipts self.new)))
+            × called self.old self.new call now (Ok (last_reply (receipts self.new))))
+            (λ refusal. IsOutcome (receipts self.old) (receipts self.new) call (Err refusal)
+            × called self.old self.new call now (Err refusal)) };
 
     fn reply(&self) -> &Reply
         requires { 0 < length (receipts self.now) }
@@ -76,7 +78,8 @@ impl<S: Alter> BookClerk<S> {
 
     /// The book, the pass and the receipts.
     pub fn into_parts(self) -> (Book<S>, Pass, Vec<Receipt>)
-        ensures { (result.0 ≡ self.book) × (result.1 ≡ self.seen) × (result.2.items ≡ self.receipts) }
+        ensures { (result.0 ≡ self.book)
+            × (result.1 ≡ self.seen) × (result.2.items ≡ self.receipts) }
     {
         let BookClerk {
             book,

@@ -24,7 +24,8 @@ pub trait Run: Ledger {
 }
 
 impl Run for Brand {
-    ghost opening = { record { node = 0; view = record { front = []; purges = []; records = [] } } };
+    ghost opening = { record
+        { node = 0; view = record { front = []; purges = []; records = [] } } };
 }
 
 /// What a thread keeps of its calls: what it has seen, a share of the run's ledger, and its receipts.
@@ -41,9 +42,11 @@ impl<J: Run> Model for DeskPass<J> {
 
     ghost Value = { PassState };
 
-    ghost view = { λ p. record { seen = p.pass; share = p.share.amount; receipts = p.receipts.items } };
+    ghost view = { λ p.
+        record { seen = p.pass; share = p.share.amount; receipts = p.receipts.items } };
 
-    ghost invariant = { λ p. (p.share.parts ≡ 1) × (p.share.amount ≡ length p.receipts.items) × AreSeen p.pass p.receipts.items };
+    ghost invariant = { λ p. (p.share.parts ≡ 1)
+        × (p.share.amount ≡ length p.receipts.items) × AreSeen p.pass p.receipts.items };
 }
 
 /// What lies under the lock: the book, whose run is on, and the count of its calls.
@@ -65,7 +68,8 @@ impl<J: Run, S: Alter> Model for Locked<J, S> {
 
     ghost view = { λ l. l.book };
 
-    ghost invariant = { λ l. (l.book.opening ≡ Some J.opening.view) × (l.book.me ≡ J.opening.node) × (length l.book.trail ≡ l.calls.total) };
+    ghost invariant = { λ l. (l.book.opening ≡ Some J.opening.view)
+        × (l.book.me ≡ J.opening.node) × (length l.book.trail ≡ l.calls.total) };
 }
 
 impl<J: Run, S: Alter> Locked<J, S> {
@@ -83,7 +87,8 @@ impl<J: Run, S: Alter> Locked<J, S> {
         ensures seen { IfOk result (λ r. (pass.old ≤ r.index) × (pass.new ≡ r.index + 1)) }
         ensures counted { OnOk result (share.new.amount ≡ share.old.amount + 1) }
         ensures parts { share.new.parts ≡ share.old.parts }
-        ensures kept { OnErr result ((pass.new ≡ pass.old) × (share.new.amount ≡ share.old.amount)) }
+        ensures kept { OnErr result ((pass.new ≡ pass.old)
+            × (share.new.amount ≡ share.old.amount)) }
         ensures lost { AreSeen pass.old receipts.now → IfErr result (IsLostBelow pass.old) }
         ensures refused { IfErr result IsOfClerk }
     {
@@ -137,7 +142,8 @@ fn passes<J: Run>(
 }
 
 fn merged<J: Run>(mut passes: Vec<DeskPass<J>>) -> Option<Share<J>>
-    ensures some { IfSome result (λ s. (s.parts ≡ vec_len passes) × (s.amount ≡ sum_by (λ p. p.share) passes.items)) }
+    ensures some { IfSome result (λ s. (s.parts ≡ vec_len passes)
+        × (s.amount ≡ sum_by (λ p. p.share) passes.items)) }
     ensures none { IfNone result (vec_len passes ≡ 0) }
 {
     let DeskPass {
@@ -222,7 +228,8 @@ fn stray<J: Run>(trail: &[Entry], passes: &[DeskPass<J>]) -> Option<u64>
 /// Whether the receipts are the trail's entries, each once.
 fn compare<J: Run>(trail: &[Entry], passes: &[DeskPass<J>]) -> Result<(), Refusal>
     ensures ok { OnOk result (strange_of trail.now (flat_map (λ p. p.receipts) passes.now) ≡ None) }
-    ensures err { IfErr result (λ refusal. strange_of trail.now (flat_map (λ p. p.receipts) passes.now) ≡ Some refusal) }
+    ensures err { IfErr result
+        (λ refusal. strange_of trail.now (flat_map (λ p. p.receipts) passes.now) ≡ Some refusal) }
 {
     if let Some(index) = strange_entry(trail, passes) {
         return Err(Refusal::Strange(index));
@@ -258,7 +265,8 @@ impl<J: Run, S: Alter> Desk<J, S> {
         blank: Blank,
         workers: usize,
     ) -> Result<(Desk<J, S>, Vec<DeskPass<J>>), (Refusal, Book<S>)>
-        requires run { (book.opening ≡ Some J.opening.view) × (book.me ≡ J.opening.node) × (book.trail ≡ []) }
+        requires run { (book.opening ≡ Some J.opening.view)
+            × (book.me ≡ J.opening.node) × (book.trail ≡ []) }
         requires name { blank.name ≡ J.name }
         requires parts { (blank.parts ≡ J.parts) × (blank.parts ≡ workers) × (1 ≤ workers) }
         ensures passes { IfOk result (λ r. (vec_len r.1 ≡ workers) × AreNew r.1.items) }
@@ -321,8 +329,10 @@ impl<J: Run, S: Alter> Desk<J, S> {
         ensures ended { (result.0.opening ≡ None) × (result.0.me ≡ J.opening.node) }
         // The journal's rows stand for the records.
         ensures rows { Keeps S.Store result.0.me result.0.journal result.0.records }
-        ensures ok { OnOk result.2 (strange_of result.1.items (flat_map (λ p. p.receipts) passes.items) ≡ None) }
-        ensures err { IfErr result.2 (λ refusal. strange_of result.1.items (flat_map (λ p. p.receipts) passes.items) ≡ Some refusal) }
+        ensures ok { OnOk result.2
+            (strange_of result.1.items (flat_map (λ p. p.receipts) passes.items) ≡ None) }
+        ensures err { IfErr result.2 (λ refusal.
+            strange_of result.1.items (flat_map (λ p. p.receipts) passes.items) ≡ Some refusal) }
     {
         let Desk { locked } = self;
         let Locked {
@@ -349,7 +359,8 @@ impl<J: Run> DeskPass<J> {
         call: Call,
         now: u64,
     ) -> Result<&Receipt, Refusal>
-        ensures trail { IfOk result (λ r. HasTrail J.opening (self.old.receipts ++ r.now ∷ []) call now r.now) }
+        ensures trail { IfOk result
+            (λ r. HasTrail J.opening (self.old.receipts ++ r.now ∷ []) call now r.now) }
         ensures refused { IfErr result IsOfClerk }
         ensures lost { IfErr result (IsLostBelow self.old.seen) }
     {
@@ -370,7 +381,8 @@ impl<J: Run, S: Alter> Desk<J, S> {
         call: Call,
         now: u64,
     ) -> Result<&'m Receipt, Refusal>
-        ensures trail { IfOk result (λ r. HasTrail J.opening (mine.old.receipts ++ r.now ∷ []) call now r.now) }
+        ensures trail { IfOk result
+            (λ r. HasTrail J.opening (mine.old.receipts ++ r.now ∷ []) call now r.now) }
         ensures refused { IfErr result IsOfClerk }
         ensures lost { IfErr result (IsLostBelow mine.old.seen) }
     {

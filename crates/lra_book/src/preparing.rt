@@ -47,7 +47,8 @@ fn act(
     ensures view { view_of replica.new ≡ view_of replica.old }
     ensures room { IfOk result (λ act. IfSome act.patch (λ change. Fits change replica.new)) }
     ensures reply { IfOk result (λ act. act.reply ≡ reply_on (view_of replica.old) me command) }
-    ensures next { IfOk result (λ act. with_patch act.patch (view_of replica.old) ≡ next_view (view_of replica.old) me command) }
+    ensures next { IfOk result (λ act. with_patch act.patch (view_of replica.old)
+        ≡ next_view (view_of replica.old) me command) }
     ensures cause { IfErr result (λ refusal. refusal ≡ NoMemory) }
 {
     match replica.prepare(alloc, me, command) {
@@ -67,7 +68,8 @@ fn act(
 fn take(alloc: Global, replica: &mut Replica, delta: Delta) -> Result<Step, Refusal>
     ensures view { view_of replica.new ≡ view_of replica.old }
     ensures room { IfOk result (λ step. IfSome step.patch (λ change. Fits change replica.new)) }
-    ensures next { IfOk result (λ step. IsTakeReply (view_of replica.old) delta step.reply (with_patch step.patch (view_of replica.old))) }
+    ensures next { IfOk result (λ step. IsTakeReply
+        (view_of replica.old) delta step.reply (with_patch step.patch (view_of replica.old))) }
     ensures cause { IfErr result (λ refusal. refusal ≡ NoMemory) }
 {
     match lra_delta::prepare(alloc, replica, delta) {
@@ -89,7 +91,8 @@ fn take(alloc: Global, replica: &mut Replica, delta: Delta) -> Result<Step, Refu
 
 /// What a node gives another that asks by these bytes.
 fn give(alloc: Global, replica: &Replica, body: &PullBody) -> Result<Reply, Refusal>
-    ensures reply { IfOk result (λ reply. reply ≡ pull_reply (view_of replica.now) (asked (length replica.now.front) body.now)) }
+    ensures reply { IfOk result (λ reply. reply
+        ≡ pull_reply (view_of replica.now) (asked (length replica.now.front) body.now)) }
     ensures cause { IfErr result (λ refusal. refusal ≡ NoMemory) }
 {
     match serve_pull(alloc, body.as_slice(), replica) {
@@ -152,9 +155,10 @@ fn expire(alloc: Global, replica: &mut Replica, me: NodeId, now: u64) -> Result<
     requires { me ≤ length replica.old.front }
     ensures view { view_of replica.new ≡ view_of replica.old }
     ensures room { IfOk result (λ step. IfSome step.patch (λ change. Fits change replica.new)) }
-    ensures reply { IfOk result (λ step. step.reply ≡ expire_reply (view_of replica.old) me (overdue_on (view_of replica.old) me now)) }
-    ensures next { IfOk result (λ step.
-        with_patch step.patch (view_of replica.old) ≡ view_expired (view_of replica.old) me (overdue_on (view_of replica.old) me now)) }
+    ensures reply { IfOk result (λ step. step.reply
+        ≡ expire_reply (view_of replica.old) me (overdue_on (view_of replica.old) me now)) }
+    ensures next { IfOk result (λ step. with_patch step.patch (view_of replica.old)
+        ≡ view_expired (view_of replica.old) me (overdue_on (view_of replica.old) me now)) }
     ensures cause { IfErr result (λ refusal. refusal ≡ NoMemory) }
 {
     let Some(id) = replica.expire(me, now) else {
@@ -197,7 +201,8 @@ pub fn prepare(
     requires { me ≤ length replica.old.front }
     ensures view { view_of replica.new ≡ view_of replica.old }
     ensures room { IfOk result (λ step. IfSome step.patch (λ change. Fits change replica.new)) }
-    ensures next { IfOk result (λ step. IsNext me (view_of replica.old) call now step.reply (with_patch step.patch (view_of replica.old))) }
+    ensures next { IfOk result (λ step. IsNext me
+        (view_of replica.old) call now step.reply (with_patch step.patch (view_of replica.old))) }
     ensures cause { IfErr result (λ refusal. refusal ≡ NoMemory) }
 {
     match call {
@@ -233,12 +238,17 @@ fn store<S: Alter>(
     journal: &mut Journal<S>,
     patch: &Option<Patch>,
 ) -> Result<(), Refusal>
-    ensures stored { (me : ℕ) (view : View) → Keeps S.Store me journal.old view → IfSome patch.now (IsPatchOf view) →
+    ensures stored { (me : ℕ) (view : View) →
+        Keeps S.Store me journal.old view → IfSome patch.now (IsPatchOf view) →
         OnOk result (Keeps S.Store me journal.new (with_patch patch.now view)) }
-    ensures kept { (me : ℕ) (view : View) → Keeps S.Store me journal.old view → OnErr result (Keeps S.Store me journal.new view) }
+    ensures kept { (me : ℕ) (view : View) →
+        Keeps S.Store me journal.old view → OnErr result (Keeps S.Store me journal.new view) }
     // A stop leaves what it left before, or rows for the patched view.
-    ensures crash { Survives (state S.Store journal.old.connection) (state S.Store journal.new.connection) (λ db. IsJournal (state S.Store journal.old.connection) → (me : ℕ) (view : View) →
-        Stands me (state S.Store journal.old.connection).now.trees view → IfSome patch.now (IsPatchOf view) → Stands me db (with_patch patch.now view)) }
+    ensures crash { Survives
+        (state S.Store journal.old.connection) (state S.Store journal.new.connection)
+        (λ db. IsJournal (state S.Store journal.old.connection) →
+        (me : ℕ) (view : View) → Stands me (state S.Store journal.old.connection).now.trees view →
+        IfSome patch.now (IsPatchOf view) → Stands me db (with_patch patch.now view)) }
     ensures opened { journal.new.opened ≡ journal.old.opened }
     ensures cause { IfErr result (IsStoreFault journal.old journal.new) }
 {
@@ -260,10 +270,14 @@ pub fn carry_out<S: Alter>(
     ensures same { OnErr result (view_of replica.new ≡ view_of replica.old) }
     ensures nodes { length replica.new.front ≡ length replica.old.front }
     // The journal's rows go with the replica, whatever comes.
-    ensures keeps { (me : ℕ) → Keeps S.Store me journal.old (view_of replica.old) → Keeps S.Store me journal.new (view_of replica.new) }
+    ensures keeps { (me : ℕ) → Keeps S.Store me journal.old (view_of replica.old) →
+        Keeps S.Store me journal.new (view_of replica.new) }
     // A stop leaves what it left before, or rows for what the replica holds then.
-    ensures crash { Survives (state S.Store journal.old.connection) (state S.Store journal.new.connection) (λ db. IsJournal (state S.Store journal.old.connection) → (me : ℕ) →
-        Stands me (state S.Store journal.old.connection).now.trees (view_of replica.old) → Stands me db (with_patch patch (view_of replica.old))) }
+    ensures crash { Survives
+        (state S.Store journal.old.connection) (state S.Store journal.new.connection)
+        (λ db. IsJournal (state S.Store journal.old.connection) → (me : ℕ) →
+        Stands me (state S.Store journal.old.connection).now.trees (view_of replica.old) →
+        Stands me db (with_patch patch (view_of replica.old))) }
     ensures opened { journal.new.opened ≡ journal.old.opened }
     ensures cause { IfErr result (IsStoreFault journal.old journal.new) }
 {

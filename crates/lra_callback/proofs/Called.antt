@@ -3,21 +3,9 @@ use Rattle.std.proofs.Common.{◌≡◌, ◌≢◌, ◌⊎◌, inl, inr, ℕ, Li
 use Rattle.lra_http.specs.declared.fault.Fault.{Fault}
 use Rattle.lra_http.specs.declared.fault.Fault.TheVariants.{Cut, ReadFault, WriteFault, HeadTooLong, BodyTooLong, BadHead, LengthNeeded, NotOffered, NoMemory}
 use Rattle.lra_http.specs.Responses.{HasNoResponse, IsResponse, head_room}
-use Rattle.lra_http.specs.Streams.{AllWell, Calls, GivenBytes, IsLost, OnReadFault, OnWriteFault}
+use Rattle.lra_http.specs.Streams.{AllWell, Calls, GivenBytes, IsLost, OnReadFault}
 use Rattle.lra_http.proofs.Left.{response_found}
 use Rattle.lra_callback.specs.OneCall.{IsUnanswered, max_answer_bytes, answer_reads}
-
--- of the faults of writing all but want of memory are write faults
-pub write_lost : (P Q : Type 0) (fault : Fault) → OnWriteFault P Q fault → fault ≢ NoMemory → P
-write_lost P Q WriteFault h not = h
-write_lost P Q NoMemory h not = absurd (not refl)
-write_lost P Q ReadFault h not = absurd h
-write_lost P Q Cut h not = absurd h
-write_lost P Q BadHead h not = absurd h
-write_lost P Q HeadTooLong h not = absurd h
-write_lost P Q BodyTooLong h not = absurd h
-write_lost P Q LengthNeeded h not = absurd h
-write_lost P Q NotOffered h not = absurd h
 
 -- where a whole message P is refused for these two faults alone, any other fault tells that there is none
 none_there : {H : Type 0} (P : List ℕ → H → List ℕ → List ℕ → Type 0) (old : Option (List ℕ)) (fault : Fault)

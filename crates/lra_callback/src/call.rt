@@ -24,7 +24,7 @@ pub trait Caller {
     ghost unanswered: { (old new : Self) → TheRequest → Type 0 };
 
     /// Makes one call. Where the request can't be brought to the participant, or no whole response comes of it, the answer
-    /// is `Broken`. Of that the trait promises what the caller's `answered` says, and no more. Errors: want of memory, of which
+    /// is `Broken`. Of that the trait promises what the caller's `answered` says, and no more. Errors: out of memory, of which
     /// it promises what the caller's `unanswered` says.
     fn call(&mut self, alloc: Global, request: &CallRequest) -> Result<Answer, NoMemory>
         ensures answered { IfOk result (answered self.old self.new request.now) }
@@ -49,8 +49,10 @@ impl<R, W> Model for NetCaller<R, W> {
 }
 
 fn receive<R: Source>(alloc: Global, reader: &mut R) -> Result<Answer, NoMemory>
-    ensures told { IfOk result (IsTold (R.stream reader.old) (R.stream reader.new) (R.calls reader.old) (R.calls reader.new)) }
-    ensures memory { OnErr result (AllWell answer_reads 0 (R.calls reader.old) (R.calls reader.new)) }
+    ensures told { IfOk result (IsTold
+        (R.stream reader.old) (R.stream reader.new) (R.calls reader.old) (R.calls reader.new)) }
+    ensures memory { OnErr result
+        (AllWell answer_reads 0 (R.calls reader.old) (R.calls reader.new)) }
     ensures status { IfOk result IsOfStatus }
 {
     match read_response(alloc, reader, MAX_BODY_BYTES) {
@@ -80,19 +82,22 @@ impl<R: Source, W: Sink> NetCaller<R, W> {
     }
 
     /// Writes a request, and reads its answer, with a body of at most 65,536 bytes. The answer is `Broken` where a write or a
-    /// read fails, or no whole response comes. Errors: want of memory.
+    /// read fails, or no whole response comes. Errors: out of memory.
     pub fn ask(&mut self, alloc: Global, request: &CallRequest) -> Result<Answer, NoMemory>
         // The answer is broken where a write failed, and then nothing was read. Else the whole request was written and passed
         // on, and what was given since the call tells the answer: a code and a body are those of the whole response that was
         // given, and no byte more; or what was given shows why no whole response came, or a read failed.
-        ensures told { IfOk result (λ answer.
-            (IsBroken answer × IsUnsent (W.stream self.old.writer) (W.stream self.new.writer) (W.calls self.old.writer) (W.calls self.new.writer) (request_text request.now)
-            × (self.new.reader ≡ self.old.reader))
-            ⊎ (IsSent (W.stream self.old.writer) (W.stream self.new.writer) (W.calls self.old.writer) (W.calls self.new.writer) (request_text request.now)
-            × IsTold (R.stream self.old.reader) (R.stream self.new.reader) (R.calls self.old.reader) (R.calls self.new.reader) answer)) }
+        ensures told { IfOk result (λ answer. (IsBroken answer × IsUnsent (W.stream self.old.writer)
+            (W.stream self.new.writer) (W.calls self.old.writer) (W.calls self.new.writer)
+            (request_text request.now) × (self.new.reader ≡ self.old.reader))
+            ⊎ (IsSent (W.stream self.old.writer) (W.stream self.new.writer)
+            (W.calls self.old.writer) (W.calls self.new.writer) (request_text request.now)
+            × IsTold (R.stream self.old.reader) (R.stream self.new.reader)
+            (R.calls self.old.reader) (R.calls self.new.reader) answer)) }
         // Where the memory is refused nothing was written or read, or the whole request was written; and no call failed.
         ensures memory { OnErr result ((self.new ≡ self.old)
-            ⊎ (IsSent (W.stream self.old.writer) (W.stream self.new.writer) (W.calls self.old.writer) (W.calls self.new.writer) (request_text request.now)
+            ⊎ (IsSent (W.stream self.old.writer) (W.stream self.new.writer)
+            (W.calls self.old.writer) (W.calls self.new.writer) (request_text request.now)
             × AllWell answer_reads 0 (R.calls self.old.reader) (R.calls self.new.reader))) }
         ensures status { IfOk result IsOfStatus }
     {
@@ -108,16 +113,16 @@ impl<R: Source, W: Sink> NetCaller<R, W> {
 
 impl<R: Source, W: Sink> Caller for NetCaller<R, W> {
     // The clause `told` of `ask`.
-    ghost answered = { λ old new request answer.
-        (IsBroken answer × IsUnsent (W.stream old.writer) (W.stream new.writer) (W.calls old.writer) (W.calls new.writer) (request_text request)
+    ghost answered = { λ old new request answer. (IsBroken answer × IsUnsent (W.stream old.writer)
+        (W.stream new.writer) (W.calls old.writer) (W.calls new.writer) (request_text request)
         × (new.reader ≡ old.reader))
-        ⊎ (IsSent (W.stream old.writer) (W.stream new.writer) (W.calls old.writer) (W.calls new.writer) (request_text request)
-        × IsTold (R.stream old.reader) (R.stream new.reader) (R.calls old.reader) (R.calls new.reader) answer) };
+        ⊎ (IsSent (W.stream old.writer) (W.stream new.writer) (W.calls old.writer)
+        (W.calls new.writer) (request_text request) × IsTold (R.stream old.reader)
+        (R.stream new.reader) (R.calls old.reader) (R.calls new.reader) answer) };
 
     // The clause `memory` of `ask`.
-    ghost unanswered = { λ old new request.
-        (new ≡ old)
-        ⊎ (IsSent (W.stream old.writer) (W.stream new.writer) (W.calls old.writer) (W.calls new.writer) (request_text request)
+    ghost unanswered = { λ old new request. (new ≡ old) ⊎ (IsSent (W.stream old.writer)
+        (W.stream new.writer) (W.calls old.writer) (W.calls new.writer) (request_text request)
         × AllWell answer_reads 0 (R.calls old.reader) (R.calls new.reader)) };
 
     fn call(&mut self, alloc: Global, request: &CallRequest) -> Result<Answer, NoMemory> {

@@ -192,7 +192,8 @@ fn add(
     dues: &[Due],
     duties: &mut Vec<Duty>,
 ) -> Result<(), AllocError>
-    ensures { OnOk result (duties.new.items ≡ duties.old.items ++ filter_map (duty_by (view_of replica.now) errand) dues.now) }
+    ensures { OnOk result (duties.new.items
+        ≡ duties.old.items ++ filter_map (duty_by (view_of replica.now) errand) dues.now) }
 {
     for due in dues {
         if let Some(duty) = duty_of(replica, errand, *due)? {
@@ -208,9 +209,11 @@ fn add(
 pub fn pick(alloc: Global, replica: &Replica, me: NodeId) -> Result<Duties, Refusal>
     requires { me ≤ length replica.now.front }
     ensures next { IfOk result (λ duties. duties ≡ duties_of (view_of replica.now) me) }
-    ensures all { OfItsSet (view_of replica.now) (λ S. IfOk result (λ duties. AreAll (IsDuty me S) (comes_first S) duties)) }
+    ensures all { OfItsSet (view_of replica.now)
+        (λ S. IfOk result (λ duties. AreAll (IsDuty me S) (comes_first S) duties)) }
     ensures cause { IfErr result (λ refusal. refusal ≡ NoMemory) }
 {
+    // A node's number is at least 1: only a call of a `NodeId` tells.
     let _ = me.number();
     let mut list = Vec::new(alloc);
     let dues = replica.complete_duties(alloc, me)?;

@@ -1,4 +1,4 @@
--- each record of a node of a lawful history has a spelling of its own
+-- each record of a node of a lawful history has an encoding of its own
 use Rattle.std.proofs.Common.{◌≡◌, ◌≤◌, ◌-◌, ℕ, zero, suc, List, Bool, true, false, refl, arith, length, replicate}
 use Rattle.std.specs.Prelude.{◌==◌, slice_index}
 use Rattle.std.proofs.lemmas.Bool.Decides.{nat_tests}

@@ -1,4 +1,4 @@
--- reading and spelling go together
+-- reading and encoding go together
 use Rattle.std.proofs.Common.{◌≡◌, ℕ, zero, suc, ◌+◌, ◌^◌, ◌%◌, ◌<◌, ◌≤◌, Bool, true, false, cond, ltb, List, [], ◌∷◌, ◌++◌, length, get_or, take, drop, Result, Ok, Err, refl, sym, ap, subst, ◌∙◌, append_assoc, arith, inl, inr}
 use Rattle.std.specs.Int.{Width, w8, w16, w32, w64, byte_len, from_be_bytes, to_be_bytes}
 use Rattle.std.proofs.lemmas.Bool.{cases_lt, ltb-false, le-ltb}
@@ -70,10 +70,10 @@ Uncut (Err (Fault place)) = Unit {0}
 Uncut (Err ReadFault) = ⊥
 Uncut (Err Memory) = ⊥
 
--- What is read keeps the rules and is spelled so; what is spelled so is read.
-pub record IsCode {A : Type 0} (scan : Rest → Read A) (spell : A → List ℕ) (Fits : A → Type 0) : Type 0 where
-  pub takes : (r : Rest) → IsBytes r.ahead → r.place ≤ r.limit → (x : A) (r' : Rest) → scan r ≡ Ok (x, r') → Fits x × Takes r (spell x) r' × IsBytes r'.ahead
-  pub again : (x : A) → Fits x → (r r' : Rest) → Takes r (spell x) r' → scan r ≡ Ok (x, r')
+-- What is read keeps the rules and is encoded so; what is encoded so is read.
+pub record IsCode {A : Type 0} (scan : Rest → Read A) (encode : A → List ℕ) (Fits : A → Type 0) : Type 0 where
+  pub takes : (r : Rest) → IsBytes r.ahead → r.place ≤ r.limit → (x : A) (r' : Rest) → scan r ≡ Ok (x, r') → Fits x × Takes r (encode x) r' × IsBytes r'.ahead
+  pub again : (x : A) → Fits x → (r r' : Rest) → Takes r (encode x) r' → scan r ≡ Ok (x, r')
   pub uncut : (r : Rest) → IsBytes r.ahead → r.place ≤ r.limit → IsThere r → Uncut (scan r)
 
 pub uncut_bind : {A B : Type 0} (m : Read A) (k : A × Rest → Read B) → Uncut m → ((x : A × Rest) → m ≡ Ok x → IsThere x.1 → Uncut (k x)) → Uncut (m >>= k)
@@ -103,20 +103,20 @@ pub ok_is : {A : Type 0} (x y : A) → done x ≡ done y → x ≡ y
 ok_is x y e = cc
 
 -- one part, and then the others, which may name the rest before it
-pub step_from : {A X : Type 0} {scan : Rest → Read X} {spell : X → List ℕ} {FitsPart : X → Type 0} {Fits : A → Type 0} (k : Rest → X × Rest → Read A) {others : A → List ℕ}
-    → IsCode scan spell FitsPart → (part : A → X) → ((a : A) → Fits a → FitsPart (part a))
+pub step_from : {A X : Type 0} {scan : Rest → Read X} {encode : X → List ℕ} {FitsPart : X → Type 0} {Fits : A → Type 0} (k : Rest → X × Rest → Read A) {others : A → List ℕ}
+    → IsCode scan encode FitsPart → (part : A → X) → ((a : A) → Fits a → FitsPart (part a))
     → ((x : X) → FitsPart x → (from : Rest) → IsCode (λ r. k from (x, r)) others (λ a. Fits a × (part a ≡ x)))
-    → IsCode (λ r. scan r >>= k r) (λ a. spell (part a) ++ others a) Fits
-step_from {A} {X} {scan} {spell} {FitsPart} {Fits} k {others} code part fits inner = record {
+    → IsCode (λ r. scan r >>= k r) (λ a. encode (part a) ++ others a) Fits
+step_from {A} {X} {scan} {encode} {FitsPart} {Fits} k {others} code part fits inner = record {
   takes = λ r bytes well a r' e.
       let b = bind_ok (scan r) (k r) (a, r') e in
       let t = code.takes r bytes well b.0.0 b.0.1 b.1 in
       let u = (inner b.0.0 t.0 r).takes b.0.1 t.2 t.1.within a r' b.2 in
-      let first : Takes r (spell (part a)) b.0.1 = subst (λ (x : X). Takes r (spell x) b.0.1) (sym u.0.1) t.1 in
-      (u.0.0, Takes-then r (spell (part a)) b.0.1 (others a) r' first u.1, u.2);
+      let first : Takes r (encode (part a)) b.0.1 = subst (λ (x : X). Takes r (encode x) b.0.1) (sym u.0.1) t.1 in
+      (u.0.0, Takes-then r (encode (part a)) b.0.1 (others a) r' first u.1, u.2);
   again = λ a f r r' t.
-      let one : scan r ≡ Ok (part a, between r (spell (part a)) (others a) r') = code.again (part a) (fits a f) r _ (Takes-first r (spell (part a)) (others a) r' t) in
-      let two : k r (part a, between r (spell (part a)) (others a) r') ≡ Ok (a, r') = (inner (part a) (fits a f) r).again a (f, refl) _ r' (Takes-second r (spell (part a)) (others a) r' t) in
+      let one : scan r ≡ Ok (part a, between r (encode (part a)) (others a) r') = code.again (part a) (fits a f) r _ (Takes-first r (encode (part a)) (others a) r' t) in
+      let two : k r (part a, between r (encode (part a)) (others a) r') ≡ Ok (a, r') = (inner (part a) (fits a f) r).again a (f, refl) _ r' (Takes-second r (encode (part a)) (others a) r' t) in
       ap (λ (x : Read X). x >>= k r) one ∙ two;
   uncut = λ r bytes well there. uncut_bind (scan r) (k r) (code.uncut r bytes well there) (λ x e here.
       let t = code.takes r bytes well x.0 x.1 e in
@@ -124,10 +124,10 @@ step_from {A} {X} {scan} {spell} {FitsPart} {Fits} k {others} code part fits inn
 }
 
 -- one part, and then the others
-pub step : {A X : Type 0} {scan : Rest → Read X} {spell : X → List ℕ} {FitsPart : X → Type 0} {Fits : A → Type 0} (k : X × Rest → Read A) {others : A → List ℕ}
-    → IsCode scan spell FitsPart → (part : A → X) → ((a : A) → Fits a → FitsPart (part a))
+pub step : {A X : Type 0} {scan : Rest → Read X} {encode : X → List ℕ} {FitsPart : X → Type 0} {Fits : A → Type 0} (k : X × Rest → Read A) {others : A → List ℕ}
+    → IsCode scan encode FitsPart → (part : A → X) → ((a : A) → Fits a → FitsPart (part a))
     → ((x : X) → FitsPart x → IsCode (λ r. k (x, r)) others (λ a. Fits a × (part a ≡ x)))
-    → IsCode (λ r. scan r >>= k) (λ a. spell (part a) ++ others a) Fits
+    → IsCode (λ r. scan r >>= k) (λ a. encode (part a) ++ others a) Fits
 step k code part fits inner = step_from (λ r. k) code part fits (λ x f from. inner x f)
 
 rests : (r r' : Rest) → r.place ≡ r'.place → r.limit ≡ r'.limit → r.ahead ≡ r'.ahead → r ≡ r'
@@ -140,16 +140,16 @@ same_rest : (r r' : Rest) → Takes r [] r' → r ≡ r'
 same_rest r r' t = rests r r' (omega (arith, t.place)) (sym t.limit) t.parts
 
 -- nothing more is read
-pub finish : {A : Type 0} {spell : A → List ℕ} {Fits : A → Type 0} → (a : A) → spell a ≡ [] → Fits a → ((b : A) → Fits b → b ≡ a) → IsCode (λ r. Ok (a, r)) spell Fits
-finish {A} {spell} {Fits} a empty fits only = record {
+pub finish : {A : Type 0} {encode : A → List ℕ} {Fits : A → Type 0} → (a : A) → encode a ≡ [] → Fits a → ((b : A) → Fits b → b ≡ a) → IsCode (λ r. Ok (a, r)) encode Fits
+finish {A} {encode} {Fits} a empty fits only = record {
   takes = λ r bytes well b r' e.
       let same = ok_is (a, r) (b, r') e in
-      let here : Takes r (spell a) r = record { parts = rw empty refl; place = rw empty (omega arith); limit = refl; within = well } in
-      let P : A × Rest → Type 0 = λ y. Fits y.0 × Takes r (spell y.0) y.1 × IsBytes y.1.ahead in
+      let here : Takes r (encode a) r = record { parts = rw empty refl; place = rw empty (omega arith); limit = refl; within = well } in
+      let P : A × Rest → Type 0 = λ y. Fits y.0 × Takes r (encode y.0) y.1 × IsBytes y.1.ahead in
       subst P same (fits, here, bytes);
   again = λ b f r r' t.
       let one : a ≡ b = sym (only b f) in
-      let text : spell b ≡ [] = ap spell (only b f) ∙ empty in
+      let text : encode b ≡ [] = ap encode (only b f) ∙ empty in
       let two : r ≡ r' = same_rest r r' (subst (λ (l : List ℕ). Takes r l r') text t) in
       cc;
   uncut = λ r bytes well there. there;
@@ -247,43 +247,43 @@ rule_ok true e x y h = (refl, cc)
 rule_ok false e x y h = absurd cc
 
 -- a rule on what is read
-pub ruled : {A : Type 0} {scan : Rest → Read A} {spell : A → List ℕ} {Fits : A → Type 0} → IsCode scan spell Fits → (rule : A → Bool)
-    → IsCode (λ r. scan r >>= λ x. cond (rule x.0) (Ok x) (Err (Fault r.place))) spell (λ a. Fits a × (rule a ≡ true))
-ruled {A} {scan} {spell} {Fits} code rule = record {
+pub ruled : {A : Type 0} {scan : Rest → Read A} {encode : A → List ℕ} {Fits : A → Type 0} → IsCode scan encode Fits → (rule : A → Bool)
+    → IsCode (λ r. scan r >>= λ x. cond (rule x.0) (Ok x) (Err (Fault r.place))) encode (λ a. Fits a × (rule a ≡ true))
+ruled {A} {scan} {encode} {Fits} code rule = record {
   takes = λ r bytes well a r' e.
       let k : A × Rest → Read A = λ x. cond (rule x.0) (Ok x) (Err (Fault r.place)) in
       let b = bind_ok (scan r) k (a, r') e in
       let g = rule_ok (rule b.0.0) (Fault r.place) b.0 (a, r') b.2 in
       let t = code.takes r bytes well b.0.0 b.0.1 b.1 in
-      let P : A × Rest → Type 0 = λ y. (Fits y.0 × (rule y.0 ≡ true)) × Takes r (spell y.0) y.1 × IsBytes y.1.ahead in
+      let P : A × Rest → Type 0 = λ y. (Fits y.0 × (rule y.0 ≡ true)) × Takes r (encode y.0) y.1 × IsBytes y.1.ahead in
       subst P g.1 ((t.0, g.0), t.1, t.2);
   again = λ a f r r' t. rw (code.again a f.0 r r' t, f.1) refl;
   uncut = λ r bytes well there. uncut_bind (scan r) _ (code.uncut r bytes well there) (λ x e here. uncut_if (rule x.0) r.place (Ok x) here);
 }
 
 -- the last part, or the one part of a case
-pub cased : {A X : Type 0} {scan : Rest → Read X} {part_spell : X → List ℕ} {FitsPart : X → Type 0} {spell : A → List ℕ} {Fits : A → Type 0}
-    → IsCode scan part_spell FitsPart → (make : X → A) → ((x : X) → FitsPart x → spell (make x) ≡ part_spell x) → ((x : X) → FitsPart x → Fits (make x))
+pub cased : {A X : Type 0} {scan : Rest → Read X} {part_encode : X → List ℕ} {FitsPart : X → Type 0} {encode : A → List ℕ} {Fits : A → Type 0}
+    → IsCode scan part_encode FitsPart → (make : X → A) → ((x : X) → FitsPart x → encode (make x) ≡ part_encode x) → ((x : X) → FitsPart x → Fits (make x))
     → ((a : A) → Fits a → (x : X) × (a ≡ make x) × FitsPart x)
-    → IsCode (λ r. scan r >>= λ x. Ok (make x.0, x.1)) spell Fits
-cased {A} {X} {scan} {part_spell} {FitsPart} {spell} {Fits} code make same fits back = record {
+    → IsCode (λ r. scan r >>= λ x. Ok (make x.0, x.1)) encode Fits
+cased {A} {X} {scan} {part_encode} {FitsPart} {encode} {Fits} code make same fits back = record {
   takes = λ r bytes well a r' e.
       let k : X × Rest → Read A = λ x. Ok (make x.0, x.1) in
       let b = bind_ok (scan r) k (a, r') e in
       let t = code.takes r bytes well b.0.0 b.0.1 b.1 in
-      let P : A × Rest → Type 0 = λ y. Fits y.0 × Takes r (spell y.0) y.1 × IsBytes y.1.ahead in
-      let text : Takes r (spell (make b.0.0)) b.0.1 = subst (λ (l : List ℕ). Takes r l b.0.1) (sym (same b.0.0 t.0)) t.1 in
+      let P : A × Rest → Type 0 = λ y. Fits y.0 × Takes r (encode y.0) y.1 × IsBytes y.1.ahead in
+      let text : Takes r (encode (make b.0.0)) b.0.1 = subst (λ (l : List ℕ). Takes r l b.0.1) (sym (same b.0.0 t.0)) t.1 in
       subst P (ok_is (make b.0.0, b.0.1) (a, r') b.2) (fits b.0.0 t.0, text, t.2);
   again = λ a f r r' t.
       let b = back a f in
-      let text : spell a ≡ part_spell b.0 = ap spell b.1 ∙ same b.0 b.2 in
+      let text : encode a ≡ part_encode b.0 = ap encode b.1 ∙ same b.0 b.2 in
       let one : scan r ≡ Ok (b.0, r') = code.again b.0 b.2 r r' (subst (λ (l : List ℕ). Takes r l r') text t) in
       rw one (ap (λ (x : A). Ok (x, r')) (sym b.1));
   uncut = λ r bytes well there. uncut_bind (scan r) _ (code.uncut r bytes well there) (λ x e here. here);
 }
 
 -- the same rules in other words
-pub refit : {A : Type 0} {scan : Rest → Read A} {spell : A → List ℕ} {F G : A → Type 0} → IsCode scan spell F → ((a : A) → F a → G a) → ((a : A) → G a → F a) → IsCode scan spell G
+pub refit : {A : Type 0} {scan : Rest → Read A} {encode : A → List ℕ} {F G : A → Type 0} → IsCode scan encode F → ((a : A) → F a → G a) → ((a : A) → G a → F a) → IsCode scan encode G
 refit code to from = record {
   takes = λ r bytes well a r' e. let t = code.takes r bytes well a r' e in (to a t.0, t.1, t.2);
   again = λ a g r r' t. code.again a (from a g) r r' t;
@@ -291,9 +291,9 @@ refit code to from = record {
 }
 
 -- a fault at the field's first byte where it isn't whole
-pub guarded : {A : Type 0} {scan : Rest → Read A} {spell : A → List ℕ} {Fits : A → Type 0} (size : ℕ) → IsCode scan spell Fits → ((a : A) → Fits a → length (spell a) ≡ size)
-    → IsCode (λ r. cond (ltb r.limit (r.place + size)) (Err (Fault r.place)) (scan r)) spell Fits
-guarded {A} {scan} {spell} {Fits} size code is_size = record {
+pub guarded : {A : Type 0} {scan : Rest → Read A} {encode : A → List ℕ} {Fits : A → Type 0} (size : ℕ) → IsCode scan encode Fits → ((a : A) → Fits a → length (encode a) ≡ size)
+    → IsCode (λ r. cond (ltb r.limit (r.place + size)) (Err (Fault r.place)) (scan r)) encode Fits
+guarded {A} {scan} {encode} {Fits} size code is_size = record {
   takes = λ r bytes well a r' e.
       let g = unless_ok (ltb r.limit (r.place + size)) (Fault r.place) (scan r) (a, r') e in
       code.takes r bytes well a r' g.1;
@@ -305,23 +305,23 @@ guarded {A} {scan} {spell} {Fits} size code is_size = record {
 
 -- ---- one after the other
 
-each_again : {S A : Type 0} (item : S → Rest → Read A) (next : S → A → S) (spell : A → List ℕ) (Fits : S → A → Type 0) (s' : S)
-    → IsCode (item s') spell (Fits s') → (n : ℕ) → ((s : S) → IsCode (each_at item next n s) (flat_map spell) (λ xs. Along Fits next s xs × (length xs ≡ n)))
-    → (xs : List A) → (Along Fits next s' xs × (length xs ≡ suc n)) → (r r' : Rest) → Takes r (flat_map spell xs) r' → each_at item next (suc n) s' r ≡ Ok (xs, r')
+each_again : {S A : Type 0} (item : S → Rest → Read A) (next : S → A → S) (encode : A → List ℕ) (Fits : S → A → Type 0) (s' : S)
+    → IsCode (item s') encode (Fits s') → (n : ℕ) → ((s : S) → IsCode (each_at item next n s) (flat_map encode) (λ xs. Along Fits next s xs × (length xs ≡ n)))
+    → (xs : List A) → (Along Fits next s' xs × (length xs ≡ suc n)) → (r r' : Rest) → Takes r (flat_map encode xs) r' → each_at item next (suc n) s' r ≡ Ok (xs, r')
 unfolding each_at
-each_again item next spell Fits s' code n others [] f r r' t = absurd cc
-each_again item next spell Fits s' code n others (x ∷ xs) f r r' t =
-    let text : Takes r (spell x ++ flat_map spell xs) r' = subst (λ (l : List ℕ). Takes r l r') (flat_map-cons spell x xs) t in
-    let one : item s' r ≡ Ok (x, between r (spell x) (flat_map spell xs) r') = code.again x f.0.0 r _ (Takes-first r (spell x) (flat_map spell xs) r' text) in
-    let two : each_at item next n (next s' x) (between r (spell x) (flat_map spell xs) r') ≡ Ok (xs, r') = (others (next s' x)).again xs (f.0.1, omega (arith, f.1)) _ r' (Takes-second r (spell x) (flat_map spell xs) r' text) in
+each_again item next encode Fits s' code n others [] f r r' t = absurd cc
+each_again item next encode Fits s' code n others (x ∷ xs) f r r' t =
+    let text : Takes r (encode x ++ flat_map encode xs) r' = subst (λ (l : List ℕ). Takes r l r') (flat_map-cons encode x xs) t in
+    let one : item s' r ≡ Ok (x, between r (encode x) (flat_map encode xs) r') = code.again x f.0.0 r _ (Takes-first r (encode x) (flat_map encode xs) r' text) in
+    let two : each_at item next n (next s' x) (between r (encode x) (flat_map encode xs) r') ≡ Ok (xs, r') = (others (next s' x)).again xs (f.0.1, omega (arith, f.1)) _ r' (Takes-second r (encode x) (flat_map encode xs) r' text) in
     rw (one, two) refl
 
 -- The list is empty exactly where none is wanted, so its first item is a part of it only beyond that: by hand.
-pub each_code : {S A : Type 0} {item : S → Rest → Read A} {next : S → A → S} {spell : A → List ℕ} {Fits : S → A → Type 0}
-    → ((s : S) → IsCode (item s) spell (Fits s)) → (n : ℕ) (s : S) → IsCode (each_at item next n s) (flat_map spell) (λ xs. Along Fits next s xs × (length xs ≡ n))
+pub each_code : {S A : Type 0} {item : S → Rest → Read A} {next : S → A → S} {encode : A → List ℕ} {Fits : S → A → Type 0}
+    → ((s : S) → IsCode (item s) encode (Fits s)) → (n : ℕ) (s : S) → IsCode (each_at item next n s) (flat_map encode) (λ xs. Along Fits next s xs × (length xs ≡ n))
 unfolding each_at
-each_code {S} {A} {item} {next} {spell} {Fits} code zero s = finish [] refl (tt, refl) (λ b f. nil_from_length b f.1)
-each_code {S} {A} {item} {next} {spell} {Fits} code (suc n) s = record {
+each_code {S} {A} {item} {next} {encode} {Fits} code zero s = finish [] refl (tt, refl) (λ b f. nil_from_length b f.1)
+each_code {S} {A} {item} {next} {encode} {Fits} code (suc n) s = record {
   takes = λ r bytes well xs r' e.
       let k : A × Rest → Read (List A) = λ first. each_at item next n (next s first.0) first.1 >>= λ others. Ok (first.0 ∷ others.0, others.1) in
       let b = bind_ok (item s r) k (xs, r') e in
@@ -329,10 +329,10 @@ each_code {S} {A} {item} {next} {spell} {Fits} code (suc n) s = record {
       let l : List A × Rest → Read (List A) = λ others. Ok (b.0.0 ∷ others.0, others.1) in
       let d = bind_ok (each_at item next n (next s b.0.0) b.0.1) l (xs, r') b.2 in
       let u = (each_code code n (next s b.0.0)).takes b.0.1 t.2 t.1.within d.0.0 d.0.1 d.1 in
-      let P : List A × Rest → Type 0 = λ y. (Along Fits next s y.0 × (length y.0 ≡ suc n)) × Takes r (flat_map spell y.0) y.1 × IsBytes y.1.ahead in
-      let text : Takes r (flat_map spell (b.0.0 ∷ d.0.0)) d.0.1 = subst (λ (x : List ℕ). Takes r x d.0.1) (sym (flat_map-cons spell b.0.0 d.0.0)) (Takes-then r (spell b.0.0) b.0.1 (flat_map spell d.0.0) d.0.1 t.1 u.1) in
+      let P : List A × Rest → Type 0 = λ y. (Along Fits next s y.0 × (length y.0 ≡ suc n)) × Takes r (flat_map encode y.0) y.1 × IsBytes y.1.ahead in
+      let text : Takes r (flat_map encode (b.0.0 ∷ d.0.0)) d.0.1 = subst (λ (x : List ℕ). Takes r x d.0.1) (sym (flat_map-cons encode b.0.0 d.0.0)) (Takes-then r (encode b.0.0) b.0.1 (flat_map encode d.0.0) d.0.1 t.1 u.1) in
       subst P (ok_is (b.0.0 ∷ d.0.0, d.0.1) (xs, r') d.2) (((t.0, u.0.0), ap suc u.0.1), text, u.2);
-  again = λ xs f r r' t. each_again item next spell Fits s (code s) n (each_code code n) xs f r r' t;
+  again = λ xs f r r' t. each_again item next encode Fits s (code s) n (each_code code n) xs f r r' t;
   uncut = λ r bytes well there. uncut_bind (item s r) _ ((code s).uncut r bytes well there) (λ x e here.
       let t = (code s).takes r bytes well x.0 x.1 e in
       uncut_bind (each_at item next n (next s x.0) x.1) _ ((each_code code n (next s x.0)).uncut x.1 t.2 t.1.within here) (λ y e' there'. there'));
@@ -341,15 +341,15 @@ each_code {S} {A} {item} {next} {spell} {Fits} code (suc n) s = record {
 -- ---- texts
 
 -- a rule whose fault is at a place before
-pub ruled_at : {A : Type 0} {scan : Rest → Read A} {spell : A → List ℕ} {Fits : A → Type 0} (first : ℕ) → IsCode scan spell Fits → (rule : A → Bool)
-    → IsCode (λ r. scan r >>= λ x. cond (rule x.0) (Ok x) (Err (Fault first))) spell (λ a. Fits a × (rule a ≡ true))
-ruled_at {A} {scan} {spell} {Fits} first code rule = record {
+pub ruled_at : {A : Type 0} {scan : Rest → Read A} {encode : A → List ℕ} {Fits : A → Type 0} (first : ℕ) → IsCode scan encode Fits → (rule : A → Bool)
+    → IsCode (λ r. scan r >>= λ x. cond (rule x.0) (Ok x) (Err (Fault first))) encode (λ a. Fits a × (rule a ≡ true))
+ruled_at {A} {scan} {encode} {Fits} first code rule = record {
   takes = λ r bytes well a r' e.
       let k : A × Rest → Read A = λ x. cond (rule x.0) (Ok x) (Err (Fault first)) in
       let b = bind_ok (scan r) k (a, r') e in
       let g = rule_ok (rule b.0.0) (Fault first) b.0 (a, r') b.2 in
       let t = code.takes r bytes well b.0.0 b.0.1 b.1 in
-      let P : A × Rest → Type 0 = λ y. (Fits y.0 × (rule y.0 ≡ true)) × Takes r (spell y.0) y.1 × IsBytes y.1.ahead in
+      let P : A × Rest → Type 0 = λ y. (Fits y.0 × (rule y.0 ≡ true)) × Takes r (encode y.0) y.1 × IsBytes y.1.ahead in
       subst P g.1 ((t.0, g.0), t.1, t.2);
   again = λ a f r r' t. rw (code.again a f.0 r r' t, f.1) refl;
   uncut = λ r bytes well there. uncut_bind (scan r) _ (code.uncut r bytes well there) (λ x e here. uncut_if (rule x.0) first (Ok x) here);

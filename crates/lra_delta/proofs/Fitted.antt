@@ -1,4 +1,4 @@
--- what fits in a frame is spelled
+-- what fits in a frame is encoded
 use Rattle.std.proofs.Common.{◌≡◌, ◌∙◌, ◌-◌, ◌≤◌, ◌<◌, ◌^◌, ◌&&◌, ◌==◌, ℕ, suc, List, [], ◌∷◌, Option, Some, None, Bool, true, false, cond, refl, ap, sym, arith, is_some, nat_le, nat_lt}
 use Rattle.std.specs.Prelude.{length, slice_index}
 use Rattle.std.specs.List.{AllByRecursion, list_any}
@@ -23,7 +23,7 @@ use Rattle.lra_delta.proofs.HomeLists.{home_parts}
 use Rattle.lra_delta.specs.FrameFields.{Along}
 use Rattle.lra_delta.specs.Frames.{IsRising, live_at}
 use Rattle.lra_delta.specs.Grammar.{KeepsRulesIn, IsLinked, IsPlaced, nested_numbers}
-use Rattle.lra_delta.specs.Spelling.{flag_mark, outcome_mark}
+use Rattle.lra_delta.specs.Encoding.{flag_mark, outcome_mark}
 use Rattle.lra_delta.specs.Typed.{AreLinks, HasLinks}
 use Rattle.lra_delta.specs.Rules.{Context, IsLink, IsMember, IsParent, IsParticipant, IsRecord, at_most, is_among, is_given_length, is_mark_for, is_next, is_nested, is_outcome_for, next_nested}
 

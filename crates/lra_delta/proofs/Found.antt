@@ -1,22 +1,22 @@
--- what decode answers is a delta that the bytes spell
+-- what decode answers is a delta that the bytes encode
 use Rattle.std.proofs.Common.{◌≡◌, ℕ, List, Result, Ok, Err, ap, subst, ◌∙◌}
 use Rattle.std.specs.Prelude.{IfOk}
 use Rattle.lra_facts.specs.declared.refusal.Refusal.{Refusal}
 use Rattle.lra_delta.specs.Frames.{Frame}
 use Rattle.lra_forest.specs.declared.record.Record.{Record}
 use Rattle.lra_delta.specs.OneRecord.{IsRecordUnder, record_in}
-use Rattle.lra_delta.specs.Spelling.{record_text, spelling}
+use Rattle.lra_delta.specs.Encoding.{record_text, encoding}
 use Rattle.lra_delta.specs.Rules.{IsDelta}
 use Rattle.lra_delta.specs.Reading.{frame_in}
 use Rattle.lra_delta.specs.Answer.{Decodes}
 use Rattle.lra_delta.proofs.Codes.{IsBytes}
 use Rattle.lra_delta.proofs.FrameCodes.{frame_takes, frame_again, record_takes, record_again}
 
-pub is_found : (bytes : List ℕ) (r : Result Frame Refusal) → IsBytes bytes → Decodes r (frame_in bytes) → IfOk r (λ d. IsDelta d × (bytes ≡ spelling d))
+pub is_found : (bytes : List ℕ) (r : Result Frame Refusal) → IsBytes bytes → Decodes r (frame_in bytes) → IfOk r (λ d. IsDelta d × (bytes ≡ encoding d))
 is_found bytes (Ok d) fits given = frame_takes bytes d fits given
 is_found bytes (Err e) fits given = tt
 
-pub is_only : (bytes : List ℕ) (r : Result Frame Refusal) → Decodes r (frame_in bytes) → (d : Frame) → IsDelta d → bytes ≡ spelling d → Decodes r (Ok d)
+pub is_only : (bytes : List ℕ) (r : Result Frame Refusal) → Decodes r (frame_in bytes) → (d : Frame) → IsDelta d → bytes ≡ encoding d → Decodes r (Ok d)
 is_only bytes r given d f e = subst (Decodes r) (ap frame_in e ∙ frame_again d f) given
 
 -- the same of one record

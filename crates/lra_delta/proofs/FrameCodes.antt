@@ -11,7 +11,7 @@ use Rattle.lra_delta.specs.declared.input.Stop.TheVariants.{Fault}
 use Rattle.lra_forest.specs.declared.record.Record.{Record}
 use Rattle.lra_delta.specs.Frames.{Frame}
 use Rattle.lra_delta.specs.FrameFields.{Rest, Read, ◌>>=◌, value_of, Along}
-use Rattle.lra_delta.specs.Spelling.{live_mark, live_body, live_list, live, record_text, records, body, flat, magic, spelling}
+use Rattle.lra_delta.specs.Encoding.{live_mark, live_body, live_list, live, record_text, records, body, flat, magic, encoding}
 use Rattle.lra_delta.specs.Rules.{Context, start, after, is_record_count, IsRecord, is_live_mark, is_live_count, is_live_number, AreLive, IsLive, is_node_count, are_counts, is_front, at_most, IsBody, IsDelta, is_frame_length, by_home}
 use Rattle.lra_delta.specs.OneRecord.{IsRecordUnder, alone_at, record_in, under}
 use Rattle.lra_delta.specs.Reading.{records_at, live_list_at, live_by, live_at, body_at, within, ended_at, framed_at, frame_at, frame_in}
@@ -186,7 +186,7 @@ ended_code len = record {
 frame_length_small : (n : ℕ) → is_frame_length n ≡ true → n < 2 ^ 32
 frame_length_small n e = grind (arith, nat_tests)
 
-pub framed_code : IsCode framed_at spelling IsDelta
+pub framed_code : IsCode framed_at encoding IsDelta
 unfolding framed_at
 framed_code =
     step _ (number_code w32 (2 ^ 32) wide32 (λ n. n == magic)) (λ d. magic) (λ d f. (omega arith, refl)) (λ m fm.
@@ -206,9 +206,9 @@ value_ok (Err d) x e = absurd cc
 abbrev pub ending : {A : Type 0} → (Rest → Read A) → Rest → Read A
 ending scan r = scan r >>= λ x. cond (x.1.place == r.limit) (Ok x) (Err (Fault x.1.place))
 
-pub whole_takes : {A : Type 0} {scan : Rest → Read A} {spell : A → List ℕ} {Fits : A → Type 0} → IsCode scan spell Fits → (bytes : List ℕ) (a : A) → IsBytes bytes
-    → value_of (ending scan (record { place = 0; limit = length bytes; ahead = bytes })) ≡ Ok a → Fits a × (bytes ≡ spell a)
-whole_takes {A} {scan} {spell} {Fits} code bytes a fits e =
+pub whole_takes : {A : Type 0} {scan : Rest → Read A} {encode : A → List ℕ} {Fits : A → Type 0} → IsCode scan encode Fits → (bytes : List ℕ) (a : A) → IsBytes bytes
+    → value_of (ending scan (record { place = 0; limit = length bytes; ahead = bytes })) ≡ Ok a → Fits a × (bytes ≡ encode a)
+whole_takes {A} {scan} {encode} {Fits} code bytes a fits e =
     let r : Rest = record { place = 0; limit = length bytes; ahead = bytes } in
     let v = value_ok (ending scan r) a e in
     let k : A × Rest → Read A = λ x. cond (x.1.place == r.limit) (Ok x) (Err (Fault x.1.place)) in
@@ -216,25 +216,25 @@ whole_takes {A} {scan} {spell} {Fits} code bytes a fits e =
     let g = rule_ok (b.0.1.place == r.limit) (Fault b.0.1.place) b.0 v.0 b.2 in
     let t = code.takes r fits (omega arith) b.0.0 b.0.1 b.1 in
     let here : b.0.1.place ≡ length bytes = eqb-true _ _ g.0 in
-    let size : length bytes ≡ length (spell b.0.0) + length b.0.1.ahead = ap length t.1.parts ∙ length-append (spell b.0.0) b.0.1.ahead in
+    let size : length bytes ≡ length (encode b.0.0) + length b.0.1.ahead = ap length t.1.parts ∙ length-append (encode b.0.0) b.0.1.ahead in
     let nothing : b.0.1.ahead ≡ [] = nil_from_length b.0.1.ahead (omega (arith, here, size, t.1.place)) in
-    let whole : bytes ≡ spell b.0.0 = t.1.parts ∙ ap (λ (x : List ℕ). spell b.0.0 ++ x) nothing ∙ append-nil (spell b.0.0) in
+    let whole : bytes ≡ encode b.0.0 = t.1.parts ∙ ap (λ (x : List ℕ). encode b.0.0 ++ x) nothing ∙ append-nil (encode b.0.0) in
     let same : b.0.0 ≡ a = ap (λ (x : A × Rest). x.0) g.1 ∙ v.2 in
-    subst (λ (x : A). Fits x × (bytes ≡ spell x)) same (t.0, whole)
+    subst (λ (x : A). Fits x × (bytes ≡ encode x)) same (t.0, whole)
 
-pub whole_again : {A : Type 0} {scan : Rest → Read A} {spell : A → List ℕ} {Fits : A → Type 0} → IsCode scan spell Fits → (a : A) → Fits a
-    → value_of (ending scan (record { place = 0; limit = length (spell a); ahead = spell a })) ≡ Ok a
-whole_again {A} {scan} {spell} {Fits} code a f =
-    let r : Rest = record { place = 0; limit = length (spell a); ahead = spell a } in
-    let r' : Rest = record { place = length (spell a); limit = length (spell a); ahead = [] } in
-    let one : scan r ≡ Ok (a, r') = code.again a f r r' (record { parts = sym (append-nil (spell a)); place = omega arith; limit = refl; within = omega arith }) in
-    rw (one, same_place (length (spell a))) refl
+pub whole_again : {A : Type 0} {scan : Rest → Read A} {encode : A → List ℕ} {Fits : A → Type 0} → IsCode scan encode Fits → (a : A) → Fits a
+    → value_of (ending scan (record { place = 0; limit = length (encode a); ahead = encode a })) ≡ Ok a
+whole_again {A} {scan} {encode} {Fits} code a f =
+    let r : Rest = record { place = 0; limit = length (encode a); ahead = encode a } in
+    let r' : Rest = record { place = length (encode a); limit = length (encode a); ahead = [] } in
+    let one : scan r ≡ Ok (a, r') = code.again a f r r' (record { parts = sym (append-nil (encode a)); place = omega arith; limit = refl; within = omega arith }) in
+    rw (one, same_place (length (encode a))) refl
 
-pub frame_takes : (bytes : List ℕ) (d : Frame) → IsBytes bytes → frame_in bytes ≡ Ok d → IsDelta d × (bytes ≡ spelling d)
+pub frame_takes : (bytes : List ℕ) (d : Frame) → IsBytes bytes → frame_in bytes ≡ Ok d → IsDelta d × (bytes ≡ encoding d)
 unfolding frame_at
 frame_takes bytes d fits e = whole_takes framed_code bytes d fits e
 
-pub frame_again : (d : Frame) → IsDelta d → frame_in (spelling d) ≡ Ok d
+pub frame_again : (d : Frame) → IsDelta d → frame_in (encoding d) ≡ Ok d
 unfolding frame_at
 frame_again d f = whole_again framed_code d f
 
@@ -246,19 +246,19 @@ pub record_again : (front : List ℕ) (kept : Record) → IsRecordUnder front ke
 unfolding alone_at
 record_again front kept f = whole_again (record_code (under front) start) kept f
 
--- no spelling begins another
-pub one_of : {A : Type 0} {scan : Rest → Read A} {spell : A → List ℕ} {Fits : A → Type 0} → IsCode scan spell Fits → (a b : A) (x y : List ℕ) → Fits a → Fits b → spell a ++ x ≡ spell b ++ y → (a ≡ b) × (x ≡ y)
-one_of {A} {scan} {spell} {Fits} code a b x y fa fb e =
-    let top : ℕ = length (spell a) + length (spell b) in
-    let r : Rest = record { place = 0; limit = top; ahead = spell a ++ x } in
-    let ra : Rest = record { place = length (spell a); limit = top; ahead = x } in
-    let rb : Rest = record { place = length (spell b); limit = top; ahead = y } in
+-- no encoding begins another
+pub one_of : {A : Type 0} {scan : Rest → Read A} {encode : A → List ℕ} {Fits : A → Type 0} → IsCode scan encode Fits → (a b : A) (x y : List ℕ) → Fits a → Fits b → encode a ++ x ≡ encode b ++ y → (a ≡ b) × (x ≡ y)
+one_of {A} {scan} {encode} {Fits} code a b x y fa fb e =
+    let top : ℕ = length (encode a) + length (encode b) in
+    let r : Rest = record { place = 0; limit = top; ahead = encode a ++ x } in
+    let ra : Rest = record { place = length (encode a); limit = top; ahead = x } in
+    let rb : Rest = record { place = length (encode b); limit = top; ahead = y } in
     let one : scan r ≡ Ok (a, ra) = code.again a fa r ra (record { parts = refl; place = omega arith; limit = refl; within = omega arith }) in
     let two : scan r ≡ Ok (b, rb) = code.again b fb r rb (record { parts = e; place = omega arith; limit = refl; within = omega arith }) in
     let same = ok_is (a, ra) (b, rb) (sym one ∙ two) in
     (ap (λ (p : A × Rest). p.0) same, ap (λ (p : A × Rest). p.1.ahead) same)
 
-pub one_delta : (a b : Frame) (x y : List ℕ) → IsDelta a → IsDelta b → spelling a ++ x ≡ spelling b ++ y → (a ≡ b) × (x ≡ y)
+pub one_delta : (a b : Frame) (x y : List ℕ) → IsDelta a → IsDelta b → encoding a ++ x ≡ encoding b ++ y → (a ≡ b) × (x ≡ y)
 one_delta = one_of framed_code
 
 pub one_record : (front : List ℕ) (a b : Record) (x y : List ℕ) → IsRecordUnder front a → IsRecordUnder front b → record_text a ++ x ≡ record_text b ++ y → (a ≡ b) × (x ≡ y)

@@ -5,7 +5,7 @@ use Rattle.lra_states.specs.declared.outcome.Verdict.TheVariants.{Close}
 use Rattle.lra_delta.specs.declared.input.Stop.TheVariants.{Fault, Cut}
 use Rattle.lra_delta.specs.Frames.{Frame}
 use Rattle.lra_delta.specs.FrameFields.{each_at, many_at, vector_at}
-use Rattle.lra_delta.specs.Spelling.{place, parent, counted, participant, member, members, record_text, live_list, live, records, body, spelling}
+use Rattle.lra_delta.specs.Encoding.{place, parent, counted, participant, member, members, record_text, live_list, live, records, body, encoding}
 use Rattle.lra_delta.specs.Reading.{place_at, parent_by, parent_at, decision_at, text_at, link_at, participant_at, member_by, member_at, members_at, record_at, records_at, live_list_at, live_by, live_at, body_at, ended_at, framed_at, frame_at, frame_in}
 
 abbrev first : Frame
@@ -24,9 +24,9 @@ bytes =
     0 ∷ 0 ∷ 1 ∷ 1 ∷ 0 ∷ 0 ∷ 0 ∷ 0 ∷ 0 ∷ 0 ∷ 0 ∷ 1 ∷ 0 ∷ 0 ∷ 0 ∷ 0 ∷ 0 ∷ 0 ∷ 0 ∷ 0 ∷ 0 ∷ 1 ∷
     0 ∷ 0 ∷ 0 ∷ 0 ∷ 0 ∷ 0 ∷ 0 ∷ 2 ∷ 0 ∷ []
 
-spelled : spelling first ≡ bytes
+encoded : encoding first ≡ bytes
 unfolding place parent counted participant member members record_text live_list live records body
-spelled = refl
+encoded = refl
 
 read_again : frame_in bytes ≡ Ok first
 unfolding each_at many_at vector_at place_at parent_by parent_at decision_at text_at link_at participant_at member_by member_at members_at record_at records_at live_list_at live_by live_at body_at ended_at framed_at frame_at
@@ -59,9 +59,9 @@ twice = refl
 abbrev second : Frame
 second = record { base = 2 ∷ []; front = 2 ∷ []; purges = 0 ∷ []; live = None ∷ []; records = [] ∷ [] }
 
-second_spelled : spelling second ≡ 0x4c ∷ 0x52 ∷ 0x41 ∷ 0x44 ∷ 1 ∷ 0 ∷ 0 ∷ 0 ∷ 0x1c ∷ 1 ∷ 0 ∷ 0 ∷ 0 ∷ 0 ∷ 0 ∷ 0 ∷ 0 ∷ 2 ∷ 0 ∷ 0 ∷ 0 ∷ 0 ∷ 0 ∷ 0 ∷ 0 ∷ 2 ∷ 0 ∷ 0 ∷ 0 ∷ 0 ∷ 0 ∷ 0 ∷ 0 ∷ 0 ∷ 0 ∷ 0 ∷ 0 ∷ []
+second_encoded : encoding second ≡ 0x4c ∷ 0x52 ∷ 0x41 ∷ 0x44 ∷ 1 ∷ 0 ∷ 0 ∷ 0 ∷ 0x1c ∷ 1 ∷ 0 ∷ 0 ∷ 0 ∷ 0 ∷ 0 ∷ 0 ∷ 0 ∷ 2 ∷ 0 ∷ 0 ∷ 0 ∷ 0 ∷ 0 ∷ 0 ∷ 0 ∷ 2 ∷ 0 ∷ 0 ∷ 0 ∷ 0 ∷ 0 ∷ 0 ∷ 0 ∷ 0 ∷ 0 ∷ 0 ∷ 0 ∷ []
 unfolding place parent counted participant member members record_text live_list live records body
-second_spelled = refl
+second_encoded = refl
 
 -- over a stream: cut before byte 65 it is Cut, and with byte 55 set to 3 the fault comes first
 stream : (frame_at (record { place = 0; limit = 65; ahead = take 60 bytes }) ≡ Err Cut) × (frame_at (record { place = 0; limit = 65; ahead = take 60 (slice_set bytes 55 3) }) ≡ Err (Fault 55))

@@ -19,7 +19,7 @@ use Rattle.lra_delta.specs.Frames.{live_at}
 use Rattle.lra_delta.specs.Grammar.{KeepsRulesIn}
 use Rattle.lra_delta.specs.Order.{Follows}
 use Rattle.lra_delta.specs.Rules.{Context, IsRecord, after, by_home, is_home, is_next}
-use Rattle.lra_delta.specs.Spelling.{flat}
+use Rattle.lra_delta.specs.Encoding.{flat}
 use Rattle.lra_delta.specs.Typed.{HasLinks, IsTypedRecord}
 use Rattle.lra_delta.proofs.Fitted.{record_fits}
 use Rattle.lra_delta.proofs.ToldLists.{last_of}

@@ -11,7 +11,7 @@ use Rattle.lra_forest.specs.Records.{nodes_to}
 use Rattle.lra_history.proofs.Basics.{length_nodes}
 use Rattle.lra_delta.specs.declared.order.Last.{Last}
 use Rattle.lra_delta.specs.FrameFields.{Along}
-use Rattle.lra_delta.specs.Spelling.{flat}
+use Rattle.lra_delta.specs.Encoding.{flat}
 use Rattle.lra_delta.specs.Rules.{Context, IsRecord, after, by_home, is_home}
 
 -- no home comes before an earlier one

@@ -1,4 +1,4 @@
--- how many bytes the spelling of each part has
+-- how many bytes the encoding of each part has
 use Rattle.std.proofs.Common.{◌≡◌, ◌∙◌, ◌+◌, ◌*◌, ℕ, List, [], ◌∷◌, ◌++◌, Option, Some, None, arith, ap, length, refl, sym}
 use Rattle.std.proofs.lemmas.List.{length-append}
 use Rattle.std.proofs.lemmas.List.Sums.{sum_by-cons}
@@ -11,7 +11,7 @@ use Rattle.lra_forest.specs.declared.record.Place.{Place}
 use Rattle.lra_forest.specs.declared.record.Record.{Record}
 use Rattle.lra_delta.specs.Frames.{Frame}
 use Rattle.lra_delta.specs.FrameSizes.{frame_size, link_size, links_size, live_size, member_size, place_size, record_size}
-use Rattle.lra_delta.specs.Spelling.{body, byte, counted, decision_mark, flat, link_text, live, live_list, member, members, number, parent, participant, place, record_text, records, two_bytes, vector}
+use Rattle.lra_delta.specs.Encoding.{body, byte, counted, decision_mark, flat, link_text, live, live_list, member, members, number, parent, participant, place, record_text, records, two_bytes, vector}
 use Rattle.lra_delta.proofs.RecordCodes.{length-vector}
 
 both : (a b : List ℕ) (m n : ℕ) → length a ≡ m → length b ≡ n → length (a ++ b) ≡ m + n

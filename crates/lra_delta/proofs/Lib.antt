@@ -15,7 +15,7 @@ mod FrameSizes
 pub mod FramesOfHistories
 pub mod Grammar
 mod Grown
-pub mod HaveSpellings
+pub mod HaveEncodings
 mod HomeLists
 mod HomeParts
 mod LawfulMembers

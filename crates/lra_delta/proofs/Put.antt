@@ -7,7 +7,7 @@ use Rattle.std.proofs.lemmas.Grind.{flat_map-append}
 use Rattle.lra_forest.specs.declared.merging.Told.{Told}
 use Rattle.lra_forest.specs.RecordMerges.{held_numbers}
 use Rattle.lra_delta.specs.Order.{lists, records_told}
-use Rattle.lra_delta.specs.Spelling.{flat, live, record_text}
+use Rattle.lra_delta.specs.Encoding.{flat, live, record_text}
 use Rattle.lra_delta.specs.Typed.{IsTypedRecord}
 
 pub lives_put : (homes : List Told) → flat_map (λ (told : Told). live (held_numbers told.held)) homes ≡ flat_map live (lists homes)

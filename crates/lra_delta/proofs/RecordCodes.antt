@@ -17,7 +17,7 @@ use Rattle.lra_forest.specs.declared.record.Record.{Record}
 use Rattle.lra_delta.specs.declared.order.Last.{Last}
 use Rattle.lra_facts.specs.LinkTexts.{is_kept}
 use Rattle.lra_delta.specs.FrameFields.{many_at, vector_at, Along}
-use Rattle.lra_delta.specs.Spelling.{parent_mark, parent_body, parent, byte, number, place, decision_mark, outcome_mark, flag_mark, link_text, counted, vector, participant, member_mark, member_body, member, members, record_text}
+use Rattle.lra_delta.specs.Encoding.{parent_mark, parent_body, parent, byte, number, place, decision_mark, outcome_mark, flag_mark, link_text, counted, vector, participant, member_mark, member_body, member, members, record_text}
 use Rattle.lra_delta.specs.Rules.{is_mark, is_above, is_slot, IsPlace, IsParent, is_decision, is_outcome, is_outcome_for, is_mark_for, is_length, is_given_length, is_kept_or_none, IsLink, IsParticipant, is_nested, IsMember, next_nested, is_member_count, Context, is_home, is_number, are_stamps, IsRecord}
 use Rattle.lra_delta.specs.Reading.{place_at, parent_by, parent_at, decision_of, decision_at, outcome_of, text_at, link_of, link_at, participant_at, is_member_mark, member_by, member_at, members_at, record_at}
 use Rattle.lra_delta.proofs.Codes.{IsCode, step, step_from, cased, finish, refit, guarded, ruled, ruled_at, each_code, cells_code, whole_code, number_code, wide8, wide64}

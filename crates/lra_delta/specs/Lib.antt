@@ -11,7 +11,7 @@ pub mod Rules
 pub mod SameFrames
 pub mod Seen
 pub mod Sending
-pub mod Spelling
+pub mod Encoding
 pub mod TakenFrames
 pub mod Typed
 pub mod WrittenSoFar

@@ -21,7 +21,7 @@ pub record KeepsRulesUnder (front : List ℕ) (kept : Record) : Type 0 where
   pub high : kept.home ≤ length front
   pub fits : KeepsRulesIn (replicate (length front) 0) front None kept
 
--- what has a spelling as one record
+-- what has an encoding as one record
 abbrev pub IsRecordUnder : (front : List ℕ) → Record → Type 0
 IsRecordUnder front kept = IsRecord (under front) start kept
 

@@ -16,7 +16,7 @@ use Rattle.lra_facts.specs.LinkTexts.{is_kept}
 use Rattle.lra_delta.specs.Frames.{Frame}
 use Rattle.lra_delta.specs.declared.order.Last.{Last}
 use Rattle.lra_delta.specs.FrameFields.{Rest, Read, ◌>>=◌, value_of, whole_at, number_at, cells_at, vector_at, each_at}
-use Rattle.lra_delta.specs.Spelling.{magic}
+use Rattle.lra_delta.specs.Encoding.{magic}
 use Rattle.lra_delta.specs.Rules.{is_mark, is_above, is_slot, is_decision, is_outcome, is_outcome_for, is_mark_for, is_length, is_given_length, is_kept_or_none, is_nested, next_nested, is_member_count, is_node_count, are_counts, at_most, is_front, is_live_mark, is_live_count, is_live_number, Context, is_home, is_number, are_stamps, start, after, is_record_count, is_frame_length, by_home}
 
 unfoldable pub place_at : ℕ → Rest → Read Place

@@ -1,4 +1,4 @@
--- the rule of each field, and what has a spelling
+-- the rule of each field, and what has an encoding
 use Rattle.std.specs.Prelude.{◌≡◌, ◌+◌, ◌-◌, ◌*◌, ◌^◌, ◌<◌, ◌&&◌, ◌||◌, ◌==◌, ℕ, List, [], ◌∷◌, Bool, true, Option, Some, None, length, is_some, nat_lt, nat_le, slice_index, filter, map, if◌then◌else◌}
 use Rattle.std.specs.List.{list_any, list_all, AllByRecursion, zip}
 use Rattle.lra_id.specs.Ids.{last_number}
@@ -14,7 +14,7 @@ use Rattle.lra_forest.specs.Records.{nodes_to}
 use Rattle.lra_delta.specs.Frames.{Frame, is_beyond, live_at}
 use Rattle.lra_delta.specs.declared.order.Last.{Last}
 use Rattle.lra_delta.specs.FrameFields.{Along}
-use Rattle.lra_delta.specs.Spelling.{body, flat, outcome_mark, flag_mark}
+use Rattle.lra_delta.specs.Encoding.{body, flat, outcome_mark, flag_mark}
 
 abbrev pub is_mark : ℕ → Bool
 is_mark t = nat_le t 1
@@ -195,7 +195,7 @@ pub record IsBody (d : Frame) : Type 0 where
 abbrev pub is_frame_length : ℕ → Bool
 is_frame_length n = nat_le n 67108855
 
--- what has a spelling
+-- what has an encoding
 pub record IsDelta (d : Frame) : Type 0 where
   pub is_body : IsBody d
   pub short : is_frame_length (length (body d)) ≡ true

@@ -27,7 +27,7 @@ pub record IsTaken (a : View) (frame : Frame) (c : View) : Type 0 where
   pub order : (home : ℕ) → 1 ≤ home → home ≤ length c.front → AreOf home (records_at c.records home)
   pub records : (l : Id) → 1 ≤ l.home → l.home ≤ length c.front → record_at c l ≡ taken_from a frame l
 
--- Why the frame is not taken: memory is wanting; it counts other nodes; the view's front does not count all that the base
+-- Why the frame is not taken: memory runs out; it counts other nodes; the view's front does not count all that the base
 -- counts; or no view that takes the frame has the shape
 abbrev pub RefusesTaking : View → Frame → Refusal → Type 0
 RefusesTaking a frame refusal =

@@ -4,7 +4,7 @@ ghost use Rattle.lra_delta.specs.Answer.{Decodes};
 ghost use Rattle.lra_delta.specs.Frames.{Frame};
 ghost use Rattle.lra_delta.specs.Reading.{frame_in};
 ghost use Rattle.lra_delta.specs.Rules.{IsDelta};
-ghost use Rattle.lra_delta.specs.Spelling.{spelling};
+ghost use Rattle.lra_delta.specs.Encoding.{encoding};
 
 use crate::Delta;
 use crate::bytes::Bytes;
@@ -13,7 +13,7 @@ use crate::input::Stop;
 use lra_facts::Refusal;
 use std::alloc::Global;
 
-/// What all of the bytes spell.
+/// What all of the bytes encode.
 fn decoded(alloc: Global, bytes: &[u8]) -> Result<Delta, Refusal>
     ensures { Decodes result (frame_in bytes.now) }
 {
@@ -28,14 +28,15 @@ fn decoded(alloc: Global, bytes: &[u8]) -> Result<Delta, Refusal>
 }
 
 impl Delta {
-    /// What all of the bytes spell. E16 at the place of the first field that isn't whole or breaks its rule.
+    /// What all of the bytes encode. E16 at the place of the first field that isn't whole or breaks its rule.
     pub fn decode(alloc: Global, bytes: &[u8]) -> Result<Delta, Refusal>
         // Which place it is.
         ensures exact { Decodes result (frame_in bytes.now) }
-        // What is read keeps the rules, and is spelled so.
-        ensures found { IfOk result (λ delta. IsDelta delta × (bytes.now ≡ spelling delta)) }
-        // What is spelled so is read, unless memory runs out.
-        ensures only { (frame : Frame) → IsDelta frame → bytes.now ≡ spelling frame → Decodes result (Ok frame) }
+        // What is read keeps the rules, and is encoded so.
+        ensures found { IfOk result (λ delta. IsDelta delta × (bytes.now ≡ encoding delta)) }
+        // What is encoded so is read, unless memory runs out.
+        ensures only { (frame : Frame) →
+            IsDelta frame → bytes.now ≡ encoding frame → Decodes result (Ok frame) }
     {
         decoded(alloc, bytes)
     }

@@ -10,7 +10,8 @@ use std::alloc::Global;
 /// A number of one byte.
 pub fn byte<I: Input>(input: &mut I) -> Result<u8, Stop>
     ensures gives { Reads (I.seen input.old) (I.seen input.new) (λ x. x) result (whole_at w8) }
-    ensures took { IfOk result (λ _. length (I.seen input.new).taken ≡ length (I.seen input.old).taken + 1) }
+    ensures took { IfOk result
+        (λ _. length (I.seen input.new).taken ≡ length (I.seen input.old).taken + 1) }
 {
     let mut buffer = [0u8; 1];
     let place = input.place();
@@ -21,7 +22,8 @@ pub fn byte<I: Input>(input: &mut I) -> Result<u8, Stop>
 /// A number of two bytes.
 pub fn two_bytes<I: Input>(input: &mut I) -> Result<u16, Stop>
     ensures gives { Reads (I.seen input.old) (I.seen input.new) (λ x. x) result (whole_at w16) }
-    ensures took { IfOk result (λ _. length (I.seen input.new).taken ≡ length (I.seen input.old).taken + 2) }
+    ensures took { IfOk result
+        (λ _. length (I.seen input.new).taken ≡ length (I.seen input.old).taken + 2) }
 {
     let mut buffer = [0u8; 2];
     let place = input.place();
@@ -32,7 +34,8 @@ pub fn two_bytes<I: Input>(input: &mut I) -> Result<u16, Stop>
 /// A number of four bytes.
 pub fn four_bytes<I: Input>(input: &mut I) -> Result<u32, Stop>
     ensures gives { Reads (I.seen input.old) (I.seen input.new) (λ x. x) result (whole_at w32) }
-    ensures took { IfOk result (λ _. length (I.seen input.new).taken ≡ length (I.seen input.old).taken + 4) }
+    ensures took { IfOk result
+        (λ _. length (I.seen input.new).taken ≡ length (I.seen input.old).taken + 4) }
 {
     let mut buffer = [0u8; 4];
     let place = input.place();
@@ -43,7 +46,8 @@ pub fn four_bytes<I: Input>(input: &mut I) -> Result<u32, Stop>
 /// A number of eight bytes.
 pub fn number<I: Input>(input: &mut I) -> Result<u64, Stop>
     ensures gives { Reads (I.seen input.old) (I.seen input.new) (λ x. x) result (whole_at w64) }
-    ensures took { IfOk result (λ _. length (I.seen input.new).taken ≡ length (I.seen input.old).taken + 8) }
+    ensures took { IfOk result
+        (λ _. length (I.seen input.new).taken ≡ length (I.seen input.old).taken + 8) }
 {
     let mut buffer = [0u8; 8];
     let place = input.place();
@@ -55,7 +59,8 @@ pub fn number<I: Input>(input: &mut I) -> Result<u64, Stop>
 pub fn text<I: Input>(alloc: Global, first: u64, len: u8, input: &mut I) -> Result<Vec<u8>, Stop>
     requires short { len ≤ 127 }
     requires after { length (I.seen input.old).taken ≡ first + 1 }
-    ensures gives { Reads (I.seen input.old) (I.seen input.new) (λ x. x.items) result (cells_at first len) }
+    ensures gives { Reads (I.seen input.old) (I.seen input.new)
+        (λ x. x.items) result (cells_at first len) }
     ensures took { IfOk result (λ _. length (I.seen input.new).taken ≡ first + 1 + len) }
     ensures long { IfOk result (λ x. length x.items ≡ len) }
 {

@@ -10,7 +10,7 @@ ghost use Rattle.lra_delta.specs.Seen.{Answers, Reads};
 ghost use Rattle.lra_delta.specs.FrameFields.{each_at, number_at, vector_at};
 ghost use Rattle.lra_delta.specs.Rules.{are_counts, at_most, by_home, is_frame_length, is_front, is_live_number, is_node_count, start, told_context, after as after_lem};
 ghost use Rattle.lra_delta.specs.Reading.{body_at, frame_at, live_at, live_list_at, record_at, records_at};
-ghost use Rattle.lra_delta.specs.Spelling.{magic};
+ghost use Rattle.lra_delta.specs.Encoding.{magic};
 ghost use Rattle.lra_delta.specs.Order.{AreEmpty, ArePutAs, lists, live_of_place, next_place, records_told};
 
 use crate::Delta;
@@ -34,7 +34,8 @@ fn are_counts(ns: &[u64]) -> bool
 fn base_of<I: Input>(nodes: u8, input: &mut I) -> Result<Front, Stop>
     requires some { 1 ≤ nodes }
     requires few { nodes ≤ 8 }
-    ensures gives { Reads (I.seen input.old) (I.seen input.new) (λ x. x) result (vector_at nodes are_counts) }
+    ensures gives { Reads (I.seen input.old) (I.seen input.new)
+        (λ x. x) result (vector_at nodes are_counts) }
     ensures nodes { IfOk result (λ x. length x ≡ nodes) }
 {
     let place = input.place();
@@ -49,7 +50,8 @@ fn base_of<I: Input>(nodes: u8, input: &mut I) -> Result<Front, Stop>
 fn front_of<I: Input>(nodes: u8, base: &Front, input: &mut I) -> Result<Front, Stop>
     requires some { 1 ≤ nodes }
     requires few { nodes ≤ 8 }
-    ensures gives { Reads (I.seen input.old) (I.seen input.new) (λ x. x) result (vector_at nodes (is_front base.now)) }
+    ensures gives { Reads (I.seen input.old) (I.seen input.new)
+        (λ x. x) result (vector_at nodes (is_front base.now)) }
     ensures nodes { IfOk result (λ x. length x ≡ nodes) }
 {
     let place = input.place();
@@ -64,7 +66,8 @@ fn front_of<I: Input>(nodes: u8, base: &Front, input: &mut I) -> Result<Front, S
 fn purges_of<I: Input>(nodes: u8, front: &Front, input: &mut I) -> Result<Front, Stop>
     requires some { 1 ≤ nodes }
     requires few { nodes ≤ 8 }
-    ensures gives { Reads (I.seen input.old) (I.seen input.new) (λ x. x) result (vector_at nodes (at_most front.now)) }
+    ensures gives { Reads (I.seen input.old) (I.seen input.new)
+        (λ x. x) result (vector_at nodes (at_most front.now)) }
     ensures nodes { IfOk result (λ x. length x ≡ nodes) }
 {
     let place = input.place();
@@ -78,7 +81,8 @@ fn purges_of<I: Input>(nodes: u8, front: &Front, input: &mut I) -> Result<Front,
 // ---- live lists
 
 fn live_number_of<I: Input>(top: u64, last: u64, input: &mut I) -> Result<u64, Stop>
-    ensures { Reads (I.seen input.old) (I.seen input.new) (λ x. x) result (number_at w64 (is_live_number top last)) }
+    ensures { Reads (I.seen input.old) (I.seen input.new)
+        (λ x. x) result (number_at w64 (is_live_number top last)) }
 {
     let place = input.place();
     let num = number(input)?;
@@ -94,7 +98,8 @@ fn each_live_number<I: Input>(
     count: u16,
     input: &mut I,
 ) -> Result<Vec<u64>, Stop>
-    ensures { Reads (I.seen input.old) (I.seen input.new) (λ x. x.items) result (each_at (λ last. number_at w64 (is_live_number top last)) (λ (last n : ℕ). n) count 0) }
+    ensures { Reads (I.seen input.old) (I.seen input.new) (λ x. x.items) result (each_at
+        (λ last. number_at w64 (is_live_number top last)) (λ (last n : ℕ). n) count 0) }
 {
     let mut list = Vec::new(alloc);
     let mut last = 0;
@@ -126,7 +131,8 @@ fn live_of<I: Input>(
     top: u64,
     input: &mut I,
 ) -> Result<Option<Vec<u64>>, Stop>
-    ensures { Reads (I.seen input.old) (I.seen input.new) held_numbers result (live_at base purge top) }
+    ensures { Reads
+        (I.seen input.old) (I.seen input.new) held_numbers result (live_at base purge top) }
 {
     let place = input.place();
     let mark = byte(input)?;
@@ -159,8 +165,11 @@ fn told_of<I: Input>(
     input: &mut I,
 ) -> Result<Told, Stop>
     requires { place < 8 }
-    ensures gives { Reads (I.seen input.old) (I.seen input.new) (λ (told : Told). held_numbers told.held) result (live_at (slice_index base.now place) (slice_index purges.now place) (slice_index front.now place)) }
-    ensures home { IfOk result (λ told. (told.records.home ≡ place + 1) × (told.records.records ≡ [])) }
+    ensures gives { Reads (I.seen input.old) (I.seen input.new)
+        (λ (told : Told). held_numbers told.held) result (live_at
+        (slice_index base.now place) (slice_index purges.now place) (slice_index front.now place)) }
+    ensures home { IfOk result (λ told. (told.records.home ≡ place + 1)
+        × (told.records.records ≡ [])) }
 {
     let home = home_at(place);
     let (base, purge, top) = (base.count(home), purges.count(home), front.count(home));
@@ -180,7 +189,8 @@ fn each_home<I: Input>(
     input: &mut I,
 ) -> Result<Vec<Told>, Stop>
     requires { nodes ≤ 8 }
-    ensures gives { Reads (I.seen input.old) (I.seen input.new) (λ x. lists x.items) result (each_at (live_of_place base.now purges.now front.now) next_place nodes 0) }
+    ensures gives { Reads (I.seen input.old) (I.seen input.new) (λ x. lists x.items) result
+        (each_at (live_of_place base.now purges.now front.now) next_place nodes 0) }
     ensures empty { IfOk result (λ x. AreEmpty nodes x.items) }
 {
     let mut list = Vec::new(alloc);
@@ -214,7 +224,8 @@ fn put_last(told: &mut Told, kept: Record) -> Result<(), AllocError>
     requires last { AllByRecursion (λ q. q.num < kept.num) told.old.records.records }
     ensures home { OnOk result (told.new.records.home ≡ told.old.records.home) }
     ensures held { OnOk result (told.new.held ≡ told.old.held) }
-    ensures records { OnOk result (told.new.records.records ≡ told.old.records.records ++ kept ∷ []) }
+    ensures records { OnOk result (told.new.records.records
+        ≡ told.old.records.records ++ kept ∷ []) }
 {
     told.records.push_last(kept)
 }
@@ -222,10 +233,13 @@ fn put_last(told: &mut Told, kept: Record) -> Result<(), AllocError>
 fn put_home(homes: &mut Vec<Told>, kept: Record) -> Result<(), AllocError>
     requires there { kept.home ≤ length homes.old.items }
     requires told { AreToldFrom 1 homes.old.items }
-    requires last { AllByRecursion (λ q. q.num < kept.num) (records_of_home (records_told homes.old.items) kept.home) }
+    requires last { AllByRecursion
+        (λ q. q.num < kept.num) (records_of_home (records_told homes.old.items) kept.home) }
     ensures told { OnOk result (AreToldFrom 1 homes.new.items) }
     ensures held { OnOk result (lists homes.new.items ≡ lists homes.old.items) }
-    ensures records { OnOk result (records_told homes.new.items ≡ slice_set (records_told homes.old.items) (kept.home - 1) (records_of_home (records_told homes.old.items) kept.home ++ kept ∷ [])) }
+    ensures records { OnOk result (records_told homes.new.items
+        ≡ slice_set (records_told homes.old.items)
+        (kept.home - 1) (records_of_home (records_told homes.old.items) kept.home ++ kept ∷ [])) }
 {
     let place = usize::from(kept.home.number()) - 1;
     put_last(&mut homes[place], kept)
@@ -240,7 +254,9 @@ fn each_record<I: Input>(
     input: &mut I,
 ) -> Result<(), Stop>
     requires { AreEmpty (length front.now) homes.old.items }
-    ensures { ArePutAs (length front.now) (I.seen input.old) (I.seen input.new) homes.old.items homes.new.items result (each_at (record_at (told_context base.now front.now homes.old.items)) after_lem count start) }
+    ensures { ArePutAs (length front.now)
+        (I.seen input.old) (I.seen input.new) homes.old.items homes.new.items result (each_at
+        (record_at (told_context base.now front.now homes.old.items)) after_lem count start) }
 {
     let mut last = Last {
         home: 0,
@@ -265,7 +281,8 @@ fn records_of<I: Input>(
     input: &mut I,
 ) -> Result<(), Stop>
     requires { AreEmpty (length front.now) homes.old.items }
-    ensures { ArePutAs (length front.now) (I.seen input.old) (I.seen input.new) homes.old.items homes.new.items result (records_at (told_context base.now front.now homes.old.items)) }
+    ensures { ArePutAs (length front.now) (I.seen input.old) (I.seen input.new) homes.old.items
+        homes.new.items result (records_at (told_context base.now front.now homes.old.items)) }
 {
     let place = input.place();
     let count = two_bytes(input)?;
@@ -278,7 +295,8 @@ fn records_of<I: Input>(
 // ---- the frame
 
 fn nodes_of<I: Input>(input: &mut I) -> Result<u8, Stop>
-    ensures gives { Reads (I.seen input.old) (I.seen input.new) (λ x. x) result (number_at w8 is_node_count) }
+    ensures gives { Reads (I.seen input.old) (I.seen input.new)
+        (λ x. x) result (number_at w8 is_node_count) }
     ensures some { IfOk result (λ x. 1 ≤ x) }
     ensures few { IfOk result (λ x. x ≤ 8) }
 {
@@ -304,7 +322,8 @@ fn body_of<I: Input>(alloc: Global, input: &mut I) -> Result<Delta, Stop>
 }
 
 fn magic_of<I: Input>(input: &mut I) -> Result<u32, Stop>
-    ensures { Reads (I.seen input.old) (I.seen input.new) (λ x. x) result (number_at w32 (λ n. n == magic)) }
+    ensures { Reads (I.seen input.old) (I.seen input.new)
+        (λ x. x) result (number_at w32 (λ n. n == magic)) }
 {
     let place = input.place();
     let letters = four_bytes(input)?;
@@ -315,7 +334,8 @@ fn magic_of<I: Input>(input: &mut I) -> Result<u32, Stop>
 }
 
 fn version_of<I: Input>(input: &mut I) -> Result<u8, Stop>
-    ensures { Reads (I.seen input.old) (I.seen input.new) (λ x. x) result (number_at w8 (λ n. n == 1)) }
+    ensures { Reads (I.seen input.old) (I.seen input.new)
+        (λ x. x) result (number_at w8 (λ n. n == 1)) }
 {
     let place = input.place();
     let version = byte(input)?;
@@ -327,7 +347,8 @@ fn version_of<I: Input>(input: &mut I) -> Result<u8, Stop>
 
 /// How many bytes come after it.
 fn length_of<I: Input>(input: &mut I) -> Result<u32, Stop>
-    ensures { Reads (I.seen input.old) (I.seen input.new) (λ x. x) result (number_at w32 is_frame_length) }
+    ensures { Reads (I.seen input.old) (I.seen input.new)
+        (λ x. x) result (number_at w32 is_frame_length) }
 {
     let place = input.place();
     let len = four_bytes(input)?;

@@ -16,87 +16,98 @@ ghost use Rattle.lra_delta.specs.Grammar.{IsOfGrammar};
 ghost use Rattle.lra_delta.specs.Rules.{IsDelta};
 ghost use Rattle.lra_delta.specs.OneRecord.{KeepsRulesUnder, IsRecordUnder};
 ghost use Rattle.lra_delta.specs.Reading.{frame_in};
-ghost use Rattle.lra_delta.specs.Spelling.{record_text, spelling};
+ghost use Rattle.lra_delta.specs.Encoding.{record_text, encoding};
 ghost use Rattle.lra_delta.specs.FrameSizes.{IsShort, frame_size};
 ghost use Rattle.lra_delta.specs.TakenFrames.{IsTaken};
 ghost use Rattle.lra_delta.specs.Typed.{IsTyped, IsTypedRecord};
 
 /// The frame of a view that stands for a set is the frame of the set.
 pub fn the_frame_of_a_view_is_that_of_its_set()
-    ensures { (S : List Fact) (view : View) (base : List ℕ) → StandsFor S view → IsFrame S base (frame_of view base) }
+    ensures { (S : List Fact) (view : View) (base : List ℕ) →
+        StandsFor S view → IsFrame S base (frame_of view base) }
 {}
 
 /// A set has one frame since a base, of so many nodes.
 #[tactic(auto, using(crate::proofs::OneFrameOfASet::one_frame))]
 pub fn a_set_has_one_frame()
-    ensures { (S : List Fact) (base : List ℕ) (a b : Frame) → length a.front ≡ length b.front → IsFrame S base a → IsFrame S base b → a ≡ b }
+    ensures { (S : List Fact) (base : List ℕ) (a b : Frame) →
+        length a.front ≡ length b.front → IsFrame S base a → IsFrame S base b → a ≡ b }
 {}
 
 /// A set that a front counts has a view with that front.
 pub fn a_set_has_a_view()
-    ensures { (S : List Fact) (front : List ℕ) → IsCounted S front → (view : View) × (view.front ≡ front) × StandsFor S view }
+    ensures { (S : List Fact) (front : List ℕ) →
+        IsCounted S front → (view : View) × (view.front ≡ front) × StandsFor S view }
 {}
 
 /// Where a base counts nothing that a closed set lacks, that set lacks nothing that the frame of another since the base leaves
 /// out: no purge of a home whose live list is left out, and no fact about an LRA whose record is.
 pub fn a_base_below_leaves_out_nothing()
-    ensures purges { (h : History) (v w base : List ℕ) (home : ℕ) (f : Fact) (a : Id) → IsLawful h → IsClosed h v → IsClosed h w →
+    ensures purges { (h : History) (v w base : List ℕ) (home : ℕ) (f : Fact) (a : Id) →
+        IsLawful h → IsClosed h v → IsClosed h w →
         IsBelow base v → nat_lt (count base home) (purge_number (facts h w) home) ≡ false →
         In f (facts h w) → is_purge a f.body ≡ true → a.home ≡ home → In f (facts h v) }
-    ensures facts { (h : History) (v w base : List ℕ) (l : Id) (f : Fact) → IsLawful h → IsClosed h v → IsClosed h w →
-        IsBelow base v → has_news (facts h w) base l ≡ false →
+    ensures facts { (h : History) (v w base : List ℕ) (l : Id) (f : Fact) → IsLawful h →
+        IsClosed h v → IsClosed h w → IsBelow base v → has_news (facts h w) base l ≡ false →
         In f (facts h w) → is_about l f ≡ true → In f (facts h v) }
 {}
 
 /// A view of a closed set that takes the frame of another since a base below its front is the view of the sets' union, and
 /// there is such a view, with the shape. It is what comes of merging the other's view too.
 pub fn a_taken_frame_is_the_union()
-    ensures view { (h : History) (v w base : List ℕ) (a c : View) (frame : Frame) → IsLawful h → IsClosed h v → IsClosed h w →
-        StandsFor (facts h v) a → IsFrame (facts h w) base frame → IsBelow base a.front → IsTaken a frame c →
-        StandsFor (facts h (join_fronts v w)) c }
-    ensures some { (h : History) (v w base : List ℕ) (a : View) (frame : Frame) → IsLawful h → IsClosed h v → IsClosed h w →
-        StandsFor (facts h v) a → IsFrame (facts h w) base frame → length a.front ≡ length frame.front → IsBelow base a.front →
-        (c : View) × IsTaken a frame c × HasShape c }
-    ensures merge { (h : History) (v w base : List ℕ) (a b : View) → IsLawful h → IsClosed h v → IsClosed h w →
-        StandsFor (facts h v) a → StandsFor (facts h w) b → length a.front ≡ length b.front → IsBelow base a.front →
-        IsTaken a (frame_of b base) (merged a b) }
+    ensures view { (h : History) (v w base : List ℕ) (a c : View) (frame : Frame) → IsLawful h →
+        IsClosed h v → IsClosed h w → StandsFor (facts h v) a → IsFrame (facts h w) base frame →
+        IsBelow base a.front → IsTaken a frame c → StandsFor (facts h (join_fronts v w)) c }
+    ensures some { (h : History) (v w base : List ℕ) (a : View) (frame : Frame) →
+        IsLawful h → IsClosed h v → IsClosed h w → StandsFor (facts h v) a →
+        IsFrame (facts h w) base frame → length a.front ≡ length frame.front →
+        IsBelow base a.front → (c : View) × IsTaken a frame c × HasShape c }
+    ensures merge { (h : History) (v w base : List ℕ) (a b : View) → IsLawful h → IsClosed h v →
+        IsClosed h w → StandsFor (facts h v) a → StandsFor (facts h w) b → length a.front
+        ≡ length b.front → IsBelow base a.front → IsTaken a (frame_of b base) (merged a b) }
 {}
 
 /// The frames of the views of closed sets of a lawful history keep the rules of the frame grammar.
 #[tactic(auto, using(crate::proofs::Grammar::grammar_law))]
 pub fn frames_of_a_history_keep_the_rules()
-    ensures { (h : History) (w base : List ℕ) (view : View) → IsLawful h → IsClosed h w → StandsFor (facts h w) view →
-        length base ≡ length view.front → IsBelow base view.front → IsOfGrammar (frame_of view base) }
+    ensures { (h : History) (w base : List ℕ) (view : View) →
+        IsLawful h → IsClosed h w → StandsFor (facts h w) view → length base ≡ length view.front →
+        IsBelow base view.front → IsOfGrammar (frame_of view base) }
 {}
 
 /// A frame that keeps the rules is no longer than a frame can be, where no link is longer than links can be.
 #[tactic(auto, using(crate::proofs::FrameSizes::frame_most))]
 pub fn frames_are_not_too_long()
-    ensures { (frame : Frame) → IsOfGrammar frame → length frame.front ≤ 8 → IsShort frame → frame_size frame ≤ 67108855 }
+    ensures { (frame : Frame) →
+        IsOfGrammar frame → length frame.front ≤ 8 → IsShort frame → frame_size frame ≤ 67108855 }
 {}
 
 /// What keeps the rules that the frames of nodes of a history keep, and has the types of a delta, keeps the rules of a frame. So
-/// what a node of a lawful history tells has a spelling, which is read as itself again.
-pub fn frames_of_a_history_have_a_spelling()
+/// what a node of a lawful history tells has an encoding, which is read as itself again.
+pub fn frames_of_a_history_have_an_encoding()
     ensures rules { (frame : Frame) → IsTyped frame → IsOfGrammar frame → IsDelta frame }
-    ensures read { (h : History) (w base : List ℕ) (view : View) → IsLawful h → IsClosed h w → StandsFor (facts h w) view →
+    ensures read { (h : History) (w base : List ℕ) (view : View) →
+        IsLawful h → IsClosed h w → StandsFor (facts h w) view →
         length base ≡ length view.front → IsBelow base view.front → IsTyped (frame_of view base) →
-        frame_in (spelling (frame_of view base)) ≡ Ok (frame_of view base) }
+        frame_in (encoding (frame_of view base)) ≡ Ok (frame_of view base) }
 {}
 
-/// What a node of a lawful history keeps of an LRA has a spelling of its own, under its front: it fits there, and what fits and
+/// What a node of a lawful history keeps of an LRA has an encoding of its own, under its front: it fits there, and what fits and
 /// has the types of a record keeps the rules.
-pub fn records_of_a_history_have_a_spelling()
-    ensures fit { (h : History) (w : List ℕ) (view : View) (home : ℕ) (kept : Record) → IsLawful h → IsClosed h w →
+pub fn records_of_a_history_have_an_encoding()
+    ensures fit { (h : History) (w : List ℕ) (view : View) (home : ℕ) (kept : Record) →
+        IsLawful h → IsClosed h w →
         StandsFor (facts h w) view → length view.front ≤ 8 → 1 ≤ home → home ≤ length view.front →
         In kept (records_at view.records home) → KeepsRulesUnder view.front kept }
-    ensures rules { (front : List ℕ) (kept : Record) → IsTypedRecord kept → KeepsRulesUnder front kept → IsRecordUnder front kept }
+    ensures rules { (front : List ℕ) (kept : Record) →
+        IsTypedRecord kept → KeepsRulesUnder front kept → IsRecordUnder front kept }
 {}
 
-/// What keeps the rules of a frame has one spelling, and no prefix of a spelling is another's. So it is of a record under a
+/// What keeps the rules of a frame has one encoding, and no prefix of an encoding is another's. So it is of a record under a
 /// front.
-pub fn one_spelling()
-    ensures frame { (a b : Frame) (x y : List ℕ) → IsDelta a → IsDelta b → spelling a ++ x ≡ spelling b ++ y → (a ≡ b) × (x ≡ y) }
-    ensures one { (front : List ℕ) (a b : Record) (x y : List ℕ) → IsRecordUnder front a → IsRecordUnder front b →
-        record_text a ++ x ≡ record_text b ++ y → (a ≡ b) × (x ≡ y) }
+pub fn one_encoding()
+    ensures frame { (a b : Frame) (x y : List ℕ) →
+        IsDelta a → IsDelta b → encoding a ++ x ≡ encoding b ++ y → (a ≡ b) × (x ≡ y) }
+    ensures one { (front : List ℕ) (a b : Record) (x y : List ℕ) → IsRecordUnder front a →
+        IsRecordUnder front b → record_text a ++ x ≡ record_text b ++ y → (a ≡ b) × (x ≡ y) }
 {}

@@ -4,14 +4,14 @@ ghost use Rattle.lra_forest.specs.declared.record.Record.{Record};
 ghost use Rattle.lra_delta.specs.Answer.{Decodes};
 ghost use Rattle.lra_delta.specs.OneRecord.{KeepsRulesUnder, IsRecordUnder, alone_at, record_in};
 ghost use Rattle.lra_delta.specs.Seen.{Answers};
-ghost use Rattle.lra_delta.specs.Spelling.{record_text};
+ghost use Rattle.lra_delta.specs.Encoding.{record_text};
 
 use crate::buffer::Buffer;
 use crate::bytes::Bytes;
 use crate::input::{Input, Stop};
 use crate::order::Last;
+use crate::record_encoding::put_record;
 use crate::record_fields::record_of;
-use crate::record_spelling::put_record;
 use lra_facts::Refusal;
 use lra_forest::Record;
 use lra_id::Front;
@@ -36,7 +36,7 @@ fn alone_of<I: Input>(alloc: Global, front: &Front, input: &mut I) -> Result<Rec
     Ok(kept)
 }
 
-/// The record that all of the bytes spell.
+/// The record that all of the bytes encode.
 fn alone(alloc: Global, bytes: &[u8], front: &Front) -> Result<Record, Refusal>
     ensures { Decodes result (record_in front.now bytes.now) }
 {
@@ -50,23 +50,26 @@ fn alone(alloc: Global, bytes: &[u8], front: &Front) -> Result<Record, Refusal>
     }
 }
 
-/// The record that all of the bytes spell, with base zero and no live list, under a front. E16 at the place of the first field
+/// The record that all of the bytes encode, with base zero and no live list, under a front. E16 at the place of the first field
 /// that isn't whole or breaks its rule.
 pub fn decode_record(alloc: Global, bytes: &[u8], front: &Front) -> Result<Record, Refusal>
     // Which place it is.
     ensures exact { Decodes result (record_in front.now bytes.now) }
-    // What is read keeps the rules, and is spelled so.
-    ensures found { IfOk result (λ kept. IsRecordUnder front.now kept × (bytes.now ≡ record_text kept)) }
-    // What is spelled so is read, unless memory runs out.
-    ensures only { (kept : Record) → IsRecordUnder front.now kept → bytes.now ≡ record_text kept → Decodes result (Ok kept) }
+    // What is read keeps the rules, and is encoded so.
+    ensures found { IfOk result (λ kept. IsRecordUnder front.now kept
+        × (bytes.now ≡ record_text kept)) }
+    // What is encoded so is read, unless memory runs out.
+    ensures only { (kept : Record) →
+        IsRecordUnder front.now kept → bytes.now ≡ record_text kept → Decodes result (Ok kept) }
 {
     alone(alloc, bytes, front)
 }
 
-/// The bytes that spell a record. Under a front where it fits they are read as itself again.
+/// The bytes that encode a record. Under a front where it fits they are read as itself again.
 pub fn encode_record(alloc: Global, kept: &Record) -> Result<Vec<u8>, AllocError>
     ensures text { IfOk result (λ bytes. bytes.items ≡ record_text kept.now) }
-    ensures rules { (front : List ℕ) → KeepsRulesUnder front kept.now → IsRecordUnder front kept.now }
+    ensures rules { (front : List ℕ) →
+        KeepsRulesUnder front kept.now → IsRecordUnder front kept.now }
 {
     let mut out = Buffer::new(alloc);
     put_record(&mut out, kept);

@@ -71,7 +71,8 @@ fn decision_of<I: Input>(input: &mut I) -> Result<Option<Verdict>, Stop>
 
 #[tactic(auto, unfolding(crate::specs::Reading::text_at))]
 fn given_link_of<I: Input>(alloc: Global, input: &mut I) -> Result<Link, Stop>
-    ensures { Reads (I.seen input.old) (I.seen input.new) (λ x. x) result (text_at is_given_length is_kept) }
+    ensures { Reads (I.seen input.old) (I.seen input.new)
+        (λ x. x) result (text_at is_given_length is_kept) }
 {
     let place = input.place();
     let len = byte(input)?;
@@ -119,7 +120,8 @@ fn outcome_of(mark: u8) -> Option<Outcome>
 
 /// The mark of what was heard of completing: 0 without a link.
 fn completed_of<I: Input>(link: &Option<Link>, input: &mut I) -> Result<u8, Stop>
-    ensures { Reads (I.seen input.old) (I.seen input.new) (λ x. x) result (number_at w8 (is_outcome_for link.now)) }
+    ensures { Reads (I.seen input.old) (I.seen input.new)
+        (λ x. x) result (number_at w8 (is_outcome_for link.now)) }
 {
     let place = input.place();
     let mark = byte(input)?;
@@ -130,7 +132,8 @@ fn completed_of<I: Input>(link: &Option<Link>, input: &mut I) -> Result<u8, Stop
 }
 
 fn compensated_of<I: Input>(input: &mut I) -> Result<u8, Stop>
-    ensures { Reads (I.seen input.old) (I.seen input.new) (λ x. x) result (number_at w8 is_outcome) }
+    ensures { Reads (I.seen input.old) (I.seen input.new)
+        (λ x. x) result (number_at w8 is_outcome) }
 {
     let place = input.place();
     let mark = byte(input)?;
@@ -142,7 +145,8 @@ fn compensated_of<I: Input>(input: &mut I) -> Result<u8, Stop>
 
 /// The mark of being told to forget: 0 without a link.
 fn forgotten_of<I: Input>(link: &Option<Link>, input: &mut I) -> Result<u8, Stop>
-    ensures { Reads (I.seen input.old) (I.seen input.new) (λ x. x) result (number_at w8 (is_mark_for link.now)) }
+    ensures { Reads (I.seen input.old) (I.seen input.new)
+        (λ x. x) result (number_at w8 (is_mark_for link.now)) }
 {
     let place = input.place();
     let mark = byte(input)?;
@@ -216,7 +220,8 @@ fn each_member<I: Input>(
     count: u8,
     input: &mut I,
 ) -> Result<Vec<Member>, Stop>
-    ensures gives { Reads (I.seen input.old) (I.seen input.new) (λ x. x.items) result (each_at (member_at stamp) next_nested count num) }
+    ensures gives { Reads (I.seen input.old) (I.seen input.new)
+        (λ x. x.items) result (each_at (member_at stamp) next_nested count num) }
     ensures count { IfOk result (λ x. length x.items ≡ count) }
 {
     let mut list = Vec::new(alloc);
@@ -248,8 +253,10 @@ fn members_of<I: Input>(alloc: Global, stamp: u64, num: u64, input: &mut I) -> R
 fn each_number<I: Input>(count: u8, input: &mut I) -> Result<Front, Stop>
     requires some { 1 ≤ count }
     requires few { count ≤ 8 }
-    ensures gives { Reads (I.seen input.old) (I.seen input.new) (λ x. x) result (each_at (λ (s : ℕ). whole_at w64) (λ (s x : ℕ). s) count 0) }
-    ensures took { IfOk result (λ _. length (I.seen input.new).taken ≡ length (I.seen input.old).taken + 8 * count) }
+    ensures gives { Reads (I.seen input.old) (I.seen input.new)
+        (λ x. x) result (each_at (λ (s : ℕ). whole_at w64) (λ (s x : ℕ). s) count 0) }
+    ensures took { IfOk result
+        (λ _. length (I.seen input.new).taken ≡ length (I.seen input.old).taken + 8 * count) }
 {
     let mut numbers = [0u64; 8];
     'numbers: for place in 0..count {
@@ -265,7 +272,8 @@ pub(crate) fn many_of<I: Input>(count: u8, input: &mut I) -> Result<Front, Stop>
     requires few { count ≤ 8 }
     ensures gives { Reads (I.seen input.old) (I.seen input.new) (λ x. x) result (many_at count) }
     ensures count { IfOk result (λ x. length x ≡ count) }
-    ensures took { IfOk result (λ _. length (I.seen input.new).taken ≡ length (I.seen input.old).taken + 8 * count) }
+    ensures took { IfOk result
+        (λ _. length (I.seen input.new).taken ≡ length (I.seen input.old).taken + 8 * count) }
 {
     if input.lacks(8 * count as u64) {
         return Err(Stop::Fault(input.place()));
@@ -327,7 +335,8 @@ fn is_number(front: &Front, homes: &[Told], last: Last, home: NodeId, num: u64) 
 
 fn home_of<I: Input>(nodes: usize, last: u8, input: &mut I) -> Result<NodeId, Stop>
     requires { nodes ≤ 8 }
-    ensures gives { Reads (I.seen input.old) (I.seen input.new) (λ x. x) result (number_at w8 (is_home nodes last)) }
+    ensures gives { Reads (I.seen input.old) (I.seen input.new)
+        (λ x. x) result (number_at w8 (is_home nodes last)) }
     ensures rule { IfOk result (λ home. is_home nodes last home ≡ true) }
 {
     let place = input.place();
@@ -348,7 +357,8 @@ fn num_of<I: Input>(
     home: NodeId,
     input: &mut I,
 ) -> Result<u64, Stop>
-    ensures gives { Reads (I.seen input.old) (I.seen input.new) (λ x. x) result (number_at w64 (is_number (told_context [] front.now homes.now) last home)) }
+    ensures gives { Reads (I.seen input.old) (I.seen input.new) (λ x. x) result
+        (number_at w64 (is_number (told_context [] front.now homes.now) last home)) }
     ensures rule { IfOk result (λ num. is_next last home num ≡ true) }
 {
     let place = input.place();
@@ -381,7 +391,8 @@ fn stamps_of<I: Input>(
     num: u64,
     input: &mut I,
 ) -> Result<Front, Stop>
-    ensures { Reads (I.seen input.old) (I.seen input.new) (λ x. x) result (vector_at (length front.now) (are_stamps (told_context base.now front.now []) home num)) }
+    ensures { Reads (I.seen input.old) (I.seen input.new) (λ x. x) result
+        (vector_at (length front.now) (are_stamps (told_context base.now front.now []) home num)) }
 {
     let place = input.place();
     let stamps = many_of(front.nodes() as u8, input)?;
@@ -401,7 +412,8 @@ pub(crate) fn record_of<I: Input>(
     last: Last,
     input: &mut I,
 ) -> Result<Record, Stop>
-    ensures gives { Reads (I.seen input.old) (I.seen input.new) (λ x. x) result (record_at (told_context base.now front.now homes.now) last) }
+    ensures gives { Reads (I.seen input.old) (I.seen input.new)
+        (λ x. x) result (record_at (told_context base.now front.now homes.now) last) }
     ensures follows { IfOk result (λ x. Follows (length front.now) last x) }
 {
     let home = home_of(front.nodes(), last.home, input)?;

@@ -22,7 +22,8 @@ fn same_held(a: &Option<Vec<u64>>, b: &Option<Vec<u64>>) -> bool
 
 fn same_lives(a: &[Told], b: &[Told]) -> bool
     requires { length a.now ≡ length b.now }
-    ensures { result ≡ same_lives (map (λ told. held_numbers told.held) a.now) (map (λ told. held_numbers told.held) b.now) }
+    ensures { result ≡ same_lives
+        (map (λ told. held_numbers told.held) a.now) (map (λ told. held_numbers told.held) b.now) }
 {
     for place in 0..a.len() {
         if !same_held(&a[place].held, &b[place].held) {
@@ -34,7 +35,8 @@ fn same_lives(a: &[Told], b: &[Told]) -> bool
 
 fn same_records(a: &[Told], b: &[Told]) -> bool
     requires { length a.now ≡ length b.now }
-    ensures { result ≡ same_records (map (λ told. told.records.records) a.now) (map (λ told. told.records.records) b.now) }
+    ensures { result ≡ same_records
+        (map (λ told. told.records.records) a.now) (map (λ told. told.records.records) b.now) }
 {
     for place in 0..a.len() {
         if !(a[place].records.records() == b[place].records.records()) {
@@ -45,8 +47,9 @@ fn same_records(a: &[Told], b: &[Told]) -> bool
 }
 
 fn same_homes(a: &[Told], b: &[Told]) -> bool
-    ensures { result ≡ (same_lives (map (λ told. held_numbers told.held) a.now) (map (λ told. held_numbers told.held) b.now)
-        && same_records (map (λ told. told.records.records) a.now) (map (λ told. told.records.records) b.now)) }
+    ensures { result ≡ (same_lives (map (λ told. held_numbers told.held) a.now)
+        (map (λ told. held_numbers told.held) b.now) && same_records
+        (map (λ told. told.records.records) a.now) (map (λ told. told.records.records) b.now)) }
 {
     if a.len() != b.len() {
         return false;

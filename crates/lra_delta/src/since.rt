@@ -42,8 +42,9 @@ fn live_since(
     base: &Front,
     purges: &Front,
 ) -> Result<Option<Vec<u64>>, AllocError>
-    ensures { IfOk result (λ held. held_numbers held ≡ (if nat_lt (count base.now home.now.home) (count purges.now home.now.home)
-        then Some (map (λ (r : Record). r.num) home.now.records) else None)) }
+    ensures { IfOk result (λ held. held_numbers held
+        ≡ (if nat_lt (count base.now home.now.home) (count purges.now home.now.home) then Some
+        (map (λ (r : Record). r.num) home.now.records) else None)) }
 {
     if base.count(home.home()) < purges.count(home.home()) {
         Ok(Some(numbers_of(alloc, home.records())?))
@@ -53,8 +54,8 @@ fn live_since(
 }
 
 fn push_newer(since: &mut Vec<Record>, kept: &Record, base: &Front) -> Result<(), AllocError>
-    ensures { OnOk result (since.new.items ≡
-        (if is_beyond base.now kept.now.stamps then since.old.items ++ kept.now ∷ [] else since.old.items)) }
+    ensures { OnOk result (since.new.items ≡ (if is_beyond
+        base.now kept.now.stamps then since.old.items ++ kept.now ∷ [] else since.old.items)) }
 {
     if is_beyond(base, kept) {
         since.push(kept.clone()?)?;
@@ -64,7 +65,8 @@ fn push_newer(since: &mut Vec<Record>, kept: &Record, base: &Front) -> Result<()
 
 fn records_since(alloc: Global, home: &Forest, base: &Front) -> Result<Forest, AllocError>
     ensures home { IfOk result (λ since. since.home ≡ home.now.home) }
-    ensures records { IfOk result (λ since. since.records ≡ filter (λ r. is_beyond base.now r.stamps) home.now.records) }
+    ensures records { IfOk result
+        (λ since. since.records ≡ filter (λ r. is_beyond base.now r.stamps) home.now.records) }
 {
     let mut since = Vec::new(alloc);
     for record in home.records() {
@@ -94,7 +96,8 @@ fn homes_since(
     base: &Front,
     purges: &Front,
 ) -> Result<Vec<Told>, AllocError>
-    ensures { IfOk result (λ told. map part_of told.items ≡ map (part_since base.now purges.now) homes.now) }
+    ensures { IfOk result
+        (λ told. map part_of told.items ≡ map (part_since base.now purges.now) homes.now) }
 {
     let mut told = Vec::new(alloc);
     for home in homes {
@@ -110,12 +113,15 @@ impl Delta {
     /// those that are told.
     pub fn since(alloc: Global, replica: &Replica, base: &Front) -> Result<Delta, Refusal>
         requires { length base.now ≡ length replica.now.front }
-        ensures frame { IfOk result (λ delta. (delta ≡ frame_of (view_of replica.now) base.now) × IsBelow base.now replica.now.front) }
-        ensures set { (S : List Fact) → StandsFor S (view_of replica.now) → IfOk result (λ delta. IsFrame S base.now delta) }
+        ensures frame { IfOk result (λ delta. (delta ≡ frame_of (view_of replica.now) base.now)
+            × IsBelow base.now replica.now.front) }
+        ensures set { (S : List Fact) →
+            StandsFor S (view_of replica.now) → IfOk result (λ delta. IsFrame S base.now delta) }
         // What a node of a lawful history tells keeps the rules of frames.
-        ensures grammar { (h : History) (w : List ℕ) → IsLawful h → IsClosed h w → StandsFor (facts h w) (view_of replica.now) →
-            IfOk result (λ delta. IsOfGrammar delta) }
-        ensures gap { (IsBelow base.now replica.now.front → ⊥) → result ≡ Err (Gap replica.now.front) }
+        ensures grammar { (h : History) (w : List ℕ) → IsLawful h → IsClosed h w →
+            StandsFor (facts h w) (view_of replica.now) → IfOk result (λ delta. IsOfGrammar delta) }
+        ensures gap { (IsBelow base.now replica.now.front → ⊥) →
+            result ≡ Err (Gap replica.now.front) }
         ensures refused { IfErr result (λ refusal. (refusal ≡ NoMemory) ⊎
             ((refusal ≡ Gap replica.now.front) × (IsBelow base.now replica.now.front → ⊥))) }
     {

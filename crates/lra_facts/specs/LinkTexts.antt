@@ -34,7 +34,7 @@ is_same None text = false
 unfoldable pub is_kept : List ℕ → Bool
 is_kept text = is_utf8 text && is_same (kept_text text) text
 
--- what reading answers, where this is what is kept, if anything: only want of memory is not decided by the texts
+-- what reading answers, where this is what is kept, if anything: only a lack of memory is not decided by the texts
 abbrev pub Reads : {A : Type 0} → Option A → Result A Refusal → Type 0
 Reads kept (Ok x) = kept ≡ Some x
 Reads kept (Err BadText) = kept ≡ None

@@ -25,7 +25,8 @@ impl Model for Link {
 
     ghost view = { λ link. string_bytes link.text };
 
-    ghost invariant = { λ link. (length (string_bytes link.text) ≤ 127) × (kept_text (string_bytes link.text) ≡ Some (string_bytes link.text)) };
+    ghost invariant = { λ link. (length (string_bytes link.text) ≤ 127)
+        × (kept_text (string_bytes link.text) ≡ Some (string_bytes link.text)) };
 }
 
 fn is_link(url: &Url) -> bool

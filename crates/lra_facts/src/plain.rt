@@ -13,7 +13,8 @@ use lra_states::{Act, LraStatus, MemberStatus, Outcome, Verdict};
 
 /// Whether the evaluators may read a list: its facts have numbers, and a nested LRA is begun at its parent's home after it.
 pub fn are_in_order(facts: &[Fact]) -> bool
-    ensures { IsTrue result ↔ (AllByRecursion NamesEarlier facts.now × AllByRecursion IsNumbered facts.now) }
+    ensures { IsTrue result ↔ (AllByRecursion NamesEarlier facts.now
+        × AllByRecursion IsNumbered facts.now) }
 {
     facts
         .iter()

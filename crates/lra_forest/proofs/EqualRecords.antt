@@ -28,52 +28,52 @@ use Rattle.lra_forest.proofs.Bools.{and_left, and_right}
 use Rattle.lra_forest.proofs.Gatherings.{same_record}
 
 -- the test is true of equal ones alone
-abbrev Same : {X : Type 0} → (X → X → Bool) → Type 0
+abbrev pub Same : {X : Type 0} → (X → X → Bool) → Type 0
 Same {X} test = (a b : X) → test a b ≡ true → a ≡ b
 
 -- and of all of them
-abbrev Own : {X : Type 0} → (X → X → Bool) → Type 0
+abbrev pub Own : {X : Type 0} → (X → X → Bool) → Type 0
 Own {X} test = (a : X) → test a a ≡ true
 
 decided : {X : Type 0} (test : X → X → Bool) → Same test → Own test → (a b : X) → Decides (test a b) (a ≡ b)
 decided test same own a b = (same a b, λ e. subst (λ x. test a x ≡ true) e (own a))
 
-all_true : (a b : Bool) → a ≡ true → b ≡ true → (a && b) ≡ true
+pub all_true : (a b : Bool) → a ≡ true → b ≡ true → (a && b) ≡ true
 all_true a b e f = rw (e, f) refl
 
-number_same : (a b : ℕ) → (a == b) ≡ true → a ≡ b
+pub number_same : (a b : ℕ) → (a == b) ≡ true → a ≡ b
 number_same a b e = (Decides-eqb a b).0 e
 
-number_own : (a : ℕ) → (a == a) ≡ true
+pub number_own : (a : ℕ) → (a == a) ≡ true
 number_own a = (Decides-eqb a a).1 refl
 
-text_same : (a b : List ℕ) → bytes_eq a b ≡ true → a ≡ b
+pub text_same : (a b : List ℕ) → bytes_eq a b ≡ true → a ≡ b
 text_same a b e = (bytes_decides a b).0 e
 
-text_own : (a : List ℕ) → bytes_eq a a ≡ true
+pub text_own : (a : List ℕ) → bytes_eq a a ≡ true
 text_own a = (bytes_decides a a).1 refl
 
-option_same : {X : Type 0} (test : X → X → Bool) → Same test → Same (option_eq test)
+pub option_same : {X : Type 0} (test : X → X → Bool) → Same test → Same (option_eq test)
 option_same test same None None e = refl
 option_same test same None (Some b) e = absurd cc
 option_same test same (Some a) None e = absurd cc
 option_same test same (Some a) (Some b) e = ap (λ x. Some x) (same a b e)
 
-option_own : {X : Type 0} (test : X → X → Bool) → Own test → Own (option_eq test)
+pub option_own : {X : Type 0} (test : X → X → Bool) → Own test → Own (option_eq test)
 option_own test own None = refl
 option_own test own (Some a) = own a
 
-bool_same : Same beq
+pub bool_same : Same beq
 bool_same true true e = refl
 bool_same false false e = refl
 bool_same true false e = absurd cc
 bool_same false true e = absurd cc
 
-bool_own : Own beq
+pub bool_own : Own beq
 bool_own true = refl
 bool_own false = refl
 
-verdict_same : Same of_verdicts.ghosts.eq
+pub verdict_same : Same of_verdicts.ghosts.eq
 verdict_same Close Close e = refl
 verdict_same Cancel Cancel e = refl
 verdict_same Close Cancel e = absurd cc
@@ -83,7 +83,7 @@ verdict_own : Own of_verdicts.ghosts.eq
 verdict_own Close = refl
 verdict_own Cancel = refl
 
-outcome_same : Same of_outcomes.ghosts.eq
+pub outcome_same : Same of_outcomes.ghosts.eq
 outcome_same Busy Busy e = refl
 outcome_same Done Done e = refl
 outcome_same Failed Failed e = refl
@@ -139,7 +139,7 @@ place_own a = place_is a a ∙ all_true (a.number == a.number) (a.slot == a.slot
 links_is : (a b : Links) → of_links.ghosts.eq a b ≡ (option_eq bytes_eq a.complete b.complete && (bytes_eq a.compensate b.compensate && (option_eq bytes_eq a.status b.status && option_eq bytes_eq a.forget b.forget)))
 links_is a b = refl
 
-links_same : Same of_links.ghosts.eq
+pub links_same : Same of_links.ghosts.eq
 links_same a b e =
     let is = sym (links_is a b) ∙ e in
     let second = and_right (option_eq bytes_eq a.complete b.complete) _ is in
@@ -154,7 +154,7 @@ links_same a b e =
     ∙ ap (λ (x : Option (List ℕ)). record { complete = b.complete; compensate = b.compensate; status = x; forget = a.forget }) status
     ∙ ap (λ (x : Option (List ℕ)). record { complete = b.complete; compensate = b.compensate; status = b.status; forget = x }) forget
 
-links_own : Own of_links.ghosts.eq
+pub links_own : Own of_links.ghosts.eq
 links_own a =
     let given = option_own bytes_eq text_own in
     links_is a a

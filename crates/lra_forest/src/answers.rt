@@ -57,8 +57,9 @@ fn is_past(deadline: u64, now: u64) -> bool
 
 impl Forest {
     fn if_overdue(&self, kept: &Record, now: u64) -> Option<LraId>
-        ensures { let at = found_at self.now.home self.now.records in
-            result ≡ (if is_overdue_at at now kept.now then Some (record { home = self.now.home; num = kept.now.num }) else None) }
+        ensures { let at = found_at self.now.home self.now.records
+            in result ≡ (if is_overdue_at at now kept.now then Some
+            (record { home = self.now.home; num = kept.now.num }) else None) }
     {
         if !is_past(kept.deadline, now) {
             return None;
@@ -70,7 +71,8 @@ impl Forest {
     }
 
     fn first_overdue(&self, now: u64) -> Option<LraId>
-        ensures value { result ≡ first_overdue self.now.home (found_at self.now.home self.now.records) now self.now.records }
+        ensures value { result ≡ first_overdue self.now.home
+            (found_at self.now.home self.now.records) now self.now.records }
         ensures order { AreOf self.now.home self.now.records }
     {
         let records = self.records();
@@ -85,9 +87,11 @@ impl Forest {
     /// Of the LRAs of the home that want nothing and whose deadline has passed, the one with the least number. It looks at
     /// each record once, and where a deadline has passed at those of the LRAs that it is nested in.
     pub fn overdue(&self, now: u64) -> Option<LraId>
-        ensures says { result ≡ first_overdue self.now.home (found_at self.now.home self.now.records) now self.now.records }
-        ensures answer { (nodes : ℕ) (S : List Fact) → IsWhole S → IsNested S → AllByRecursion IsNumbered S →
-            Stands nodes self.now.home S self.now.records → IsLeastOverdue S self.now.home now result }
+        ensures says { result ≡ first_overdue self.now.home
+            (found_at self.now.home self.now.records) now self.now.records }
+        ensures answer { (nodes : ℕ) (S : List Fact) → IsWhole S → IsNested S →
+            AllByRecursion IsNumbered S → Stands nodes self.now.home S self.now.records →
+            IsLeastOverdue S self.now.home now result }
     {
         self.first_overdue(now)
     }
@@ -112,8 +116,10 @@ impl Forest {
 
     /// How deep an LRA is nested, where a root has depth 1. It looks up the record of each that it is nested in.
     pub fn depth(&self, id: LraId) -> Result<u64, Refusal>
-        ensures says { let at = found_at id.home self.now.records in result ≡ answered (is_some (at id.num)) (depth_at at id.num) }
-        ensures answer { (nodes : ℕ) (S : List Fact) → IsWhole S → IsNested S → Stands nodes id.home S self.now.records →
+        ensures says { let at = found_at id.home self.now.records
+            in result ≡ answered (is_some (at id.num)) (depth_at at id.num) }
+        ensures answer { (nodes : ℕ) (S : List Fact) →
+            IsWhole S → IsNested S → Stands nodes id.home S self.now.records →
             result ≡ answered (is_held S id) (depth S id) }
         ensures refused { result ≡ Err NotHeld ↔ (find (is_of id) self.now.records ≡ None) }
     {
@@ -125,8 +131,10 @@ impl Forest {
 
     /// How many member numbers of an LRA were given.
     pub fn numbers_given(&self, id: LraId) -> Result<usize, Refusal>
-        ensures says { let at = found_at id.home self.now.records in result ≡ answered (is_some (at id.num)) (length (members_at at id.num)) }
-        ensures answer { (nodes : ℕ) (S : List Fact) → IsWhole S → Stands nodes id.home S self.now.records →
+        ensures says { let at = found_at id.home self.now.records
+            in result ≡ answered (is_some (at id.num)) (length (members_at at id.num)) }
+        ensures answer { (nodes : ℕ) (S : List Fact) →
+            IsWhole S → Stands nodes id.home S self.now.records →
             result ≡ answered (is_held S id) (numbers_given S id) }
         ensures refused { result ≡ Err NotHeld ↔ (find (is_of id) self.now.records ≡ None) }
     {
@@ -139,10 +147,12 @@ impl Forest {
     /// Whether what an LRA wants demands an act of its participant with this member number. It looks up the records of the
     /// LRA and of those that it is nested in.
     pub fn demands(&self, id: LraId, member: u8, act: Act) -> Result<bool, Refusal>
-        ensures says { let at = found_at id.home self.now.records in
-            result ≡ answered_of (is_some (at id.num)) (is_some (participant_of at id.num member)) (is_demanded_at at id.num member act) }
-        ensures answer { (nodes : ℕ) (S : List Fact) → IsWhole S → IsNested S → IsSeated S → Stands nodes id.home S self.now.records →
-            result ≡ answered_of (is_held S id) (is_participant S id member) (is_demanded S id member act) }
+        ensures says { let at = found_at id.home self.now.records
+            in result ≡ answered_of (is_some (at id.num))
+            (is_some (participant_of at id.num member)) (is_demanded_at at id.num member act) }
+        ensures answer { (nodes : ℕ) (S : List Fact) → IsWhole S →
+            IsNested S → IsSeated S → Stands nodes id.home S self.now.records → result ≡ answered_of
+            (is_held S id) (is_participant S id member) (is_demanded S id member act) }
         ensures refused { result ≡ Err NotHeld ↔ (find (is_of id) self.now.records ≡ None) }
     {
         let Some(record) = self.get(id) else {
@@ -162,10 +172,12 @@ impl Forest {
         act: Act,
         outcome: Outcome,
     ) -> Result<bool, Refusal>
-        ensures says { let at = found_at id.home self.now.records in
-            result ≡ answered_of (is_some (at id.num)) (is_some (participant_of at id.num member)) (is_heard_at at id.num member act outcome) }
-        ensures answer { (nodes : ℕ) (S : List Fact) → IsWhole S → IsSeated S → Stands nodes id.home S self.now.records →
-            result ≡ answered_of (is_held S id) (is_participant S id member) (is_heard S id member act outcome) }
+        ensures says { let at = found_at id.home self.now.records
+            in result ≡ answered_of (is_some (at id.num))
+            (is_some (participant_of at id.num member)) (is_heard_at at id.num member act outcome) }
+        ensures answer { (nodes : ℕ) (S : List Fact) →
+            IsWhole S → IsSeated S → Stands nodes id.home S self.now.records → result ≡ answered_of
+            (is_held S id) (is_participant S id member) (is_heard S id member act outcome) }
         ensures refused { result ≡ Err NotHeld ↔ (find (is_of id) self.now.records ≡ None) }
     {
         let Some(record) = self.get(id) else {
@@ -179,8 +191,10 @@ impl Forest {
 
     /// The participant of an LRA with this member number, if the LRA is held and has one.
     pub fn participant(&self, id: LraId, member: u8) -> Option<&Participant>
-        ensures says { option_copied result ≡ participant_of (found_at id.home self.now.records) id.num member }
-        ensures settled { (nodes : ℕ) (S : List Fact) → IsSeated S → Stands nodes id.home S self.now.records →
+        ensures says { option_copied result
+            ≡ participant_of (found_at id.home self.now.records) id.num member }
+        ensures settled { (nodes : ℕ) (S : List Fact) →
+            IsSeated S → Stands nodes id.home S self.now.records →
             option_copied result ≡ participant_held S id member }
     {
         let Some(record) = self.get(id) else {
@@ -192,8 +206,8 @@ impl Forest {
     /// The parent of an LRA, if the LRA is held and nested.
     pub fn parent(&self, id: LraId) -> Option<LraId>
         ensures says { result ≡ parent_at id.home (found_at id.home self.now.records) id.num }
-        ensures settled { (nodes : ℕ) (S : List Fact) → IsWhole S → AllByRecursion IsNumbered S → Stands nodes id.home S self.now.records →
-            result ≡ parent_held S id }
+        ensures settled { (nodes : ℕ) (S : List Fact) → IsWhole S → AllByRecursion IsNumbered S →
+            Stands nodes id.home S self.now.records → result ≡ parent_held S id }
     {
         let Some(record) = self.get(id) else {
             return None;

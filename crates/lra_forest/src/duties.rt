@@ -148,7 +148,8 @@ fn first_owed(owing: Owing, lra: LraId, members: &Members) -> Option<Due>
 impl Forest {
     #[cycle(walk)]
     fn pending_in(&self, number: u64, slot: u8, member: &Member, levels: u8) -> Option<Place>
-        ensures { result ≡ pending_within levels (found_at self.now.home self.now.records) number slot member.now }
+        ensures { result ≡ pending_within levels
+            (found_at self.now.home self.now.records) number slot member.now }
     {
         match member {
             Member::Nested(child) => {
@@ -175,7 +176,8 @@ impl Forest {
     /// It goes from the greatest member number down.
     #[cycle(walk)]
     fn last_pending(&self, number: u64, members: &Members, levels: u8) -> Option<Place>
-        ensures { result ≡ last_of (pending_within levels (found_at self.now.home self.now.records) number) 1 members.now }
+        ensures { result ≡ last_of
+            (pending_within levels (found_at self.now.home self.now.records) number) 1 members.now }
     {
         let members = members.as_slice();
         let mut left = members.len();
@@ -202,7 +204,8 @@ impl Forest {
     }
 
     fn compensation_under(&self, kept: &Record) -> Option<Due>
-        ensures { result ≡ compensation_at self.now.home (found_at self.now.home self.now.records) kept.now }
+        ensures { result
+            ≡ compensation_at self.now.home (found_at self.now.home self.now.records) kept.now }
     {
         if !self.is_topmost_cancelled(kept) {
             return None;
@@ -222,10 +225,12 @@ impl Forest {
     /// The compensations that are due: under each LRA that is cancelled, and that is nested in no cancelled one, at most one,
     /// by the number of that LRA. It looks up the records under these LRAs, each at most once.
     pub fn next_compensations(&self, alloc: Global) -> Result<Vec<Due>, AllocError>
-        ensures says { IfOk result (λ dues. dues.items ≡ due_to_compensate self.now.home (found_at self.now.home self.now.records) self.now.records) }
-        ensures settled { (nodes : ℕ) (S : List Fact) → IsWhole S → IsSeated S → IsNested S → AllByRecursion IsNumbered S →
-            Stands nodes self.now.home S self.now.records →
-            IfOk result (λ dues. AreAll (IsDueAt self.now.home S is_compensation_due) (is_topmost_before S) dues.items) }
+        ensures says { IfOk result (λ dues. dues.items ≡ due_to_compensate self.now.home
+            (found_at self.now.home self.now.records) self.now.records) }
+        ensures settled { (nodes : ℕ) (S : List Fact) →
+            IsWhole S → IsSeated S → IsNested S → AllByRecursion IsNumbered S →
+            Stands nodes self.now.home S self.now.records → IfOk result (λ dues.
+            AreAll (IsDueAt self.now.home S is_compensation_due) (is_topmost_before S) dues.items) }
     {
         let mut dues = Vec::new(alloc);
         let records = self.records();
@@ -269,7 +274,8 @@ impl Forest {
     }
 
     fn root_of(&self, num: u64) -> Option<u64>
-        ensures { let at = found_at self.now.home self.now.records in is_over_at at num ≡ option_map_or (is_ended_at at) result false }
+        ensures { let at = found_at self.now.home self.now.records
+            in is_over_at at num ≡ option_map_or (is_ended_at at) result false }
     {
         let mut at = num;
         for _ in 0..MAX_DEPTH {
@@ -324,8 +330,8 @@ impl Forest {
     /// not asked whether it is ended.
     fn forgetting_since(&self, lra: LraId, kept: &Record, last: &mut Option<LastRoot>) -> Owing
         requires { IsLastRoot (found_at self.now.home self.now.records) last.old }
-        ensures owed { owed_by result lra 1 kept.now.members
-            ≡ owed_by (owing_at Errand.Forget (found_at self.now.home self.now.records) kept.now) lra 1 kept.now.members }
+        ensures owed { owed_by result lra 1 kept.now.members ≡ owed_by (owing_at Errand.Forget
+            (found_at self.now.home self.now.records) kept.now) lra 1 kept.now.members }
         ensures last { IsLastRoot (found_at self.now.home self.now.records) last.new }
     {
         let owing = self.forgetting(kept);
@@ -346,8 +352,8 @@ impl Forest {
         last: &mut Option<LastRoot>,
     ) -> Owing
         requires { IsLastRoot (found_at self.now.home self.now.records) last.old }
-        ensures owed { owed_by result lra 1 kept.now.members
-            ≡ owed_by (owing_at errand (found_at self.now.home self.now.records) kept.now) lra 1 kept.now.members }
+        ensures owed { owed_by result lra 1 kept.now.members ≡ owed_by (owing_at errand
+            (found_at self.now.home self.now.records) kept.now) lra 1 kept.now.members }
         ensures last { IsLastRoot (found_at self.now.home self.now.records) last.new }
     {
         match errand {
@@ -357,8 +363,8 @@ impl Forest {
     }
 
     fn duties(&self, alloc: Global, errand: Errand) -> Result<Vec<Due>, AllocError>
-        ensures owed { IfOk result (λ dues. dues.items
-            ≡ flat_map (owed_of errand self.now.home (found_at self.now.home self.now.records)) self.now.records) }
+        ensures owed { IfOk result (λ dues. dues.items ≡ flat_map (owed_of errand self.now.home
+            (found_at self.now.home self.now.records)) self.now.records) }
         ensures order { AreOf self.now.home self.now.records }
     {
         let mut dues = Vec::new(alloc);
@@ -376,28 +382,33 @@ impl Forest {
 
     /// The participants that are to be called to complete, by the numbers of their LRAs and their member numbers.
     pub fn complete_duties(&self, alloc: Global) -> Result<Vec<Due>, AllocError>
-        ensures says { IfOk result (λ dues. dues.items ≡ due_to_complete (found_at self.now.home self.now.records) self.now.records) }
-        ensures settled { (nodes : ℕ) (S : List Fact) → IsWhole S → IsSeated S → IsNested S → AllByRecursion IsNumbered S →
-            Stands nodes self.now.home S self.now.records →
-            IfOk result (λ dues. AreAll (IsDueAt self.now.home S is_complete_duty) is_before dues.items) }
+        ensures says { IfOk result (λ dues. dues.items
+            ≡ due_to_complete (found_at self.now.home self.now.records) self.now.records) }
+        ensures settled { (nodes : ℕ) (S : List Fact) →
+            IsWhole S → IsSeated S → IsNested S → AllByRecursion IsNumbered S →
+            Stands nodes self.now.home S self.now.records → IfOk result
+            (λ dues. AreAll (IsDueAt self.now.home S is_complete_duty) is_before dues.items) }
     {
         self.duties(alloc, Errand::Complete)
     }
 
     /// The participants that are to be told that they may forget, by the numbers of their LRAs and their member numbers.
     pub fn forget_duties(&self, alloc: Global) -> Result<Vec<Due>, AllocError>
-        ensures says { IfOk result (λ dues. dues.items ≡ due_to_forget (found_at self.now.home self.now.records) self.now.records) }
-        ensures settled { (nodes : ℕ) (S : List Fact) → IsWhole S → IsSeated S → IsNested S → AllByRecursion IsNumbered S →
-            Stands nodes self.now.home S self.now.records →
-            IfOk result (λ dues. AreAll (IsDueAt self.now.home S is_forget_duty) is_before dues.items) }
+        ensures says { IfOk result (λ dues. dues.items
+            ≡ due_to_forget (found_at self.now.home self.now.records) self.now.records) }
+        ensures settled { (nodes : ℕ) (S : List Fact) →
+            IsWhole S → IsSeated S → IsNested S → AllByRecursion IsNumbered S →
+            Stands nodes self.now.home S self.now.records → IfOk result
+            (λ dues. AreAll (IsDueAt self.now.home S is_forget_duty) is_before dues.items) }
     {
         self.duties(alloc, Errand::Forget)
     }
 
     /// Whether the participant of an LRA with this member number is to be told that it may forget.
     pub fn is_to_forget(&self, id: LraId, member: u8) -> Result<bool, Refusal>
-        ensures says { let at = found_at id.home self.now.records in
-            result ≡ answered_of (is_some (at id.num)) (is_some (participant_of at id.num member)) (is_owed_at at id.num member) }
+        ensures says { let at = found_at id.home self.now.records
+            in result ≡ answered_of (is_some (at id.num))
+            (is_some (participant_of at id.num member)) (is_owed_at at id.num member) }
         ensures refused { result ≡ Err NotHeld ↔ (find (is_of id) self.now.records ≡ None) }
     {
         let Some(record) = self.get(id) else {
@@ -414,8 +425,9 @@ impl Forest {
 
     /// Whether the participant of an LRA with this member number was told that it may forget.
     pub fn has_forgotten(&self, id: LraId, member: u8) -> Result<bool, Refusal>
-        ensures says { let at = found_at id.home self.now.records in
-            result ≡ answered_of (is_some (at id.num)) (is_some (participant_of at id.num member)) (is_forgot_at at id.num member) }
+        ensures says { let at = found_at id.home self.now.records
+            in result ≡ answered_of (is_some (at id.num))
+            (is_some (participant_of at id.num member)) (is_forgot_at at id.num member) }
         ensures refused { result ≡ Err NotHeld ↔ (find (is_of id) self.now.records ≡ None) }
     {
         let Some(record) = self.get(id) else {
@@ -434,7 +446,8 @@ impl Forest {
         last: &mut Option<LastRoot>,
     ) -> Option<Due>
         requires { IsLastRoot (found_at self.now.home self.now.records) last.old }
-        ensures due { result ≡ owed_below (found_at self.now.home self.now.records) above.num kept.now }
+        ensures due { result
+            ≡ owed_below (found_at self.now.home self.now.records) above.num kept.now }
         ensures last { IsLastRoot (found_at self.now.home self.now.records) last.new }
     {
         if !self.is_under(above.num(), kept.num) {
@@ -449,7 +462,8 @@ impl Forest {
     /// Of the participants of an LRA of this home and of what is nested in it, the least that is still to be told to forget.
     /// The root is asked at most once whether it is ended.
     pub fn least_forget_duty(&self, above: LraId) -> Option<Due>
-        ensures { result ≡ least_owed_of (found_at self.now.home self.now.records) above.num self.now.records }
+        ensures { result
+            ≡ least_owed_of (found_at self.now.home self.now.records) above.num self.now.records }
     {
         let mut last = None;
         let records = self.records();

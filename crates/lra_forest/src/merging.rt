@@ -130,8 +130,8 @@ impl Told {
 
     /// The LRA of this record, if the other has no record of it and holds it no more. The other has this many of the home's facts.
     fn gone(&self, told: u64, own: &Record) -> Option<LraId>
-        ensures { result ≡ (if is_lost self.now.records.home told (held_numbers self.now.held) self.now.records.records own.now
-            then Some (id_of own.now) else None) }
+        ensures { result ≡ (if is_lost self.now.records.home told (held_numbers self.now.held)
+            self.now.records.records own.now then Some (id_of own.now) else None) }
     {
         let num = own.num;
         if num > told || self.records.numbered(num).is_some() || !self.is_unlisted(num) {
@@ -147,8 +147,8 @@ fn all_gone(
     told: u64,
     other: &Told,
 ) -> Result<Vec<LraId>, AllocError>
-    ensures { IfOk result (λ removed. removed.items
-        ≡ ids_lost other.now.records.home told (held_numbers other.now.held) other.now.records.records own.now) }
+    ensures { IfOk result (λ removed. removed.items ≡ ids_lost other.now.records.home told
+        (held_numbers other.now.held) other.now.records.records own.now) }
 {
     let mut removed = Vec::new(alloc);
     for record in own {
@@ -187,10 +187,12 @@ impl Forest {
         requires missing { found_at self.now.home records.old.records heard.num ≡ None }
         ensures home { OnOk result (records.new.home ≡ self.now.home) }
         ensures order { OnOk result (AreOf self.now.home records.new.records) }
-        ensures put { OnOk result (let own = found_at self.now.home self.now.records heard.num in
-            IsPut own (brought (nat_le heard.num mine) own (Some heard)) (found_at self.now.home records.new.records heard.num)) }
-        ensures others { OnOk result ((num : ℕ) → (heard.num == num) ≡ false →
-            found_at self.now.home records.new.records num ≡ found_at self.now.home records.old.records num) }
+        ensures put { OnOk result (let own = found_at self.now.home self.now.records heard.num
+            in IsPut own (brought (nat_le heard.num mine) own (Some heard))
+            (found_at self.now.home records.new.records heard.num)) }
+        ensures others { OnOk result ((num : ℕ) →
+            (heard.num == num) ≡ false → found_at self.now.home records.new.records num
+            ≡ found_at self.now.home records.old.records num) }
     {
         if let Some(next) = self.news(mine, heard)? {
             records.reserve(1)?;
@@ -205,8 +207,10 @@ impl Forest {
         requires order { AreOf self.now.home other.records }
         ensures home { IfOk result (λ records. records.home ≡ self.now.home) }
         ensures order { IfOk result (λ records. AreOf self.now.home records.records) }
-        ensures put { IfOk result (λ records. (num : ℕ) → let own = found_at self.now.home self.now.records num in
-            IsPut own (brought (nat_le num mine) own (found_at self.now.home other.records num)) (found_at self.now.home records.records num)) }
+        ensures put { IfOk result (λ records. (num : ℕ) →
+            let own = found_at self.now.home self.now.records num
+            in IsPut own (brought (nat_le num mine) own (found_at self.now.home other.records num))
+            (found_at self.now.home records.records num)) }
     {
         let mut records = Forest::new(alloc, self.home());
         for heard in other.into_records() {
@@ -231,14 +235,15 @@ impl Forest {
     ) -> Result<Changes, AllocError>
         requires { other.records.home ≡ self.now.home }
         ensures home { IfOk result (λ changes. changes.records.home ≡ self.now.home) }
-        ensures only { IfOk result (λ changes.
-            AreOnlyChanges self.now.home self.now.records changes.removed.items changes.records.records) }
-        ensures order { IfOk result (λ changes.
-            AreOf self.now.home (changed_by changes.removed.items changes.records.records self.now.records)) }
-        ensures taken { IfOk result (λ changes. (num : ℕ) →
-            found_at self.now.home (changed_by changes.removed.items changes.records.records self.now.records) num
+        ensures only { IfOk result (λ changes. AreOnlyChanges
+            self.now.home self.now.records changes.removed.items changes.records.records) }
+        ensures order { IfOk result (λ changes. AreOf self.now.home
+            (changed_by changes.removed.items changes.records.records self.now.records)) }
+        ensures taken { IfOk result (λ changes. (num : ℕ) → found_at self.now.home
+            (changed_by changes.removed.items changes.records.records self.now.records) num
             ≡ absorbed (nat_le num mine) (is_gone told (held_numbers other.held) num)
-            (found_at self.now.home self.now.records num) (found_at self.now.home other.records.records num)) }
+            (found_at self.now.home self.now.records num)
+            (found_at self.now.home other.records.records num)) }
     {
         // What these ensure is needed: both are in order.
         let own = self.records();

@@ -14,7 +14,8 @@ use std::alloc::{AllocError, Global};
 impl Forest {
     /// Whether an LRA is a root, and not nested in another.
     pub fn is_root(&self, id: LraId) -> Result<bool, Refusal>
-        ensures says { let at = found_at id.home self.now.records in result ≡ answered (is_some (at id.num)) (is_root_at at id.num) }
+        ensures says { let at = found_at id.home self.now.records
+            in result ≡ answered (is_some (at id.num)) (is_root_at at id.num) }
         ensures refused { result ≡ Err NotHeld ↔ (find (is_of id) self.now.records ≡ None) }
     {
         let Some(record) = self.get(id) else {
@@ -24,7 +25,8 @@ impl Forest {
     }
 
     fn if_under(&self, above: LraId, kept: &Record) -> Option<LraId>
-        ensures { result ≡ (if is_below (found_at self.now.home self.now.records) above.num kept.now then Some (id_of kept.now) else None) }
+        ensures { result ≡ (if is_below (found_at self.now.home self.now.records)
+            above.num kept.now then Some (id_of kept.now) else None) }
     {
         if !self.is_under(above.num(), kept.num) {
             return None;
@@ -35,7 +37,8 @@ impl Forest {
     /// An LRA of this home and all that is nested in it, by number. It looks at each of the home's records once, and climbs
     /// from it.
     pub fn tree(&self, alloc: Global, above: LraId) -> Result<Vec<LraId>, AllocError>
-        ensures { IfOk result (λ ids. ids.items ≡ ids_below (found_at self.now.home self.now.records) above.num self.now.records) }
+        ensures { IfOk result (λ ids. ids.items
+            ≡ ids_below (found_at self.now.home self.now.records) above.num self.now.records) }
     {
         let mut ids = Vec::new(alloc);
         let records = self.records();

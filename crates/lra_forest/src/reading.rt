@@ -64,7 +64,8 @@ fn member_number(facts: &[Fact], id: LraId, num: u64) -> u8
 }
 
 fn place(facts: &[Fact], id: LraId) -> Option<Place>
-    ensures { ((p : Id) → member_number facts.now p id.num < 2 ^ 8) → result ≡ place_in facts.now id.num (parent_of facts.now id) }
+    ensures { ((p : Id) → member_number facts.now p id.num < 2 ^ 8) →
+        result ≡ place_in facts.now id.num (parent_of facts.now id) }
 {
     let parent = plain::parent(facts, id)?;
     Some(Place {
@@ -101,7 +102,8 @@ fn names(id: LraId, fact: &Fact) -> bool
 
 /// The number of a fact of a node about an LRA, else 0.
 fn number_about(id: LraId, node: NodeId, fact: &Fact) -> u64
-    ensures { result ≡ (if (fact.now.origin == node) && is_about id fact.now then fact.now.num else 0) }
+    ensures { result
+        ≡ (if (fact.now.origin == node) && is_about id fact.now then fact.now.num else 0) }
 {
     if fact.origin == node && (plain::begins_lra(id, fact) || names(id, fact)) {
         fact.num
@@ -246,7 +248,8 @@ pub fn record_of(
     requires few { nodes ≤ 8 }
     requires numbered { AllByRecursion IsNumbered facts.now }
     ensures home { IfOk result (λ entry. entry.home ≡ id.home) }
-    ensures entry { IsRecordable facts.now → IfOk result (λ entry. entry ≡ record_of nodes facts.now id) }
+    ensures entry { IsRecordable facts.now →
+        IfOk result (λ entry. entry ≡ record_of nodes facts.now id) }
 {
     Ok(Record {
         home: id.home(),
@@ -269,7 +272,8 @@ fn is_begin(fact: &Fact) -> bool
 pub fn held_begin(facts: &[Fact], home: NodeId, fact: &Fact) -> Option<LraId>
     requires earlier { AllByRecursion NamesEarlier facts.now }
     requires numbered { IsNumbered fact.now }
-    ensures { result ≡ (if begins_held facts.now home fact.now then Some (begun_by fact.now) else None) }
+    ensures { result
+        ≡ (if begins_held facts.now home fact.now then Some (begun_by fact.now) else None) }
 {
     let Ok(id) = LraId::new(fact.origin, fact.num) else {
         return None;

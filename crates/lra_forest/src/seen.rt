@@ -56,7 +56,8 @@ impl Seen {
 
     /// The status of an LRA that wants this, and under which this is seen.
     pub fn shown(self, want: Option<Verdict>) -> LraStatus
-        ensures { result ≡ shown want (is_some want && not self.unsettled) self.incomplete self.uncompensated }
+        ensures { result
+            ≡ shown want (is_some want && not self.unsettled) self.incomplete self.uncompensated }
     {
         plain::shown_status(want, self.unsettled, self.incomplete, self.uncompensated)
     }

@@ -30,7 +30,8 @@ impl Forest {
     /// The record of the LRA with this number, if it is none of those that are removed. It is looked up by halving, and then
     /// among those that are removed.
     fn kept_at(&self, removed: &[LraId], num: u64) -> Option<&Record>
-        ensures { option_copied result ≡ found_at self.now.home (without removed.now self.now.records) num }
+        ensures { option_copied result
+            ≡ found_at self.now.home (without removed.now self.now.records) num }
     {
         // What this ensures is needed here: they are in order.
         let _ = self.records();
@@ -47,7 +48,8 @@ impl Forest {
     /// The record of the LRA with this number once the records are changed: one of the changes, else one that stays.
     fn changed_at<'a>(&'a self, changes: &'a Changes, num: u64) -> Option<&'a Record>
         requires { changes.now.records.home ≡ self.now.home }
-        ensures { option_copied result ≡ found_at self.now.home (records_after changes.now self.now) num }
+        ensures { option_copied result
+            ≡ found_at self.now.home (records_after changes.now self.now) num }
     {
         // Both are in order.
         let _ = self.records();
@@ -80,7 +82,8 @@ impl Forest {
     /// member at its place.
     fn is_nested_at(&self, changes: &Changes, num: u64, place: Place) -> bool
         requires { changes.now.records.home ≡ self.now.home }
-        ensures { IsTrue result ↔ IsNestedAt self.now.home (records_after changes.now self.now) num place }
+        ensures { IsTrue result ↔ IsNestedAt self.now.home
+            (records_after changes.now self.now) num place }
     {
         let Some(parent) = self.changed_at(changes, place.number) else {
             return false;
@@ -93,8 +96,8 @@ impl Forest {
 
     fn has_parent(&self, changes: &Changes, num: u64, parent: Option<Place>) -> bool
         requires { changes.now.records.home ≡ self.now.home }
-        ensures { IsTrue result ↔
-            ((place : PlaceRecord) → parent ≡ Some place → IsNestedAt self.now.home (records_after changes.now self.now) num place) }
+        ensures { IsTrue result ↔ ((place : PlaceRecord) → parent ≡ Some place →
+            IsNestedAt self.now.home (records_after changes.now self.now) num place) }
     {
         match parent {
             Some(place) => self.is_nested_at(changes, num, place),
@@ -122,7 +125,8 @@ impl Forest {
     /// Whether a record has its place among the records once they are changed, under a front.
     fn is_in_place(&self, changes: &Changes, front: &Front, num: u64, kept: &Record) -> bool
         requires { changes.now.records.home ≡ self.now.home }
-        ensures { IsTrue result ↔ IsInPlace front.now self.now.home (records_after changes.now self.now) num kept.now }
+        ensures { IsTrue result ↔ IsInPlace front.now self.now.home
+            (records_after changes.now self.now) num kept.now }
     {
         self.has_parent(changes, num, kept.parent)
             && self.has_nested(changes, kept.members.as_slice())
@@ -133,7 +137,8 @@ impl Forest {
     /// Whether the record of the LRA with this number has its place once the records are changed, if there is one.
     fn is_in_place_at(&self, changes: &Changes, front: &Front, num: u64) -> bool
         requires { changes.now.records.home ≡ self.now.home }
-        ensures { IsTrue result ↔ IsInPlaceAt front.now self.now.home (records_after changes.now self.now) num }
+        ensures { IsTrue result ↔ IsInPlaceAt front.now self.now.home
+            (records_after changes.now self.now) num }
     {
         match self.changed_at(changes, num) {
             Some(record) => self.is_in_place(changes, front, num, record),
@@ -144,8 +149,8 @@ impl Forest {
     /// Whether of each of these LRAs the record has its place once the records are changed.
     fn are_in_place(&self, changes: &Changes, front: &Front, records: &[Record]) -> bool
         requires { changes.now.records.home ≡ self.now.home }
-        ensures { IsTrue result ↔
-            AllByRecursion (λ r. IsInPlaceAt front.now self.now.home (records_after changes.now self.now) r.num) records.now }
+        ensures { IsTrue result ↔ AllByRecursion (λ r. IsInPlaceAt front.now self.now.home
+            (records_after changes.now self.now) r.num) records.now }
     {
         for record in records {
             if !self.is_in_place_at(changes, front, record.num) {
@@ -169,8 +174,8 @@ impl Forest {
     }
 
     fn count_added(&self, removed: &[LraId], added: &[Record]) -> usize
-        ensures { result ≡
-            length (filter (λ r. is_none (found_at self.now.home (without removed.now self.now.records) r.num)) added.now) }
+        ensures { result ≡ length (filter (λ r. is_none
+            (found_at self.now.home (without removed.now self.now.records) r.num)) added.now) }
     {
         let mut count = 0;
         for record in added {
@@ -203,8 +208,8 @@ impl Forest {
     /// by halving, and each time among those that are removed.
     pub fn keeps_shape_with(&self, changes: &Changes, front: &Front) -> bool
         requires { changes.now.records.home ≡ self.now.home }
-        ensures { IsTrue result ↔
-            AreInShape front.now self.now.home (changed_by changes.now.removed.items changes.now.records.records self.now.records) }
+        ensures { IsTrue result ↔ AreInShape front.now self.now.home
+            (changed_by changes.now.removed.items changes.now.records.records self.now.records) }
     {
         if !self.is_few(changes) {
             return false;

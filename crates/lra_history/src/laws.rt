@@ -23,7 +23,8 @@ pub mod shape;
 /// What a closed front of a lawful history counts is settled, and the front counts just that.
 #[tactic(auto, using(crate::proofs::ClosedSets::closed_settled, crate::proofs::ClosedSets::closed_counted))]
 pub fn closed_sets_are_settled()
-    ensures settled { (h : History) (v : List ℕ) → IsLawful h → IsClosed h v → IsSettled (facts h v) }
+    ensures settled { (h : History) (v : List ℕ) →
+        IsLawful h → IsClosed h v → IsSettled (facts h v) }
     ensures counted { (h : History) (v : List ℕ) → IsClosed h v → IsCounted (facts h v) v }
 {}
 
@@ -33,12 +34,13 @@ pub fn an_entry_is_one_more_fact()
     ensures fact { (h : History) (node : ℕ) (v : List ℕ) (e : Entry) → IsCurrent h node v →
         IsMore (record { origin = node; num = count v node + 1; body = e.body })
         (facts h v) (facts (with_entry h node e) (raised v node)) }
-    ensures others { (h : History) (node : ℕ) (u v : List ℕ) (e : Entry) → IsCurrent h node v → IsClosed h u →
-        facts (with_entry h node e) u ≡ facts h u }
-    ensures closed { (h : History) (node : ℕ) (u v : List ℕ) (e : Entry) → IsCurrent h node v → IsClosed h u →
-        IsClosed (with_entry h node e) u }
-    ensures current { (h : History) (node other : ℕ) (u v : List ℕ) (e : Entry) → IsCurrent h node v → IsCurrent h other u →
-        (other ≡ node → ⊥) → IsCurrent (with_entry h node e) other u }
+    ensures others { (h : History) (node : ℕ) (u v : List ℕ) (e : Entry) →
+        IsCurrent h node v → IsClosed h u → facts (with_entry h node e) u ≡ facts h u }
+    ensures closed { (h : History) (node : ℕ) (u v : List ℕ) (e : Entry) →
+        IsCurrent h node v → IsClosed h u → IsClosed (with_entry h node e) u }
+    ensures current { (h : History) (node other : ℕ) (u v : List ℕ) (e : Entry) →
+        IsCurrent h node v →
+        IsCurrent h other u → (other ≡ node → ⊥) → IsCurrent (with_entry h node e) other u }
 {}
 
 /// In the history without entries each node's view is that of no facts.
@@ -51,36 +53,42 @@ pub fn no_entries_make_an_empty_view()
 /// command's entry is lawful too, and the patched view is that of the node there. Its front is the node's front with one
 /// more of the node.
 pub fn a_patch_adds_exactly_its_fact()
-    ensures view { (h : History) (node : ℕ) (v : List ℕ) (view : View) (c : Command) (change : Change) →
+    ensures view { (h : History)
+        (node : ℕ) (v : List ℕ) (view : View) (c : Command) (change : Change) →
         IsViewIn h node v view → view.front ≡ v → AddsFact (facts h v) view node c (Some change) →
         IsViewIn (with_entry h node (entry_for h v c)) node (raised v node) (patched change view) }
-    ensures front { (h : History) (node : ℕ) (v : List ℕ) (view : View) (c : Command) (change : Change) →
-        view.front ≡ v → AddsFact (facts h v) view node c (Some change) → change.front ≡ raised v node }
+    ensures front { (h : History)
+        (node : ℕ) (v : List ℕ) (view : View) (c : Command) (change : Change) → view.front ≡ v →
+        AddsFact (facts h v) view node c (Some change) → change.front ≡ raised v node }
 {}
 
 /// The patch of a command holds only what changes, each once: what it puts isn't there as it is, and what it removes is.
 pub fn a_patch_holds_only_changes()
-    ensures { (S : List Fact) (view : View) (me : ℕ) (c : Command) → 1 ≤ me → me ≤ length view.front →
-        IsSettled S → StandsFor S view → judge_on view me c ≡ Accepted → HoldsOnlyChanges view (change_on view me c) }
+    ensures { (S : List Fact) (view : View) (me : ℕ) (c : Command) →
+        1 ≤ me → me ≤ length view.front → IsSettled S → StandsFor S view →
+        judge_on view me c ≡ Accepted → HoldsOnlyChanges view (change_on view me c) }
 {}
 
 /// A purge removes a tree: with one more fact, which purges a root, just those LRAs are held that were held before and are
 /// not under that root.
 pub fn a_purge_removes_a_tree()
-    ensures { (f : Fact) (S T : List Fact) (root l : Id) → IsMore f S T → IsSettled S → f.body ≡ Purge root → is_root S root ≡ true →
-        is_held T l ≡ (is_held S l && not (is_under S root l)) }
+    ensures { (f : Fact) (S T : List Fact) (root l : Id) →
+        IsMore f S T → IsSettled S → f.body ≡ Purge root →
+        is_root S root ≡ true → is_held T l ≡ (is_held S l && not (is_under S root l)) }
 {}
 
 /// A set of facts has one view of so many nodes.
 #[tactic(auto, using(crate::proofs::OneViewOfASet::one_view))]
 pub fn a_set_has_one_view()
-    ensures { (S : List Fact) (a b : View) → length a.front ≡ length b.front → StandsFor S a → StandsFor S b → a ≡ b }
+    ensures { (S : List Fact) (a b : View) →
+        length a.front ≡ length b.front → StandsFor S a → StandsFor S b → a ≡ b }
 {}
 
 /// Where a view stands for a settled set, its reply to a command is that of the set, and the next view stands for the set
 /// after it.
 pub fn a_view_replies_as_its_set()
-    ensures { (S : List Fact) (view : View) (me : ℕ) (c : Command) → 1 ≤ me → me ≤ length view.front →
-        IsSettled S → StandsFor S view →
-        (reply_on view me c ≡ reply_of S view.front me c) × StandsFor (after S view.front me c) (next_view view me c) }
+    ensures { (S : List Fact) (view : View) (me : ℕ) (c : Command) →
+        1 ≤ me → me ≤ length view.front →
+        IsSettled S → StandsFor S view → (reply_on view me c ≡ reply_of S view.front me c)
+        × StandsFor (after S view.front me c) (next_view view me c) }
 {}

@@ -21,7 +21,8 @@ fn read_piece<S: Source>(
     ensures bound { IfOk result (λ n. n ≤ length buffer.new) }
     ensures bytes { CallGives (S.stream source.old) (S.stream source.new) result buffer.new }
     ensures streams { Streams 1 interrupted.old (S.calls source.old) (S.calls source.new) result }
-    ensures counted { (S.calls source.new).interrupted + interrupted.old ≡ (S.calls source.old).interrupted + interrupted.new }
+    ensures counted { (S.calls source.new).interrupted + interrupted.old
+        ≡ (S.calls source.old).interrupted + interrupted.new }
     ensures below { OnOk result (interrupted.new < too_many_interrupted) }
 {
     while *interrupted < TOO_MANY_INTERRUPTED {
@@ -43,11 +44,14 @@ fn take_piece<S: Source>(
 ) -> Result<(), Fault>
     requires below { interrupted.old < too_many_interrupted }
     requires some { 0 < most }
-    ensures ok { OnOk result ((piece : List ℕ) × (body.new.items ≡ body.old.items ++ piece) × (0 < length piece)
+    ensures ok { OnOk result ((piece : List ℕ)
+        × (body.new.items ≡ body.old.items ++ piece) × (0 < length piece)
         × (length piece ≤ most) × Gives (S.stream source.old) (S.stream source.new) piece) }
-    ensures fault { IfErr result (Stops (S.stream source.old) (S.stream source.new) (Shows most (RefusesBody 1))) }
+    ensures fault { IfErr result
+        (Stops (S.stream source.old) (S.stream source.new) (Shows most (RefusesBody 1))) }
     ensures streams { Reads 1 interrupted.old (S.calls source.old) (S.calls source.new) result }
-    ensures counted { (S.calls source.new).interrupted + interrupted.old ≡ (S.calls source.old).interrupted + interrupted.new }
+    ensures counted { (S.calls source.new).interrupted + interrupted.old
+        ≡ (S.calls source.old).interrupted + interrupted.new }
     ensures below { OnOk result (interrupted.new < too_many_interrupted) }
 {
     let mut piece = [0; 512];
@@ -68,10 +72,13 @@ pub fn read_body<S: Source>(
     interrupted: &mut u16,
 ) -> Result<Vec<u8>, Fault>
     requires below { interrupted.old < too_many_interrupted }
-    ensures ok { IfOk result (λ body. (length body.items ≡ size) × Gives (S.stream source.old) (S.stream source.new) body.items) }
-    ensures fault { IfErr result (Stops (S.stream source.old) (S.stream source.new) (Shows size (RefusesBody size))) }
+    ensures ok { IfOk result (λ body. (length body.items ≡ size)
+        × Gives (S.stream source.old) (S.stream source.new) body.items) }
+    ensures fault { IfErr result
+        (Stops (S.stream source.old) (S.stream source.new) (Shows size (RefusesBody size))) }
     ensures streams { Reads size interrupted.old (S.calls source.old) (S.calls source.new) result }
-    ensures counted { (S.calls source.new).interrupted + interrupted.old ≡ (S.calls source.old).interrupted + interrupted.new }
+    ensures counted { (S.calls source.new).interrupted + interrupted.old
+        ≡ (S.calls source.old).interrupted + interrupted.new }
     ensures below { OnOk result (interrupted.new < too_many_interrupted) }
 {
     let mut body = Vec::new(alloc);

@@ -25,8 +25,10 @@ pub fn write_all<W: Sink>(
     requires { interrupted.old < too_many_interrupted }
     ensures ok { OnOk result (Takes (W.stream sink.old) (W.stream sink.new) bytes.now) }
     ensures part { OnErr result (TakesPart (W.stream sink.old) (W.stream sink.new) bytes.now) }
-    ensures streams { Streams (length bytes.now) interrupted.old (W.calls sink.old) (W.calls sink.new) result }
-    ensures counted { (W.calls sink.new).interrupted + interrupted.old ≡ (W.calls sink.old).interrupted + interrupted.new }
+    ensures streams { Streams
+        (length bytes.now) interrupted.old (W.calls sink.old) (W.calls sink.new) result }
+    ensures counted { (W.calls sink.new).interrupted + interrupted.old
+        ≡ (W.calls sink.old).interrupted + interrupted.new }
     ensures below { OnOk result (interrupted.new < too_many_interrupted) }
 {
     let mut done = 0;
@@ -51,7 +53,8 @@ pub fn flush<W: Sink>(sink: &mut W, interrupted: &mut u16) -> Result<(), WriteFa
     ensures none { Takes (W.stream sink.old) (W.stream sink.new) [] }
     ensures all { OnOk result (IsFlushed (W.stream sink.new)) }
     ensures streams { Streams 1 interrupted.old (W.calls sink.old) (W.calls sink.new) result }
-    ensures counted { (W.calls sink.new).interrupted + interrupted.old ≡ (W.calls sink.old).interrupted + interrupted.new }
+    ensures counted { (W.calls sink.new).interrupted + interrupted.old
+        ≡ (W.calls sink.old).interrupted + interrupted.new }
     ensures below { OnOk result (interrupted.new < too_many_interrupted) }
 {
     while *interrupted != TOO_MANY_INTERRUPTED {
@@ -68,12 +71,15 @@ pub fn flush<W: Sink>(sink: &mut W, interrupted: &mut u16) -> Result<(), WriteFa
 /// that the byte belongs to, and is handed on from one byte of it to the next. A fault leaves the bytes as they were.
 pub fn read_byte<R: Source>(source: &mut R, interrupted: &mut u16) -> Result<Option<u8>, ReadFault>
     requires { interrupted.old < too_many_interrupted }
-    ensures some { IfOk result (λ byte. IfSome byte (λ b. Gives (R.stream source.old) (R.stream source.new) (b ∷ []))) }
-    ensures end { IfOk result (λ byte. IfNone byte (Gives (R.stream source.old) (R.stream source.new) [] × FoundEnd (R.stream source.new))) }
+    ensures some { IfOk result
+        (λ byte. IfSome byte (λ b. Gives (R.stream source.old) (R.stream source.new) (b ∷ []))) }
+    ensures end { IfOk result (λ byte. IfNone byte
+        (Gives (R.stream source.old) (R.stream source.new) [] × FoundEnd (R.stream source.new))) }
     ensures err { OnErr result (Gives (R.stream source.old) (R.stream source.new) []) }
     ensures streams { Streams 1 interrupted.old (R.calls source.old) (R.calls source.new) result }
     ensures called { (R.calls source.old).made < (R.calls source.new).made }
-    ensures counted { (R.calls source.new).interrupted + interrupted.old ≡ (R.calls source.old).interrupted + interrupted.new }
+    ensures counted { (R.calls source.new).interrupted + interrupted.old
+        ≡ (R.calls source.old).interrupted + interrupted.new }
     ensures below { OnOk result (interrupted.new < too_many_interrupted) }
 {
     let mut buffer = [0u8; 1];

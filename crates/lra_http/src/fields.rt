@@ -21,7 +21,8 @@ pub enum Found<'a> {
 
 /// What is found once one more is.
 fn with_one<'b>(found: Found<'b>, text: &'b [u8]) -> Found<'b>
-    ensures { (texts : List (List ℕ)) → IsFound found.entry texts → IsFound result (texts ++ text.now ∷ []) }
+    ensures { (texts : List (List ℕ)) →
+        IsFound found.entry texts → IsFound result (texts ++ text.now ∷ []) }
 {
     match found {
         Found::Absent => Found::Sole(text),
@@ -59,7 +60,8 @@ fn is_digits(text: &[u8]) -> bool
 /// The number that these bytes write, at most `most`, if they are digits alone.
 fn number(text: &[u8], most: usize) -> Option<usize>
     requires { most < 2 ^ 32 }
-    ensures { result ≡ (if is_number text.now then Some (min (digits_value 10 text.now) most) else None) }
+    ensures { result
+        ≡ (if is_number text.now then Some (min (digits_value 10 text.now) most) else None) }
 {
     if !is_digits(text) {
         return None;
@@ -93,7 +95,8 @@ pub fn response_size(
     requires within { All (IsHeaderWithin (length bytes.now)) headers.now }
     requires limit { limit < 2 ^ 31 }
     ensures bound { IfOk result (λ size. size ≤ limit) }
-    ensures length { result ≡ response_length limit code (map (header_bytes bytes.now) headers.now) }
+    ensures length { result
+        ≡ response_length limit code (map (header_bytes bytes.now) headers.now) }
     ensures status { IfOk result (λ _. 100 ≤ code) }
     ensures of_reading { IfErr result (λ fault. fault ≢ WriteFault) }
 {
@@ -125,7 +128,8 @@ pub fn request_size(
     requires within { All (IsHeaderWithin (length bytes.now)) headers.now }
     requires limit { limit < 2 ^ 31 }
     ensures bound { IfOk result (λ size. size ≤ limit) }
-    ensures length { result ≡ request_length limit minor (map (header_bytes bytes.now) headers.now) }
+    ensures length { result
+        ≡ request_length limit minor (map (header_bytes bytes.now) headers.now) }
     ensures of_reading { IfErr result (λ fault. fault ≢ WriteFault) }
 {
     if !matches!(sole(bytes, headers, b"transfer-encoding"), Found::Absent) {
@@ -160,7 +164,8 @@ impl Fields {
 /// The fields of a head, in order.
 pub fn fields_of(alloc: Global, bytes: &[u8], headers: &[HeaderSpan]) -> Result<Fields, Fault>
     requires { All (IsHeaderWithin (length bytes.now)) headers.now }
-    ensures ok { IfOk result (λ fields. map field_bytes fields ≡ map (header_bytes bytes.now) headers.now) }
+    ensures ok { IfOk result
+        (λ fields. map field_bytes fields ≡ map (header_bytes bytes.now) headers.now) }
     ensures memory { IfErr result (λ fault. fault ≡ NoMemory) }
 {
     let mut fields = Vec::new(alloc);

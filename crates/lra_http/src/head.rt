@@ -117,12 +117,17 @@ pub fn read_head<S: Source>(
 ) -> Result<Vec<u8>, Fault>
     requires below { interrupted.old < too_many_interrupted }
     requires most { most ≤ max_head_bytes }
-    ensures head { IfOk result (λ head. Gives (S.stream source.old) (S.stream source.new) head.items × IsHeadWithin kind most (length headers.old) head.items) }
-    ensures fault { IfErr result (Stops (S.stream source.old) (S.stream source.new) (Shows (most + 1) (RefusesHead kind most (length headers.old)))) }
-    ensures streams { Reads (most + 1) interrupted.old (S.calls source.old) (S.calls source.new) result }
+    ensures head { IfOk result (λ head. Gives (S.stream source.old) (S.stream source.new) head.items
+        × IsHeadWithin kind most (length headers.old) head.items) }
+    ensures fault { IfErr result (Stops (S.stream source.old)
+        (S.stream source.new) (Shows (most + 1) (RefusesHead kind most (length headers.old)))) }
+    ensures streams { Reads
+        (most + 1) interrupted.old (S.calls source.old) (S.calls source.new) result }
     // A call for each byte.
-    ensures each { IfOk result (λ head. AllWell (length head.items) interrupted.old (S.calls source.old) (S.calls source.new)) }
-    ensures counted { (S.calls source.new).interrupted + interrupted.old ≡ (S.calls source.old).interrupted + interrupted.new }
+    ensures each { IfOk result (λ head.
+        AllWell (length head.items) interrupted.old (S.calls source.old) (S.calls source.new)) }
+    ensures counted { (S.calls source.new).interrupted + interrupted.old
+        ≡ (S.calls source.old).interrupted + interrupted.new }
     ensures below { OnOk result (interrupted.new < too_many_interrupted) }
 {
     let mut head = Vec::new(alloc);

@@ -20,28 +20,32 @@ ghost use Rattle.lra_http.specs.declared.message.Response.{Response as TheRespon
 /// An input of a request has one fault that lies in its bytes, save where more than 64 field lines came, or where what came
 /// of a target can no longer be a text: there the parser may tell either of two.
 pub fn a_request_has_one_fault()
-    ensures { (limit : ℕ) (input : List ℕ) (a b : TheFault) → IsOfBytes a → IsOfBytes b → ¬ (Exceeds OfRequest max_head_lines input) → IsTextSoFar input
-        → RefusesRequest limit input a → RefusesRequest limit input b → a ≡ b }
+    ensures { (limit : ℕ) (input : List ℕ) (a b : TheFault) →
+        IsOfBytes a → IsOfBytes b → ¬ (Exceeds OfRequest max_head_lines input) →
+        IsTextSoFar input → RefusesRequest limit input a → RefusesRequest limit input b → a ≡ b }
 {}
 
 /// An input of a response has one fault that lies in its bytes, save where more field lines came than heads may have: there
 /// the parser may tell either of two.
 pub fn a_response_has_one_fault()
-    ensures { (limit : ℕ) (input : List ℕ) (a b : TheFault) → IsOfBytes a → IsOfBytes b → ¬ (Behind head_room IsCrowded input)
-        → RefusesResponse head_room limit input a → RefusesResponse head_room limit input b → a ≡ b }
+    ensures { (limit : ℕ) (input : List ℕ) (a b : TheFault) →
+        IsOfBytes a → IsOfBytes b → ¬ (Behind head_room IsCrowded input) →
+        RefusesResponse head_room limit input a → RefusesResponse head_room limit input b → a ≡ b }
 {}
 
 /// A whole response that is cut anywhere is none any more, and none stands before the cut.
 pub fn a_cut_response_is_none()
-    ensures { (limit : ℕ) (prefix more : List ℕ) (h : ResponseHead) (body : List ℕ) → 0 < length more
-        → IsResponse head_room limit (prefix ++ more) h body [] → HasNoResponse head_room limit prefix }
+    ensures { (limit : ℕ) (prefix more : List ℕ) (h : ResponseHead) (body : List ℕ) →
+        0 < length more → IsResponse head_room limit (prefix ++ more) h body [] →
+        HasNoResponse head_room limit prefix }
 {}
 
 /// The text of a request with plain fields, which state the length of its body, is a whole request with its parts.
 pub fn a_written_request_is_whole()
-    ensures { (limit : ℕ) (r : TheCall) (rest : List ℕ) → IsSoundCall limit r
-        → (h : RequestHead) × IsRequest limit (request_text r ++ rest) h r.body rest
-        × (h.method ≡ r.method) × (h.target ≡ r.target) × (map name_and_value h.fields ≡ map field_bytes (host_field r.host ∷ r.fields)) }
+    ensures { (limit : ℕ) (r : TheCall) (rest : List ℕ) → IsSoundCall limit r →
+        (h : RequestHead) × IsRequest limit (request_text r ++ rest) h r.body rest
+        × (h.method ≡ r.method) × (h.target ≡ r.target)
+        × (map name_and_value h.fields ≡ map field_bytes (host_field r.host ∷ r.fields)) }
 {}
 
 /// The text of a response with plain fields, which state the length of its body, is a whole response with its parts.
@@ -53,34 +57,45 @@ pub fn a_written_response_is_whole()
 
 /// Where the bytes that are left are known, a request that is read stood at their start, and what was behind it is left.
 pub fn a_request_is_taken_off()
-    ensures { (limit : ℕ) (old new : GivenBytes) (r : TheRequest) → GivesWhat old new (λ bytes. IsRequestRead limit bytes r)
-        → IfSome old.left (λ input. (rest : List ℕ) × ((h : RequestHead) × IsRequest limit input h r.body rest) × (new.left ≡ Some rest)) }
+    ensures { (limit : ℕ) (old new : GivenBytes) (r : TheRequest) → GivesWhat old new
+        (λ bytes. IsRequestRead limit bytes r) → IfSome old.left (λ input. (rest : List ℕ)
+        × ((h : RequestHead) × IsRequest limit input h r.body rest) × (new.left ≡ Some rest)) }
 {}
 
 /// Where they are known, a fault is one of theirs.
 pub fn a_fault_is_of_the_request()
-    ensures { (limit : ℕ) (old new : GivenBytes) (fault : TheFault) → Stops old new (ShowsRequest limit) fault → IfSome old.left (λ input. RefusesRequest limit input fault) }
+    ensures { (limit : ℕ) (old new : GivenBytes) (fault : TheFault) →
+        Stops old new (ShowsRequest limit) fault →
+        IfSome old.left (λ input. RefusesRequest limit input fault) }
 {}
 
 /// Where they are known and begin with a whole request, it is read, unless a call fails or memory runs out.
 pub fn a_whole_request_is_read()
-    ensures { (limit : ℕ) (old new : GivenBytes) (fault : TheFault) → Stops old new (ShowsRequest limit) fault
-        → IfSome old.left (λ input. (h : RequestHead) (body rest : List ℕ) → IsRequest limit input h body rest → (fault ≡ ReadFault) ⊎ (fault ≡ NoMemory)) }
+    ensures { (limit : ℕ) (old new : GivenBytes) (fault : TheFault) →
+        Stops old new (ShowsRequest limit) fault →
+        IfSome old.left (λ input. (h : RequestHead) (body rest : List ℕ) →
+        IsRequest limit input h body rest → (fault ≡ ReadFault) ⊎ (fault ≡ NoMemory)) }
 {}
 
 /// The same of a response that is read.
 pub fn a_response_is_taken_off()
-    ensures { (limit : ℕ) (old new : GivenBytes) (r : TheResponse) → GivesWhat old new (λ bytes. IsResponseRead limit bytes r)
-        → IfSome old.left (λ input. (rest : List ℕ) × ((h : ResponseHead) × IsResponse head_room limit input h r.body rest) × (new.left ≡ Some rest)) }
+    ensures { (limit : ℕ) (old new : GivenBytes) (r : TheResponse) →
+        GivesWhat old new (λ bytes. IsResponseRead limit bytes r) →
+        IfSome old.left (λ input. (rest : List ℕ) × ((h : ResponseHead)
+        × IsResponse head_room limit input h r.body rest) × (new.left ≡ Some rest)) }
 {}
 
 /// The same of the faults of a response.
 pub fn a_fault_is_of_the_response()
-    ensures { (limit : ℕ) (old new : GivenBytes) (fault : TheFault) → Stops old new (ShowsResponse limit) fault → IfSome old.left (λ input. RefusesResponse head_room limit input fault) }
+    ensures { (limit : ℕ) (old new : GivenBytes) (fault : TheFault) →
+        Stops old new (ShowsResponse limit) fault →
+        IfSome old.left (λ input. RefusesResponse head_room limit input fault) }
 {}
 
 /// The same of a whole response.
 pub fn a_whole_response_is_read()
-    ensures { (limit : ℕ) (old new : GivenBytes) (fault : TheFault) → Stops old new (ShowsResponse limit) fault
-        → IfSome old.left (λ input. (h : ResponseHead) (body rest : List ℕ) → IsResponse head_room limit input h body rest → (fault ≡ ReadFault) ⊎ (fault ≡ NoMemory)) }
+    ensures { (limit : ℕ) (old new : GivenBytes) (fault : TheFault) →
+        Stops old new (ShowsResponse limit) fault →
+        IfSome old.left (λ input. (h : ResponseHead) (body rest : List ℕ) →
+        IsResponse head_room limit input h body rest → (fault ≡ ReadFault) ⊎ (fault ≡ NoMemory)) }
 {}

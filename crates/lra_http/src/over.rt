@@ -37,7 +37,8 @@ impl Calls {
     fn count<T>(&mut self, outcome: &Result<T, CallError>)
         ensures made { self.new.made ≡ self.old.made + 1 }
         ensures failed { self.new.failed ≡ self.old.failed + failed_calls outcome.now }
-        ensures interrupted { self.new.interrupted ≡ self.old.interrupted + interrupted_calls outcome.now }
+        ensures interrupted { self.new.interrupted
+            ≡ self.old.interrupted + interrupted_calls outcome.now }
         ensures last_failed { self.new.last_failed ≡ failed_calls outcome.now }
     {
         self.made = self.made.next();
@@ -90,7 +91,17 @@ impl<R> Model for OverRead<R> {
 
     ghost Value = { Reader R };
 
-    ghost view = { λ a. record { inner = a.reader; given = a.given; ended = a.ended; calls = record { made = a.calls.made; failed = a.calls.failed; interrupted = a.calls.interrupted; last_failed = a.calls.last_failed } } };
+    ghost view = { λ a. record {
+      inner = a.reader;
+      given = a.given;
+      ended = a.ended;
+      calls = record {
+        made = a.calls.made;
+        failed = a.calls.failed;
+        interrupted = a.calls.interrupted;
+        last_failed = a.calls.last_failed;
+      };
+    } };
 }
 
 impl<R: Read> OverRead<R> {
@@ -143,7 +154,17 @@ impl<W> Model for OverWrite<W> {
 
     ghost Value = { Writer W };
 
-    ghost view = { λ a. record { inner = a.writer; taken = a.taken; flushed = a.flushed.value; calls = record { made = a.calls.made; failed = a.calls.failed; interrupted = a.calls.interrupted; last_failed = a.calls.last_failed } } };
+    ghost view = { λ a. record {
+      inner = a.writer;
+      taken = a.taken;
+      flushed = a.flushed.value;
+      calls = record {
+        made = a.calls.made;
+        failed = a.calls.failed;
+        interrupted = a.calls.interrupted;
+        last_failed = a.calls.last_failed;
+      };
+    } };
 }
 
 impl<W: Write> OverWrite<W> {
@@ -168,7 +189,8 @@ impl<W: Write> OverWrite<W> {
 }
 
 impl<W: Write> Sink for OverWrite<W> {
-    ghost stream = { λ w. record { taken = w.taken; flushed = w.flushed; written = W.contents w.inner } };
+    ghost stream = { λ w.
+        record { taken = w.taken; flushed = w.flushed; written = W.contents w.inner } };
 
     ghost calls = { λ w. w.calls };
 

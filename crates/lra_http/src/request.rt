@@ -23,7 +23,8 @@ impl Request {
     /// The value of its Host field: the host, and a port behind a colon where one is named. A request of version 1.0 may
     /// have none.
     pub fn host(&self) -> Option<&[u8]>
-        ensures { option_map (λ v. v.now) result ≡ first_value (codes "host") (map field_bytes self.now.fields) }
+        ensures { option_map
+            (λ v. v.now) result ≡ first_value (codes "host") (map field_bytes self.now.fields) }
     {
         self.fields.value(b"host")
     }
@@ -73,11 +74,13 @@ pub fn read_request<S: Source>(
 ) -> Result<Request, Fault>
     requires limit { limit < 2 ^ 31 }
     // What is given is one whole request, and no byte more.
-    ensures message { IfOk result (λ request. GivesWhat (S.stream source.old) (S.stream source.new) (λ bytes. IsMessage limit bytes request)) }
+    ensures message { IfOk result (λ request. GivesWhat (S.stream source.old) (S.stream source.new)
+        (λ bytes. IsMessage limit bytes request)) }
     // What is given before each fault shows it, whatever follows.
     ensures fault { IfErr result (Stops (S.stream source.old) (S.stream source.new) (Shows limit)) }
     // A read fault has its cause, no call follows one that failed, and there are at most so many.
-    ensures streams { Reads (max_head_bytes + 1 + limit) 0 (S.calls source.old) (S.calls source.new) result }
+    ensures streams { Reads
+        (max_head_bytes + 1 + limit) 0 (S.calls source.old) (S.calls source.new) result }
 {
     let mut interrupted = 0;
     let mut headers = [EMPTY_HEADER_SPAN; MAX_HEAD_LINES];

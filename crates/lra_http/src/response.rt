@@ -49,10 +49,14 @@ fn read_final_head<S: Source>(
     interrupted: &mut u16,
 ) -> Result<Vec<u8>, Fault>
     requires below { interrupted.old < too_many_interrupted }
-    ensures head { IfOk result (λ head. GivesWhat (S.stream source.old) (S.stream source.new) (λ given. IsFinalRead given head.items)) }
-    ensures fault { IfErr result (Stops (S.stream source.old) (S.stream source.new) (ShowsPart (max_head_bytes + 1) (RefusesHeads head_room))) }
-    ensures streams { Reads (max_head_bytes + 1) interrupted.old (S.calls source.old) (S.calls source.new) result }
-    ensures counted { (S.calls source.new).interrupted + interrupted.old ≡ (S.calls source.old).interrupted + interrupted.new }
+    ensures head { IfOk result (λ head. GivesWhat (S.stream source.old) (S.stream source.new)
+        (λ given. IsFinalRead given head.items)) }
+    ensures fault { IfErr result (Stops (S.stream source.old)
+        (S.stream source.new) (ShowsPart (max_head_bytes + 1) (RefusesHeads head_room))) }
+    ensures streams { Reads
+        (max_head_bytes + 1) interrupted.old (S.calls source.old) (S.calls source.new) result }
+    ensures counted { (S.calls source.new).interrupted + interrupted.old
+        ≡ (S.calls source.old).interrupted + interrupted.new }
     ensures below { OnOk result (interrupted.new < too_many_interrupted) }
 {
     let mut headers = [EMPTY_HEADER_SPAN; MAX_HEAD_LINES];
@@ -89,11 +93,13 @@ pub fn read_response<S: Source>(
 ) -> Result<Response, Fault>
     requires limit { limit < 2 ^ 31 }
     // What is given is one whole response, and no byte more.
-    ensures message { IfOk result (λ response. GivesWhat (S.stream source.old) (S.stream source.new) (λ bytes. IsMessage limit bytes response)) }
+    ensures message { IfOk result (λ response. GivesWhat (S.stream source.old) (S.stream source.new)
+        (λ bytes. IsMessage limit bytes response)) }
     // What is given before each fault shows it, whatever follows.
     ensures fault { IfErr result (Stops (S.stream source.old) (S.stream source.new) (Shows limit)) }
     // A read fault has its cause, no call follows one that failed, and there are at most so many.
-    ensures streams { Reads (max_head_bytes + 1 + limit) 0 (S.calls source.old) (S.calls source.new) result }
+    ensures streams { Reads
+        (max_head_bytes + 1 + limit) 0 (S.calls source.old) (S.calls source.new) result }
 {
     let mut interrupted = 0;
     let head = read_final_head(alloc, source, &mut interrupted)?;

@@ -53,7 +53,8 @@ fn head_of_response(alloc: Global, response: &Response) -> Result<Vec<u8>, Alloc
 }
 
 fn push_request_line(text: &mut Vec<u8>, request: &CallRequest) -> Result<(), AllocError>
-    ensures { OnOk result (text.new.items ≡ text.old.items ++ request_line request.now.method request.now.target) }
+    ensures { OnOk result (text.new.items
+        ≡ text.old.items ++ request_line request.now.method request.now.target) }
 {
     text.extend_from_slice(request.method.as_str().as_bytes())?;
     text.extend_from_slice(b" ")?;
@@ -82,9 +83,12 @@ fn head_of_request(alloc: Global, request: &CallRequest) -> Result<Vec<u8>, Allo
 }
 
 fn write_parts<W: Sink>(sink: &mut W, head: &[u8], body: &[u8]) -> Result<(), WriteFault>
-    ensures ok { OnOk result (Takes (W.stream sink.old) (W.stream sink.new) (head.now ++ body.now) × IsFlushed (W.stream sink.new)) }
-    ensures part { OnErr result (TakesPart (W.stream sink.old) (W.stream sink.new) (head.now ++ body.now)) }
-    ensures streams { Streams (length (head.now ++ body.now) + 1) 0 (W.calls sink.old) (W.calls sink.new) result }
+    ensures ok { OnOk result (Takes (W.stream sink.old) (W.stream sink.new) (head.now ++ body.now)
+        × IsFlushed (W.stream sink.new)) }
+    ensures part { OnErr result
+        (TakesPart (W.stream sink.old) (W.stream sink.new) (head.now ++ body.now)) }
+    ensures streams { Streams
+        (length (head.now ++ body.now) + 1) 0 (W.calls sink.old) (W.calls sink.new) result }
 {
     let mut interrupted = 0;
     write_all(sink, head, &mut interrupted)?;
@@ -100,10 +104,13 @@ pub fn write_response<W: Sink>(
     response: &Response,
 ) -> Result<(), Fault>
     // All of the text was taken and passed on, or before a fault a prefix of it was taken.
-    ensures ok { OnOk result (Takes (W.stream sink.old) (W.stream sink.new) (response_text response.now) × IsFlushed (W.stream sink.new)) }
-    ensures part { OnErr result (TakesPart (W.stream sink.old) (W.stream sink.new) (response_text response.now)) }
+    ensures ok { OnOk result (Takes (W.stream sink.old)
+        (W.stream sink.new) (response_text response.now) × IsFlushed (W.stream sink.new)) }
+    ensures part { OnErr result
+        (TakesPart (W.stream sink.old) (W.stream sink.new) (response_text response.now)) }
     // A write fault has its cause, and where the memory is refused no call was made.
-    ensures streams { Writes (length (response_text response.now) + 1) (W.calls sink.old) (W.calls sink.new) (sink.new ≡ sink.old) result }
+    ensures streams { Writes (length (response_text response.now) + 1)
+        (W.calls sink.old) (W.calls sink.new) (sink.new ≡ sink.old) result }
 {
     let head = head_of_response(alloc, response)?;
     write_parts(sink, &head, response.body.as_slice())?;
@@ -118,10 +125,13 @@ pub fn write_request<W: Sink>(
     request: &CallRequest,
 ) -> Result<(), Fault>
     // All of the text was taken and passed on, or before a fault a prefix of it was taken.
-    ensures ok { OnOk result (Takes (W.stream sink.old) (W.stream sink.new) (request_text request.now) × IsFlushed (W.stream sink.new)) }
-    ensures part { OnErr result (TakesPart (W.stream sink.old) (W.stream sink.new) (request_text request.now)) }
+    ensures ok { OnOk result (Takes (W.stream sink.old)
+        (W.stream sink.new) (request_text request.now) × IsFlushed (W.stream sink.new)) }
+    ensures part { OnErr result
+        (TakesPart (W.stream sink.old) (W.stream sink.new) (request_text request.now)) }
     // A write fault has its cause, and where the memory is refused no call was made.
-    ensures streams { Writes (length (request_text request.now) + 1) (W.calls sink.old) (W.calls sink.new) (sink.new ≡ sink.old) result }
+    ensures streams { Writes (length (request_text request.now) + 1)
+        (W.calls sink.old) (W.calls sink.new) (sink.new ≡ sink.old) result }
 {
     let head = head_of_request(alloc, request)?;
     write_parts(sink, &head, request.body.as_slice())?;

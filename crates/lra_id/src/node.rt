@@ -30,7 +30,8 @@ impl NodeId {
     /// The node with this number, which is from 1 to 8.
     pub fn new(number: u8) -> Result<NodeId, BadText>
         ensures value { IfOk result (λ node. node ≡ number) }
-        ensures exact { MatchResult result (λ _. IsNodeNumber number) (λ _. IsNodeNumber number → ⊥) }
+        ensures exact { MatchResult result
+            (λ _. IsNodeNumber number) (λ _. IsNodeNumber number → ⊥) }
     {
         if number == 0 || number > MAX_NODES {
             return Err(BadText);

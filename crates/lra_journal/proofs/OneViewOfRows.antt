@@ -12,7 +12,7 @@ use Rattle.lra_forest.proofs.OneListOfRecords.{same_records}
 use Rattle.lra_history.specs.Views.{View, record_at, records_at}
 use Rattle.lra_history.proofs.OneViewOfASet.{same_homes, same_views}
 use Rattle.lra_delta.specs.OneRecord.{IsRecordUnder}
-use Rattle.lra_delta.specs.Spelling.{record_text}
+use Rattle.lra_delta.specs.Encoding.{record_text}
 use Rattle.lra_delta.proofs.FrameCodes.{one_record}
 use Rattle.lra_journal.specs.FrontRows.{AreFronts, IsSaid, SaysOf}
 use Rattle.lra_journal.specs.Stands.{IsHeld, Stands}
@@ -50,9 +50,9 @@ AreUnder front view = (r : Record) → IsHeld view r → IsRecordUnder front r
 -- a record of one is one of the other
 carried : (me : ℕ) (db : Trees) (front : List ℕ) (a b : View) → Stands me db a → Stands me db b → AreUnder front a → AreUnder front b → (r : Record) → IsHeld a r → IsHeld b r
 carried me db front a b left right under_a under_b r held =
-    let has : HasLra db r.home (signed r.num) (record_text r) = (left.lra r.home (signed r.num) (record_text r)).1 (record { kept = r; held = held; at_home = refl; numbered = refl; spelled = refl }) in
+    let has : HasLra db r.home (signed r.num) (record_text r) = (left.lra r.home (signed r.num) (record_text r)).1 (record { kept = r; held = held; at_home = refl; numbered = refl; encoded = refl }) in
     let it = (right.lra r.home (signed r.num) (record_text r)).0 has in
-    let same = one_record front r it.kept [] [] (under_a r held) (under_b it.kept it.held) (ap (λ bytes. bytes ++ []) it.spelled) in
+    let same = one_record front r it.kept [] [] (under_a r held) (under_b it.kept it.held) (ap (λ bytes. bytes ++ []) it.encoded) in
     subst (IsHeld b) (sym same.0) it.held
 
 home_is : (l : Id) (r : Record) → is_of l r ≡ true → r.home ≡ l.home

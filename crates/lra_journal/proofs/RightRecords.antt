@@ -19,7 +19,7 @@ use Rattle.lra_id.specs.Ids.{last_number}
 use Rattle.lra_id.specs.Fronts.{count}
 use Rattle.lra_forest.specs.declared.record.Record.{Record}
 use Rattle.lra_history.specs.Views.{View}
-use Rattle.lra_delta.specs.Spelling.{record_text}
+use Rattle.lra_delta.specs.Encoding.{record_text}
 use Rattle.lra_delta.specs.OneRecord.{IsRecordUnder}
 use Rattle.lra_journal.specs.Schema.{lra_tree}
 use Rattle.lra_journal.specs.Tables.{IsFormed, IsLraRow}
@@ -91,7 +91,7 @@ module _ (me : ℕ) (db : Trees) (rows : List Row) (view : View) (tables : AreTa
       let rule = rules.records it.kept it.held in
       let num : form.num ≡ pos it.kept.num = it.numbered ∙ signed_is it.kept.num (num_small it.kept rule) in
       let shown : row ≡ Int (pos it.kept.home) ∷ Int (pos it.kept.num) ∷ Blob (record_text it.kept) ∷ [] =
-      r.2 ∙ ap lra_shown form.is ∙ ap (λ h. Int (pos h) ∷ Int form.num ∷ Blob form.body ∷ []) it.at_home ∙ ap (λ n. Int (pos it.kept.home) ∷ Int n ∷ Blob form.body ∷ []) num ∙ ap (λ b. Int (pos it.kept.home) ∷ Int (pos it.kept.num) ∷ Blob b ∷ []) it.spelled in
+      r.2 ∙ ap lra_shown form.is ∙ ap (λ h. Int (pos h) ∷ Int form.num ∷ Blob form.body ∷ []) it.at_home ∙ ap (λ n. Int (pos it.kept.home) ∷ Int n ∷ Blob form.body ∷ []) num ∙ ap (λ b. Int (pos it.kept.home) ∷ Int (pos it.kept.num) ∷ Blob b ∷ []) it.encoded in
       record { kept = it.kept; is = row_of row it.kept rule shown }
 
   -- those before it have lesser numbers

@@ -13,7 +13,7 @@ abbrev pub IsOwn : State → Type 0
 IsOwn s = IsNew s ⊎ IsJournal s
 
 -- A journal as contracts see it: its connection, what that was when the journal was opened, and how often the database refused
--- since, want of memory apart, as far as a number of 64 bits counts
+-- since, a lack of memory apart, as far as a number of 64 bits counts
 pub record JournalState (S : Type 0) : Type 0 where
   pub connection : Held S
   pub opened : Held S

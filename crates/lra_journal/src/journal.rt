@@ -24,7 +24,7 @@ use std::alloc::Global;
 use std::marker::Model;
 
 /// The journal of a replica: a connection to its rows. Clauses alone read what the connection was when the journal was opened,
-/// and a count of what `sqlite` refused since, want of memory apart.
+/// and a count of what `sqlite` refused since, a lack of memory apart.
 #[derive(Drop)]
 pub struct Journal<S: Alter> {
     connection: Connection<S>,
@@ -42,7 +42,8 @@ impl<S: Alter> Model for Journal<S> {
 
     ghost coded = { Prim.hlevel (codes, held_code S.code) };
 
-    ghost view = { λ j. record { connection = j.connection; opened = j.opened.held; refusals = j.refusals } };
+    ghost view = { λ j.
+        record { connection = j.connection; opened = j.opened.held; refusals = j.refusals } };
 
     ghost invariant = { λ j. j.connection.in_transaction ≡ false };
 }
@@ -63,25 +64,35 @@ impl<S: Alter> Journal<S> {
         ensures begins { IfOk result (λ r. (r.0.opened ≡ connection) × (r.0.refusals ≡ 0)) }
         ensures counted { IfOk result (λ r. length r.1.front ≡ nodes) }
         // A new store gets the rows of a view of no facts, and the replica has none.
-        ensures made { IfOk result (λ r. HasCleanDisk (state S.Store r.0.connection) → IsNew (state S.Store connection) →
-            (view_of r.1 ≡ empty_view nodes) × Stands me (state S.Store r.0.connection).now.trees (empty_view nodes)) }
+        ensures made { IfOk result (λ r. HasCleanDisk (state S.Store r.0.connection) →
+            IsNew (state S.Store connection) → (view_of r.1 ≡ empty_view nodes)
+            × Stands me (state S.Store r.0.connection).now.trees (empty_view nodes)) }
         // Of a journal's rows it is the replica that they stand for.
-        ensures reads { IfOk result (λ r. HasCleanDisk (state S.Store r.0.connection) → IsJournal (state S.Store connection) →
+        ensures reads { IfOk result (λ r. HasCleanDisk (state S.Store r.0.connection) →
+            IsJournal (state S.Store connection) →
             Stands me (state S.Store connection).now.trees (view_of r.1)) }
         // So much for a book: the journal keeps the replica's view.
         ensures keeps { IfOk result (λ r. Keeps S.Store me r.0 (view_of r.1)) }
         // Where the rows break the format.
-        ensures place { IfErr result (λ e. HasCleanDisk (state S.Store e.1) → IsJournal (state S.Store connection) →
-            (k : ℕ) → e.0 ≡ BadFrame k → IsBrokenAt me nodes (state S.Store connection).now.trees k) }
+        ensures place { IfErr result (λ e. HasCleanDisk (state S.Store e.1) →
+            IsJournal (state S.Store connection) → (k : ℕ) →
+            e.0 ≡ BadFrame k → IsBrokenAt me nodes (state S.Store connection).now.trees k) }
         // In a new store none does.
-        ensures unbroken { IfErr result (λ e. HasCleanDisk (state S.Store e.1) → IsNew (state S.Store connection) →
-            (k : ℕ) → e.0 ≢ BadFrame k) }
+        ensures unbroken { IfErr result (λ e. HasCleanDisk (state S.Store e.1) →
+            IsNew (state S.Store connection) → (k : ℕ) → e.0 ≢ BadFrame k) }
         // A refusal leaves what the connection shows, while it is open.
-        ensures unchanged { IfErr result (λ e. HasCleanDisk (state S.Store e.1) → IsOwn (state S.Store connection) → IsTrue (state S.Store e.1).is_open → (state S.Store e.1).now ≡ (state S.Store connection).now) }
-        ensures cause { IfErr result (λ e. (e.0 ≡ NoMemory) ⊎ ((e.0 ≡ JournalFailed) ⊎ ((k : ℕ) × (e.0 ≡ BadFrame k)))) }
+        ensures unchanged { IfErr result (λ e. HasCleanDisk (state S.Store e.1) →
+            IsOwn (state S.Store connection) → IsTrue (state S.Store e.1).is_open →
+            (state S.Store e.1).now ≡ (state S.Store connection).now) }
+        ensures cause { IfErr result (λ e. (e.0 ≡ NoMemory)
+            ⊎ ((e.0 ≡ JournalFailed) ⊎ ((k : ℕ) × (e.0 ≡ BadFrame k)))) }
         // A stop leaves what it left before, or in the first opening the rows of a view of no facts.
-        ensures crash { IfOk result (λ r. Survives (state S.Store connection) (state S.Store r.0.connection) (λ db. IsNew (state S.Store connection) → Stands me db (empty_view nodes))) }
-        ensures crash_refused { IfErr result (λ e. Survives (state S.Store connection) (state S.Store e.1) (λ db. IsNew (state S.Store connection) → Stands me db (empty_view nodes))) }
+        ensures crash { IfOk result
+            (λ r. Survives (state S.Store connection) (state S.Store r.0.connection)
+            (λ db. IsNew (state S.Store connection) → Stands me db (empty_view nodes))) }
+        ensures crash_refused { IfErr result
+            (λ e. Survives (state S.Store connection) (state S.Store e.1)
+            (λ db. IsNew (state S.Store connection) → Stands me db (empty_view nodes))) }
     {
         let first = First::of(&connection);
         match opened(alloc, &mut connection, me, nodes) {
@@ -97,12 +108,14 @@ impl<S: Alter> Journal<S> {
         }
     }
 
-    /// E17 for want of memory. Anything else is counted, and E18.
+    /// E17 for lack of memory. Anything else is counted, and E18.
     fn refuse(&mut self, error: Error) -> Refusal
         ensures connection { self.new.connection ≡ self.old.connection }
         ensures opened { self.new.opened ≡ self.old.opened }
-        ensures cause { ((result ≡ NoMemory) × (error ≡ Error.SqliteFailure ErrorCode.OutOfMemory) × (self.new.refusals ≡ self.old.refusals))
-            ⊎ ((result ≡ JournalFailed) × (error ≢ Error.SqliteFailure ErrorCode.OutOfMemory) × IsCounted self.old.refusals self.new.refusals) }
+        ensures cause { ((result ≡ NoMemory) × (error ≡ Error.SqliteFailure ErrorCode.OutOfMemory)
+            × (self.new.refusals ≡ self.old.refusals))
+            ⊎ ((result ≡ JournalFailed) × (error ≢ Error.SqliteFailure ErrorCode.OutOfMemory)
+            × IsCounted self.old.refusals self.new.refusals) }
     {
         let refusal = refusal_of(error);
         if refusal == Refusal::JournalFailed {
@@ -116,31 +129,46 @@ impl<S: Alter> Journal<S> {
     pub fn store(&mut self, alloc: Global, patch: &Patch) -> Result<(), Refusal>
         ensures opened { self.new.opened ≡ self.old.opened }
         // What the rows then stand for.
-        ensures stands { (me : ℕ) (view : View) → HasCleanDisk (state S.Store self.new.connection) → IsJournal (state S.Store self.old.connection) →
-            Stands me (state S.Store self.old.connection).now.trees view → IsPatchOf view patch.now →
-            OnOk result (IsJournal (state S.Store self.new.connection) × Stands me (state S.Store self.new.connection).now.trees (patched patch.now view)) }
+        ensures stands { (me : ℕ) (view : View) → HasCleanDisk (state S.Store self.new.connection) →
+            IsJournal (state S.Store self.old.connection) →
+            Stands me (state S.Store self.old.connection).now.trees view →
+            IsPatchOf view patch.now → OnOk result (IsJournal (state S.Store self.new.connection)
+            × Stands me (state S.Store self.new.connection).now.trees (patched patch.now view)) }
         // After a refusal they are as they were.
-        ensures unchanged { HasCleanDisk (state S.Store self.new.connection) → IsJournal (state S.Store self.old.connection) → IsTrue (state S.Store self.new.connection).is_open →
-            OnErr result (((state S.Store self.new.connection).now ≡ (state S.Store self.old.connection).now) × ((state S.Store self.new.connection).committed ≡ (state S.Store self.old.connection).committed)) }
+        ensures unchanged { HasCleanDisk (state S.Store self.new.connection) →
+            IsJournal (state S.Store self.old.connection) →
+            IsTrue (state S.Store self.new.connection).is_open → OnErr result
+            (((state S.Store self.new.connection).now ≡ (state S.Store self.old.connection).now)
+            × ((state S.Store self.new.connection).committed
+            ≡ (state S.Store self.old.connection).committed)) }
         // So much for a book: the journal keeps the patched view, or after a refusal the view.
-        ensures stored { (me : ℕ) (view : View) → Keeps S.Store me self.old view → IsPatchOf view patch.now →
+        ensures stored { (me : ℕ) (view : View) →
+            Keeps S.Store me self.old view → IsPatchOf view patch.now →
             OnOk result (Keeps S.Store me self.new (patched patch.now view)) }
         ensures kept { (me : ℕ) (view : View) → Keeps S.Store me self.old view →
             OnErr result (Keeps S.Store me self.new view) }
         // A stop leaves what it left before, or rows for the patched view.
-        ensures crash { Survives (state S.Store self.old.connection) (state S.Store self.new.connection)
-            (λ db. IsJournal (state S.Store self.old.connection) → (me : ℕ) (view : View) → Stands me (state S.Store self.old.connection).now.trees view → IsPatchOf view patch.now →
-            Stands me db (patched patch.now view)) }
+        ensures crash { Survives
+            (state S.Store self.old.connection) (state S.Store self.new.connection)
+            (λ db. IsJournal (state S.Store self.old.connection) →
+            (me : ℕ) (view : View) → Stands me (state S.Store self.old.connection).now.trees view →
+            IsPatchOf view patch.now → Stands me db (patched patch.now view)) }
         // So it leaves rows for the view, or for the patched view.
-        ensures stops { (me : ℕ) (view : View) → HasCleanDisk (state S.Store self.new.connection) → IsJournal (state S.Store self.old.connection) →
-            Stands me (state S.Store self.old.connection).now.trees view → IsPatchOf view patch.now → (db : Trees) → (state S.Store self.new.connection).may_leave db →
+        ensures stops { (me : ℕ) (view : View) → HasCleanDisk (state S.Store self.new.connection) →
+            IsJournal (state S.Store self.old.connection) →
+            Stands me (state S.Store self.old.connection).now.trees view →
+            IsPatchOf view patch.now →
+            (db : Trees) → (state S.Store self.new.connection).may_leave db →
             Stands me db view ⊎ Stands me db (patched patch.now view) }
         // Once it is stored, a stop leaves just what is shown.
-        ensures durable { HasCleanDisk (state S.Store self.new.connection) → IsJournal (state S.Store self.old.connection) →
-            OnOk result ((db : _) → (state S.Store self.new.connection).may_leave db → db ≡ (state S.Store self.new.connection).now.trees) }
+        ensures durable { HasCleanDisk (state S.Store self.new.connection) →
+            IsJournal (state S.Store self.old.connection) →
+            OnOk result ((db : _) → (state S.Store self.new.connection).may_leave db →
+            db ≡ (state S.Store self.new.connection).now.trees) }
         // Which refusal it is, and that the count rises with E18 alone.
-        ensures cause { MatchResult result (λ _. self.new.refusals ≡ self.old.refusals) (λ refusal.
-            ((refusal ≡ NoMemory) × (self.new.refusals ≡ self.old.refusals)) ⊎ ((refusal ≡ JournalFailed) × IsCounted self.old.refusals self.new.refusals)) }
+        ensures cause { MatchResult result (λ _. self.new.refusals ≡ self.old.refusals)
+            (λ refusal. ((refusal ≡ NoMemory) × (self.new.refusals ≡ self.old.refusals))
+            ⊎ ((refusal ≡ JournalFailed) × IsCounted self.old.refusals self.new.refusals)) }
     {
         match write_patch(alloc, &mut self.connection, patch) {
             Ok(()) => Ok(()),

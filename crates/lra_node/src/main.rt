@@ -48,8 +48,9 @@ fn folder_of(rt: HostRuntime, mut words: Vec<String>) -> Folder {
 }
 
 fn asked_server(words: &[String]) -> Option<(u8, u16)>
-    ensures { MatchOption result ((nodes port : ℕ) (folder : List ℕ) → AskServer (map string_bytes words.now) nodes port folder → ⊥)
-        (λ asked. (folder : List ℕ) × AskServer (map string_bytes words.now) asked.0 asked.1 folder) }
+    ensures { MatchOption result ((nodes port : ℕ) (folder : List ℕ) →
+        AskServer (map string_bytes words.now) nodes port folder → ⊥) (λ asked. (folder : List ℕ)
+        × AskServer (map string_bytes words.now) asked.0 asked.1 folder) }
 {
     let [command, count, first, _folder] = words else {
         return None;

@@ -1,4 +1,4 @@
--- Reading and spelling a pull's body go together.
+-- Reading and encoding a pull's body go together.
 use Rattle.std.proofs.Common.{◌≡◌, ◌∙◌, ℕ, zero, suc, ◌+◌, ◌-◌, ◌*◌, ◌%◌, ◌^◌, ◌<◌, ◌≤◌, Bool, true, false, ◌&&◌, ◌==◌, cond, ltb, List, [], ◌∷◌, ◌++◌, length, take, drop, Result, Ok, Err, refl, sym, ap, append_assoc, subst, arith, slice_set, inl, inr, nat_le}
 use Rattle.std.specs.Prelude.{IfOk}
 use Rattle.std.specs.Int.{w64, from_be_bytes, to_be_bytes}
@@ -11,7 +11,7 @@ use Rattle.lra_id.specs.Ids.{last_number}
 use Rattle.lra_facts.specs.declared.refusal.Refusal.{Refusal}
 use Rattle.lra_facts.specs.declared.refusal.Refusal.TheVariants.{BadFrame}
 use Rattle.lra_delta.specs.Rules.{are_counts}
-use Rattle.lra_delta.specs.Spelling.{number, vector}
+use Rattle.lra_delta.specs.Encoding.{number, vector}
 use Rattle.lra_delta.proofs.Codes.{IsBytes}
 use Rattle.lra_delta.proofs.RecordCodes.{length-vector}
 use Rattle.lra_peer.specs.PullBodies.{IsAsked, asked, counts_in, pull_body}
@@ -48,13 +48,13 @@ pub length-counts : (n : ℕ) (bytes : List ℕ) → length (counts_in n bytes) 
 length-counts zero bytes = refl
 length-counts (suc n) bytes = ap suc (length-counts n (drop 8 bytes))
 
-pub spelled : (n : ℕ) (bytes : List ℕ) → length bytes ≡ 8 * n → IsBytes bytes → vector (counts_in n bytes) ≡ bytes
-spelled zero [] len fits = refl
-spelled zero (b ∷ bytes) len fits = absurd (omega (arith, len))
-spelled (suc n) bytes len fits =
+pub encoded : (n : ℕ) (bytes : List ℕ) → length bytes ≡ 8 * n → IsBytes bytes → vector (counts_in n bytes) ≡ bytes
+encoded zero [] len fits = refl
+encoded zero (b ∷ bytes) len fits = absurd (omega (arith, len))
+encoded (suc n) bytes len fits =
     let first : to_be_bytes w64 (from_be_bytes w64 (take 8 bytes)) ≡ take 8 bytes =
     be_bytes_8 (take 8 bytes) _ (omega (arith, len, length-take 8 bytes)) (first_bytes bytes fits) refl in
-    let rest : vector (counts_in n (drop 8 bytes)) ≡ drop 8 bytes = spelled n (drop 8 bytes) (omega (arith, len, length-drop 8 bytes)) (other_bytes bytes fits) in
+    let rest : vector (counts_in n (drop 8 bytes)) ≡ drop 8 bytes = encoded n (drop 8 bytes) (omega (arith, len, length-drop 8 bytes)) (other_bytes bytes fits) in
     flat_map-cons number (from_be_bytes w64 (take 8 bytes)) (counts_in n (drop 8 bytes))
     ∙ ap (λ (l : List ℕ). l ++ vector (counts_in n (drop 8 bytes))) first
     ∙ ap (λ (l : List ℕ). take 8 bytes ++ l) rest
@@ -88,7 +88,7 @@ found_ok nodes (count ∷ bytes) front fits e =
     let named : count ≡ nodes = same_number count nodes p.0 in
     let low : count < 256 = fits zero in
     let first : count ≡ length front % 256 = omega (arith, named, low, len) in
-    let text : bytes ≡ vector front = sym (spelled nodes bytes (omega (arith, many, few)) (λ i. fits (suc i))) ∙ ap vector is in
+    let text : bytes ≡ vector front = sym (encoded nodes bytes (omega (arith, many, few)) (λ i. fits (suc i))) ∙ ap vector is in
     (record { count = len; small = subst (λ (l : List ℕ). are_counts l ≡ true) is p.2 }, ap (λ (n : ℕ). n ∷ bytes) first ∙ ap (λ (l : List ℕ). (length front % 256) ∷ l) text)
 
 pub is_found : (nodes : ℕ) (body : List ℕ) (result : Result (List ℕ) Refusal) → IsBytes body → result ≡ asked nodes body

@@ -7,12 +7,12 @@ use Rattle.httparse.specs.Grammar.{ResponseHead, status_code}
 use Rattle.lra_delta.specs.Frames.{Frame}
 use Rattle.lra_delta.specs.Reading.{frame_in}
 use Rattle.lra_delta.specs.Rules.{IsDelta}
-use Rattle.lra_delta.specs.Spelling.{spelling}
+use Rattle.lra_delta.specs.Encoding.{encoding}
 use Rattle.lra_http.specs.Faults.{Stops}
 use Rattle.lra_http.specs.Responses.{HasFinal, IsMessage, IsResponse, Shows, head_room, stated}
-use Rattle.lra_http.specs.Streams.{AllWell, Calls, GivenBytes, Gives, GivesWhat, IsFlushed, IsLost, OnReadFault, TakenBytes, Takes}
+use Rattle.lra_http.specs.Streams.{AllWell, Calls, GivenBytes, Gives, GivesWhat, IsFlushed, TakenBytes, Takes}
 use Rattle.lra_http.specs.declared.fault.Fault.{Fault as HttpFault}
-use Rattle.lra_http.specs.declared.fault.Fault.TheVariants.{Cut, ReadFault, NotOffered, NoMemory}
+use Rattle.lra_http.specs.declared.fault.Fault.TheVariants.{ReadFault, NotOffered, NoMemory}
 use Rattle.lra_http.specs.declared.message.Response.{Response}
 use Rattle.lra_http.proofs.Cuts.{final_more}
 use Rattle.lra_http.proofs.Left.{response_found}
@@ -116,23 +116,6 @@ refused_told Sent U old new before after answer (Ok delta) (sent, (bytes, gives,
 refused_told Sent U old new before after answer (Err error) (sent, (bytes, gives, is), well) other told =
     inr (sent, refused_answer old new before after bytes answer error gives is well other told (cases_eq answer.status 200))
 
--- ---- errors before an answer
-
-pub refused_before : (Sent : Type 0) (U : HttpFault → Type 0) (old new : GivenBytes) (before after : Calls) (fault : HttpFault)
-    → U fault ⊎ (Sent × Stops old new (Shows max_frame_bytes) fault × OnReadFault (IsLost pull_reads 0 before after) (AllWell pull_reads 0 before after) fault)
-    → U fault ⊎ (Sent × StopsPull old new before after (Fault fault))
-refused_before Sent U old new before after fault (inl u) = inl u
-refused_before Sent U old new before after fault (inr (sent, stops, calls)) = inr (
-  sent,
-  record {
-    bytes = stops.bytes;
-    gives = stops.gives;
-    refuses = inl stops.is;
-    ended = λ e. stops.ended (let same : Fault fault ≡ Fault Cut = e in cc);
-    reads = calls;
-  },
-)
-
 -- ---- a frame that is there
 
 streams_of : (frame : Frame) (result : Result Frame PullError) → MatchResult result (λ d. d ≡ frame) (λ error. error ≡ Fault NoMemory)
@@ -143,22 +126,22 @@ streams_of frame (Err error) is = inr (inr is)
 -- where a frame stands at the start of the input, it is the result
 abbrev IsFound : List ℕ → Result Frame PullError → Type 0
 IsFound input result =
-    (bytes rest : List ℕ) (frame : Frame) → input ≡ bytes ++ rest → IsDelta frame → IsAnswer bytes 200 (spelling frame) → MatchResult result (λ delta. delta ≡ frame) IsOfStreams
+    (bytes rest : List ℕ) (frame : Frame) → input ≡ bytes ++ rest → IsDelta frame → IsAnswer bytes 200 (encoding frame) → MatchResult result (λ delta. delta ≡ frame) IsOfStreams
 
 found_in : (left after : Option (List ℕ)) (given : List ℕ) (answer : Response) (result : Result Frame PullError) → Consumes left after given → IsMessage max_frame_bytes given answer
-    → ((frame : Frame) → answer.status ≡ 200 → IsDelta frame → answer.body ≡ spelling frame → MatchResult result (λ delta. delta ≡ frame) (λ error. error ≡ Fault NoMemory))
+    → ((frame : Frame) → answer.status ≡ 200 → IsDelta frame → answer.body ≡ encoding frame → MatchResult result (λ delta. delta ≡ frame) (λ error. error ≡ Fault NoMemory))
     → IfSome left (λ input. IsFound input result)
 found_in None after given answer result took is only = tt
 found_in (Some input) None given answer result took is only = absurd took
 found_in (Some input) (Some more) given answer result took is only = λ bytes rest frame split rules stands.
-    let same = one_body input is.head stands.head answer.body (spelling frame) more rest (stands_in input given more answer.body is.head took is.whole)
-    (stands_in input bytes rest (spelling frame) stands.head split stands.whole) in
+    let same = one_body input is.head stands.head answer.body (encoding frame) more rest (stands_in input given more answer.body is.head took is.whole)
+    (stands_in input bytes rest (encoding frame) stands.head split stands.whole) in
     let status : answer.status ≡ 200 = is.status ∙ ap status_code same.0 ∙ stands.status_is in
     streams_of frame result (only frame status rules same.1)
 
 pub found_told : (Sent Well : Type 0) (old new : GivenBytes) (answer : Response) (result : Result Frame PullError)
     → Sent × GivesWhat old new (λ bytes. IsMessage max_frame_bytes bytes answer) × Well
-    → ((frame : Frame) → answer.status ≡ 200 → IsDelta frame → answer.body ≡ spelling frame → MatchResult result (λ delta. delta ≡ frame) (λ error. error ≡ Fault NoMemory))
+    → ((frame : Frame) → answer.status ≡ 200 → IsDelta frame → answer.body ≡ encoding frame → MatchResult result (λ delta. delta ≡ frame) (λ error. error ≡ Fault NoMemory))
     → IfSome old.left (λ input. IsFound input result)
 found_told Sent Well old new answer result (sent, (given, gives, is), well) only = found_in old.left new.left given answer result gives.left is only
 
@@ -176,7 +159,7 @@ found_stopped : (left : Option (List ℕ)) (fault : HttpFault)
     → IfSome left (λ input. IsFound input (stopped (Fault fault)))
 found_stopped None fault found = tt
 found_stopped (Some input) fault found = λ bytes rest frame split rules stands.
-    settle (found stands.head (spelling frame) rest (stands_in input bytes rest (spelling frame) stands.head split stands.whole))
+    settle (found stands.head (encoding frame) rest (stands_in input bytes rest (encoding frame) stands.head split stands.whole))
   where
     settle : (fault ≡ ReadFault) ⊎ (fault ≡ NoMemory) → IsOfStreams (Fault fault)
     settle (inl read) = inr (inl (ap (λ (f : HttpFault). Fault f) read))

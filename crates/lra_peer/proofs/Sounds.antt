@@ -6,16 +6,16 @@ use Rattle.lra_http.specs.MessageTexts.{response_text}
 use Rattle.lra_http.specs.WholeMessages.{IsSound}
 use Rattle.lra_http.proofs.WholeMessages.{whole_response}
 use Rattle.lra_delta.specs.Frames.{Frame}
-use Rattle.lra_delta.specs.Spelling.{spelling}
+use Rattle.lra_delta.specs.Encoding.{encoding}
 use Rattle.lra_peer.specs.PullAnswers.{IsAnswer, max_frame_bytes}
 
-pub written_frame : (r : Response) (frame : Frame) → IsSound max_frame_bytes r → r.status ≡ 200 → r.body ≡ spelling frame
-    → IsAnswer (response_text r) 200 (spelling frame)
+pub written_frame : (r : Response) (frame : Frame) → IsSound max_frame_bytes r → r.status ≡ 200 → r.body ≡ encoding frame
+    → IsAnswer (response_text r) 200 (encoding frame)
 written_frame r frame sound status body =
     let whole = whole_response max_frame_bytes r [] sound in
     record {
       head = whole.0;
-      whole = subst (λ (bytes : List ℕ). IsResponse head_room max_frame_bytes bytes whole.0 (spelling frame) []) (append-nil (response_text r))
+      whole = subst (λ (bytes : List ℕ). IsResponse head_room max_frame_bytes bytes whole.0 (encoding frame) []) (append-nil (response_text r))
           (subst (λ (text : List ℕ). IsResponse head_room max_frame_bytes (response_text r ++ []) whole.0 text []) body whole.1);
       status_is = whole.2 ∙ status;
     }

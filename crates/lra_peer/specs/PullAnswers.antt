@@ -4,7 +4,7 @@ use Rattle.httparse.specs.Grammar.{ResponseHead, status_code}
 use Rattle.lra_delta.specs.Frames.{Frame}
 use Rattle.lra_delta.specs.Reading.{frame_in}
 use Rattle.lra_delta.specs.Rules.{IsDelta}
-use Rattle.lra_delta.specs.Spelling.{spelling}
+use Rattle.lra_delta.specs.Encoding.{encoding}
 use Rattle.lra_delta.specs.declared.input.Stop.{Stop}
 use Rattle.lra_delta.specs.declared.input.Stop.TheVariants.{Fault as FaultAt}
 use Rattle.lra_http.specs.Heads.{max_head_bytes}
@@ -79,10 +79,10 @@ pub record StopsPull (old new : GivenBytes) (before after : Calls) (error : Pull
   pub ended : error ≡ Fault Cut → FoundEnd new
   pub reads : Reads before after error
 
--- what was given is a whole response with status 200, whose body spells the delta, and no byte more
+-- what was given is a whole response with status 200, whose body encodes the delta, and no byte more
 abbrev pub TellsDelta : (old new : GivenBytes) (before after : Calls) → Frame → Type 0
 TellsDelta old new before after delta =
-    IsDelta delta × GivesWhat old new (λ bytes. IsAnswer bytes 200 (spelling delta)) × AllWell pull_reads 0 before after
+    IsDelta delta × GivesWhat old new (λ bytes. IsAnswer bytes 200 (encoding delta)) × AllWell pull_reads 0 before after
 
 -- it lies in a call or in the memory, and not in the bytes that came
 abbrev pub IsOfStreams : PullError → Type 0

@@ -4,9 +4,9 @@ use Rattle.std.specs.Int.{w64, from_be_bytes}
 use Rattle.lra_facts.specs.declared.refusal.Refusal.{Refusal}
 use Rattle.lra_facts.specs.declared.refusal.Refusal.TheVariants.{BadFrame}
 use Rattle.lra_delta.specs.Rules.{are_counts}
-use Rattle.lra_delta.specs.Spelling.{byte, vector}
+use Rattle.lra_delta.specs.Encoding.{byte, vector}
 
--- the one spelling of a front that is asked from
+-- the one encoding of a front that is asked from
 abbrev pub pull_body : List ℕ → List ℕ
 pull_body front = byte (length front) ++ vector front
 

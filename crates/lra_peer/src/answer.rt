@@ -3,7 +3,7 @@ ghost use Rattle.std.specs.Prelude.{◌≡◌, ◌≢◌, Err, IfOk, MatchResult
 ghost use Rattle.lra_delta.specs.Frames.{Frame};
 ghost use Rattle.lra_delta.specs.Reading.{frame_in};
 ghost use Rattle.lra_delta.specs.Rules.{IsDelta};
-ghost use Rattle.lra_delta.specs.Spelling.{spelling};
+ghost use Rattle.lra_delta.specs.Encoding.{encoding};
 ghost use Rattle.lra_http.specs.declared.fault.Fault.TheVariants.{NoMemory, NotOffered};
 ghost use Rattle.lra_peer.specs.PullAnswers.{Tells};
 ghost use Rattle.lra_peer.specs.declared.error.PullError.TheVariants.{Fault as OfHttp};
@@ -21,8 +21,10 @@ pub const MAX_FRAME_BYTES: usize = 67_108_864;
 pub fn delta_of(alloc: Global, response: &Response) -> Result<Delta, PullError>
     ensures other { response.now.status ≢ 200 → result ≡ Err (OfHttp NotOffered) }
     ensures exact { response.now.status ≡ 200 → Tells result (frame_in response.now.body) }
-    ensures found { IfOk result (λ delta. (response.now.status ≡ 200) × IsDelta delta × (response.now.body ≡ spelling delta)) }
-    ensures only { (frame : Frame) → response.now.status ≡ 200 → IsDelta frame → response.now.body ≡ spelling frame →
+    ensures found { IfOk result (λ delta. (response.now.status ≡ 200)
+        × IsDelta delta × (response.now.body ≡ encoding delta)) }
+    ensures only { (frame : Frame) →
+        response.now.status ≡ 200 → IsDelta frame → response.now.body ≡ encoding frame →
         MatchResult result (λ delta. delta ≡ frame) (λ error. error ≡ OfHttp NoMemory) }
 {
     if response.status.as_u16() != 200 {

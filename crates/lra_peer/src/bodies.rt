@@ -3,7 +3,7 @@ ghost use Rattle.std.specs.Prelude.{◌≡◌, ◌++◌, ◌≤◌, ◌*◌, ℕ
 ghost use Rattle.std.specs.Int.{from_be_bytes, w64};
 ghost use Rattle.lra_facts.specs.declared.refusal.Refusal.TheVariants.{BadFrame};
 ghost use Rattle.lra_delta.specs.Rules.{are_counts};
-ghost use Rattle.lra_delta.specs.Spelling.{vector};
+ghost use Rattle.lra_delta.specs.Encoding.{vector};
 ghost use Rattle.lra_peer.specs.PullBodies.{IsAsked, asked, counts_in, front_in, pull_body};
 
 use lra_facts::Refusal;
@@ -64,7 +64,7 @@ fn are_counts(counts: &[u64]) -> bool
     counts.iter().all(|count| *count <= LAST_NUMBER)
 }
 
-/// The front that all of the bytes spell, behind the count of nodes.
+/// The front that all of the bytes encode, behind the count of nodes.
 fn front_in(nodes: usize, bytes: &[u8]) -> Result<Front, Refusal>
     requires some { 1 ≤ nodes }
     requires few { nodes ≤ 8 }
@@ -111,10 +111,11 @@ pub fn front_of_pull(nodes: usize, body: &[u8]) -> Result<Front, Refusal>
     ensures exact { result ≡ asked nodes body.now }
     // It is a place, whatever else refusals may be.
     ensures cause { IfErr result (λ refusal. (place : ℕ) × (refusal ≡ BadFrame place)) }
-    // What is read keeps the rules, and is spelled so.
+    // What is read keeps the rules, and is encoded so.
     ensures found { IfOk result (λ front. IsAsked nodes front × (body.now ≡ pull_body front)) }
-    // What is spelled so is read.
-    ensures only { (front : List ℕ) → IsAsked nodes front → body.now ≡ pull_body front → result ≡ Ok front }
+    // What is encoded so is read.
+    ensures only { (front : List ℕ) →
+        IsAsked nodes front → body.now ≡ pull_body front → result ≡ Ok front }
 {
     asked(nodes, body)
 }

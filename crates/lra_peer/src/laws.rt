@@ -6,7 +6,7 @@ ghost use Rattle.lra_history.specs.Histories.{History, IsClosed, IsLawful, facts
 ghost use Rattle.lra_history.specs.ViewShape.{HasShape};
 ghost use Rattle.lra_history.specs.Views.{StandsFor, View};
 ghost use Rattle.lra_delta.specs.Frames.{Frame};
-ghost use Rattle.lra_delta.specs.Spelling.{spelling};
+ghost use Rattle.lra_delta.specs.Encoding.{encoding};
 ghost use Rattle.lra_delta.specs.TakenFrames.{IsTaken};
 ghost use Rattle.lra_http.specs.Requests.{IsRequest};
 ghost use Rattle.lra_http.specs.MessageTexts.{response_text};
@@ -21,13 +21,17 @@ ghost use Rattle.lra_peer.specs.Texts.{pull_text};
 /// it has itself, and has the same nodes, may take what is served, and what comes of that stands for the union, with the shape.
 /// The front may be an earlier one of its own.
 pub fn a_pull_is_the_union()
-    ensures some { (h : History) (v w front : List ℕ) (own other : View) (frame : Frame) → IsLawful h → IsClosed h v → IsClosed h w →
-        StandsFor (facts h v) own → StandsFor (facts h w) other → length own.front ≡ length other.front →
-        length own.front ≤ 8 → IsAsked (length own.front) front → IsBelow front own.front → Serves other (asked (length other.front) (pull_body front)) (Ok frame) →
+    ensures some { (h : History) (v w front : List ℕ) (own other : View) (frame : Frame) →
+        IsLawful h → IsClosed h v → IsClosed h w → StandsFor (facts h v) own →
+        StandsFor (facts h w) other → length own.front ≡ length other.front →
+        length own.front ≤ 8 → IsAsked (length own.front) front → IsBelow front own.front →
+        Serves other (asked (length other.front) (pull_body front)) (Ok frame) →
         IsBelow frame.base own.front × ((taken : View) × IsTaken own frame taken × HasShape taken) }
-    ensures union { (h : History) (v w front : List ℕ) (own other taken : View) (frame : Frame) → IsLawful h → IsClosed h v → IsClosed h w →
-        StandsFor (facts h v) own → StandsFor (facts h w) other → length own.front ≡ length other.front →
-        length own.front ≤ 8 → IsAsked (length own.front) front → IsBelow front own.front → Serves other (asked (length other.front) (pull_body front)) (Ok frame) →
+    ensures union { (h : History) (v w front : List ℕ) (own other taken : View) (frame : Frame) →
+        IsLawful h → IsClosed h v → IsClosed h w → StandsFor (facts h v) own →
+        StandsFor (facts h w) other → length own.front ≡ length other.front →
+        length own.front ≤ 8 → IsAsked (length own.front) front → IsBelow front own.front →
+        Serves other (asked (length other.front) (pull_body front)) (Ok frame) →
         IsTaken own frame taken → StandsFor (facts h (join_fronts v w)) taken }
 {}
 
@@ -39,9 +43,9 @@ pub fn a_pull_is_a_whole_request()
         × (h.method ≡ codes "POST") × (h.target ≡ codes "/peer/pull") }
 {}
 
-/// The text of a response with status 200, whose body spells a frame and whose fields are plain and state its length, is an
+/// The text of a response with status 200, whose body encodes a frame and whose fields are plain and state its length, is an
 /// answer from which a pull takes that frame.
 pub fn a_written_frame_is_an_answer()
-    ensures { (r : TheResponse) (frame : Frame) → IsSound max_frame_bytes r → r.status ≡ 200 → r.body ≡ spelling frame →
-        IsAnswer (response_text r) 200 (spelling frame) }
+    ensures { (r : TheResponse) (frame : Frame) → IsSound max_frame_bytes r →
+        r.status ≡ 200 → r.body ≡ encoding frame → IsAnswer (response_text r) 200 (encoding frame) }
 {}

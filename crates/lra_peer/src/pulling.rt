@@ -2,7 +2,7 @@
 ghost use Rattle.std.specs.Prelude.{◌≡◌, ◌⊎◌, ◌++◌, List, ℕ, IfErr, IfOk, IfSome, MatchResult};
 ghost use Rattle.lra_delta.specs.Frames.{Frame};
 ghost use Rattle.lra_delta.specs.Rules.{IsDelta};
-ghost use Rattle.lra_delta.specs.Spelling.{spelling};
+ghost use Rattle.lra_delta.specs.Encoding.{encoding};
 ghost use Rattle.lra_http.specs.Faults.{Stops};
 ghost use Rattle.lra_http.specs.Responses.{IsMessage, Shows};
 ghost use Rattle.lra_http.specs.Streams.{AllWell, GivesWhat, IsLost, OnReadFault};
@@ -23,16 +23,19 @@ fn exchange<R: Source, W: Sink>(
     writer: &mut W,
     front: &Front,
 ) -> Result<Response, Fault>
-    ensures message { IfOk result (λ response.
-        IsSent (W.stream writer.old) (W.stream writer.new) (W.calls writer.old) (W.calls writer.new) (pull_text front.now)
-        × GivesWhat (R.stream reader.old) (R.stream reader.new) (λ bytes. IsMessage max_frame_bytes bytes response)
+    ensures message { IfOk result (λ response. IsSent (W.stream writer.old)
+        (W.stream writer.new) (W.calls writer.old) (W.calls writer.new) (pull_text front.now)
+        × GivesWhat (R.stream reader.old) (R.stream reader.new)
+        (λ bytes. IsMessage max_frame_bytes bytes response)
         × AllWell pull_reads 0 (R.calls reader.old) (R.calls reader.new)) }
-    ensures fault { IfErr result (λ fault.
-        IsUnsent (W.stream writer.old) (W.stream writer.new) (W.calls writer.old) (W.calls writer.new) (pull_text front.now)
+    ensures fault { IfErr result (λ fault. IsUnsent (W.stream writer.old)
+        (W.stream writer.new) (W.calls writer.old) (W.calls writer.new) (pull_text front.now)
         (reader.new ≡ reader.old) ((writer.new ≡ writer.old) × (reader.new ≡ reader.old)) fault
-        ⊎ (IsSent (W.stream writer.old) (W.stream writer.new) (W.calls writer.old) (W.calls writer.new) (pull_text front.now)
+        ⊎ (IsSent (W.stream writer.old)
+        (W.stream writer.new) (W.calls writer.old) (W.calls writer.new) (pull_text front.now)
         × Stops (R.stream reader.old) (R.stream reader.new) (Shows max_frame_bytes) fault
-        × OnReadFault (IsLost pull_reads 0 (R.calls reader.old) (R.calls reader.new)) (AllWell pull_reads 0 (R.calls reader.old) (R.calls reader.new)) fault)) }
+        × OnReadFault (IsLost pull_reads 0 (R.calls reader.old) (R.calls reader.new))
+        (AllWell pull_reads 0 (R.calls reader.old) (R.calls reader.new)) fault)) }
 {
     let request = pull_request(alloc, front)?;
     write_request(alloc, writer, &request)?;
@@ -50,22 +53,26 @@ pub fn pull<R: Source, W: Sink>(
     writer: &mut W,
     front: &Front,
 ) -> Result<Delta, PullError>
-    // The whole request was written and passed on. What was given since is one whole response with status 200, whose body spells
+    // The whole request was written and passed on. What was given since is one whole response with status 200, whose body encodes
     // the delta, and no byte more. No call failed.
-    ensures message { IfOk result (λ delta.
-        IsSent (W.stream writer.old) (W.stream writer.new) (W.calls writer.old) (W.calls writer.new) (pull_text front.now)
-        × TellsDelta (R.stream reader.old) (R.stream reader.new) (R.calls reader.old) (R.calls reader.new) delta) }
+    ensures message { IfOk result (λ delta. IsSent (W.stream writer.old)
+        (W.stream writer.new) (W.calls writer.old) (W.calls writer.new) (pull_text front.now)
+        × TellsDelta (R.stream reader.old)
+        (R.stream reader.new) (R.calls reader.old) (R.calls reader.new) delta) }
     // Where each error comes: a prefix of the request was written, where a write failed, or nothing, where memory ran out before,
     // and then nothing was read; or all of it was, and what was given tells why there is no delta, or a read failed.
-    ensures error { IfErr result (λ error.
-        IsUnsentBy (W.stream writer.old) (W.stream writer.new) (W.calls writer.old) (W.calls writer.new) (pull_text front.now)
+    ensures error { IfErr result (λ error. IsUnsentBy (W.stream writer.old)
+        (W.stream writer.new) (W.calls writer.old) (W.calls writer.new) (pull_text front.now)
         (reader.new ≡ reader.old) ((writer.new ≡ writer.old) × (reader.new ≡ reader.old)) error
-        ⊎ (IsSent (W.stream writer.old) (W.stream writer.new) (W.calls writer.old) (W.calls writer.new) (pull_text front.now)
-        × StopsPull (R.stream reader.old) (R.stream reader.new) (R.calls reader.old) (R.calls reader.new) error)) }
+        ⊎ (IsSent (W.stream writer.old) (W.stream writer.new) (W.calls writer.old)
+        (W.calls writer.new) (pull_text front.now) × StopsPull (R.stream reader.old)
+        (R.stream reader.new) (R.calls reader.old) (R.calls reader.new) error)) }
     // Where the bytes that are left are known, and a whole response with status 200 and a frame stands at their start, that frame
     // is taken, unless a call fails or memory runs out.
-    ensures found { IfSome (R.stream reader.old).left (λ input. (bytes rest : List ℕ) (frame : Frame) → input ≡ bytes ++ rest
-        → IsDelta frame → IsAnswer bytes 200 (spelling frame) → MatchResult result (λ delta. delta ≡ frame) IsOfStreams) }
+    ensures found { IfSome (R.stream reader.old).left
+        (λ input. (bytes rest : List ℕ) (frame : Frame) →
+        input ≡ bytes ++ rest → IsDelta frame → IsAnswer bytes 200 (encoding frame) →
+        MatchResult result (λ delta. delta ≡ frame) IsOfStreams) }
 {
     match exchange(alloc, reader, writer, front) {
         Ok(response) => delta_of(alloc, &response),

@@ -23,9 +23,10 @@ use std::alloc::Global;
 fn since_both(alloc: Global, replica: &Replica, front: &Front) -> Result<Delta, Refusal>
     requires { length front.now ≡ length replica.now.front }
     ensures exact { Serves (view_of replica.now) (Ok front.now) result }
-    ensures set { (S : List Fact) → StandsFor S (view_of replica.now) → IfOk result (λ delta. IsFrame S (meet_fronts front.now replica.now.front) delta) }
-    ensures grammar { (h : History) (w : List ℕ) → IsLawful h → IsClosed h w → StandsFor (facts h w) (view_of replica.now) →
-        IfOk result (λ delta. IsOfGrammar delta) }
+    ensures set { (S : List Fact) → StandsFor S (view_of replica.now) →
+        IfOk result (λ delta. IsFrame S (meet_fronts front.now replica.now.front) delta) }
+    ensures grammar { (h : History) (w : List ℕ) → IsLawful h → IsClosed h w →
+        StandsFor (facts h w) (view_of replica.now) → IfOk result (λ delta. IsOfGrammar delta) }
 {
     let own = replica.front();
     let base = front.meet(&own);
@@ -38,16 +39,20 @@ fn since_both(alloc: Global, replica: &Replica, front: &Front) -> Result<Delta, 
 /// bytes are left over. It looks at each record once, and copies those that are told.
 pub fn serve_pull(alloc: Global, body: &[u8], replica: &Replica) -> Result<Delta, Refusal>
     // Which frame it is, or which place.
-    ensures exact { Serves (view_of replica.now) (asked (length replica.now.front) body.now) result }
-    // A body that is spelled as one is served.
-    ensures spelled { (front : List ℕ) → IsAsked (length replica.now.front) front → body.now ≡ pull_body front → Serves (view_of replica.now) (Ok front) result }
+    ensures exact { Serves
+        (view_of replica.now) (asked (length replica.now.front) body.now) result }
+    // A body that is encoded as one is served.
+    ensures encoded { (front : List ℕ) → IsAsked (length replica.now.front) front →
+        body.now ≡ pull_body front → Serves (view_of replica.now) (Ok front) result }
     // There is no gap.
-    ensures cause { IfErr result (λ refusal. (refusal ≡ NoMemory) ⊎ ((place : ℕ) × (refusal ≡ BadFrame place))) }
-    ensures set { (S : List Fact) (front : List ℕ) → StandsFor S (view_of replica.now) → asked (length replica.now.front) body.now ≡ Ok front →
+    ensures cause { IfErr result (λ refusal. (refusal ≡ NoMemory)
+        ⊎ ((place : ℕ) × (refusal ≡ BadFrame place))) }
+    ensures set { (S : List Fact) (front : List ℕ) →
+        StandsFor S (view_of replica.now) → asked (length replica.now.front) body.now ≡ Ok front →
         IfOk result (λ delta. IsFrame S (meet_fronts front replica.now.front) delta) }
     // What a node of a lawful history tells keeps the rules of frames.
-    ensures grammar { (h : History) (w : List ℕ) → IsLawful h → IsClosed h w → StandsFor (facts h w) (view_of replica.now) →
-        IfOk result (λ delta. IsOfGrammar delta) }
+    ensures grammar { (h : History) (w : List ℕ) → IsLawful h → IsClosed h w →
+        StandsFor (facts h w) (view_of replica.now) → IfOk result (λ delta. IsOfGrammar delta) }
 {
     match front_of_pull(replica.front().nodes(), body) {
         Ok(front) => since_both(alloc, replica, &front),

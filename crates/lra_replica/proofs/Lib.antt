@@ -3,8 +3,8 @@ mod EmptyHomes
 mod Homes
 mod KnownReports
 mod Nesting
-mod Paging
-mod PreparedReplies
+pub mod Paging
+pub mod PreparedReplies
 pub mod Rooms
 mod SameHomes
 pub mod SettledDues

@@ -275,7 +275,7 @@ prepared_settled S view me c result plain there settled stands some next = by (j
     by AlreadyKnown here e is = subst (λ (x : Result Prepared Refusal). IsPrepared S view me c x) (sym is) (sym (ap (λ (j : Judgement). reply_by j (accepted S view.front me c)) e), e)
     by Accepted here e is = taken here e result some is
 
--- want of memory, where it is accepted
+-- running out of memory, where it is accepted
 pub memory_prepared : (S : List Fact) (view : View) (me : ℕ) (c : Command) (result : Result Prepared Refusal) → IsPlain (length view.front) me c → IsSettled S → StandsFor S view → judge_on view me c ≡ Accepted → result ≡ Err NoMemory
     → IsPrepared S view me c result
 memory_prepared S view me c result plain settled stands taken is = subst (IsPrepared S view me c) (sym is) (inl (refl, sym (judge_view S view me c plain settled stands) ∙ taken))

@@ -16,7 +16,7 @@ use Rattle.lra_history.specs.Next.{change_on, judge_on, accepted_on}
 use Rattle.lra_replica.specs.declared.patch.Prepared.{Prepared}
 use Rattle.lra_replica.specs.Replicas.{Fits, ReplicaState}
 
--- the refusal of a command, or want of memory, which comes only where the command is accepted
+-- the refusal of a command, or running out of memory, which comes only where the command is accepted
 abbrev pub IsDenied : List Fact → View → ℕ → Command → Refusal → Type 0
 IsDenied S view me c refusal = ((refusal ≡ NoMemory) × (judge S view.front me c ≡ Accepted)) ⊎ (reply_of S view.front me c ≡ Refused refusal)
 
@@ -41,7 +41,7 @@ abbrev pub HasRoom : Result Prepared Refusal → ReplicaState → Type 0
 HasRoom (Ok prepared) kept = IfSome prepared.patch (λ change. Fits change kept)
 HasRoom (Err refusal) kept = Unit {0}
 
--- What a prepare answers: the refusal; that it is known; or the reply and what is changed, and only there want of memory
+-- What a prepare answers: the refusal; that it is known; or the reply and what is changed, and only there running out of memory
 abbrev pub IsAnswer : Judgement → CommandReply → Change → Result Prepared Refusal → Type 0
 IsAnswer (Denied r) reply change result = result ≡ Err r
 IsAnswer AlreadyKnown reply change result = result ≡ Ok (record { reply = Known; patch = None })
@@ -51,7 +51,7 @@ abbrev pub IsNext : View → ℕ → Command → Result Prepared Refusal → Typ
 IsNext view me c result = IsAnswer (judge_on view me c) (accepted_on view me c) (change_on view me c) result
 
 -- The first half of it: where the command is accepted, a copy of the record of l with the number of the node's next fact; else the
--- refusal. Want of memory comes only where it is accepted
+-- refusal. Running out of memory comes only where it is accepted
 abbrev pub IsReadyNext : View → ℕ → Command → Id → Result Record Refusal → Type 0
 IsReadyNext view me c l (Ok copy) =
     (judge_on view me c ≡ Accepted)

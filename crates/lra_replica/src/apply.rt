@@ -30,8 +30,10 @@ impl Replica {
     fn remove_all(&mut self, removed: &[LraId])
         ensures front { self.new.front ≡ self.old.front }
         ensures purges { self.new.purges ≡ self.old.purges }
-        ensures records { (view_of self.new).records ≡ remove_each removed.now (view_of self.old).records }
-        ensures room { (home : ℕ) → 1 ≤ home → spare_at self.old.homes home ≤ spare_at self.new.homes home }
+        ensures records { (view_of self.new).records
+            ≡ remove_each removed.now (view_of self.old).records }
+        ensures room { (home : ℕ) →
+            1 ≤ home → spare_at self.old.homes home ≤ spare_at self.new.homes home }
     {
         for id in removed {
             self.remove(*id);
@@ -41,8 +43,10 @@ impl Replica {
     fn remove(&mut self, id: LraId)
         ensures front { self.new.front ≡ self.old.front }
         ensures purges { self.new.purges ≡ self.old.purges }
-        ensures records { (view_of self.new).records ≡ remove_at_home id (view_of self.old).records }
-        ensures room { (home : ℕ) → 1 ≤ home → spare_at self.old.homes home ≤ spare_at self.new.homes home }
+        ensures records { (view_of self.new).records
+            ≡ remove_at_home id (view_of self.old).records }
+        ensures room { (home : ℕ) →
+            1 ≤ home → spare_at self.old.homes home ≤ spare_at self.new.homes home }
     {
         let place = usize::from(id.home().number()) - 1;
         if place < self.homes.len() {
@@ -52,10 +56,12 @@ impl Replica {
 
     fn put_all(&mut self, records: Vec<Record>)
         requires homes { AllByRecursion (λ r. r.home ≤ length self.old.front) records.items }
-        requires room { (home : ℕ) → 1 ≤ home → count_of_home home records.items ≤ spare_at self.old.homes home }
+        requires room { (home : ℕ) →
+            1 ≤ home → count_of_home home records.items ≤ spare_at self.old.homes home }
         ensures front { self.new.front ≡ self.old.front }
         ensures purges { self.new.purges ≡ self.old.purges }
-        ensures records { (view_of self.new).records ≡ put_each records.items (view_of self.old).records }
+        ensures records { (view_of self.new).records
+            ≡ put_each records.items (view_of self.old).records }
     {
         for added in records {
             self.put(added);
@@ -67,8 +73,10 @@ impl Replica {
         requires room { 1 ≤ added.home → 1 ≤ spare_at self.old.homes added.home }
         ensures front { self.new.front ≡ self.old.front }
         ensures purges { self.new.purges ≡ self.old.purges }
-        ensures records { (view_of self.new).records ≡ put_at_home added (view_of self.old).records }
-        ensures room { (home : ℕ) → 1 ≤ home → spare_at self.old.homes home ≤ spare_at self.new.homes home + (if added.home == home then 1 else 0) }
+        ensures records { (view_of self.new).records
+            ≡ put_at_home added (view_of self.old).records }
+        ensures room { (home : ℕ) → 1 ≤ home → spare_at self.old.homes home
+            ≤ spare_at self.new.homes home + (if added.home == home then 1 else 0) }
     {
         let place = usize::from(added.home.number()) - 1;
         self.homes[place].put(added);

@@ -19,7 +19,8 @@ impl Replica {
     pub fn next_compensations(&self, alloc: Global, me: NodeId) -> Result<Vec<Due>, AllocError>
         requires { me ≤ length self.now.front }
         ensures says { IfOk result (λ dues. dues.items ≡ compensations_of (view_of self.now) me) }
-        ensures settled { OfItsSet (view_of self.now) (λ S. IfOk result (λ dues. AreAll (IsDueAt me S is_compensation_due) (is_topmost_before S) dues.items)) }
+        ensures settled { OfItsSet (view_of self.now) (λ S. IfOk result
+            (λ dues. AreAll (IsDueAt me S is_compensation_due) (is_topmost_before S) dues.items)) }
     {
         match self.home(me) {
             Some(records) => records.next_compensations(alloc),
@@ -31,7 +32,8 @@ impl Replica {
     pub fn complete_duties(&self, alloc: Global, me: NodeId) -> Result<Vec<Due>, AllocError>
         requires { me ≤ length self.now.front }
         ensures says { IfOk result (λ dues. dues.items ≡ completions_of (view_of self.now) me) }
-        ensures settled { OfItsSet (view_of self.now) (λ S. IfOk result (λ dues. AreAll (IsDueAt me S is_complete_duty) is_before dues.items)) }
+        ensures settled { OfItsSet (view_of self.now) (λ S. IfOk result
+            (λ dues. AreAll (IsDueAt me S is_complete_duty) is_before dues.items)) }
     {
         match self.home(me) {
             Some(records) => records.complete_duties(alloc),
@@ -43,7 +45,8 @@ impl Replica {
     pub fn forget_duties(&self, alloc: Global, me: NodeId) -> Result<Vec<Due>, AllocError>
         requires { me ≤ length self.now.front }
         ensures says { IfOk result (λ dues. dues.items ≡ forgets_of (view_of self.now) me) }
-        ensures settled { OfItsSet (view_of self.now) (λ S. IfOk result (λ dues. AreAll (IsDueAt me S is_forget_duty) is_before dues.items)) }
+        ensures settled { OfItsSet (view_of self.now)
+            (λ S. IfOk result (λ dues. AreAll (IsDueAt me S is_forget_duty) is_before dues.items)) }
     {
         match self.home(me) {
             Some(records) => records.forget_duties(alloc),
@@ -65,7 +68,8 @@ impl Replica {
     /// The participant of an LRA with this member number, if the LRA is held and has one.
     pub fn participant(&self, id: LraId, member: u8) -> Option<&Participant>
         ensures says { option_copied result ≡ participant_in (view_of self.now) id member }
-        ensures settled { OfItsSet (view_of self.now) (λ S. option_copied result ≡ participant_of S id member) }
+        ensures settled { OfItsSet (view_of self.now)
+            (λ S. option_copied result ≡ participant_of S id member) }
     {
         match self.home_of(id) {
             Ok(records) => records.participant(id, member),

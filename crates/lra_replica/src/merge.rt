@@ -29,7 +29,8 @@ fn add_all<X: Drop>(list: &mut Vec<X>, more: Vec<X>) -> Result<(), AllocError>
 
 fn add_changes(patch: &mut Patch, changes: Changes) -> Result<(), AllocError>
     ensures removed { OnOk result (patch.new.removed ≡ patch.old.removed ++ changes.removed.items) }
-    ensures records { OnOk result (patch.new.records ≡ patch.old.records ++ changes.records.records) }
+    ensures records { OnOk result (patch.new.records
+        ≡ patch.old.records ++ changes.records.records) }
     ensures front { patch.new.front ≡ patch.old.front }
     ensures purges { patch.new.purges ≡ patch.old.purges }
 {
@@ -49,10 +50,10 @@ impl Replica {
     ) -> Result<Changes, Refusal>
         requires { told.records.home ≤ length self.now.front }
         ensures home { IfOk result (λ changes. changes.records.home ≡ told.records.home) }
-        ensures changes { IfOk result (λ changes.
-            IsChangeAt (view_of self.now) told reach front.now changes.removed.items changes.records.records) }
-        ensures refused { IfErr result (λ refusal. (refusal ≡ NoMemory) ⊎
-            ((refusal ≡ BadFrame 0) × ((after : List Record) → AreTakenAt (view_of self.now) told reach after →
+        ensures changes { IfOk result (λ changes. IsChangeAt
+            (view_of self.now) told reach front.now changes.removed.items changes.records.records) }
+        ensures refused { IfErr result (λ refusal. (refusal ≡ NoMemory) ⊎ ((refusal ≡ BadFrame 0)
+            × ((after : List Record) → AreTakenAt (view_of self.now) told reach after →
             AreInShape front.now told.records.home after → ⊥))) }
     {
         let home = told.records.home();
@@ -78,9 +79,10 @@ impl Replica {
         ensures front { patch.new.front ≡ patch.old.front }
         ensures purges { patch.new.purges ≡ patch.old.purges }
         ensures room { KeepsRoom self.old self.new }
-        ensures grown { OnOk result (IsGrown (view_of self.old) told reach self.new.homes patch.old patch.new) }
-        ensures refused { IfErr result (λ refusal. (refusal ≡ NoMemory) ⊎
-            ((refusal ≡ BadFrame 0) × ((after : List Record) → AreTakenAt (view_of self.old) told reach after →
+        ensures grown { OnOk result
+            (IsGrown (view_of self.old) told reach self.new.homes patch.old patch.new) }
+        ensures refused { IfErr result (λ refusal. (refusal ≡ NoMemory) ⊎ ((refusal ≡ BadFrame 0)
+            × ((after : List Record) → AreTakenAt (view_of self.old) told reach after →
             AreInShape patch.old.front told.records.home after → ⊥))) }
     {
         let home = told.records.home();
@@ -102,9 +104,11 @@ impl Replica {
         ensures front { patch.new.front ≡ patch.old.front }
         ensures purges { patch.new.purges ≡ patch.old.purges }
         ensures stays { KeepsRoom self.old self.new }
-        ensures taken { OnOk result (IsTakenTo (view_of self.old) taken self.new.homes patch.new (length self.old.front)) }
-        ensures refused { IfErr result (λ refusal. (refusal ≡ NoMemory) ⊎
-            ((refusal ≡ BadFrame 0) × ((c : View) → IsAbsorbed (view_of self.old) taken c → c.front ≡ patch.old.front → HasShape c → ⊥))) }
+        ensures taken { OnOk result
+            (IsTakenTo (view_of self.old) taken self.new.homes patch.new (length self.old.front)) }
+        ensures refused { IfErr result (λ refusal. (refusal ≡ NoMemory)
+            ⊎ ((refusal ≡ BadFrame 0) × ((c : View) →
+            IsAbsorbed (view_of self.old) taken c → c.front ≡ patch.old.front → HasShape c → ⊥))) }
     {
         let Taken { front, homes, .. } = taken;
         for told in homes {
@@ -128,11 +132,12 @@ impl Replica {
         ensures order { IsInOrder (view_of self.old) }
         ensures room { IfOk result (λ patch. Fits patch self.new) }
         ensures stays { KeepsRoom self.old self.new }
-        ensures absorbed { IfOk result (λ patch. IsAbsorbed (view_of self.old) taken (patched patch (view_of self.old))) }
+        ensures absorbed { IfOk result
+            (λ patch. IsAbsorbed (view_of self.old) taken (patched patch (view_of self.old))) }
         ensures shape { IfOk result (λ patch. HasShape (patched patch (view_of self.old))) }
         ensures only { IfOk result (λ patch. HoldsOnlyChanges (view_of self.old) patch) }
-        ensures refused { IfErr result (λ refusal. (refusal ≡ NoMemory) ⊎
-            ((refusal ≡ BadFrame 0) × ((c : View) → IsAbsorbed (view_of self.old) taken c → HasShape c → ⊥))) }
+        ensures refused { IfErr result (λ refusal. (refusal ≡ NoMemory) ⊎ ((refusal ≡ BadFrame 0)
+            × ((c : View) → IsAbsorbed (view_of self.old) taken c → HasShape c → ⊥))) }
     {
         let mut patch = Patch {
             records: Vec::new(alloc),
@@ -152,15 +157,18 @@ impl Replica {
     /// the other, and what `absorb` costs.
     pub fn merge(&mut self, alloc: Global, other: &Replica) -> Result<(), Refusal>
         requires { length self.old.front ≡ length other.now.front }
-        ensures merged { OnOk result (view_of self.new ≡ merged (view_of self.old) (view_of other.now)) }
-        ensures is { OnOk result (IsMerged (view_of self.old) (view_of other.now) (view_of self.new)) }
+        ensures merged { OnOk result (view_of self.new
+            ≡ merged (view_of self.old) (view_of other.now)) }
+        ensures is { OnOk result
+            (IsMerged (view_of self.old) (view_of other.now) (view_of self.new)) }
         ensures shape { OnOk result (HasShape (view_of self.new)) }
         ensures unchanged { OnErr result (view_of self.new ≡ view_of self.old) }
-        ensures refused { IfErr result (λ refusal. (refusal ≡ NoMemory) ⊎
-            ((refusal ≡ BadFrame 0) × (HasShape (merged (view_of self.old) (view_of other.now)) → ⊥))) }
+        ensures refused { IfErr result (λ refusal. (refusal ≡ NoMemory) ⊎ ((refusal ≡ BadFrame 0)
+            × (HasShape (merged (view_of self.old) (view_of other.now)) → ⊥))) }
         ensures union { (h : History) (v w : List ℕ) → IsLawful h → IsClosed h v → IsClosed h w →
             StandsFor (facts h v) (view_of self.old) → StandsFor (facts h w) (view_of other.now) →
-            MatchResult result (λ _. StandsFor (facts h (join_fronts v w)) (view_of self.new)) (λ refusal. refusal ≡ NoMemory) }
+            MatchResult result (λ _. StandsFor (facts h (join_fronts v w)) (view_of self.new))
+            (λ refusal. refusal ≡ NoMemory) }
     {
         let taken = other.tell_all(alloc)?;
         match self.absorb(alloc, taken) {

@@ -74,7 +74,8 @@ impl Clone for Page {
 
 fn first_of(records: &[Record]) -> Option<LraId>
     ensures none { records.now ≡ [] → result ≡ None }
-    ensures first { (r : Record) (rs : List Record) → records.now ≡ r ∷ rs → result ≡ (if is_fact_number r.num then Some (id_of r) else None) }
+    ensures first { (r : Record) (rs : List Record) →
+        records.now ≡ r ∷ rs → result ≡ (if is_fact_number r.num then Some (id_of r) else None) }
 {
     match records.first() {
         Some(record) => LraId::new(record.home, record.num).ok(),
@@ -162,7 +163,8 @@ impl Replica {
     /// at each home between, and what it shows costs as much as `status`.
     pub fn page(&self, alloc: Global, after: Option<LraId>) -> Result<Page, Refusal>
         ensures page { IfOk result (λ page. IsPage (by_view (view_of self.now)) after page) }
-        ensures settled { OfItsSet (view_of self.now) (λ S. IfOk result (λ page. IsPage (by_facts S) after page)) }
+        ensures settled { OfItsSet (view_of self.now)
+            (λ S. IfOk result (λ page. IsPage (by_facts S) after page)) }
         ensures cause { IfErr result (λ refusal. refusal ≡ NoMemory) }
     {
         Ok(self.next_rows(alloc, after)?)

@@ -21,7 +21,12 @@ impl Model for Patch {
 
     ghost Value = { Change };
 
-    ghost view = { λ p. record { records = p.records.items; removed = p.removed.items; front = p.front; purges = p.purges } };
+    ghost view = { λ p. record {
+      records = p.records.items;
+      removed = p.removed.items;
+      front = p.front;
+      purges = p.purges;
+    } };
 }
 
 impl Patch {

@@ -26,7 +26,8 @@ impl Model for Taken {
 
     ghost view = { λ t. record { front = t.front; purges = t.purges; homes = t.homes.items } };
 
-    ghost invariant = { λ t. IsTelling (record { front = t.front; purges = t.purges; homes = t.homes.items }) };
+    ghost invariant = { λ t.
+        IsTelling (record { front = t.front; purges = t.purges; homes = t.homes.items }) };
 }
 
 impl Taken {

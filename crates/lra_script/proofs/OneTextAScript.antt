@@ -1,4 +1,4 @@
--- A line prints one thing, and a script has one text, but for want of memory.
+-- A line prints one thing, and a script has one text, but for lack of memory.
 use Rattle.std.proofs.Common.{◌≡◌, ℕ, ◌<◌, ◌≤◌, ◌⊎◌, inl, inr, List, [], ◌∷◌, ◌++◌, Option, None, Some, length, refl, ap, sym, subst, ◌∙◌, arith}
 use Rattle.std.specs.Prelude.{IfSome}
 use Rattle.lra_callback.specs.declared.duty.Duty.{Duty}
@@ -6,8 +6,8 @@ use Rattle.lra_callback.proofs.Single.{one_list_of_duties}
 use Rattle.lra_world.specs.declared.event.Event.{Event}
 use Rattle.lra_world.specs.declared.event.Event.TheVariants.{Act as ActEvent, Deliver as DeliverEvent, Restart as RestartEvent, Send as SendEvent, Tick as TickEvent}
 use Rattle.lra_world.specs.declared.event.Reply.{Reply}
-use Rattle.lra_world.specs.Worlds.{Comes, SentFrame, IfNode, IsSpelled, State, frame_at, is_node, set_of}
-use Rattle.lra_world.proofs.Determined.{one_spelling, step_once}
+use Rattle.lra_world.specs.Worlds.{Comes, SentFrame, IfNode, IsEncoded, State, frame_at, is_node, set_of}
+use Rattle.lra_world.proofs.Determined.{one_encoding, step_once}
 use Rattle.lra_script.specs.declared.ask.Ask.{Ask}
 use Rattle.lra_script.specs.declared.ask.Ask.TheVariants.{Enter, Tick, Send, Deliver, Restart, Show, Member, Duties, Hear, Front, Same, Text, Read}
 use Rattle.lra_script.specs.Asks.{Spells}
@@ -33,7 +33,7 @@ coming_once s frame node (Some kept) n m a x t u e f h k =
 coming_once s frame node None n m a x t u e f h k = by (frame_at s frame) refl e f
   where
     whole : Option SentFrame → ℕ → Type 0
-    whole found count = IfSome found (λ sent. (bytes : List ℕ) × IsSpelled s.history sent bytes × (count ≡ length bytes))
+    whole found count = IfSome found (λ sent. (bytes : List ℕ) × IsEncoded s.history sent bytes × (count ≡ length bytes))
 
     as_well : frame_at s frame ≡ None → PrintsReply s (DeliverEvent frame node n) a t
         → PrintsReply s (DeliverEvent frame node m) a t
@@ -47,7 +47,7 @@ coming_once s frame node None n m a x t u e f h k = by (frame_at s frame) refl e
     by : (found : Option SentFrame) → frame_at s frame ≡ found → whole found n → whole found m → AreOne a x t u
     by None none e f = event_once s (DeliverEvent frame node m) a x t u (as_well none h) k
     by (Some sent) found (bytes, spelled, count) (others, also, counts) =
-        let same : n ≡ m = count ∙ ap (λ (l : List ℕ). length l) (one_spelling s.history sent bytes others spelled also) ∙ sym counts in
+        let same : n ≡ m = count ∙ ap (λ (l : List ℕ). length l) (one_encoding s.history sent bytes others spelled also) ∙ sym counts in
         event_once s (DeliverEvent frame node m) a x t u (subst (λ (i : ℕ). PrintsReply s (DeliverEvent frame node i) a t) same h) k
 
 same_once : (P : Type 0) (a x : List ℕ) → TellsSame P a → TellsSame P x → a ≡ x

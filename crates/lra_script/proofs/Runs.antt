@@ -12,7 +12,7 @@ use Rattle.lra_script.specs.Scripts.{refused, Answers, Prints}
 use Rattle.lra_script.proofs.OneRun.{HasText, answers_keep, plays}
 use Rattle.lra_script.proofs.Splits.{parts_whole, parts_last}
 
--- any lines have a text: each may meet want of memory
+-- any lines have a text: each may run out of memory
 pub some_text : (n : ℕ) (s : State) (lines : List (List ℕ)) → (out : List ℕ) × HasText n s lines out
 some_text n s [] = ([], ([], refl))
 some_text n s ([] ∷ lines) = let r = some_text n s lines in (r.0, (s ∷ r.1.0, ([], r.0, refl, (refl, refl), r.1.1)))

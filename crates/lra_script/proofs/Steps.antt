@@ -20,7 +20,7 @@ use Rattle.lra_world.specs.declared.event.Event.TheVariants.{Act as ActEvent, De
 use Rattle.lra_world.specs.declared.event.Reply.{Reply}
 use Rattle.lra_world.specs.declared.event.Reply.TheVariants.{Answered}
 use Rattle.lra_world.specs.Machines.{Happens, IsWorldOf, Machine}
-use Rattle.lra_world.specs.Worlds.{Acts, Comes, Expires, IfNode, IsSpelled, IsViewOf, SentFrame, Sends, State, Steps, Takes, Ticks, after_command, expired, frame_at, front_of, if_taken, is_node, nodes_of, reply_at, set_of, with_command}
+use Rattle.lra_world.specs.Worlds.{Acts, Comes, Expires, IfNode, IsEncoded, IsViewOf, SentFrame, Sends, State, Steps, Takes, Ticks, after_command, expired, frame_at, front_of, if_taken, is_node, nodes_of, reply_at, set_of, with_command}
 use Rattle.lra_world.proofs.Agreeing.{same_view}
 use Rattle.lra_world.proofs.OneReplicaChanged.{get_some}
 use Rattle.lra_script.specs.Asks.{IsNodeOf}
@@ -139,7 +139,7 @@ pub whole_coming : (s : State) (m : Machine) (number count : ℕ) → IsWorldOf 
 whole_coming s m number count w e = by (number == 0) e
   where
     at : (found : Option SentFrame) → slice_get s.sent (number - 1) ≡ found → count ≡ unwrap_or (option_map length (slice_get m.sent (number - 1))) 0
-        → IfSome found (λ frame. (bytes : List ℕ) × IsSpelled s.history frame bytes × (count ≡ length bytes))
+        → IfSome found (λ frame. (bytes : List ℕ) × IsEncoded s.history frame bytes × (count ≡ length bytes))
     at None f e = tt
     at (Some frame) f e =
         let within = slice_get_within s.sent (number - 1) frame f in
@@ -147,6 +147,6 @@ whole_coming s m number count w e = by (number == 0) e
         (bytes.0, w.frames (number - 1) frame bytes.0 f bytes.1, e ∙ ap (λ (o : Option (List ℕ)). unwrap_or (option_map length o) 0) bytes.1)
 
     by : (b : Bool) → count ≡ unwrap_or (cond b None (option_map length (slice_get m.sent (number - 1)))) 0
-        → IfSome (cond b None (slice_get s.sent (number - 1))) (λ frame. (bytes : List ℕ) × IsSpelled s.history frame bytes × (count ≡ length bytes))
+        → IfSome (cond b None (slice_get s.sent (number - 1))) (λ frame. (bytes : List ℕ) × IsEncoded s.history frame bytes × (count ≡ length bytes))
     by true e = tt
     by false e = at (slice_get s.sent (number - 1)) refl e

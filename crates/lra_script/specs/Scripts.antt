@@ -169,7 +169,7 @@ abbrev pub AnswersInRoom : ℕ → State → List ℕ → List ℕ → State →
 AnswersInRoom nodes s [] out t = (out ≡ []) × (t ≡ s)
 AnswersInRoom nodes s (b ∷ bs) out t = (IsBad nodes (b ∷ bs) × (out ≡ refused BadText) × (t ≡ s)) ⊎ IsDone nodes s (b ∷ bs) out t
 
--- the same, where any line but an empty one may meet want of memory, and then nothing happened
+-- the same, where any line but an empty one may run out of memory, and then nothing happened
 abbrev pub Answers : ℕ → State → List ℕ → List ℕ → State → Type 0
 Answers nodes s [] out t = (out ≡ []) × (t ≡ s)
 Answers nodes s (b ∷ bs) out t = ((out ≡ refused NoMemory) × (t ≡ s)) ⊎ AnswersInRoom nodes s (b ∷ bs) out t
@@ -190,7 +190,7 @@ TextOfLines answers s (line ∷ lines) out [] = ⊥
 abbrev pub ScriptText : ℕ → State → List (List ℕ) → List ℕ → List State → Type 0
 ScriptText nodes s lines out states = TextOfLines (Answers nodes) s lines out states
 
--- the same, where no line meets want of memory
+-- the same, where no line runs out of memory
 abbrev pub TextInRoom : ℕ → State → List (List ℕ) → List ℕ → List State → Type 0
 TextInRoom nodes s lines out states = TextOfLines (AnswersInRoom nodes) s lines out states
 

@@ -21,7 +21,7 @@ use lra_id::NodeId;
 use lra_world::{Event, World};
 use std::alloc::{AllocError, Global};
 
-/// What a line prints, and what it does to the world of so many nodes. Want of memory is no event.
+/// What a line prints, and what it does to the world of so many nodes. Running out of memory is no event.
 pub fn answer(
     alloc: Global,
     world: &mut World,
@@ -30,8 +30,10 @@ pub fn answer(
 ) -> Result<String, AllocError>
     requires few { nodes ≤ 8 }
     requires nodes { length world.old.replicas ≡ nodes }
-    ensures ok { (s : State) → IsWorldOf s world.old → IfOk result (λ text. WasAnswered nodes s line.now (string_bytes text) world.new) }
-    ensures err { (s : State) → IsWorldOf s world.old → OnErr result (WasAnswered nodes s line.now (refused NoMemory) world.new) }
+    ensures ok { (s : State) → IsWorldOf s world.old →
+        IfOk result (λ text. WasAnswered nodes s line.now (string_bytes text) world.new) }
+    ensures err { (s : State) → IsWorldOf s world.old →
+        OnErr result (WasAnswered nodes s line.now (refused NoMemory) world.new) }
 {
     if line.is_empty() {
         return Ok(String::new(alloc));
@@ -48,7 +50,8 @@ pub fn answer(
 
 fn obey(alloc: Global, world: &mut World, ask: Ask) -> Result<String, AllocError>
     requires { IsInRange (length world.old.replicas) ask }
-    ensures ok { (s : State) → IsWorldOf s world.old → IfOk result (λ text. WasDone s ask (string_bytes text) world.new) }
+    ensures ok { (s : State) →
+        IsWorldOf s world.old → IfOk result (λ text. WasDone s ask (string_bytes text) world.new) }
     ensures err { (s : State) → IsWorldOf s world.old → OnErr result (IsWorldOf s world.new) }
 {
     match ask {
@@ -75,7 +78,8 @@ fn obey(alloc: Global, world: &mut World, ask: Ask) -> Result<String, AllocError
 }
 
 fn happen(alloc: Global, world: &mut World, event: Event) -> Result<String, AllocError>
-    ensures ok { (s : State) → IsWorldOf s world.old → IfOk result (λ text. HasHappened s event (string_bytes text) world.new) }
+    ensures ok { (s : State) → IsWorldOf s world.old →
+        IfOk result (λ text. HasHappened s event (string_bytes text) world.new) }
     ensures err { (s : State) → IsWorldOf s world.old → OnErr result (IsWorldOf s world.new) }
 {
     // Without a value of this type here the toolchain's borrow checker can't build its plan for a `Reply`.
@@ -95,7 +99,8 @@ fn deliver(
     node: NodeId,
     kept: Option<u64>,
 ) -> Result<String, AllocError>
-    ensures ok { (s : State) → IsWorldOf s world.old → IfOk result (λ text. WasDone s (Deliver frame node kept) (string_bytes text) world.new) }
+    ensures ok { (s : State) → IsWorldOf s world.old →
+        IfOk result (λ text. WasDone s (Deliver frame node kept) (string_bytes text) world.new) }
     ensures err { (s : State) → IsWorldOf s world.old → OnErr result (IsWorldOf s world.new) }
 {
     let frame = frame as usize;

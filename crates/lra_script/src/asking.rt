@@ -22,7 +22,8 @@ use std::alloc::{AllocError, Global};
 /// What a line asks of a world of so many nodes. Only the links of a join and the body of an answer take memory.
 pub fn ask_of(alloc: Global, line: &[u8], nodes: u8) -> Result<Option<Ask>, AllocError>
     requires { nodes ≤ 8 }
-    ensures { IfOk result (λ found. MatchOption found ((ask : Ask) → Spells nodes line.now ask → ⊥) (Spells nodes line.now)) }
+    ensures { IfOk result (λ found.
+        MatchOption found ((ask : Ask) → Spells nodes line.now ask → ⊥) (Spells nodes line.now)) }
 {
     let mut words = Words::of(line);
     let Some(verb) = words.next() else {

@@ -30,7 +30,8 @@ use std::alloc::{AllocError, Global};
 pub fn show_duties(alloc: Global, replica: &Replica, me: NodeId) -> Result<String, AllocError>
     requires { me ≤ length replica.now.front }
     ensures { (S : List Fact) (front : List ℕ) → Holds S front replica.now →
-        IfOk result (λ text. (duties : List Call) × AreAll (IsDuty me S) (comes_first S) duties × (string_bytes text ≡ printed (duties_text duties))) }
+        IfOk result (λ text. (duties : List Call) × AreAll (IsDuty me S) (comes_first S) duties
+        × (string_bytes text ≡ printed (duties_text duties))) }
 {
     match pick(alloc, replica, me) {
         Ok(duties) => duties_line(alloc, duties.as_slice()),
@@ -58,7 +59,8 @@ fn duty_text(alloc: Global, duty: &Duty) -> Result<String, AllocError>
 }
 
 fn push_further(alloc: Global, text: &mut String, duties: &[Duty]) -> Result<(), AllocError>
-    ensures { OnOk result (string_bytes text.new ≡ string_bytes text.old ++ further_text duties.now) }
+    ensures { OnOk result (string_bytes text.new
+        ≡ string_bytes text.old ++ further_text duties.now) }
 {
     for duty in duties {
         let piece = duty_text(alloc, duty)?;
@@ -80,10 +82,12 @@ pub fn hear_answer(
     answer: &Answer,
 ) -> Result<String, AllocError>
     requires { IsNodeOf (length world.old.replicas) node }
-    ensures ok { (s : State) → IsWorldOf s world.old → IfOk result (λ text.
-        string_bytes text ≡ answer_line s node id member kind answer.now (act_asked (set_of s node) (front_of s node) kind id member)) }
-    ensures after { (s : State) → IsWorldOf s world.old → IfOk result (λ _.
-        IsWorldOf (after_answer s node id member kind answer.now (act_asked (set_of s node) (front_of s node) kind id member)) world.new) }
+    ensures ok { (s : State) → IsWorldOf s world.old →
+        IfOk result (λ text. string_bytes text ≡ answer_line s node id member kind answer.now
+        (act_asked (set_of s node) (front_of s node) kind id member)) }
+    ensures after { (s : State) → IsWorldOf s world.old →
+        IfOk result (λ _. IsWorldOf (after_answer s node id member kind answer.now
+        (act_asked (set_of s node) (front_of s node) kind id member)) world.new) }
     ensures err { (s : State) → IsWorldOf s world.old → OnErr result (IsWorldOf s world.new) }
 {
     match act_asked(held(world, node), kind, id, member) {
@@ -104,7 +108,8 @@ pub fn hear_answer(
 /// The act that an answer to a call of this kind is heard for: of a status the one that the LRA's want demands, or why
 /// there is none. What is heard of a forget is the same for either.
 fn act_asked(replica: &Replica, kind: Kind, id: LraId, member: u8) -> Result<Act, Refusal>
-    ensures { (S : List Fact) (front : List ℕ) → Holds S front replica.now → result ≡ act_asked S front kind id member }
+    ensures { (S : List Fact) (front : List ℕ) →
+        Holds S front replica.now → result ≡ act_asked S front kind id member }
 {
     match kind {
         Kind::Complete | Kind::Forget => Ok(Act::Complete),
@@ -114,8 +119,8 @@ fn act_asked(replica: &Replica, kind: Kind, id: LraId, member: u8) -> Result<Act
 }
 
 fn act_of_status(replica: &Replica, id: LraId, member: u8) -> Result<Act, Refusal>
-    ensures { (S : List Fact) (front : List ℕ) → Holds S front replica.now →
-        result ≡ act_where (member_shown S front id member) (act_demanded (act_wanted (want S id))) }
+    ensures { (S : List Fact) (front : List ℕ) → Holds S front replica.now → result
+        ≡ act_where (member_shown S front id member) (act_demanded (act_wanted (want S id))) }
 {
     match replica.member(id, member) {
         Ok(_) => act_demanded(replica, id),
@@ -124,7 +129,8 @@ fn act_of_status(replica: &Replica, id: LraId, member: u8) -> Result<Act, Refusa
 }
 
 fn act_demanded(replica: &Replica, id: LraId) -> Result<Act, Refusal>
-    ensures { (S : List Fact) (front : List ℕ) → Holds S front replica.now → is_held S id ≡ true → result ≡ act_demanded (act_wanted (want S id)) }
+    ensures { (S : List Fact) (front : List ℕ) → Holds S front replica.now →
+        is_held S id ≡ true → result ≡ act_demanded (act_wanted (want S id)) }
 {
     match replica.want(id) {
         Ok(want) => act_wanted(want).ok_or(Refusal::NotDue(LraStatus::Active)),
@@ -155,8 +161,10 @@ fn enter_heard(
     command: Option<Command>,
 ) -> Result<String, AllocError>
     requires { IsNodeOf (length world.old.replicas) node }
-    ensures ok { (s : State) → IsWorldOf s world.old → IfOk result (λ text. string_bytes text ≡ heard_line s node heard command) }
-    ensures after { (s : State) → IsWorldOf s world.old → IfOk result (λ _. IsWorldOf (after_heard s node command) world.new) }
+    ensures ok { (s : State) → IsWorldOf s world.old →
+        IfOk result (λ text. string_bytes text ≡ heard_line s node heard command) }
+    ensures after { (s : State) → IsWorldOf s world.old →
+        IfOk result (λ _. IsWorldOf (after_heard s node command) world.new) }
     ensures err { (s : State) → IsWorldOf s world.old → OnErr result (IsWorldOf s world.new) }
 {
     // Without a value of this type here the toolchain's borrow checker can't build its plan for a `Reply`.

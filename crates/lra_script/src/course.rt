@@ -37,15 +37,19 @@ pub fn script<R: Source, W: Sink>(
     // What was written and passed on is the text of what was given, to its end. The states that its lines lead through are those
     // of one run of the world, and the headline holds from each to each later one. No call failed, and of interrupted ones there
     // were fewer than 1,024 a line.
-    ensures text { OnOk result (HasRun nodes (R.stream reader.old) (R.stream reader.new) (W.stream writer.old) (W.stream writer.new)
+    ensures text { OnOk result (HasRun nodes
+        (R.stream reader.old) (R.stream reader.new) (W.stream writer.old) (W.stream writer.new)
         (R.calls reader.old) (R.calls reader.new) (W.calls writer.old) (W.calls writer.new)) }
     // After a fault what was written is a prefix of such a text, whatever follows what was given. After a read fault every line
     // that was given whole is answered whole.
-    ensures part { OnErr result (WritesPart nodes (R.stream reader.old) (R.stream reader.new) (W.stream writer.old) (W.stream writer.new)) }
-    ensures whole { result ≡ Err ScriptFault.Read → AnswersWhole nodes (R.stream reader.old) (R.stream reader.new) (W.stream writer.old) (W.stream writer.new) }
+    ensures part { OnErr result (WritesPart nodes
+        (R.stream reader.old) (R.stream reader.new) (W.stream writer.old) (W.stream writer.new)) }
+    ensures whole { result ≡ Err ScriptFault.Read → AnswersWhole nodes
+        (R.stream reader.old) (R.stream reader.new) (W.stream writer.old) (W.stream writer.new) }
     // Each fault has its cause, and no call follows one that failed.
-    ensures streams { IfErr result (HasStopped (R.calls reader.old) (R.calls reader.new) (W.calls writer.old) (W.calls writer.new)
-        ((reader.new ≡ reader.old) × (writer.new ≡ writer.old))) }
+    ensures streams { IfErr result (HasStopped (R.calls reader.old)
+        (R.calls reader.new) (W.calls writer.old) (W.calls writer.new) ((reader.new ≡ reader.old)
+        × (writer.new ≡ writer.old))) }
 {
     let Ok(mut line) = Vec::with_capacity(alloc, KEPT_OF_LINE) else {
         return Err(ScriptFault::NoMemory);
@@ -76,8 +80,10 @@ fn print_line<W: Sink>(
 ) -> Result<(), WriteFault>
     requires few { nodes ≤ 8 }
     requires nodes { length world.old.replicas ≡ nodes }
-    ensures ok { (s : State) → IsWorldOf s world.old → OnOk result (Prints nodes s line.now world.new (IsPut (W.stream writer.old) (W.stream writer.new))) }
-    ensures err { (s : State) → IsWorldOf s world.old → OnErr result (Prints nodes s line.now world.new (TakesPart (W.stream writer.old) (W.stream writer.new))) }
+    ensures ok { (s : State) → IsWorldOf s world.old → OnOk result
+        (Prints nodes s line.now world.new (IsPut (W.stream writer.old) (W.stream writer.new))) }
+    ensures err { (s : State) → IsWorldOf s world.old → OnErr result (Prints
+        nodes s line.now world.new (TakesPart (W.stream writer.old) (W.stream writer.new))) }
     ensures streams { LineCalls (W.calls writer.old) (W.calls writer.new) result }
 {
     match answer(alloc, world, line, nodes) {

@@ -20,11 +20,13 @@ pub fn read_line<R: Source>(
 ) -> Result<bool, ReadFault>
     requires { 4097 ≤ vec_capacity line.old }
     ensures room { 4097 ≤ vec_capacity line.new }
-    ensures read { IfOk result (λ more. ReadsLine more line.new.items (R.stream reader.old) (R.stream reader.new)) }
+    ensures read { IfOk result
+        (λ more. ReadsLine more line.new.items (R.stream reader.old) (R.stream reader.new)) }
     ensures cut { OnErr result (ReadsPart (R.stream reader.old) (R.stream reader.new)) }
     ensures streams { LineReads (R.calls reader.old) (R.calls reader.new) reads_left.new result }
     ensures fewer { OnOk result (reads_left.new < reads_left.old) }
-    ensures spent { (R.calls reader.old).made + reads_left.old ≤ (R.calls reader.new).made + reads_left.new }
+    ensures spent { (R.calls reader.old).made + reads_left.old
+        ≤ (R.calls reader.new).made + reads_left.new }
 {
     line.clear();
     let mut interrupted = 0;
@@ -45,7 +47,8 @@ pub fn read_line<R: Source>(
 fn keep(line: &mut Vec<u8>, byte: u8)
     requires { 4097 ≤ vec_capacity line.old }
     ensures room { 4097 ≤ vec_capacity line.new }
-    ensures kept { (pending : List ℕ) → line.old.items ≡ take 4097 pending → line.new.items ≡ take 4097 (pending ++ byte ∷ []) }
+    ensures kept { (pending : List ℕ) →
+        line.old.items ≡ take 4097 pending → line.new.items ≡ take 4097 (pending ++ byte ∷ []) }
 {
     if line.len() < KEPT_OF_LINE {
         let _ = line.push(byte);

@@ -10,7 +10,8 @@ use std::str;
 
 /// The number that a word spells in decimal, without leading zeros.
 pub fn number_of(word: &[u8]) -> Option<u64>
-    ensures { MatchOption result ((n : ℕ) → n < 2 ^ 64 → word.now ≡ decimal n → ⊥) (λ n. word.now ≡ decimal n) }
+    ensures { MatchOption result ((n : ℕ) → n < 2 ^ 64 → word.now ≡ decimal n → ⊥)
+        (λ n. word.now ≡ decimal n) }
 {
     if !is_canonical(word) {
         return None;
@@ -25,8 +26,10 @@ pub fn number_of(word: &[u8]) -> Option<u64>
 }
 
 fn is_canonical(word: &[u8]) -> bool
-    ensures plain { IsTrue result → (slice_index word.now 0 ≡ 43 → ⊥) × (slice_index word.now 0 ≡ 48 → length word.now ≡ 1) }
-    ensures odd { (IsTrue result → ⊥) → (slice_index word.now 0 ≡ 43 → length word.now ≡ 0) → (slice_index word.now 0 ≡ 48) × (length word.now ≢ 1) }
+    ensures plain { IsTrue result →
+        (slice_index word.now 0 ≡ 43 → ⊥) × (slice_index word.now 0 ≡ 48 → length word.now ≡ 1) }
+    ensures odd { (IsTrue result → ⊥) → (slice_index word.now 0 ≡ 43 → length word.now ≡ 0) →
+        (slice_index word.now 0 ≡ 48) × (length word.now ≢ 1) }
 {
     if word.is_empty() {
         return true;
@@ -37,7 +40,8 @@ fn is_canonical(word: &[u8]) -> bool
 /// The node, of so many, that a word spells.
 pub fn node_of(word: &[u8], nodes: u8) -> Option<NodeId>
     requires { nodes ≤ 8 }
-    ensures { MatchOption result ((node : ℕ) → IsNodeOf nodes node → word.now ≡ decimal node → ⊥) (λ node. IsNodeOf nodes node × (word.now ≡ decimal node)) }
+    ensures { MatchOption result ((node : ℕ) → IsNodeOf nodes node →
+        word.now ≡ decimal node → ⊥) (λ node. IsNodeOf nodes node × (word.now ≡ decimal node)) }
 {
     let Some(number) = number_of(word) else {
         return None;
@@ -53,7 +57,8 @@ pub fn node_of(word: &[u8], nodes: u8) -> Option<NodeId>
 
 /// The member number that a word spells.
 pub fn member_number_of(word: &[u8]) -> Option<u8>
-    ensures { MatchOption result ((m : ℕ) → IsMemberNumber m → word.now ≡ decimal m → ⊥) (λ m. IsMemberNumber m × (word.now ≡ decimal m)) }
+    ensures { MatchOption result ((m : ℕ) → IsMemberNumber m →
+        word.now ≡ decimal m → ⊥) (λ m. IsMemberNumber m × (word.now ≡ decimal m)) }
 {
     let Some(number) = number_of(word) else {
         return None;
@@ -66,7 +71,8 @@ pub fn member_number_of(word: &[u8]) -> Option<u8>
 
 /// The code of an answer that a word spells: at most 65,535.
 pub fn code_of(word: &[u8]) -> Option<u16>
-    ensures { MatchOption result ((n : ℕ) → n < 2 ^ 16 → word.now ≡ decimal n → ⊥) (λ n. word.now ≡ decimal n) }
+    ensures { MatchOption result ((n : ℕ) → n < 2 ^ 16 → word.now ≡ decimal n → ⊥)
+        (λ n. word.now ≡ decimal n) }
 {
     let Some(number) = number_of(word) else {
         return None;
@@ -79,7 +85,8 @@ pub fn code_of(word: &[u8]) -> Option<u16>
 
 /// The id that a word spells: its home, which has one digit, and its number, parted by a point.
 pub fn id_of(word: &[u8]) -> Option<LraId>
-    ensures { MatchOption result ((id : Id) → IsId id → word.now ≡ id_text id → ⊥) (λ id. IsId id × (word.now ≡ id_text id)) }
+    ensures { MatchOption result ((id : Id) → IsId id → word.now ≡ id_text id → ⊥)
+        (λ id. IsId id × (word.now ≡ id_text id)) }
 {
     if word.len() < 2 || word[1] != b'.' {
         return None;

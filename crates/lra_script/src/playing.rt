@@ -30,10 +30,10 @@ pub fn run<R: Source, W: Sink>(
     reader: &mut R,
     writer: &mut W,
 ) -> u8
-    ensures { IsRunOf (AskScript (map string_bytes words.now))
-        (EndsWith (R.stream reader.old) (R.stream reader.new) (W.stream writer.old) (W.stream writer.new)
-        (R.calls reader.old) (R.calls reader.new) (W.calls writer.old) (W.calls writer.new))
-        ((reader.new ≡ reader.old) × (writer.new ≡ writer.old)) result }
+    ensures { IsRunOf (AskScript (map string_bytes words.now)) (EndsWith (R.stream reader.old)
+        (R.stream reader.new) (W.stream writer.old) (W.stream writer.new) (R.calls reader.old)
+        (R.calls reader.new) (W.calls writer.old) (W.calls writer.new)) ((reader.new ≡ reader.old)
+        × (writer.new ≡ writer.old)) result }
 {
     let Some(nodes) = asked_nodes(words) else {
         return OTHER_WORDS;
@@ -60,7 +60,8 @@ pub fn play(rt: &HostRuntime, words: &[String], usage: &str) -> u8
 
 /// How many nodes a script is to have, where the arguments ask for a script.
 pub fn asked_nodes(words: &[String]) -> Option<u8>
-    ensures { MatchOption result ((nodes : ℕ) → AskScript (map string_bytes words.now) nodes → ⊥) (AskScript (map string_bytes words.now)) }
+    ensures { MatchOption result ((nodes : ℕ) →
+        AskScript (map string_bytes words.now) nodes → ⊥) (AskScript (map string_bytes words.now)) }
 {
     let [command, count] = words else {
         return None;

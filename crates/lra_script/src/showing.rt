@@ -20,7 +20,8 @@ use std::str;
 /// What a node holds.
 pub fn held(world: &World, node: NodeId) -> &Replica
     requires { IsNodeOf (length world.now.replicas) node }
-    ensures holds { (s : State) → IsWorldOf s world.now → Holds (set_of s node) (front_of s node) result.now }
+    ensures holds { (s : State) →
+        IsWorldOf s world.now → Holds (set_of s node) (front_of s node) result.now }
     ensures nodes { length result.now.front ≡ length world.now.replicas }
 {
     world.replica(node)
@@ -29,7 +30,8 @@ pub fn held(world: &World, node: NodeId) -> &Replica
 /// What a node shows of an LRA.
 pub fn show(alloc: Global, world: &World, node: NodeId, id: LraId) -> Result<String, AllocError>
     requires { IsNodeOf (length world.now.replicas) node }
-    ensures { (s : State) → IsWorldOf s world.now → IfOk result (λ text. string_bytes text ≡ status_line (shown_at s node id)) }
+    ensures { (s : State) → IsWorldOf s world.now →
+        IfOk result (λ text. string_bytes text ≡ status_line (shown_at s node id)) }
 {
     match world.status(node, id) {
         Ok(status) => format!(in alloc; "{status}\n"),
@@ -46,7 +48,8 @@ pub fn show_member(
     member: u8,
 ) -> Result<String, AllocError>
     requires { IsNodeOf (length world.now.replicas) node }
-    ensures { (s : State) → IsWorldOf s world.now → IfOk result (λ text. string_bytes text ≡ member_line (member_at s node id member)) }
+    ensures { (s : State) → IsWorldOf s world.now →
+        IfOk result (λ text. string_bytes text ≡ member_line (member_at s node id member)) }
 {
     match world.member(node, id, member) {
         Ok(status) => format!(in alloc; "{status}\n"),
@@ -56,7 +59,8 @@ pub fn show_member(
 
 /// How many facts of each node a node has.
 pub fn show_front(alloc: Global, replica: &Replica) -> Result<String, AllocError>
-    ensures { IfOk result (λ text. string_bytes text ≡ printed (codes "front " ++ front_text replica.now.front)) }
+    ensures { IfOk result
+        (λ text. string_bytes text ≡ printed (codes "front " ++ front_text replica.now.front)) }
 {
     let front = replica.front();
     format!(in alloc; "front {front}\n")
@@ -64,7 +68,8 @@ pub fn show_front(alloc: Global, replica: &Replica) -> Result<String, AllocError
 
 /// Whether two nodes hold the same.
 pub fn show_same(alloc: Global, one: &Replica, other: &Replica) -> Result<String, AllocError>
-    ensures { IfOk result (λ text. TellsSame (view_of one.now ≡ view_of other.now) (string_bytes text)) }
+    ensures { IfOk result
+        (λ text. TellsSame (view_of one.now ≡ view_of other.now) (string_bytes text)) }
 {
     if one.same(other) {
         return format!(in alloc; "same\n");

@@ -67,7 +67,7 @@ fn ask<R: Wait + Clock>(
     caller.ask(alloc, &request).ok()
 }
 
-/// Calls a participant, and tells what is heard. Where it can't be reached, or memory is wanting, it is to be called again.
+/// Calls a participant, and tells what is heard. Where it can't be reached, or memory runs out, it is to be called again.
 fn call_one<R: Wait + Clock + Net<Listener = TcpListener, Stream = TcpStream>>(
     rt: &R,
     alloc: Global,

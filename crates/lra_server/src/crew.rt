@@ -218,7 +218,8 @@ fn run<J: Run + Send + Sync, S: Alter + Send + Drop, R, L>(
 where
     R: Threads + Wait + Clock + Net<Listener = TcpListener, Stream = TcpStream> + Sync,
     L: Log + Sync,
-    requires run { (book.opening ≡ Some J.opening.view) × (book.me ≡ J.opening.node) × (book.trail ≡ []) }
+    requires run { (book.opening ≡ Some J.opening.view)
+        × (book.me ≡ J.opening.node) × (book.trail ≡ []) }
     requires blank { (blank.name ≡ J.name) × (blank.parts ≡ J.parts) × (blank.parts ≡ 5) }
     ensures { IfSome result (λ b. b.opening ≡ None) }
 {

@@ -5,13 +5,13 @@ use std::alloc::Global;
 use std::collections::VecDeque;
 
 /// How many calls to a quick host may go on at once. Another has one.
-const MOST_CALLS: usize = 2;
+const MAX_CALLS: usize = 2;
 
 /// How many slow hosts may be called at once: the other threads are left to those that answer at once.
-const MOST_SLOW: usize = 2;
+const MAX_SLOW: usize = 2;
 
 /// How many hosts are remembered.
-const MOST_HOSTS: usize = 32;
+const MAX_HOSTS: usize = 32;
 
 /// How a host answered its last call.
 #[derive(Clone, Copy, PartialEq, Eq)]
@@ -71,7 +71,7 @@ impl Hosts {
             .iter()
             .filter(|host| host.is_slow_and_called())
             .count()
-            < MOST_SLOW
+            < MAX_SLOW
         {
             if let Some(place) = self.next_of_slow(due) {
                 return Some(place);
@@ -95,7 +95,7 @@ impl Hosts {
     /// Whether a duty's host needn't wait for its turn, and may be called once more.
     fn may_call_at_once(&self, duty: &Duty) -> bool {
         match self.list.iter().find(|host| host.is_of(duty)) {
-            Some(host) => host.pace == Pace::Quick && host.calls < MOST_CALLS,
+            Some(host) => host.pace == Pace::Quick && host.calls < MAX_CALLS,
             None => true,
         }
     }
@@ -119,7 +119,7 @@ impl Hosts {
 
     /// Puts a host last. Where there are too many, the one is forgotten that was called longest ago.
     fn put(&mut self, host: Host) {
-        if self.list.len() >= MOST_HOSTS {
+        if self.list.len() >= MAX_HOSTS {
             if let Some(place) = self.list.iter().position(|host| host.calls == 0) {
                 let _forgotten = self.list.remove(place);
             }

@@ -110,7 +110,7 @@ struct Mail {
     delta: Option<Delta>,
     front: Front,
     stirred: bool,
-    /// Whether something is to be asked again for want of memory.
+    /// Whether something is to be asked again for lack of memory.
     lost: bool,
     ticks_at: Duration,
     ended: bool,

@@ -16,7 +16,7 @@ use std::sync::Wait;
 use std::thread;
 use std::time::{Clock, Duration};
 
-/// How long it rests where memory is wanting, in milliseconds.
+/// How long it rests where memory runs out, in milliseconds.
 const REST: u64 = 20;
 
 /// The command that enters what was heard.
@@ -144,7 +144,7 @@ fn attend<R: Wait + Clock, C: Clerk>(
     }
 }
 
-/// Ends the run where a refusal does, and rests for a moment where memory is wanting.
+/// Ends the run where a refusal does, and rests for a moment where memory runs out.
 fn rest<R: Wait + Clock + Net<Listener = TcpListener, Stream = TcpStream>>(
     rt: &R,
     node: &Node,

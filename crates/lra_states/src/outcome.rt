@@ -90,7 +90,8 @@ impl Outcome {
     /// The outcome that has this name; another text is refused.
     pub fn from_name(name: &str) -> Result<Outcome, BadText>
         ensures found { IfOk result (λ outcome. name.now ≡ outcome_name outcome) }
-        ensures refused { IfErr result (λ _. (outcome : Outcome) → name.now ≢ outcome_name outcome) }
+        ensures refused { IfErr result (λ _. (outcome : Outcome) →
+            name.now ≢ outcome_name outcome) }
     {
         match name {
             "busy" => Ok(Outcome::Busy),
@@ -130,7 +131,8 @@ impl Verdict {
     /// The verdict that has this name; another text is refused.
     pub fn from_name(name: &str) -> Result<Verdict, BadText>
         ensures found { IfOk result (λ verdict. name.now ≡ verdict_name verdict) }
-        ensures refused { IfErr result (λ _. (verdict : Verdict) → name.now ≢ verdict_name verdict) }
+        ensures refused { IfErr result (λ _. (verdict : Verdict) →
+            name.now ≢ verdict_name verdict) }
     {
         match name {
             "close" => Ok(Verdict::Close),

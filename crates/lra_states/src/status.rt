@@ -108,7 +108,8 @@ impl MemberStatus {
     /// The status that has this name; another text is refused.
     pub fn from_name(name: &str) -> Result<MemberStatus, BadText>
         ensures found { IfOk result (λ status. name.now ≡ member_name status) }
-        ensures refused { IfErr result (λ _. (status : MemberStatus) → name.now ≢ member_name status) }
+        ensures refused { IfErr result (λ _. (status : MemberStatus) →
+            name.now ≢ member_name status) }
     {
         match name {
             "Active" => Ok(MemberStatus::Active),

@@ -21,7 +21,7 @@ use Rattle.lra_history.specs.Views.{StandsFor, View, records_at}
 use Rattle.lra_history.proofs.Covered.{nested_settled}
 use Rattle.lra_delta.specs.Frames.{Frame, IsFrame, frame_of}
 use Rattle.lra_delta.specs.Rules.{IsDelta, are_counts}
-use Rattle.lra_delta.specs.Spelling.{spelling}
+use Rattle.lra_delta.specs.Encoding.{encoding}
 use Rattle.lra_delta.proofs.FramesOfHistories.{take_law}
 use Rattle.lra_delta.proofs.OfSets.{frame_stands}
 use Rattle.lra_peer.specs.PullBodies.{asked, counts_in}
@@ -29,7 +29,7 @@ use Rattle.lra_world.specs.declared.event.Event.{Event}
 use Rattle.lra_world.specs.declared.event.Event.TheVariants.{Act, Deliver, Send, Tick}
 use Rattle.lra_world.specs.declared.event.Reply.{Reply}
 use Rattle.lra_world.specs.declared.event.Reply.TheVariants.{Answered, Sent, Expired as DidExpire, Took as DidTake}
-use Rattle.lra_world.specs.Worlds.{Acts, Comes, IsSpelled, IsViewOf, SentFrame, Sends, State, Steps, Ticks, after_command, expired as did_expire, frame_at, front_of, reply_at, set_of, with_front}
+use Rattle.lra_world.specs.Worlds.{Acts, Comes, IsEncoded, IsViewOf, SentFrame, Sends, State, Steps, Ticks, after_command, expired as did_expire, frame_at, front_of, reply_at, set_of, with_front}
 use Rattle.lra_world.proofs.Moving.{frame_in}
 use Rattle.lra_book.specs.declared.calls.Call.{Call}
 use Rattle.lra_book.specs.declared.calls.Call.TheVariants.{Command as Enter, Take, Pull, Status, Member, Page, Duties, Expire}
@@ -112,8 +112,8 @@ expiry_means me s frame now a b (Some l) served least next =
 
 took_means : (me : ℕ) (s : State) (frame now : ℕ) (a b : View) (delta : Frame) → IsServed me s a → Takes a delta b → IsTold s frame delta → IsDelta delta → Means me s frame now (Take delta) Took b
 took_means me s frame now a b delta served takes told spelt =
-    Something (Deliver frame me (length (spelling delta))) DidTake t refl refl
-    (at_node s t me (Comes s me (frame_at s frame) (length (spelling delta)) DidTake t) DidTake served.node comes) refl holds
+    Something (Deliver frame me (length (encoding delta))) DidTake t refl refl
+    (at_node s t me (Comes s me (frame_at s frame) (length (encoding delta)) DidTake t) DidTake served.node comes) refl holds
   where
     v : List ℕ
     v = front_of s me
@@ -136,13 +136,13 @@ took_means me s frame now a b delta served takes told spelt =
     below : IsBelow sent.base v
     below = subst (λ (u : List ℕ). IsBelow sent.base u) served.holds.counts (subst (λ (u : List ℕ). IsBelow u a.front) base takes.reached)
 
-    spelled : IsSpelled s.history sent (spelling delta)
-    spelled = record { view = told.view; sender = told.sender; rules = subst IsDelta told.told spelt; spells = ap spelling told.told }
+    encoded : IsEncoded s.history sent (encoding delta)
+    encoded = record { view = told.view; sender = told.sender; rules = subst IsDelta told.told spelt; encodes = ap encoding told.told }
 
-    comes : Comes s me (frame_at s frame) (length (spelling delta)) DidTake t
+    comes : Comes s me (frame_at s frame) (length (encoding delta)) DidTake t
     comes =
-        subst (λ (o : Option SentFrame). Comes s me o (length (spelling delta)) DidTake t) (sym told.numbered)
-        (spelling delta, spelled, inr (inr (inr (refl, below, refl, refl))))
+        subst (λ (o : Option SentFrame). Comes s me o (length (encoding delta)) DidTake t) (sym told.numbered)
+        (encoding delta, encoded, inr (inr (inr (refl, below, refl, refl))))
 
     from : IsClosed s.history sent.front
     from = (served.world.sent sent (frame_in s frame sent told.numbered)).closed

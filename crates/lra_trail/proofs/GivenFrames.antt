@@ -7,13 +7,13 @@ use Rattle.lra_history.specs.Views.{View}
 use Rattle.lra_delta.specs.Frames.{Frame, frame_of}
 use Rattle.lra_delta.specs.Grammar.{IsOfGrammar}
 use Rattle.lra_delta.specs.Rules.{IsDelta}
-use Rattle.lra_delta.specs.Spelling.{spelling}
+use Rattle.lra_delta.specs.Encoding.{encoding}
 use Rattle.lra_delta.specs.Typed.{IsTyped}
 use Rattle.lra_delta.proofs.FrameCodes.{one_delta}
 use Rattle.lra_delta.proofs.Grammar.{grammar_law}
-use Rattle.lra_delta.proofs.HaveSpellings.{is_delta}
+use Rattle.lra_delta.proofs.HaveEncodings.{is_delta}
 use Rattle.lra_peer.specs.PullBodies.{asked}
-use Rattle.lra_world.specs.Worlds.{IsSpelled, SentFrame, State, frame_at, front_of}
+use Rattle.lra_world.specs.Worlds.{IsEncoded, SentFrame, State, frame_at, front_of}
 use Rattle.lra_book.specs.declared.calls.Call.TheVariants.{Pull}
 use Rattle.lra_book.specs.declared.calls.Reply.{Reply}
 use Rattle.lra_book.specs.declared.calls.Reply.TheVariants.{Gave}
@@ -22,21 +22,21 @@ use Rattle.lra_trail.specs.NodeTrails.{IsServed, IsTold}
 use Rattle.lra_trail.proofs.Entries.{asked_nodes, meet_nodes}
 use Rattle.lra_trail.proofs.OwnCommands.{current_of}
 
--- what a frame tells is what its bytes spell
+-- what a frame tells is what its bytes encode
 
-pub told_spelled : (s : State) (number : ℕ) (delta : Frame) → IsDelta delta → IsTold s number delta
-    → (sent : SentFrame) × (frame_at s number ≡ Some sent) × IsSpelled s.history sent (spelling delta)
-told_spelled s number delta rules told =
-    (told.sent, told.numbered, record { view = told.view; sender = told.sender; rules = subst IsDelta told.told rules; spells = ap spelling told.told })
+pub told_encoded : (s : State) (number : ℕ) (delta : Frame) → IsDelta delta → IsTold s number delta
+    → (sent : SentFrame) × (frame_at s number ≡ Some sent) × IsEncoded s.history sent (encoding delta)
+told_encoded s number delta rules told =
+    (told.sent, told.numbered, record { view = told.view; sender = told.sender; rules = subst IsDelta told.told rules; encodes = ap encoding told.told })
 
-pub spelled_told : (s : State) (number : ℕ) (sent : SentFrame) (delta : Frame) → IsDelta delta → frame_at s number ≡ Some sent → IsSpelled s.history sent (spelling delta) → IsTold s number delta
-spelled_told s number sent delta rules numbered spelled =
+pub encoded_told : (s : State) (number : ℕ) (sent : SentFrame) (delta : Frame) → IsDelta delta → frame_at s number ≡ Some sent → IsEncoded s.history sent (encoding delta) → IsTold s number delta
+encoded_told s number sent delta rules numbered encoded =
     record {
       sent = sent;
       numbered = numbered;
-      view = spelled.view;
-      sender = spelled.sender;
-      told = (one_delta delta (frame_of spelled.view sent.base) [] [] rules spelled.rules (ap (λ (bytes : List ℕ). bytes ++ []) spelled.spells)).0;
+      view = encoded.view;
+      sender = encoded.sender;
+      told = (one_delta delta (frame_of encoded.view sent.base) [] [] rules encoded.rules (ap (λ (bytes : List ℕ). bytes ++ []) encoded.encodes)).0;
     }
 
 -- what is given keeps the rules of frames

@@ -6,10 +6,10 @@ ghost use Rattle.lra_states.specs.declared.status.MemberStatus.{MemberStatus};
 ghost use Rattle.lra_history.specs.Views.{StandsFor, View, empty_view};
 ghost use Rattle.lra_delta.specs.Frames.{Frame};
 ghost use Rattle.lra_delta.specs.Rules.{IsDelta};
-ghost use Rattle.lra_delta.specs.Spelling.{spelling};
+ghost use Rattle.lra_delta.specs.Encoding.{encoding};
 ghost use Rattle.lra_delta.specs.Typed.{IsTyped};
 ghost use Rattle.lra_world.specs.Headline.{IsNode, member_at, shown_at};
-ghost use Rattle.lra_world.specs.Worlds.{IsSpelled, IsWorld, SentFrame, State, frame_at, front_of, nodes_of, set_of, start};
+ghost use Rattle.lra_world.specs.Worlds.{IsEncoded, IsWorld, SentFrame, State, frame_at, front_of, nodes_of, set_of, start};
 ghost use Rattle.lra_book.specs.declared.calls.Call.{Call};
 ghost use Rattle.lra_book.specs.declared.calls.Call.TheVariants.{Member, Pull, Status};
 ghost use Rattle.lra_book.specs.declared.calls.Entry.{Entry};
@@ -24,7 +24,8 @@ ghost use Rattle.lra_trail.specs.NodeTrails.{Follows, IsPlayed, IsRun, IsServed,
 /// and its deadlines that pass are replied in the world as its entries say, the frames that it gives are those that are sent, and
 /// its replay is the view of what it holds there at the end. So the headline holds of it.
 pub fn a_trail_is_a_run_of_the_world()
-    ensures { (me : ℕ) (s t : State) (a b : View) (items : List Item) → IsPlayed me s a items t b → IsRun me s items t b }
+    ensures { (me : ℕ) (s t : State) (a b : View) (items : List Item) →
+        IsPlayed me s a items t b → IsRun me s items t b }
 {}
 
 /// An entry that is legal next can always happen next in the world, where a frame that it takes was sent.
@@ -37,37 +38,46 @@ pub fn an_entry_can_happen()
 /// What a node answers is what the definitions give for what it holds in the world: of an LRA and of a participant it shows what
 /// the headline speaks of.
 pub fn a_node_answers_as_the_world()
-    ensures set { (me now : ℕ) (s : State) (a b : View) (call : Call) (reply : Reply) → IsServed me s a → IsNext me a call now reply b →
-        IsReplyOf (set_of s me) (front_of s me) me call now reply b }
-    ensures shown { (me now : ℕ) (s : State) (a b : View) (l k : Id) (status : LraStatus) → IsServed me s a →
+    ensures set { (me now : ℕ) (s : State) (a b : View) (call : Call) (reply : Reply) →
+        IsServed me s a →
+        IsNext me a call now reply b → IsReplyOf (set_of s me) (front_of s me) me call now reply b }
+    ensures shown { (me now : ℕ) (s : State) (a b : View) (l k : Id) (status : LraStatus) →
+        IsServed me s a →
         IsNext me a (Status l) now (Shown k status) b → (k ≡ l) × (shown_at s me l ≡ Ok status) }
-    ensures member { (me now : ℕ) (s : State) (a b : View) (l k : Id) (m n : ℕ) (status : MemberStatus) → IsServed me s a →
-        IsNext me a (Member l m) now (ShownMember k n status) b → (k ≡ l) × (n ≡ m) × (member_at s me l m ≡ Ok status) }
+    ensures member { (me now : ℕ)
+        (s : State) (a b : View) (l k : Id) (m n : ℕ) (status : MemberStatus) →
+        IsServed me s a → IsNext me a (Member l m) now (ShownMember k n status) b →
+        (k ≡ l) × (n ≡ m) × (member_at s me l m ≡ Ok status) }
 {}
 
 /// A node is served from the first state on, by the view of no facts. And it is enough that a view of as many nodes stands for the
 /// node's set: then it is the view of what the node holds.
 pub fn a_view_that_stands_is_served()
-    ensures first { (nodes me : ℕ) → IsNode (start nodes) me → IsServed me (start nodes) (empty_view nodes) }
-    ensures stands { (me : ℕ) (s : State) (a : View) → IsWorld s → IsNode s me → length a.front ≡ nodes_of s → StandsFor (set_of s me) a →
-        IsServed me s a }
+    ensures first { (nodes me : ℕ) →
+        IsNode (start nodes) me → IsServed me (start nodes) (empty_view nodes) }
+    ensures stands { (me : ℕ) (s : State) (a : View) → IsWorld s →
+        IsNode s me → length a.front ≡ nodes_of s → StandsFor (set_of s me) a → IsServed me s a }
 {}
 
-/// A frame that a node gives can be taken by another. What a frame tells is what its bytes spell; and what a node gives has a
-/// spelling, where its types say that its numbers and texts fit.
+/// A frame that a node gives can be taken by another. What a frame tells is what its bytes encode; and what a node gives has a
+/// encoding, where its types say that its numbers and texts fit.
 pub fn a_frame_that_is_given_can_be_taken()
-    ensures spelled { (s : State) (number : ℕ) (delta : Frame) → IsDelta delta → IsTold s number delta →
-        (sent : SentFrame) × (frame_at s number ≡ Some sent) × IsSpelled s.history sent (spelling delta) }
-    ensures told { (s : State) (number : ℕ) (sent : SentFrame) (delta : Frame) → IsDelta delta → frame_at s number ≡ Some sent →
-        IsSpelled s.history sent (spelling delta) → IsTold s number delta }
-    ensures given { (me now : ℕ) (s : State) (a b : View) (body : List ℕ) (delta : Frame) → IsServed me s a →
+    ensures encoded { (s : State) (number : ℕ) (delta : Frame) →
+        IsDelta delta → IsTold s number delta → (sent : SentFrame)
+        × (frame_at s number ≡ Some sent) × IsEncoded s.history sent (encoding delta) }
+    ensures told { (s : State) (number : ℕ) (sent : SentFrame) (delta : Frame) →
+        IsDelta delta → frame_at s number ≡ Some sent →
+        IsEncoded s.history sent (encoding delta) → IsTold s number delta }
+    ensures given { (me now : ℕ) (s : State) (a b : View) (body : List ℕ) (delta : Frame) →
+        IsServed me s a →
         IsNext me a (Pull body) now (Gave delta) b → IsTyped delta → IsDelta delta }
 {}
 
 /// Where each node of the world is a server, all their trails together are one run of the world; and so the headline holds of what
 /// the servers answer.
 pub fn servers_are_one_world()
-    ensures run { (s t : State) (views ends : ℕ → View) (turns : List Turn) → AreTrails s views turns t ends → AreOneRun s turns t ends }
-    ensures answers { (s t : State) (views ends : ℕ → View) (turns : List Turn) → AreTrails s views turns t ends →
-        AnswersConverge s views t ends }
+    ensures run { (s t : State) (views ends : ℕ → View) (turns : List Turn) →
+        AreTrails s views turns t ends → AreOneRun s turns t ends }
+    ensures answers { (s t : State) (views ends : ℕ → View) (turns : List Turn) →
+        AreTrails s views turns t ends → AnswersConverge s views t ends }
 {}

@@ -60,7 +60,8 @@ pub fn work<A: Arrivals, C: Clerk + Drop, G: Gate, R: Wait>(
     clerk: C,
     gate: &G,
 ) -> (C, Option<Refusal>)
-    ensures { Works A.Arrivals.gives A.Reader.Source A.Writer.Sink C.Clerk connections.old clerk connections.new result.0 result.1 }
+    ensures { Works A.Arrivals.gives A.Reader.Source
+        A.Writer.Sink C.Clerk connections.old clerk connections.new result.0 result.1 }
 {
     let mut gated = Gated { clerk, gate };
     for _ in rt.forever() {

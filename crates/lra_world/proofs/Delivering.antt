@@ -14,7 +14,7 @@ use Rattle.lra_delta.specs.declared.input.Stop.TheVariants.{Fault}
 use Rattle.lra_delta.specs.Frames.{Frame, frame_of}
 use Rattle.lra_delta.specs.Reading.{frame_in}
 use Rattle.lra_delta.specs.Rules.{IsDelta}
-use Rattle.lra_delta.specs.Spelling.{spelling}
+use Rattle.lra_delta.specs.Encoding.{encoding}
 use Rattle.lra_delta.proofs.FrameCodes.{frame_again, one_delta}
 use Rattle.lra_delta.proofs.OfSets.{frame_stands}
 use Rattle.lra_world.specs.declared.event.Event.TheVariants.{Deliver}
@@ -23,7 +23,7 @@ use Rattle.lra_world.specs.declared.event.Reply.TheVariants.{Refused, Took}
 use Rattle.lra_world.proofs.Belows.{below_or_not}
 use Rattle.lra_world.specs.Headline.{IsNode}
 use Rattle.lra_world.specs.Machines.{Happens, IsChanged, IsFrom, IsWorldOf, Machine, TakesBytes, TakesFrame}
-use Rattle.lra_world.specs.Worlds.{Comes, SentFrame, IfNode, IsSent, IsSpelled, IsViewOf, IsWorld, State, Steps, Takes, frame_at, front_of, is_node, nodes_of, with_front}
+use Rattle.lra_world.specs.Worlds.{Comes, SentFrame, IfNode, IsSent, IsEncoded, IsViewOf, IsWorld, State, Steps, Takes, frame_at, front_of, is_node, nodes_of, with_front}
 use Rattle.lra_world.proofs.OneReplicaChanged.{TakesSo, get_some}
 use Rattle.lra_world.proofs.Moving.{kept_joined}
 use Rattle.lra_world.proofs.WorldsStand.{changed_world, still_world, with_so}
@@ -33,12 +33,12 @@ record IsComing (s : State) (node : ℕ) (frame : SentFrame) (bytes : List ℕ) 
   world : IsWorld s
   node_is : IsNode s node
   sent : IsSent s.history frame
-  spelled : IsSpelled s.history frame bytes
+  encoded : IsEncoded s.history frame bytes
   own : IsViewOf s.history (front_of s node) a
 
 -- the frame that was sent
 abbrev frame_from : (s : State) (node : ℕ) (frame : SentFrame) (bytes : List ℕ) (a : View) → IsComing s node frame bytes a → Frame
-frame_from s node frame bytes a coming = frame_of coming.spelled.view frame.base
+frame_from s node frame bytes a coming = frame_of coming.encoded.view frame.base
 
 is_from : (s : State) (node : ℕ) (frame : SentFrame) (bytes : List ℕ) (a : View) (coming : IsComing s node frame bytes a) → IsFrom s.history (front_of s node) frame.front a (frame_from s node frame bytes a coming)
 is_from s node frame bytes a coming =
@@ -47,13 +47,13 @@ is_from s node frame bytes a coming =
       receiver = (coming.world.current node coming.node_is.some coming.node_is.there).closed;
       sender = coming.sent.closed;
       own = coming.own;
-      told = frame_stands (facts s.history frame.front) coming.spelled.view frame.base coming.spelled.sender.stands;
-      counts = coming.spelled.sender.counts;
+      told = frame_stands (facts s.history frame.front) coming.encoded.view frame.base coming.encoded.sender.stands;
+      counts = coming.encoded.sender.counts;
     }
 
 -- what is read of all bytes is the frame, and of fewer nothing is read
-is_frame : (frame read : Frame) (bytes rest : List ℕ) → IsDelta frame → IsDelta read → bytes ≡ spelling frame → spelling read ++ rest ≡ bytes → (read ≡ frame) × (rest ≡ [])
-is_frame frame read bytes rest rules also spells e = one_delta read frame rest [] also rules (e ∙ spells ∙ sym (append-nil (spelling frame)))
+is_frame : (frame read : Frame) (bytes rest : List ℕ) → IsDelta frame → IsDelta read → bytes ≡ encoding frame → encoding read ++ rest ≡ bytes → (read ≡ frame) × (rest ≡ [])
+is_frame frame read bytes rest rules also encodes e = one_delta read frame rest [] also rules (e ∙ encodes ∙ sym (append-nil (encoding frame)))
 
 -- either nothing changes, or the view is that of the joined front
 data Taken (s : State) (node : ℕ) (frame : SentFrame) (bytes : List ℕ) (kept : ℕ) (reply : Reply) (a c : View) : Type 0 where
@@ -72,18 +72,18 @@ takes_frame s node frame bytes kept reply a c coming all takes = elim (below_or_
         × ((IsBelow frame.base (front_of s node) → ⊥) → (reply ≡ Refused (Gap (front_of s node))) × (c ≡ a))
     is = takes s.history (front_of s node) frame.front (is_from s node frame bytes a coming)
 
--- all bytes of a frame: what they spell is that frame
-pub all_read : (f : Frame) (bytes : List ℕ) (reply : Reply) (a c : View) → IsDelta f → bytes ≡ spelling f → TakesBytes a bytes (length bytes) reply c → TakesFrame a f reply c
-all_read f bytes reply a c rules spells (inl more) = absurd (omega (arith, more.0))
-all_read f bytes reply a c rules spells (inr (inl cut)) =
-    let read : frame_in (take (length bytes) bytes) ≡ Ok f = ap frame_in (take-length bytes ∙ spells) ∙ frame_again f rules in
+-- all bytes of a frame: what they encode is that frame
+pub all_read : (f : Frame) (bytes : List ℕ) (reply : Reply) (a c : View) → IsDelta f → bytes ≡ encoding f → TakesBytes a bytes (length bytes) reply c → TakesFrame a f reply c
+all_read f bytes reply a c rules encodes (inl more) = absurd (omega (arith, more.0))
+all_read f bytes reply a c rules encodes (inr (inl cut)) =
+    let read : frame_in (take (length bytes) bytes) ≡ Ok f = ap frame_in (take-length bytes ∙ encodes) ∙ frame_again f rules in
     absurd (not_both cut.1.0 (sym read ∙ cut.1.1))
   where
     not_both : (place : ℕ) → ◌≡◌ {A = Result Frame Stop} (Ok f) (Err (Fault place)) → ⊥
     not_both place e = absurd cc
-all_read f bytes reply a c rules spells (inr (inr read)) =
-    let whole : spelling read.1.0 ++ [] ≡ bytes = append-nil (spelling read.1.0) ∙ sym read.1.2 ∙ take-length bytes in
-    subst (λ (d : Frame). TakesFrame a d reply c) (is_frame f read.1.0 bytes [] rules read.1.1 spells whole).0 read.1.3
+all_read f bytes reply a c rules encodes (inr (inr read)) =
+    let whole : encoding read.1.0 ++ [] ≡ bytes = append-nil (encoding read.1.0) ∙ sym read.1.2 ∙ take-length bytes in
+    subst (λ (d : Frame). TakesFrame a d reply c) (is_frame f read.1.0 bytes [] rules read.1.1 encodes whole).0 read.1.3
 
 -- more bytes than there are, fewer, or all
 less_or_all : (count kept : ℕ) → (count < kept) ⊎ ((kept < count) ⊎ (kept ≡ count))
@@ -98,7 +98,7 @@ takes_some : (s : State) (node : ℕ) (frame : SentFrame) (bytes : List ℕ) (ke
 takes_some s node frame bytes kept reply a c coming less (inl more) = absurd (omega (arith, less, more.0))
 takes_some s node frame bytes kept reply a c coming less (inr (inl cut)) = Unchanged cut.1.3 (inr (inl (less, (cut.1.0, cut.1.1, (cut.1.2, refl)))))
 takes_some s node frame bytes kept reply a c coming less (inr (inr read)) =
-    let one = is_frame (frame_from s node frame bytes a coming) read.1.0 bytes (drop kept bytes) coming.spelled.rules read.1.1 coming.spelled.spells
+    let one = is_frame (frame_from s node frame bytes a coming) read.1.0 bytes (drop kept bytes) coming.encoded.rules read.1.1 coming.encoded.encodes
     (ap (λ (b : List ℕ). b ++ drop kept bytes) (sym read.1.2) ∙ take-append-drop kept bytes) in
     absurd (left_over kept bytes less one.1)
   where
@@ -113,7 +113,7 @@ takes_bytes s node frame bytes kept reply a c coming takes = elim (less_or_all (
   | inr within ↦ elim within [
     | inl less ↦ takes_some s node frame bytes kept reply a c coming less takes
     | inr all ↦ takes_frame s node frame bytes kept reply a c coming all
-        (all_read (frame_from s node frame bytes a coming) bytes reply a c coming.spelled.rules coming.spelled.spells
+        (all_read (frame_from s node frame bytes a coming) bytes reply a c coming.encoded.rules coming.encoded.encodes
         (subst (λ (n : ℕ). TakesBytes a bytes n reply c) all takes))
   ]
 ]
@@ -152,8 +152,8 @@ delivered_world s old new number node kept reply w is some there change =
     frame : (f : SentFrame) × (slice_get s.sent (number - 1) ≡ Some f)
     frame = get_some s.sent (number - 1) (omega (arith, there, w.count))
 
-    spelled : IsSpelled s.history frame.0 bytes.0
-    spelled = w.frames (number - 1) frame.0 bytes.0 frame.1 bytes.1
+    encoded : IsEncoded s.history frame.0 bytes.0
+    encoded = w.frames (number - 1) frame.0 bytes.0 frame.1 bytes.1
 
     coming : IsComing s node frame.0 bytes.0 (view_of change.was)
     coming =
@@ -161,7 +161,7 @@ delivered_world s old new number node kept reply w is some there change =
           world = w.world;
           node_is = is;
           sent = w.world.sent frame.0 (get_in s.sent (number - 1) frame.0 frame.1);
-          spelled = spelled;
+          encoded = encoded;
           own = w.views node change.was is.some change.at;
         }
 
@@ -171,7 +171,7 @@ delivered_world s old new number node kept reply w is some there change =
     steps : (t : State) → Takes s node frame.0 bytes.0 kept reply t → Steps s (Deliver number node kept) reply t
     steps t takes =
         at_node s t node (Comes s node (frame_at s number) kept reply t) reply is
-        (subst (λ (f : Option SentFrame). Comes s node f kept reply t) (sym (frame_is s number frame.0 some frame.1)) (bytes.0, spelled, takes))
+        (subst (λ (f : Option SentFrame). Comes s node f kept reply t) (sym (frame_is s number frame.0 some frame.1)) (bytes.0, encoded, takes))
 
     by : Taken s node frame.0 bytes.0 kept reply (view_of change.was) (view_of change.now) → Happens s (Deliver number node kept) reply new
     by (Unchanged same takes) = (s, steps s takes, still_world s old new node w is (with_so old new node change same))

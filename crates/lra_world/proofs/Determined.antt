@@ -15,8 +15,8 @@ use Rattle.lra_delta.specs.declared.input.Stop.{Stop}
 use Rattle.lra_delta.specs.declared.input.Stop.TheVariants.{Fault}
 use Rattle.lra_delta.specs.Frames.{Frame, frame_of}
 use Rattle.lra_delta.specs.Reading.{frame_in}
-use Rattle.lra_delta.specs.Spelling.{spelling}
-use Rattle.lra_world.specs.Worlds.{Comes, Expires, SentFrame, IfNode, IsSpelled, Sends, State, Stays, Steps, Takes, Ticks, frame_at, is_node, set_of}
+use Rattle.lra_delta.specs.Encoding.{encoding}
+use Rattle.lra_world.specs.Worlds.{Comes, Expires, SentFrame, IfNode, IsEncoded, Sends, State, Stays, Steps, Takes, Ticks, frame_at, is_node, set_of}
 use Rattle.lra_world.proofs.Agreeing.{same_view}
 
 pub record AreOne (t u : State) (reply other : Reply) : Type 0 where
@@ -66,16 +66,16 @@ takes_once s t u node frame bytes kept reply other (inr (inr (inr h))) (inr (inl
 takes_once s t u node frame bytes kept reply other (inr (inr (inr h))) (inr (inr (inl k))) = absurd (k.1 h.1)
 takes_once s t u node frame bytes kept reply other (inr (inr (inr h))) (inr (inr (inr k))) = record { reply_is = h.2 ∙ sym k.2; state_is = h.3 ∙ sym k.3 }
 
--- a frame is spelled in one way
-pub one_spelling : (h : History) (frame : SentFrame) (b c : List ℕ) → IsSpelled h frame b → IsSpelled h frame c → b ≡ c
-one_spelling h frame b c one other =
-    one.spells ∙ ap (λ (v : View). spelling (frame_of v frame.base)) (same_view h frame.front frame.front one.view other.view refl one.sender other.sender) ∙ sym other.spells
+-- a frame is encoded in one way
+pub one_encoding : (h : History) (frame : SentFrame) (b c : List ℕ) → IsEncoded h frame b → IsEncoded h frame c → b ≡ c
+one_encoding h frame b c one other =
+    one.encodes ∙ ap (λ (v : View). encoding (frame_of v frame.base)) (same_view h frame.front frame.front one.view other.view refl one.sender other.sender) ∙ sym other.encodes
 
 comes_once : (s t u : State) (node : ℕ) (found : Option SentFrame) (kept : ℕ) (reply other : Reply) → Comes s node found kept reply t → Comes s node found kept other u → AreOne t u reply other
 comes_once s t u node None kept reply other h k = stays_once s t u _ reply other h k
 comes_once s t u node (Some frame) kept reply other h k =
     takes_once s t u node frame k.0 kept reply other
-    (subst (λ (b : List ℕ). Takes s node frame b kept reply t) (one_spelling s.history frame h.0 k.0 h.1 k.1) h.2) k.2
+    (subst (λ (b : List ℕ). Takes s node frame b kept reply t) (one_encoding s.history frame h.0 k.0 h.1 k.1) h.2) k.2
 
 -- one LRA is overdue with the least number
 less_or_more : (a b : ℕ) → (a < b) ⊎ ((b < a) ⊎ (a ≡ b))

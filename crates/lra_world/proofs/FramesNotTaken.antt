@@ -12,7 +12,7 @@ use Rattle.lra_world.specs.Machines.{TakesFrame}
 same_refusal : {X : Type 0} (r s : Refusal) → ◌≡◌ {A = Result X Refusal} (Err r) (Err s) → r ≡ s
 same_refusal r s e = cc
 
--- a frame that is refused: the view does not count its base, since nothing else but want of memory refuses one of a history
+-- a frame that is refused: the view does not count its base, since nothing but a lack of memory refuses one of a history
 pub refused_frame : {X : Type 0} (old new : View) (frame : Frame) (r : Refusal)
     → (length frame.front ≡ length old.front → (IsBelow frame.base old.front → ⊥) → ◌≡◌ {A = Result X Refusal} (Err r) (Err (Gap old.front)))
     → ((h : History) (v w : List ℕ) → IsLawful h → IsClosed h v → IsClosed h w → StandsFor (facts h v) old → IsFrame (facts h w) frame.base frame →

@@ -23,7 +23,7 @@ use Rattle.lra_world.specs.declared.event.Reply.{Reply}
 use Rattle.lra_world.specs.declared.event.Reply.TheVariants.{Answered, Refused, Restarted, Sent}
 use Rattle.lra_world.specs.Headline.{IsNode}
 use Rattle.lra_world.specs.Machines.{Happens, IsChanged, IsExpired, IsWorldOf, LeadsTo, Machine, StopsIn}
-use Rattle.lra_world.specs.Worlds.{Acts, SentFrame, IfNode, IsSpelled, IsViewOf, IsWorld, Runs, Sends, State, Stays, Ticks, after_command, expired, front_of, is_node, nodes_of, set_of}
+use Rattle.lra_world.specs.Worlds.{Acts, SentFrame, IfNode, IsEncoded, IsViewOf, IsWorld, Runs, Sends, State, Stays, Ticks, after_command, expired, front_of, is_node, nodes_of, set_of}
 use Rattle.lra_world.proofs.Delivering.{at_node}
 use Rattle.lra_world.proofs.Converging.{converged, one_step, run_on}
 use Rattle.lra_world.proofs.Moving.{kept_posted}
@@ -152,9 +152,9 @@ last_or_old (x ∷ fs) (y ∷ bs) f b zero frame bytes same at spelt = inl (at, 
 last_or_old (x ∷ fs) (y ∷ bs) f b (suc place) frame bytes same at spelt = last_or_old fs bs f b place frame bytes (omega (arith, same)) at spelt
 
 pub send_happens : (s : State) (m : Machine) (node : ℕ) (base bytes : List ℕ) → IsWorldOf s m → IsNode s node → length base ≡ length m.replicas → IsBelow base (front_of s node)
-    → IsSpelled s.history (record { base = base; front = front_of s node }) bytes
+    → IsEncoded s.history (record { base = base; front = front_of s node }) bytes
     → Happens s (Send node base) (Sent (length m.sent + 1)) (record { replicas = m.replicas; sent = m.sent ++ bytes ∷ [] })
-send_happens s m node base bytes w is nodes below spelled =
+send_happens s m node base bytes w is nodes below encoded =
     let frame : SentFrame = record { base = base; front = front_of s node } in
     let t : State = record s { sent = s.sent ++ frame ∷ [] } in
     let counts : length base ≡ nodes_of s = nodes ∙ w.nodes in
@@ -169,7 +169,7 @@ send_happens s m node base bytes w is nodes below spelled =
         count = length-append m.sent (bytes ∷ []) ∙ ap (λ (n : ℕ). n + 1) w.count ∙ sym (length-append s.sent (frame ∷ []));
         frames = λ place f b at spelt. elim (last_or_old s.sent m.sent frame bytes place f b w.count at spelt) [
           | inl old ↦ w.frames place f b old.0 old.1
-          | inr new ↦ subst (λ (x : SentFrame). IsSpelled s.history x b) new.0 (subst (λ (x : List ℕ). IsSpelled s.history frame x) new.1 spelled)
+          | inr new ↦ subst (λ (x : SentFrame). IsEncoded s.history x b) new.0 (subst (λ (x : List ℕ). IsEncoded s.history frame x) new.1 encoded)
         ];
       },
     )

@@ -12,13 +12,13 @@ use Rattle.lra_history.specs.ViewShape.{HasShape}
 use Rattle.lra_history.proofs.OneViewOfASet.{one_view}
 use Rattle.lra_delta.specs.Frames.{IsFrame, frame_of}
 use Rattle.lra_delta.specs.Rules.{IsDelta}
-use Rattle.lra_delta.specs.Spelling.{spelling}
+use Rattle.lra_delta.specs.Encoding.{encoding}
 use Rattle.lra_delta.specs.TakenFrames.{IsTaken}
 use Rattle.lra_delta.specs.Typed.{IsTyped}
 use Rattle.lra_delta.proofs.FrameCodes.{frame_again}
 use Rattle.lra_delta.proofs.FramesOfHistories.{some_view, take_law}
 use Rattle.lra_delta.proofs.Grammar.{grammar_law}
-use Rattle.lra_delta.proofs.HaveSpellings.{is_delta}
+use Rattle.lra_delta.proofs.HaveEncodings.{is_delta}
 use Rattle.lra_delta.proofs.OfSets.{frame_stands}
 use Rattle.lra_world.specs.declared.event.Reply.{Reply}
 use Rattle.lra_world.specs.declared.event.Reply.TheVariants.{Took}
@@ -81,12 +81,12 @@ from_none h v own lawful closed is =
 
 -- so it becomes the view again
 pub taken_again : (h : History) (v zeros bytes : List ℕ) (own fresh new : View) (n : ℕ) (reply : Reply) → IsLawful h → IsClosed h v → IsViewOf h v own → n ≡ length own.front → zeros ≡ replicate n 0 → fresh ≡ empty_view n
-    → IsDelta (frame_of own zeros) → bytes ≡ spelling (frame_of own zeros) → TakesBytes fresh bytes (length bytes) reply new → (reply ≡ Took) × (new ≡ own)
-taken_again h v zeros bytes own fresh new n reply lawful closed is nodes none empty rules spells takes =
+    → IsDelta (frame_of own zeros) → bytes ≡ encoding (frame_of own zeros) → TakesBytes fresh bytes (length bytes) reply new → (reply ≡ Took) × (new ≡ own)
+taken_again h v zeros bytes own fresh new n reply lawful closed is nodes none empty rules encodes takes =
     let count : n ≡ length h = nodes ∙ ap (λ (u : List ℕ). length u) is.counts ∙ closed.nodes in
     let zeros_is : zeros ≡ replicate (length h) 0 = none ∙ ap (λ (k : ℕ). replicate k 0) count in
     let fresh_is : fresh ≡ empty_view (length h) = empty ∙ ap empty_view count in
-    let all : TakesFrame fresh (frame_of own zeros) reply new = all_read (frame_of own zeros) bytes reply fresh new rules spells takes in
+    let all : TakesFrame fresh (frame_of own zeros) reply new = all_read (frame_of own zeros) bytes reply fresh new rules encodes takes in
     let whole : TakesFrame (empty_view (length h)) (frame_of own (replicate (length h) 0)) reply new =
     subst (λ (a : View). TakesFrame a (frame_of own (replicate (length h) 0)) reply new) fresh_is
     (subst (λ (z : List ℕ). TakesFrame fresh (frame_of own z) reply new) zeros_is all) in
@@ -96,7 +96,7 @@ taken_again h v zeros bytes own fresh new n reply lawful closed is nodes none em
 
 -- the same by what a sender's bytes are in each lawful history
 pub retaken : (zeros items bytes nodes_front : List ℕ) (own fresh new : View) (nodes len vec : ℕ) (reply : Reply)
-    → ((h : History) (v : List ℕ) → IsLawful h → IsClosed h v → IsViewOf h v own → IsBelow zeros v × IsDelta (frame_of own zeros) × (items ≡ spelling (frame_of own zeros)))
+    → ((h : History) (v : List ℕ) → IsLawful h → IsClosed h v → IsViewOf h v own → IsBelow zeros v × IsDelta (frame_of own zeros) × (items ≡ encoding (frame_of own zeros)))
     → nodes ≡ length nodes_front → nodes_front ≡ own.front → zeros ≡ replicate nodes 0 → fresh ≡ empty_view nodes → bytes ≡ items → length bytes ≡ vec → len ≡ vec
     → TakesBytes fresh bytes len reply new → (h : History) (v : List ℕ) → IsLawful h → IsClosed h v → StandsFor (facts h v) own → own.front ≡ v → (reply ≡ Took) × (new ≡ own)
 retaken zeros items bytes nodes_front own fresh new nodes len vec reply sends count front none empty same many whole takes h v lawful closed stands counts =

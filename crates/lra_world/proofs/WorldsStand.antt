@@ -18,7 +18,7 @@ use Rattle.lra_history.proofs.OneMoreEntry.{one_more}
 use Rattle.lra_history.proofs.ClosedSets.{closed_settled}
 use Rattle.lra_world.specs.Headline.{IsNode}
 use Rattle.lra_world.specs.Machines.{Becomes, IsActed, IsChanged, IsWorldOf, Machine}
-use Rattle.lra_world.specs.Worlds.{SentFrame, IsSpelled, IsViewOf, State, after_command, front_of, if_taken, nodes_of, reply_at, set_of, with_command}
+use Rattle.lra_world.specs.Worlds.{SentFrame, IsEncoded, IsViewOf, State, after_command, front_of, if_taken, nodes_of, reply_at, set_of, with_command}
 use Rattle.lra_world.proofs.OneReplicaChanged.{get_set_other, get_set_same}
 use Rattle.lra_world.proofs.GrowingHistories.{IsGrown}
 use Rattle.lra_world.proofs.Moving.{IsKeptBy, kept_entered, kept_still}
@@ -28,9 +28,9 @@ view_still : (h k : History) (front : List ℕ) (view : View) → IsGrown h k �
 view_still h k front view grown closed is =
     record { stands = subst (λ (S : List Fact). StandsFor S view) (sym (grown.same front closed)) is.stands; counts = is.counts }
 
-spelled_still : (h k : History) (frame : SentFrame) (bytes : List ℕ) → IsGrown h k → IsClosed h frame.front → IsSpelled h frame bytes → IsSpelled k frame bytes
-spelled_still h k frame bytes grown closed is =
-    record { view = is.view; sender = view_still h k frame.front is.view grown closed is.sender; rules = is.rules; spells = is.spells }
+encoded_still : (h k : History) (frame : SentFrame) (bytes : List ℕ) → IsGrown h k → IsClosed h frame.front → IsEncoded h frame bytes → IsEncoded k frame bytes
+encoded_still h k frame bytes grown closed is =
+    record { view = is.view; sender = view_still h k frame.front is.view grown closed is.sender; rules = is.rules; encodes = is.encodes }
 
 -- one replica is the view of what its node holds then, and nothing else is changed
 pub changed_world : (s t : State) (old new : Machine) (node : ℕ) → IsWorldOf s old → IsKeptBy s t → t.sent ≡ s.sent → IsNode s node
@@ -45,7 +45,7 @@ changed_world s t old new node w kept sent is others c =
       frames = λ place frame bytes at spelt.
           let at' : slice_get s.sent place ≡ Some frame = ap (λ (fs : List SentFrame). slice_get fs place) (sym sent) ∙ at in
           let spelt' : slice_get old.sent place ≡ Some bytes = ap (λ (bs : List (List ℕ)). slice_get bs place) (sym c.sent) ∙ spelt in
-          spelled_still s.history t.history frame bytes kept.grown (w.world.sent frame (get_in s.sent place frame at')).closed
+          encoded_still s.history t.history frame bytes kept.grown (w.world.sent frame (get_in s.sent place frame at')).closed
           (w.frames place frame bytes at' spelt');
     }
   where

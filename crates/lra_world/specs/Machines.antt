@@ -17,12 +17,12 @@ use Rattle.lra_delta.specs.declared.input.Stop.TheVariants.{Fault}
 use Rattle.lra_delta.specs.Frames.{Frame, IsFrame}
 use Rattle.lra_delta.specs.Reading.{frame_in}
 use Rattle.lra_delta.specs.Rules.{IsDelta}
-use Rattle.lra_delta.specs.Spelling.{spelling}
+use Rattle.lra_delta.specs.Encoding.{encoding}
 use Rattle.lra_world.specs.declared.event.Event.{Event}
 use Rattle.lra_world.specs.declared.event.Reply.{Reply}
 use Rattle.lra_world.specs.declared.event.Reply.TheVariants.{Refused, Took}
 use Rattle.lra_world.specs.Headline.{Converges}
-use Rattle.lra_world.specs.Worlds.{SentFrame, IsSpelled, IsViewOf, IsWorld, Expires, Runs, State, Steps, front_of, nodes_of}
+use Rattle.lra_world.specs.Worlds.{SentFrame, IsEncoded, IsViewOf, IsWorld, Expires, Runs, State, Steps, front_of, nodes_of}
 
 -- a replica for each node, and the bytes of each frame that was sent
 pub record Machine : Type 0 where
@@ -33,7 +33,7 @@ pub record Machine : Type 0 where
 pub record IsMachine (m : Machine) : Type 0 where
   pub fronts : (place : ℕ) (kept : ReplicaState) → slice_get m.replicas place ≡ Some kept → length kept.front ≡ length m.replicas
 
--- It stands for the state: each node's replica is the view of what the node holds, and the bytes spell the frames
+-- It stands for the state: each node's replica is the view of what the node holds, and the bytes encode the frames
 pub record IsWorldOf (s : State) (m : Machine) : Type 0 where
   pub world : IsWorld s
   pub nodes : length m.replicas ≡ nodes_of s
@@ -41,7 +41,7 @@ pub record IsWorldOf (s : State) (m : Machine) : Type 0 where
       IsViewOf s.history (front_of s node) (view_of kept)
   pub count : length m.sent ≡ length s.sent
   pub frames : (place : ℕ) (frame : SentFrame) (bytes : List ℕ) → slice_get s.sent place ≡ Some frame →
-      slice_get m.sent place ≡ Some bytes → IsSpelled s.history frame bytes
+      slice_get m.sent place ≡ Some bytes → IsEncoded s.history frame bytes
 
 -- one replica is changed so, and nothing else
 pub record IsChanged (old new : Machine) (node : ℕ) (So : ReplicaState → ReplicaState → Type 0) : Type 0 where
@@ -89,12 +89,12 @@ TakesFrame old frame reply new =
     (IsBelow frame.base v → (reply ≡ Took) × IsViewOf h (join_fronts v w) new)
     × ((IsBelow frame.base v → ⊥) → (reply ≡ Refused (Gap v)) × (new ≡ old))
 
--- of the bytes of a frame so many come: more than there are, or some that spell no frame, or some that spell one
+-- of the bytes of a frame so many come: more than there are, or some that encode no frame, or some that encode one
 abbrev pub TakesBytes : View → List ℕ → ℕ → Reply → View → Type 0
 TakesBytes old bytes kept reply new =
     ((length bytes < kept) × (reply ≡ Refused BadText) × (new ≡ old))
     ⊎ ((kept ≤ length bytes) × ((place : ℕ) × (frame_in (take kept bytes) ≡ Err (Fault place)) × (reply ≡ Refused (BadFrame place)) × (new ≡ old)))
-    ⊎ ((kept ≤ length bytes) × ((frame : Frame) × IsDelta frame × (take kept bytes ≡ spelling frame) × TakesFrame old frame reply new))
+    ⊎ ((kept ≤ length bytes) × ((frame : Frame) × IsDelta frame × (take kept bytes ≡ encoding frame) × TakesFrame old frame reply new))
 
 -- What happens
 

@@ -3,15 +3,15 @@ use Rattle.std.specs.Prelude.{◌≡◌, Ok, length, replicate}
 use Rattle.lra_history.specs.Views.{View, empty_view}
 use Rattle.lra_delta.specs.Frames.{Frame, frame_of}
 use Rattle.lra_delta.specs.Reading.{frame_in}
-use Rattle.lra_delta.specs.Spelling.{spelling}
+use Rattle.lra_delta.specs.Encoding.{encoding}
 use Rattle.lra_delta.specs.TakenFrames.{IsTaken}
 
 -- the frame since nothing
 abbrev pub whole_of : View → Frame
 whole_of view = frame_of view (replicate (length view.front) 0)
 
--- The frame is read from its spelling as itself again; and the view of no facts that takes it becomes this view, and no other
+-- The frame is read from its encoding as itself again; and the view of no facts that takes it becomes this view, and no other
 pub record ComesBack (view : View) : Type 0 where
-  pub read : frame_in (spelling (whole_of view)) ≡ Ok (whole_of view)
+  pub read : frame_in (encoding (whole_of view)) ≡ Ok (whole_of view)
   pub taken : IsTaken (empty_view (length view.front)) (whole_of view) view
   pub only : (other : View) → IsTaken (empty_view (length view.front)) (whole_of view) other → other ≡ view

@@ -21,7 +21,7 @@ use Rattle.lra_delta.specs.declared.input.Stop.TheVariants.{Fault}
 use Rattle.lra_delta.specs.Frames.{frame_of}
 use Rattle.lra_delta.specs.Reading.{frame_in}
 use Rattle.lra_delta.specs.Rules.{IsDelta}
-use Rattle.lra_delta.specs.Spelling.{spelling}
+use Rattle.lra_delta.specs.Encoding.{encoding}
 use Rattle.lra_world.specs.declared.event.Event.{Event}
 use Rattle.lra_world.specs.declared.event.Event.TheVariants.{Act, Deliver, Restart, Send, Tick}
 use Rattle.lra_world.specs.declared.event.Reply.{Reply}
@@ -82,12 +82,12 @@ pub record IsViewOf (h : History) (front : List ℕ) (view : View) : Type 0 wher
   pub stands : StandsFor (facts h front) view
   pub counts : view.front ≡ front
 
--- the bytes spell the frame since its base, of the view of what its sender held
-pub record IsSpelled (h : History) (frame : SentFrame) (bytes : List ℕ) : Type 0 where
+-- the bytes encode the frame since its base, of the view of what its sender held
+pub record IsEncoded (h : History) (frame : SentFrame) (bytes : List ℕ) : Type 0 where
   pub view : View
   pub sender : IsViewOf h frame.front view
   pub rules : IsDelta (frame_of view frame.base)
-  pub spells : bytes ≡ spelling (frame_of view frame.base)
+  pub encodes : bytes ≡ encoding (frame_of view frame.base)
 
 -- What happens
 
@@ -134,7 +134,7 @@ Sends s node base reply t =
     ⊎ ((length base ≡ nodes_of s) × IsBelow base (front_of s node) × (reply ≡ Sent (length s.sent + 1))
     × (t ≡ record s { sent = s.sent ++ record { base = base; front = front_of s node } ∷ [] }))
 
--- Of a frame that is spelled by these bytes so many come to a node: more than there are, or fewer, or all. All are taken
+-- Of a frame that is encoded by these bytes so many come to a node: more than there are, or fewer, or all. All are taken
 -- where the node counts the base: then it holds what it held and what the sender held
 abbrev pub Takes : State → ℕ → SentFrame → List ℕ → ℕ → Reply → State → Type 0
 Takes s node frame bytes kept reply t =
@@ -147,7 +147,7 @@ Takes s node frame bytes kept reply t =
 -- a frame comes to a node
 abbrev pub Comes : State → ℕ → Option SentFrame → ℕ → Reply → State → Type 0
 Comes s node None kept reply t = Stays s (Refused BadText) reply t
-Comes s node (Some frame) kept reply t = (bytes : List ℕ) × IsSpelled s.history frame bytes × Takes s node frame bytes kept reply t
+Comes s node (Some frame) kept reply t = (bytes : List ℕ) × IsEncoded s.history frame bytes × Takes s node frame bytes kept reply t
 
 -- an LRA was cancelled since its deadline had passed, or that was refused
 abbrev pub expired : Id → CommandReply → Reply

@@ -7,7 +7,7 @@ ghost use Rattle.lra_id.specs.Fronts.{IsBelow};
 ghost use Rattle.lra_facts.specs.declared.refusal.Refusal.TheVariants.{Gap, NoMemory};
 ghost use Rattle.lra_delta.specs.Frames.{frame_of};
 ghost use Rattle.lra_delta.specs.Rules.{IsDelta};
-ghost use Rattle.lra_delta.specs.Spelling.{spelling};
+ghost use Rattle.lra_delta.specs.Encoding.{encoding};
 ghost use Rattle.lra_world.specs.Worlds.{IsViewOf};
 ghost use Rattle.lra_world.specs.Machines.{IsActed, TakesBytes, TakesFrame, with_patch};
 ghost use Rattle.lra_world.specs.declared.event.Reply.TheVariants.{Restarted};
@@ -33,7 +33,7 @@ fn enter(replica: &mut Replica, prepared: Prepared) -> CommandReply
     reply
 }
 
-/// A node enters what a command asks, or refuses it. Want of memory enters nothing.
+/// A node enters what a command asks, or refuses it. Running out of memory enters nothing.
 pub fn act(
     alloc: Global,
     replica: &mut Replica,
@@ -42,7 +42,8 @@ pub fn act(
 ) -> Result<CommandReply, AllocError>
     requires { me ≤ length replica.old.front }
     ensures nodes { length replica.new.front ≡ length replica.old.front }
-    ensures acted { OfItsSet (view_of replica.old) (λ S. IfOk result (λ reply. IsActed S (view_of replica.old) me command reply (view_of replica.new))) }
+    ensures acted { OfItsSet (view_of replica.old) (λ S. IfOk result
+        (λ reply. IsActed S (view_of replica.old) me command reply (view_of replica.new))) }
     ensures err { OnErr result (view_of replica.new ≡ view_of replica.old) }
 {
     match replica.prepare(alloc, me, command) {
@@ -56,10 +57,11 @@ pub fn act(
     }
 }
 
-/// A node takes a frame, or refuses it. Want of memory takes nothing.
+/// A node takes a frame, or refuses it. Running out of memory takes nothing.
 pub fn take_frame(alloc: Global, replica: &mut Replica, delta: Delta) -> Result<Reply, AllocError>
     ensures nodes { length replica.new.front ≡ length replica.old.front }
-    ensures taken { IfOk result (λ reply. TakesFrame (view_of replica.old) delta reply (view_of replica.new)) }
+    ensures taken { IfOk result
+        (λ reply. TakesFrame (view_of replica.old) delta reply (view_of replica.new)) }
     ensures err { OnErr result (view_of replica.new ≡ view_of replica.old) }
 {
     match prepare(alloc, replica, delta) {
@@ -76,7 +78,7 @@ pub fn take_frame(alloc: Global, replica: &mut Replica, delta: Delta) -> Result<
     }
 }
 
-/// Of the bytes of a frame so many come to a node, which takes what they spell, or refuses it.
+/// Of the bytes of a frame so many come to a node, which takes what they encode, or refuses it.
 pub fn take_bytes(
     alloc: Global,
     replica: &mut Replica,
@@ -84,7 +86,8 @@ pub fn take_bytes(
     kept: usize,
 ) -> Result<Reply, AllocError>
     ensures nodes { length replica.new.front ≡ length replica.old.front }
-    ensures taken { IfOk result (λ reply. TakesBytes (view_of replica.old) bytes.now kept reply (view_of replica.new)) }
+    ensures taken { IfOk result
+        (λ reply. TakesBytes (view_of replica.old) bytes.now kept reply (view_of replica.new)) }
     ensures err { OnErr result (view_of replica.new ≡ view_of replica.old) }
 {
     if kept > bytes.len() {
@@ -104,9 +107,10 @@ pub fn take_bytes(
 /// The bytes of what a node tells another that has the facts of a base. E15 where the node doesn't count the base.
 pub fn bytes_since(alloc: Global, replica: &Replica, base: &Front) -> Result<Vec<u8>, Refusal>
     requires { length base.now ≡ length replica.now.front }
-    ensures sent { (h : History) (v : List ℕ) → IsLawful h → IsClosed h v → IsViewOf h v (view_of replica.now) →
+    ensures sent { (h : History) (v : List ℕ) →
+        IsLawful h → IsClosed h v → IsViewOf h v (view_of replica.now) →
         IfOk result (λ bytes. IsBelow base.now v × IsDelta (frame_of (view_of replica.now) base.now)
-        × (bytes.items ≡ spelling (frame_of (view_of replica.now) base.now))) }
+        × (bytes.items ≡ encoding (frame_of (view_of replica.now) base.now))) }
     ensures refused { IfErr result (λ refusal. (refusal ≡ NoMemory)
         ⊎ ((refusal ≡ Gap replica.now.front) × (IsBelow base.now replica.now.front → ⊥))) }
 {
@@ -117,7 +121,8 @@ pub fn bytes_since(alloc: Global, replica: &Replica, base: &Front) -> Result<Vec
 /// A node starts again from the bytes of its own frame since the front of zeros, which has all that it holds.
 pub fn restart(alloc: Global, replica: &mut Replica) -> Result<Reply, AllocError>
     ensures nodes { length replica.new.front ≡ length replica.old.front }
-    ensures same { (h : History) (v : List ℕ) → IsLawful h → IsClosed h v → StandsFor (facts h v) (view_of replica.old) → replica.old.front ≡ v →
+    ensures same { (h : History) (v : List ℕ) → IsLawful h →
+        IsClosed h v → StandsFor (facts h v) (view_of replica.old) → replica.old.front ≡ v →
         IfOk result (λ reply. (reply ≡ Restarted) × (view_of replica.new ≡ view_of replica.old)) }
     ensures err { OnErr result (view_of replica.new ≡ view_of replica.old) }
 {

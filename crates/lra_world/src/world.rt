@@ -11,7 +11,7 @@ ghost use Rattle.lra_world.specs.declared.event.Reply.{Reply as Replies};
 ghost use Rattle.lra_world.specs.declared.event.Reply.TheVariants.{Restarted, Sent};
 ghost use Rattle.lra_world.specs.Headline.{member_at, shown_at};
 ghost use Rattle.lra_world.specs.Machines.{AreEmpty, Happens, IsActed, IsChanged, IsExpired, IsWorldOf, LeadsTo, StepsTo, StopsIn, TakesBytes};
-ghost use Rattle.lra_world.specs.Worlds.{IsSpelled, IsViewOf, Leads, State, expired, front_of, set_of, start};
+ghost use Rattle.lra_world.specs.Worlds.{IsEncoded, IsViewOf, Leads, State, expired, front_of, set_of, start};
 ghost use Rattle.lra_id.specs.Fronts.{IsBelow};
 ghost use Rattle.lra_facts.specs.declared.refusal.Refusal.TheVariants.{BadText, Gap, NoMemory};
 
@@ -39,7 +39,8 @@ impl Model for World {
 
     ghost view = { λ w. record { replicas = w.replicas.items; sent = bytes_of w.frames.items } };
 
-    ghost invariant = { λ w. IsMachine (record { replicas = w.replicas.items; sent = bytes_of w.frames.items }) };
+    ghost invariant = { λ w.
+        IsMachine (record { replicas = w.replicas.items; sent = bytes_of w.frames.items }) };
 }
 
 impl World {
@@ -70,7 +71,8 @@ impl World {
 
     /// How many bytes a frame has. None was sent of another number.
     pub fn frame_len(&self, frame: usize) -> Option<usize>
-        ensures { result ≡ (if frame == 0 then None else option_map length (slice_get self.now.sent (frame - 1))) }
+        ensures { result ≡
+            (if frame == 0 then None else option_map length (slice_get self.now.sent (frame - 1))) }
     {
         if frame == 0 {
             return None;
@@ -82,7 +84,8 @@ impl World {
     /// What a node holds.
     pub fn replica(&self, node: NodeId) -> &Replica
         requires { node ≤ length self.now.replicas }
-        ensures view { (s : State) → IsWorldOf s self.now → IsViewOf s.history (front_of s node) (view_of result.now) }
+        ensures view { (s : State) →
+            IsWorldOf s self.now → IsViewOf s.history (front_of s node) (view_of result.now) }
         ensures nodes { length result.now.front ≡ length self.now.replicas }
     {
         let place = usize::from(node.number()) - 1;
@@ -127,9 +130,11 @@ impl World {
         command: Command,
     ) -> Result<CommandReply, AllocError>
         requires { node ≤ length self.old.replicas }
-        ensures acted { IfOk result (λ reply. IsChanged self.old self.new node (λ was now.
-            (S : List Fact) → IsSettled S → StandsFor S (view_of was) → IsActed S (view_of was) node command reply (view_of now))) }
-        ensures err { OnErr result (IsChanged self.old self.new node (λ was now. view_of now ≡ view_of was)) }
+        ensures acted { IfOk result
+            (λ reply. IsChanged self.old self.new node (λ was now. (S : List Fact) → IsSettled S →
+            StandsFor S (view_of was) → IsActed S (view_of was) node command reply (view_of now))) }
+        ensures err { OnErr result (IsChanged self.old self.new node
+            (λ was now. view_of now ≡ view_of was)) }
     {
         let place = usize::from(node.number()) - 1;
         act(alloc, &mut self.replicas[place], node, command)
@@ -138,10 +143,12 @@ impl World {
     /// A node starts again.
     fn restart_at(&mut self, alloc: Global, node: NodeId) -> Result<Reply, AllocError>
         requires { node ≤ length self.old.replicas }
-        ensures same { IfOk result (λ reply. IsChanged self.old self.new node (λ was now.
-            (h : History) (v : List ℕ) → IsLawful h → IsClosed h v → StandsFor (facts h v) (view_of was) → was.front ≡ v →
-            (reply ≡ Restarted) × (view_of now ≡ view_of was))) }
-        ensures err { OnErr result (IsChanged self.old self.new node (λ was now. view_of now ≡ view_of was)) }
+        ensures same { IfOk result
+            (λ reply. IsChanged self.old self.new node (λ was now. (h : History) (v : List ℕ) →
+            IsLawful h → IsClosed h v → StandsFor (facts h v) (view_of was) →
+            was.front ≡ v → (reply ≡ Restarted) × (view_of now ≡ view_of was))) }
+        ensures err { OnErr result (IsChanged self.old self.new node
+            (λ was now. view_of now ≡ view_of was)) }
     {
         let place = usize::from(node.number()) - 1;
         restart(alloc, &mut self.replicas[place])
@@ -157,9 +164,11 @@ impl World {
     ) -> Result<Reply, AllocError>
         requires node { node ≤ length self.old.replicas }
         requires frame { frame < length self.old.sent }
-        ensures taken { IfOk result (λ reply. IsChanged self.old self.new node (λ was now.
-            (bytes : List ℕ) → slice_get self.old.sent frame ≡ Some bytes → TakesBytes (view_of was) bytes kept reply (view_of now))) }
-        ensures err { OnErr result (IsChanged self.old self.new node (λ was now. view_of now ≡ view_of was)) }
+        ensures taken { IfOk result (λ reply. IsChanged self.old self.new node
+            (λ was now. (bytes : List ℕ) → slice_get self.old.sent frame ≡ Some bytes →
+            TakesBytes (view_of was) bytes kept reply (view_of now))) }
+        ensures err { OnErr result (IsChanged self.old self.new node
+            (λ was now. view_of now ≡ view_of was)) }
     {
         let place = usize::from(node.number()) - 1;
         take_bytes(alloc, &mut self.replicas[place], &self.frames[frame], kept)
@@ -167,14 +176,16 @@ impl World {
 
     fn overdue(&self, node: NodeId, now: u64) -> Option<LraId>
         requires { node ≤ length self.now.replicas }
-        ensures { (s : State) → IsWorldOf s self.now → IsLeastOverdue (set_of s node) node now result }
+        ensures { (s : State) →
+            IsWorldOf s self.now → IsLeastOverdue (set_of s node) node now result }
     {
         let place = usize::from(node.number()) - 1;
         self.replicas[place].expire(node, now)
     }
 
     fn act(&mut self, alloc: Global, node: NodeId, command: Command) -> Result<Reply, AllocError>
-        ensures step { (s : State) → IsWorldOf s self.old → IfOk result (λ reply. Happens s (Act node command) reply self.new) }
+        ensures step { (s : State) → IsWorldOf s self.old →
+            IfOk result (λ reply. Happens s (Act node command) reply self.new) }
         ensures err { (s : State) → IsWorldOf s self.old → OnErr result (IsWorldOf s self.new) }
     {
         if !self.has(node) {
@@ -194,7 +205,8 @@ impl World {
         node: NodeId,
         kept: usize,
     ) -> Result<Reply, AllocError>
-        ensures step { (s : State) → IsWorldOf s self.old → IfOk result (λ reply. Happens s (Deliver frame node kept) reply self.new) }
+        ensures step { (s : State) → IsWorldOf s self.old →
+            IfOk result (λ reply. Happens s (Deliver frame node kept) reply self.new) }
         ensures err { (s : State) → IsWorldOf s self.old → OnErr result (IsWorldOf s self.new) }
     {
         if !self.has(node) || !self.was_sent(frame) {
@@ -208,7 +220,8 @@ impl World {
 
     /// A node starts again.
     fn restart(&mut self, alloc: Global, node: NodeId) -> Result<Reply, AllocError>
-        ensures step { (s : State) → IsWorldOf s self.old → IfOk result (λ reply. Happens s (Restart node) reply self.new) }
+        ensures step { (s : State) →
+            IsWorldOf s self.old → IfOk result (λ reply. Happens s (Restart node) reply self.new) }
         ensures err { (s : State) → IsWorldOf s self.old → OnErr result (IsWorldOf s self.new) }
     {
         if !self.has(node) {
@@ -220,9 +233,10 @@ impl World {
         }
     }
 
-    /// One event happens. Want of memory leaves the world as it was.
+    /// One event happens. Running out of memory leaves the world as it was.
     pub fn step(&mut self, alloc: Global, event: Event) -> Result<Reply, AllocError>
-        ensures step { (s : State) → IsWorldOf s self.old → IfOk result (λ reply. Happens s event reply self.new) }
+        ensures step { (s : State) →
+            IsWorldOf s self.old → IfOk result (λ reply. Happens s event reply self.new) }
         // And the headline holds from whatever state led here.
         ensures headline { (first s : State) → Leads first s → IsWorldOf s self.old →
             IfOk result (λ reply. StepsTo first s event reply self.new) }
@@ -232,7 +246,8 @@ impl World {
     }
 
     fn happen(&mut self, alloc: Global, event: Event) -> Result<Reply, AllocError>
-        ensures step { (s : State) → IsWorldOf s self.old → IfOk result (λ reply. Happens s event reply self.new) }
+        ensures step { (s : State) →
+            IsWorldOf s self.old → IfOk result (λ reply. Happens s event reply self.new) }
         ensures err { (s : State) → IsWorldOf s self.old → OnErr result (IsWorldOf s self.new) }
     {
         match event {
@@ -244,7 +259,7 @@ impl World {
         }
     }
 
-    /// Many events happen, one after another. Want of memory stops the run at an event that has not happened, and gives the
+    /// Many events happen, one after another. Running out of memory stops the run at an event that has not happened, and gives the
     /// replies to those before it.
     pub fn run(&mut self, alloc: Global, events: &[Event]) -> Result<Vec<Reply>, Stopped>
         ensures headline { (s : State) → IsWorldOf s self.old →
@@ -261,7 +276,7 @@ impl World {
         Ok(replies)
     }
 
-    /// One event happens, and its reply is put at the end, in room that was made before. Want of memory puts nothing, and the
+    /// One event happens, and its reply is put at the end, in room that was made before. Running out of memory puts nothing, and the
     /// event has not happened.
     fn step_on(
         &mut self,
@@ -270,8 +285,10 @@ impl World {
         replies: &mut Vec<Reply>,
     ) -> Result<(), AllocError>
         ensures ok { (s : State) → IsWorldOf s self.old →
-            OnOk result ((reply : Replies) × Happens s event.now reply self.new × (replies.new.items ≡ replies.old.items ++ reply ∷ [])) }
-        ensures err { (s : State) → IsWorldOf s self.old → OnErr result (IsWorldOf s self.new × (replies.new.items ≡ replies.old.items)) }
+            OnOk result ((reply : Replies) × Happens s event.now reply self.new
+            × (replies.new.items ≡ replies.old.items ++ reply ∷ [])) }
+        ensures err { (s : State) → IsWorldOf s self.old →
+            OnErr result (IsWorldOf s self.new × (replies.new.items ≡ replies.old.items)) }
     {
         // Without a value of this type here the toolchain's borrow checker can't build its plan for a `Reply`.
         let _ = CommandReply::Refused(Refusal::NoMemory);
@@ -281,7 +298,8 @@ impl World {
     }
 
     fn tick(&mut self, alloc: Global, node: NodeId, now: u64) -> Result<Reply, AllocError>
-        ensures step { (s : State) → IsWorldOf s self.old → IfOk result (λ reply. Happens s (Tick node now) reply self.new) }
+        ensures step { (s : State) →
+            IsWorldOf s self.old → IfOk result (λ reply. Happens s (Tick node now) reply self.new) }
         ensures err { (s : State) → IsWorldOf s self.old → OnErr result (IsWorldOf s self.new) }
     {
         if !self.has(node) {
@@ -295,10 +313,12 @@ impl World {
 
     fn expire(&mut self, alloc: Global, node: NodeId, id: LraId) -> Result<Reply, AllocError>
         requires { node ≤ length self.old.replicas }
-        ensures step { (s : State) → IsWorldOf s self.old → IfOk result (λ reply. IsExpired s node id reply self.new) }
+        ensures step { (s : State) →
+            IsWorldOf s self.old → IfOk result (λ reply. IsExpired s node id reply self.new) }
         ensures err { (s : State) → IsWorldOf s self.old → OnErr result (IsWorldOf s self.new) }
     {
         let verdict = Verdict::Cancel;
+        // A node's number is at least 1: only a call of a `NodeId` tells.
         let _ = node.number();
         match self.act_at(alloc, node, Command::Decide { id, verdict }) {
             Ok(reply) => Ok(expired(id, reply)),
@@ -308,7 +328,8 @@ impl World {
 
     /// A node sends what it has since a base.
     fn send(&mut self, alloc: Global, node: NodeId, base: Front) -> Result<Reply, AllocError>
-        ensures step { (s : State) → IsWorldOf s self.old → IfOk result (λ reply. Happens s (Send node base) reply self.new) }
+        ensures step { (s : State) → IsWorldOf s self.old →
+            IfOk result (λ reply. Happens s (Send node base) reply self.new) }
         ensures err { (s : State) → IsWorldOf s self.old → OnErr result (IsWorldOf s self.new) }
     {
         if !self.has(node) || base.nodes() != self.replicas.len() {
@@ -329,9 +350,11 @@ impl World {
     fn frame_since(&self, alloc: Global, node: NodeId, base: &Front) -> Result<Vec<u8>, Refusal>
         requires node { node ≤ length self.now.replicas }
         requires base { length base.now ≡ length self.now.replicas }
-        ensures sent { (s : State) → IsWorldOf s self.now → IfOk result (λ bytes. IsBelow base.now (front_of s node) ×
-            IsSpelled s.history (record { base = base.now; front = front_of s node }) bytes.items) }
-        ensures refused { (s : State) → IsWorldOf s self.now → IfErr result (λ refusal. (refusal ≡ NoMemory)
+        ensures sent { (s : State) → IsWorldOf s self.now →
+            IfOk result (λ bytes. IsBelow base.now (front_of s node) × IsEncoded s.history
+            (record { base = base.now; front = front_of s node }) bytes.items) }
+        ensures refused { (s : State) →
+            IsWorldOf s self.now → IfErr result (λ refusal. (refusal ≡ NoMemory)
             ⊎ ((refusal ≡ Gap (front_of s node)) × (IsBelow base.now (front_of s node) → ⊥))) }
     {
         let place = usize::from(node.number()) - 1;
@@ -340,8 +363,8 @@ impl World {
 
     /// Keeps the bytes of a frame that is sent.
     fn post(&mut self, bytes: Vec<u8>) -> Result<Reply, AllocError>
-        ensures posted { IfOk result (λ reply. (reply ≡ Sent (length self.old.sent + 1)) ×
-            (self.new ≡ record { replicas = self.old.replicas; sent = self.old.sent ++ bytes.items ∷ [] })) }
+        ensures posted { IfOk result (λ reply. (reply ≡ Sent (length self.old.sent + 1)) × (self.new
+            ≡ record { replicas = self.old.replicas; sent = self.old.sent ++ bytes.items ∷ [] })) }
         ensures err { OnErr result (self.new ≡ self.old) }
     {
         self.frames.push(bytes)?;

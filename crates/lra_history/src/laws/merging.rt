@@ -15,23 +15,28 @@ ghost use Rattle.lra_history.specs.Views.{IsInOrder, StandsFor, View};
 
 /// Two views that count the same nodes, and whose homes' records are in order, have just one merge.
 pub fn two_views_have_a_merge()
-    ensures merge { (a b : View) → length a.front ≡ length b.front → IsInOrder a → IsInOrder b → IsMerged a b (merged a b) }
+    ensures merge { (a b : View) →
+        length a.front ≡ length b.front → IsInOrder a → IsInOrder b → IsMerged a b (merged a b) }
     ensures only { (a b c : View) → IsInOrder a → IsInOrder b → IsMerged a b c → c ≡ merged a b }
 {}
 
 /// To take all that another view has is to merge it.
 #[tactic(auto, using(crate::proofs::TellingAll::merged_from, crate::proofs::TellingAll::absorbed_from))]
 pub fn telling_all_is_merging()
-    ensures merged { (a b c : View) (telling : Telling) → TellsAll telling b → IsAbsorbed a telling c → IsMerged a b c }
-    ensures absorbed { (a b c : View) (telling : Telling) → TellsAll telling b → IsMerged a b c → IsAbsorbed a telling c }
+    ensures merged { (a b c : View) (telling : Telling) →
+        TellsAll telling b → IsAbsorbed a telling c → IsMerged a b c }
+    ensures absorbed { (a b c : View) (telling : Telling) →
+        TellsAll telling b → IsMerged a b c → IsAbsorbed a telling c }
 {}
 
 /// The merge of the views of two closed sets is the view of the sets' union, and that is closed too. A node's front that is
 /// merged with another stays the node's: it counts all that the node entered.
 pub fn a_merge_is_the_union()
-    ensures view { (h : History) (v w : List ℕ) (a b c : View) → IsLawful h → IsClosed h v → IsClosed h w →
-        StandsFor (facts h v) a → StandsFor (facts h w) b → IsMerged a b c → StandsFor (facts h (join_fronts v w)) c }
-    ensures closed { (h : History) (v w : List ℕ) → IsClosed h v → IsClosed h w → IsClosed h (join_fronts v w) }
+    ensures view { (h : History) (v w : List ℕ) (a b c : View) →
+        IsLawful h → IsClosed h v → IsClosed h w → StandsFor (facts h v) a →
+        StandsFor (facts h w) b → IsMerged a b c → StandsFor (facts h (join_fronts v w)) c }
+    ensures closed { (h : History) (v w : List ℕ) →
+        IsClosed h v → IsClosed h w → IsClosed h (join_fronts v w) }
     ensures current { (h : History) (node : ℕ) (v w : List ℕ) → IsCurrent h node v → IsClosed h w →
         IsCurrent h node (join_fronts v w) }
 {}
@@ -39,52 +44,54 @@ pub fn a_merge_is_the_union()
 /// Whether an LRA is held in the union of two closed sets: where both count its begin, it is if both hold it, so what one purged
 /// stays away; where only one counts it, it is if that one holds it.
 pub fn an_lra_is_held_in_the_union()
-    ensures both { (h : History) (v w : List ℕ) → IsLawful h → IsClosed h v → IsClosed h w → (l : Id) →
-        is_covered v l ≡ true → is_covered w l ≡ true →
+    ensures both { (h : History) (v w : List ℕ) → IsLawful h →
+        IsClosed h v → IsClosed h w → (l : Id) → is_covered v l ≡ true → is_covered w l ≡ true →
         is_held (facts h (join_fronts v w)) l ≡ (is_held (facts h v) l && is_held (facts h w) l) }
-    ensures one { (h : History) (v w : List ℕ) → IsLawful h → IsClosed h v → IsClosed h w → (l : Id) →
-        is_covered v l ≡ true → is_covered w l ≡ false →
-        is_held (facts h (join_fronts v w)) l ≡ is_held (facts h v) l }
+    ensures one { (h : History) (v w : List ℕ) →
+        IsLawful h → IsClosed h v → IsClosed h w → (l : Id) → is_covered v l ≡ true →
+        is_covered w l ≡ false → is_held (facts h (join_fronts v w)) l ≡ is_held (facts h v) l }
 {}
 
 /// Of two closed sets the one with the greater home stamp of an LRA has all that the home entered about it, so a merge may take
 /// the home's part of one record whole.
 pub fn the_greater_home_stamp_has_the_homes_facts()
-    ensures { (h : History) (v w : List ℕ) → IsLawful h → IsClosed h v → IsClosed h w → (l : Id) (f : Fact) →
-        stamp (facts h w) l l.home ≤ stamp (facts h v) l l.home →
+    ensures { (h : History) (v w : List ℕ) → IsLawful h → IsClosed h v → IsClosed h w →
+        (l : Id) (f : Fact) → stamp (facts h w) l l.home ≤ stamp (facts h v) l l.home →
         In f (facts h w) → f.origin ≡ l.home → is_about l f ≡ true → In f (facts h v) }
 {}
 
 /// Of two closed sets the greater outcome of each act is heard in the union.
 pub fn the_greater_outcome_is_heard_in_the_union()
     ensures { (h : History) (v w : List ℕ) (l : Id) (m : ℕ) (act : TheAct) →
-        heard (facts h (join_fronts v w)) l m act ≡ greater (heard (facts h v) l m act) (heard (facts h w) l m act) }
+        heard (facts h (join_fronts v w)) l m act
+        ≡ greater (heard (facts h v) l m act) (heard (facts h w) l m act) }
 {}
 
 /// A view merged with itself stays as it is.
 pub fn merging_again_changes_nothing()
-    ensures { (h : History) (v : List ℕ) (a c : View) → IsLawful h → IsClosedView h v a → IsMerged a a c → c ≡ a }
+    ensures { (h : History) (v : List ℕ) (a c : View) →
+        IsLawful h → IsClosedView h v a → IsMerged a a c → c ≡ a }
 {}
 
 /// It is the same which of two views is merged into the other.
 pub fn merges_go_either_way()
-    ensures { (h : History) (v w : List ℕ) (a b c d : View) → IsLawful h → IsClosedView h v a → IsClosedView h w b →
-        IsMerged a b c → IsMerged b a d → c ≡ d }
+    ensures { (h : History) (v w : List ℕ) (a b c d : View) → IsLawful h →
+        IsClosedView h v a → IsClosedView h w b → IsMerged a b c → IsMerged b a d → c ≡ d }
 {}
 
 /// It is the same which two of three views are merged first.
 pub fn merges_go_in_any_order()
     ensures { (h : History) (u v w : List ℕ) (a b c ab bc left right : View) → IsLawful h →
-        IsClosedView h u a → IsClosedView h v b → IsClosedView h w c →
-        IsMerged a b ab → IsMerged ab c left → IsMerged b c bc → IsMerged a bc right → left ≡ right }
+        IsClosedView h u a → IsClosedView h v b → IsClosedView h w c → IsMerged a b ab →
+        IsMerged ab c left → IsMerged b c bc → IsMerged a bc right → left ≡ right }
 {}
 
 /// Both views are parts of their merge, and it is a part of each view of which both are parts.
 pub fn a_merge_is_the_least_upper_bound()
-    ensures first { (h : History) (v w : List ℕ) (a b c : View) → IsLawful h → IsClosedView h v a → IsClosedView h w b →
-        IsMerged a b c → IsPartOf h a c }
-    ensures second { (h : History) (v w : List ℕ) (a b c : View) → IsLawful h → IsClosedView h v a → IsClosedView h w b →
-        IsMerged a b c → IsPartOf h b c }
+    ensures first { (h : History) (v w : List ℕ) (a b c : View) →
+        IsLawful h → IsClosedView h v a → IsClosedView h w b → IsMerged a b c → IsPartOf h a c }
+    ensures second { (h : History) (v w : List ℕ) (a b c : View) →
+        IsLawful h → IsClosedView h v a → IsClosedView h w b → IsMerged a b c → IsPartOf h b c }
     ensures least { (h : History) (a b c d : View) → IsLawful h → IsPartOf h a d → IsPartOf h b d →
         IsMerged a b c → IsPartOf h c d }
 {}

@@ -12,8 +12,8 @@ ghost use Rattle.lra_history.specs.Rising.{IsCancelledAbove, IsDecision, IsShown
 /// the first is below that of the second and covers the LRA. The last rank is that of an LRA that is not held, so what is
 /// purged does not come back.
 pub fn statuses_only_rise()
-    ensures { (h : History) (v w : List ℕ) (l : Id) → IsLawful h → IsClosed h v → IsClosed h w → IsBelow v w →
-        is_covered v l ≡ true → rank_in (facts h v) l ≤ rank_in (facts h w) l }
+    ensures { (h : History) (v w : List ℕ) (l : Id) → IsLawful h → IsClosed h v → IsClosed h w →
+        IsBelow v w → is_covered v l ≡ true → rank_in (facts h v) l ≤ rank_in (facts h w) l }
 {}
 
 /// An LRA is closed or cancelled at most once in a whole history, and by its home.
@@ -28,12 +28,16 @@ pub fn one_decision_each()
 /// FailedToCancel in another, an LRA in which it is nested was cancelled. The same of what it wants. So a root never wants
 /// both, and no node shows it closed where another shows it cancelled.
 pub fn no_split_verdict()
-    ensures shown { (h : History) (v w : List ℕ) (l : Id) → IsLawful h → IsClosed h v → IsClosed h w →
+    ensures shown { (h : History) (v w : List ℕ) (l : Id) →
+        IsLawful h → IsClosed h v → IsClosed h w →
         IsShownClosed (facts h v) l → IsShownCancelled (facts h w) l → IsCancelledAbove h w l }
-    ensures wanted { (h : History) (v w : List ℕ) (l : Id) → IsLawful h → IsClosed h v → IsClosed h w →
-        want (facts h v) l ≡ Some Close → want (facts h w) l ≡ Some Cancel → IsCancelledAbove h w l }
-    ensures root { (h : History) (v w : List ℕ) (l : Id) → IsLawful h → IsClosed h v → IsClosed h w →
-        is_root (facts h v) l ≡ true → want (facts h v) l ≡ Some Close → want (facts h w) l ≡ Some Cancel → ⊥ }
-    ensures shown_root { (h : History) (v w : List ℕ) (l : Id) → IsLawful h → IsClosed h v → IsClosed h w →
-        is_root (facts h v) l ≡ true → IsShownClosed (facts h v) l → IsShownCancelled (facts h w) l → ⊥ }
+    ensures wanted { (h : History) (v w : List ℕ) (l : Id) →
+        IsLawful h → IsClosed h v → IsClosed h w → want (facts h v) l ≡ Some Close →
+        want (facts h w) l ≡ Some Cancel → IsCancelledAbove h w l }
+    ensures root { (h : History) (v w : List ℕ) (l : Id) →
+        IsLawful h → IsClosed h v → IsClosed h w → is_root (facts h v) l ≡ true →
+        want (facts h v) l ≡ Some Close → want (facts h w) l ≡ Some Cancel → ⊥ }
+    ensures shown_root { (h : History) (v w : List ℕ) (l : Id) →
+        IsLawful h → IsClosed h v → IsClosed h w → is_root (facts h v) l ≡ true →
+        IsShownClosed (facts h v) l → IsShownCancelled (facts h w) l → ⊥ }
 {}

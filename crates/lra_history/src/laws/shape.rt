@@ -9,8 +9,9 @@ ghost use Rattle.lra_history.specs.Views.{StandsFor, View};
 /// 256 records; the view has the parent that a record names, with it as a member there, and each LRA that is nested in it;
 /// no record is deeper than 8; and no stamp and no purge is beyond the front.
 pub fn views_of_a_history_have_the_shape()
-    ensures view { (h : History) (v : List ℕ) (view : View) → IsLawful h → IsClosed h v → StandsFor (facts h v) view →
-        HasShape view }
-    ensures merge { (h : History) (v w : List ℕ) (a b c : View) → IsLawful h → IsClosed h v → IsClosed h w →
+    ensures view { (h : History) (v : List ℕ) (view : View) →
+        IsLawful h → IsClosed h v → StandsFor (facts h v) view → HasShape view }
+    ensures merge { (h : History) (v w : List ℕ) (a b c : View) →
+        IsLawful h → IsClosed h v → IsClosed h w →
         StandsFor (facts h v) a → StandsFor (facts h w) b → IsMerged a b c → HasShape c }
 {}

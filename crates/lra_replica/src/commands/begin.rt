@@ -33,7 +33,8 @@ impl Replica {
 
     fn refusal_of_root(&self, me: NodeId) -> Option<Refusal>
         requires { me ≤ length self.now.front }
-        ensures judged { (deadline : ℕ) → judge_on (view_of self.now) me (Begin None deadline) ≡ judged_by result }
+        ensures judged { (deadline : ℕ) →
+            judge_on (view_of self.now) me (Begin None deadline) ≡ judged_by result }
         ensures left { result ≡ None → count self.now.front me < last_number }
         ensures some { 1 ≤ me }
     {
@@ -56,7 +57,9 @@ impl Replica {
 
     fn refusal_to_nest(&self, me: NodeId, parent: LraId) -> Option<Refusal>
         requires { me ≤ length self.now.front }
-        ensures { let t = by_view (view_of self.now) in result ≡ first (unknown self.now.front parent ∷ gone_by t parent ∷ away me parent ∷ inactive_by t parent ∷ full_by t parent ∷ deep_by t parent ∷ crowded_by t me ∷ []) }
+        ensures { let t = by_view (view_of self.now)
+            in result ≡ first (unknown self.now.front parent ∷ gone_by t parent ∷ away me parent
+            ∷ inactive_by t parent ∷ full_by t parent ∷ deep_by t parent ∷ crowded_by t me ∷ []) }
     {
         if let Some(refusal) = self.refusal_to_number_member(me, parent) {
             return Some(refusal);
@@ -69,7 +72,8 @@ impl Replica {
 
     fn refusal_of_nested(&self, me: NodeId, parent: LraId) -> Option<Refusal>
         requires { me ≤ length self.now.front }
-        ensures judged { (deadline : ℕ) → judge_on (view_of self.now) me (Begin (Some parent) deadline) ≡ judged_by result }
+        ensures judged { (deadline : ℕ) →
+            judge_on (view_of self.now) me (Begin (Some parent) deadline) ≡ judged_by result }
         ensures left { result ≡ None → count self.now.front me < last_number }
     {
         if let Some(refusal) = self.refusal_to_nest(me, parent) {
@@ -119,7 +123,8 @@ impl Replica {
         ensures room { HasRoom result self.new }
         ensures stays { KeepsRoom self.old self.new }
         ensures next { IsNext (view_of self.old) me (Begin None deadline) result }
-        ensures prepared { OfItsSet (view_of self.old) (λ S. IsPrepared S (view_of self.old) me (Begin None deadline) result) }
+        ensures prepared { OfItsSet (view_of self.old)
+            (λ S. IsPrepared S (view_of self.old) me (Begin None deadline) result) }
     {
         if let Some(refusal) = self.refusal_of_root(me) {
             return Err(refusal);
@@ -135,7 +140,8 @@ impl Replica {
 
     fn ready_to_nest(&self, me: NodeId, parent: LraId) -> Result<Record, Refusal>
         requires { me ≤ length self.now.front }
-        ensures ready { (deadline : ℕ) → IsReadyNext (view_of self.now) me (Begin (Some parent) deadline) parent result }
+        ensures ready { (deadline : ℕ) →
+            IsReadyNext (view_of self.now) me (Begin (Some parent) deadline) parent result }
         ensures left { IfOk result (λ _. count self.now.front me < last_number) }
         ensures home { IfOk result (λ copy. copy.home ≡ me) }
         ensures few { IfOk result (λ copy. length copy.members < 32) }
@@ -166,7 +172,8 @@ impl Replica {
         ensures room { HasRoom result self.new }
         ensures stays { KeepsRoom self.old self.new }
         ensures next { IsNext (view_of self.old) me (Begin (Some parent) deadline) result }
-        ensures prepared { OfItsSet (view_of self.old) (λ S. IsPrepared S (view_of self.old) me (Begin (Some parent) deadline) result) }
+        ensures prepared { OfItsSet (view_of self.old)
+            (λ S. IsPrepared S (view_of self.old) me (Begin (Some parent) deadline) result) }
     {
         // Likewise.
         let _ = me.number();
@@ -201,7 +208,8 @@ impl Replica {
         ensures room { HasRoom result self.new }
         ensures stays { KeepsRoom self.old self.new }
         ensures next { IsNext (view_of self.old) me (Begin parent deadline) result }
-        ensures prepared { OfItsSet (view_of self.old) (λ S. IsPrepared S (view_of self.old) me (Begin parent deadline) result) }
+        ensures prepared { OfItsSet (view_of self.old)
+            (λ S. IsPrepared S (view_of self.old) me (Begin parent deadline) result) }
     {
         match parent {
             Some(parent) => self.nest(alloc, me, parent, deadline),

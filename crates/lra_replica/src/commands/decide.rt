@@ -23,7 +23,8 @@ use std::alloc::Global;
 
 impl Replica {
     fn refusal_of_decide(&self, me: NodeId, id: LraId) -> Option<Refusal>
-        ensures judged { (verdict : Verdict) → judge_on (view_of self.now) me (Decide id verdict) ≡ judged_by result }
+        ensures judged { (verdict : Verdict) →
+            judge_on (view_of self.now) me (Decide id verdict) ≡ judged_by result }
         ensures left { result ≡ None → count self.now.front me < last_number }
     {
         if let Some(denied) = self.refusal_unless_active(me, id) {
@@ -33,7 +34,8 @@ impl Replica {
     }
 
     fn ready_to_decide(&self, me: NodeId, id: LraId) -> Result<Record, Refusal>
-        ensures ready { (verdict : Verdict) → IsReadyNext (view_of self.now) me (Decide id verdict) id result }
+        ensures ready { (verdict : Verdict) →
+            IsReadyNext (view_of self.now) me (Decide id verdict) id result }
         ensures some { IfOk result (λ _. 1 ≤ me) }
         ensures left { IfOk result (λ _. count self.now.front me < last_number) }
         ensures home { IfOk result (λ copy. copy.home ≤ length self.now.front) }
@@ -50,7 +52,8 @@ impl Replica {
         ensures stays { KeepsRoom self.old self.new }
         ensures back { result.1 ≡ next }
         ensures says { is_some (record_at (view_of self.old) (id_of next)) ≡ true →
-            result.0 ≡ Ok (shown_at (found_at next.home (put_record next (records_at (view_of self.old).records next.home))) next.num) }
+            result.0 ≡ Ok (shown_at (found_at next.home
+            (put_record next (records_at (view_of self.old).records next.home))) next.num) }
     {
         let place = usize::from(next.home.number()) - 1;
         self.homes[place].status_with(next)
@@ -70,7 +73,8 @@ impl Replica {
         ensures room { HasRoom result self.new }
         ensures stays { KeepsRoom self.old self.new }
         ensures next { IsNext (view_of self.old) me (Decide id verdict) result }
-        ensures prepared { OfItsSet (view_of self.old) (λ S. IsPrepared S (view_of self.old) me (Decide id verdict) result) }
+        ensures prepared { OfItsSet (view_of self.old)
+            (λ S. IsPrepared S (view_of self.old) me (Decide id verdict) result) }
     {
         let mut next = self.ready_to_decide(me, id)?;
         next.decision = Some(verdict);

@@ -31,8 +31,11 @@ impl Replica {
         requires { count self.now.front node < last_number }
         ensures some { IfOk result (λ _. 1 ≤ node) }
         ensures home { IfOk result (λ copy. copy.home ≤ length self.now.front) }
-        ensures found { IfOk result (λ copy. (old : Record) × (record_at (view_of self.now) id ≡ Some old) × (copy ≡ with_stamp node (count self.now.front node + 1) old)) }
-        ensures lost { IfErr result (λ refusal. (refusal ≡ NoMemory) ⊎ (record_at (view_of self.now) id ≡ None)) }
+        ensures found { IfOk result (λ copy. (old : Record)
+            × (record_at (view_of self.now) id ≡ Some old)
+            × (copy ≡ with_stamp node (count self.now.front node + 1) old)) }
+        ensures lost { IfErr result (λ refusal. (refusal ≡ NoMemory)
+            ⊎ (record_at (view_of self.now) id ≡ None)) }
     {
         let Some(record) = self.record(id) else {
             return Err(Refusal::NotHeld);
@@ -109,7 +112,8 @@ impl Replica {
         requires home { first.home ≤ length self.old.front }
         requires same { second.home ≡ first.home }
         ensures view { view_of self.new ≡ view_of self.old }
-        ensures patch { IfOk result (λ patch. patch ≡ two_changes (view_of self.old) me first second) }
+        ensures patch { IfOk result
+            (λ patch. patch ≡ two_changes (view_of self.old) me first second) }
         ensures room { IfOk result (λ patch. Fits patch self.new) }
         ensures stays { KeepsRoom self.old self.new }
         ensures some { IfOk result (λ _. 1 ≤ me) }

@@ -38,7 +38,8 @@ fn forgetting(member: Member) -> Member
 }
 
 fn forget_at(members: &mut Members, number: u8) -> Result<(), AllocError>
-    ensures { 1 ≤ number → OnOk result (members.new ≡ member_changed forgetting (number - 1) members.old) }
+    ensures { 1 ≤ number →
+        OnOk result (members.new ≡ member_changed forgetting (number - 1) members.old) }
 {
     if let Some(member) = members.get(number) {
         let next = forgetting(member.clone()?);
@@ -49,7 +50,8 @@ fn forget_at(members: &mut Members, number: u8) -> Result<(), AllocError>
 
 impl Replica {
     fn is_to_forget(&self, id: LraId, member: u8) -> Result<bool, Refusal>
-        ensures { let t = by_view (view_of self.now) in result ≡ answered_of (t.held id) (t.participant id member) (t.owed id member) }
+        ensures { let t = by_view (view_of self.now)
+            in result ≡ answered_of (t.held id) (t.participant id member) (t.owed id member) }
     {
         match self.home_of(id) {
             Ok(home) => home.is_to_forget(id, member),
@@ -58,7 +60,8 @@ impl Replica {
     }
 
     fn has_forgotten(&self, id: LraId, member: u8) -> Result<bool, Refusal>
-        ensures { let t = by_view (view_of self.now) in result ≡ answered_of (t.held id) (t.participant id member) (t.forgot id member) }
+        ensures { let t = by_view (view_of self.now)
+            in result ≡ answered_of (t.held id) (t.participant id member) (t.forgot id member) }
     {
         match self.home_of(id) {
             Ok(home) => home.has_forgotten(id, member),
@@ -67,7 +70,8 @@ impl Replica {
     }
 
     fn has_to_know(&self, id: LraId, member: u8) -> Result<bool, Refusal>
-        ensures { let t = by_view (view_of self.now) in result ≡ answered_of (t.held id) (t.participant id member) (t.owed id member || t.forgot id member) }
+        ensures { let t = by_view (view_of self.now) in result ≡ answered_of
+            (t.held id) (t.participant id member) (t.owed id member || t.forgot id member) }
     {
         match self.is_to_forget(id, member) {
             Ok(false) => self.has_forgotten(id, member),
@@ -76,7 +80,8 @@ impl Replica {
     }
 
     fn refusal_of_unowed(&self, id: LraId, member: u8) -> Option<Refusal>
-        ensures { let t = by_view (view_of self.now) in t.held id ≡ true → t.participant id member ≡ true → result ≡ unowed_by t id member }
+        ensures { let t = by_view (view_of self.now) in t.held id ≡ true →
+            t.participant id member ≡ true → result ≡ unowed_by t id member }
     {
         match self.has_to_know(id, member) {
             Ok(true) => None,
@@ -85,7 +90,8 @@ impl Replica {
     }
 
     fn refusal_to_forget(&self, id: LraId, member: u8) -> Option<Refusal>
-        ensures { let t = by_view (view_of self.now) in result ≡ first (unknown self.now.front id ∷ gone_by t id ∷ stranger_by t id member ∷ unowed_by t id member ∷ []) }
+        ensures { let t = by_view (view_of self.now) in result ≡ first (unknown self.now.front
+            id ∷ gone_by t id ∷ stranger_by t id member ∷ unowed_by t id member ∷ []) }
     {
         if let Some(refusal) = self.refusal_to_show(id) {
             return Some(refusal);
@@ -128,7 +134,8 @@ impl Replica {
         ensures room { HasRoom result self.new }
         ensures stays { KeepsRoom self.old self.new }
         ensures next { IsNext (view_of self.old) me (Forgot id member) result }
-        ensures prepared { OfItsSet (view_of self.old) (λ S. IsPrepared S (view_of self.old) me (Forgot id member) result) }
+        ensures prepared { OfItsSet (view_of self.old)
+            (λ S. IsPrepared S (view_of self.old) me (Forgot id member) result) }
     {
         let known = self.knows_forgot(me, id, member)?;
         if known {

@@ -18,7 +18,8 @@ use std::alloc::Global;
 
 impl Replica {
     fn refusal_of_join(&self, me: NodeId, id: LraId) -> Option<Refusal>
-        ensures judged { (links : Links) → judge_on (view_of self.now) me (Join id links) ≡ judged_by result }
+        ensures judged { (links : Links) →
+            judge_on (view_of self.now) me (Join id links) ≡ judged_by result }
         ensures left { result ≡ None → count self.now.front me < last_number }
     {
         if let Some(refusal) = self.refusal_to_number_member(me, id) {
@@ -28,7 +29,8 @@ impl Replica {
     }
 
     fn ready_to_join(&self, me: NodeId, id: LraId) -> Result<Record, Refusal>
-        ensures ready { (links : Links) → IsReadyNext (view_of self.now) me (Join id links) id result }
+        ensures ready { (links : Links) →
+            IsReadyNext (view_of self.now) me (Join id links) id result }
         ensures left { IfOk result (λ _. count self.now.front me < last_number) }
         ensures home { IfOk result (λ copy. copy.home ≤ length self.now.front) }
         ensures few { IfOk result (λ copy. length copy.members < 32) }
@@ -61,7 +63,8 @@ impl Replica {
         ensures room { HasRoom result self.new }
         ensures stays { KeepsRoom self.old self.new }
         ensures next { IsNext (view_of self.old) me (Join id links) result }
-        ensures prepared { OfItsSet (view_of self.old) (λ S. IsPrepared S (view_of self.old) me (Join id links) result) }
+        ensures prepared { OfItsSet (view_of self.old)
+            (λ S. IsPrepared S (view_of self.old) me (Join id links) result) }
     {
         let mut next = match self.ready_to_join(me, id) {
             Ok(copy) => copy,

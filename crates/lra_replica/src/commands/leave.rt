@@ -39,7 +39,8 @@ fn leave_from(members: &mut Members, number: u8)
 
 impl Replica {
     fn refusal_to_leave(&self, me: NodeId, id: LraId, member: u8) -> Option<Refusal>
-        ensures { let t = by_view (view_of self.now) in result ≡ first (unknown self.now.front id ∷ gone_by t id ∷ away me id ∷ stranger_by t id member ∷ inactive_by t id ∷ []) }
+        ensures { let t = by_view (view_of self.now) in result ≡ first (unknown self.now.front
+            id ∷ gone_by t id ∷ away me id ∷ stranger_by t id member ∷ inactive_by t id ∷ []) }
     {
         if let Some(refusal) = self.refusal_at_home(me, id) {
             return Some(refusal);
@@ -85,7 +86,8 @@ impl Replica {
         ensures room { HasRoom result self.new }
         ensures stays { KeepsRoom self.old self.new }
         ensures next { IsNext (view_of self.old) me (Leave id member) result }
-        ensures prepared { OfItsSet (view_of self.old) (λ S. IsPrepared S (view_of self.old) me (Leave id member) result) }
+        ensures prepared { OfItsSet (view_of self.old)
+            (λ S. IsPrepared S (view_of self.old) me (Leave id member) result) }
     {
         let mut next = self.ready_to_leave(me, id, member)?;
         leave_from(&mut next.members, member);

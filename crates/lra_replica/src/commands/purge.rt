@@ -50,7 +50,8 @@ impl Replica {
     }
 
     fn refusal_of_running(&self, id: LraId) -> Option<Refusal>
-        ensures { let t = by_view (view_of self.now) in t.held id ≡ true → result ≡ running_by t id }
+        ensures { let t = by_view (view_of self.now) in t.held id ≡ true →
+            result ≡ running_by t id }
     {
         match self.ended(id) {
             Ok(true) => None,
@@ -59,7 +60,8 @@ impl Replica {
     }
 
     fn not_ended(&self, id: LraId) -> Option<Refusal>
-        ensures { let t = by_view (view_of self.now) in t.held id ≡ true → result ≡ Some (NotEnded (t.shows id)) }
+        ensures { let t = by_view (view_of self.now) in t.held id ≡ true →
+            result ≡ Some (NotEnded (t.shows id)) }
     {
         match self.shown(id) {
             Ok(status) => Some(Refusal::NotEnded(status)),
@@ -79,7 +81,9 @@ impl Replica {
 
     fn refusal_to_purge(&self, me: NodeId, root: LraId) -> Option<Refusal>
         requires { me ≤ length self.now.front }
-        ensures first { let t = by_view (view_of self.now) in result ≡ first (unknown self.now.front root ∷ gone_by t root ∷ away me root ∷ nested_by t root ∷ running_by t root ∷ unforgotten_by t root ∷ []) }
+        ensures first { let t = by_view (view_of self.now)
+            in result ≡ first (unknown self.now.front root ∷ gone_by t root
+            ∷ away me root ∷ nested_by t root ∷ running_by t root ∷ unforgotten_by t root ∷ []) }
         ensures home { result ≡ None → root.home ≡ me }
     {
         if let Some(refusal) = self.refusal_at_home(me, root) {
@@ -108,7 +112,8 @@ impl Replica {
 
     fn tree(&self, alloc: Global, root: LraId) -> Result<Vec<LraId>, AllocError>
         requires { root.home ≤ length self.now.front }
-        ensures { IfOk result (λ ids. ids.items ≡ ids_below (at_home (view_of self.now) root.home) root.num (records_at (view_of self.now).records root.home)) }
+        ensures { IfOk result (λ ids. ids.items ≡ ids_below (at_home (view_of self.now) root.home)
+            root.num (records_at (view_of self.now).records root.home)) }
     {
         match self.home(root.home()) {
             Some(records) => records.tree(alloc, root),
@@ -142,7 +147,8 @@ impl Replica {
         ensures room { HasRoom result self.new }
         ensures stays { KeepsRoom self.old self.new }
         ensures next { IsNext (view_of self.old) me (Purge root) result }
-        ensures prepared { OfItsSet (view_of self.old) (λ S. IsPrepared S (view_of self.old) me (Purge root) result) }
+        ensures prepared { OfItsSet (view_of self.old)
+            (λ S. IsPrepared S (view_of self.old) me (Purge root) result) }
     {
         if let Some(refusal) = self.refusal_of_purge(me, root) {
             return Err(refusal);

@@ -14,7 +14,8 @@ use lra_id::{LAST_NUMBER, LraId, NodeId};
 impl Replica {
     /// The refusal to show an LRA, where none of its id is held.
     pub(crate) fn refusal_to_show(&self, id: LraId) -> Option<Refusal>
-        ensures { let t = by_view (view_of self.now) in result ≡ first (unknown self.now.front id ∷ gone_by t id ∷ []) }
+        ensures { let t = by_view (view_of self.now)
+            in result ≡ first (unknown self.now.front id ∷ gone_by t id ∷ []) }
     {
         if !self.front().covers(id) {
             return Some(Refusal::UnknownLra);
@@ -27,7 +28,8 @@ impl Replica {
 
     /// The refusal of what only the home may enter of an LRA.
     pub(crate) fn refusal_at_home(&self, me: NodeId, id: LraId) -> Option<Refusal>
-        ensures first { let t = by_view (view_of self.now) in result ≡ first (unknown self.now.front id ∷ gone_by t id ∷ away me id ∷ []) }
+        ensures first { let t = by_view (view_of self.now)
+            in result ≡ first (unknown self.now.front id ∷ gone_by t id ∷ away me id ∷ []) }
         ensures home { result ≡ None → id.home ≡ me }
     {
         if let Some(refusal) = self.refusal_to_show(id) {
@@ -41,7 +43,8 @@ impl Replica {
 
     /// The refusal of what only the home may enter of an LRA that wants nothing yet.
     pub(crate) fn refusal_unless_active(&self, me: NodeId, id: LraId) -> Option<Refusal>
-        ensures { let t = by_view (view_of self.now) in result ≡ first (unknown self.now.front id ∷ gone_by t id ∷ away me id ∷ inactive_by t id ∷ []) }
+        ensures { let t = by_view (view_of self.now) in result ≡ first
+            (unknown self.now.front id ∷ gone_by t id ∷ away me id ∷ inactive_by t id ∷ []) }
     {
         if let Some(refusal) = self.refusal_at_home(me, id) {
             return Some(refusal);
@@ -51,7 +54,8 @@ impl Replica {
 
     /// The refusal of what wants an LRA that wants nothing yet.
     pub(crate) fn refusal_of_inactive(&self, id: LraId) -> Option<Refusal>
-        ensures { let t = by_view (view_of self.now) in t.held id ≡ true → result ≡ inactive_by t id }
+        ensures { let t = by_view (view_of self.now) in t.held id ≡ true →
+            result ≡ inactive_by t id }
     {
         match self.want(id) {
             Ok(Some(_)) => self.not_active(id),
@@ -61,7 +65,8 @@ impl Replica {
 
     /// E6, with what an LRA shows.
     fn not_active(&self, id: LraId) -> Option<Refusal>
-        ensures { let t = by_view (view_of self.now) in t.held id ≡ true → result ≡ Some (NotActive (t.shows id)) }
+        ensures { let t = by_view (view_of self.now) in t.held id ≡ true →
+            result ≡ Some (NotActive (t.shows id)) }
     {
         match self.shown(id) {
             Ok(status) => Some(Refusal::NotActive(status)),
@@ -71,7 +76,8 @@ impl Replica {
 
     /// The refusal to give a further member number in an LRA.
     pub(crate) fn refusal_to_number_member(&self, me: NodeId, id: LraId) -> Option<Refusal>
-        ensures { let t = by_view (view_of self.now) in result ≡ first (unknown self.now.front id ∷ gone_by t id ∷ away me id ∷ inactive_by t id ∷ full_by t id ∷ []) }
+        ensures { let t = by_view (view_of self.now) in result ≡ first (unknown
+            self.now.front id ∷ gone_by t id ∷ away me id ∷ inactive_by t id ∷ full_by t id ∷ []) }
     {
         if let Some(refusal) = self.refusal_unless_active(me, id) {
             return Some(refusal);
@@ -90,7 +96,8 @@ impl Replica {
 
     /// The refusal of a number that no participant has.
     pub(crate) fn refusal_of_stranger(&self, id: LraId, member: u8) -> Option<Refusal>
-        ensures { let t = by_view (view_of self.now) in t.held id ≡ true → result ≡ stranger_by t id member }
+        ensures { let t = by_view (view_of self.now) in t.held id ≡ true →
+            result ≡ stranger_by t id member }
     {
         match self.participant_shown(id, member) {
             Ok(_) => None,
@@ -100,7 +107,8 @@ impl Replica {
 
     /// E7, with what an LRA shows.
     pub(crate) fn not_due(&self, id: LraId) -> Option<Refusal>
-        ensures { let t = by_view (view_of self.now) in t.held id ≡ true → result ≡ Some (NotDue (t.shows id)) }
+        ensures { let t = by_view (view_of self.now) in t.held id ≡ true →
+            result ≡ Some (NotDue (t.shows id)) }
     {
         match self.shown(id) {
             Ok(status) => Some(Refusal::NotDue(status)),

@@ -48,7 +48,8 @@ fn report_to(
     act: Act,
     outcome: Outcome,
 ) -> Result<(), AllocError>
-    ensures { 1 ≤ number → OnOk result (members.new ≡ member_changed (reporting act outcome) (number - 1) members.old) }
+    ensures { 1 ≤ number → OnOk result (members.new
+        ≡ member_changed (reporting act outcome) (number - 1) members.old) }
 {
     if let Some(member) = members.get(number) {
         let next = reporting(member.clone()?, act, outcome);
@@ -59,7 +60,8 @@ fn report_to(
 
 impl Replica {
     fn refusal_of_unasked(&self, id: LraId, member: u8, act: Act) -> Option<Refusal>
-        ensures { let t = by_view (view_of self.now) in t.held id ≡ true → t.participant id member ≡ true → result ≡ unasked_by t id member act }
+        ensures { let t = by_view (view_of self.now) in t.held id ≡ true →
+            t.participant id member ≡ true → result ≡ unasked_by t id member act }
     {
         match self.demands(id, member, act) {
             Ok(true) => None,
@@ -68,7 +70,8 @@ impl Replica {
     }
 
     fn refusal_to_report(&self, id: LraId, member: u8, act: Act) -> Option<Refusal>
-        ensures { let t = by_view (view_of self.now) in result ≡ first (unknown self.now.front id ∷ gone_by t id ∷ stranger_by t id member ∷ unasked_by t id member act ∷ []) }
+        ensures { let t = by_view (view_of self.now) in result ≡ first (unknown self.now.front
+            id ∷ gone_by t id ∷ stranger_by t id member ∷ unasked_by t id member act ∷ []) }
     {
         if let Some(refusal) = self.refusal_to_show(id) {
             return Some(refusal);
@@ -87,7 +90,8 @@ impl Replica {
         act: Act,
         outcome: Outcome,
     ) -> Result<bool, Refusal>
-        ensures judged { judge_on (view_of self.now) me (Report id member act outcome) ≡ judged_as result }
+        ensures judged { judge_on (view_of self.now) me (Report id member act outcome)
+            ≡ judged_as result }
         ensures left { result ≡ Ok false → count self.now.front me < last_number }
     {
         if let Some(refusal) = self.refusal_to_report(id, member, act) {
@@ -120,7 +124,8 @@ impl Replica {
         ensures room { HasRoom result self.new }
         ensures stays { KeepsRoom self.old self.new }
         ensures next { IsNext (view_of self.old) me (Report id member act outcome) result }
-        ensures prepared { OfItsSet (view_of self.old) (λ S. IsPrepared S (view_of self.old) me (Report id member act outcome) result) }
+        ensures prepared { OfItsSet (view_of self.old)
+            (λ S. IsPrepared S (view_of self.old) me (Report id member act outcome) result) }
     {
         let known = self.knows_report(me, id, member, act, outcome)?;
         if known {

@@ -38,7 +38,11 @@ pub fn hear_of(alloc: Global, mut words: Words<'_>, nodes: u8) -> Result<Option<
 
 fn next_call(words: &mut Words<'_>, nodes: u8) -> Option<(NodeId, LraId, u8, Kind)>
     requires { nodes ≤ 8 }
-    ensures { MatchOption result ((node : ℕ) (id : Id) (m : ℕ) (kind : Kind) (rest : List (List ℕ)) → IsNodeOf nodes node → IsId id → IsMemberNumber m → words.old ≡ decimal node ∷ id_text id ∷ decimal m ∷ kind_name kind ∷ rest → ⊥) (λ p. IsNodeOf nodes p.0 × IsId p.1 × IsMemberNumber p.2 × (words.old ≡ decimal p.0 ∷ id_text p.1 ∷ decimal p.2 ∷ kind_name p.3 ∷ words.new)) }
+    ensures { MatchOption result ((node : ℕ) (id : Id) (m : ℕ)
+        (kind : Kind) (rest : List (List ℕ)) → IsNodeOf nodes node → IsId id → IsMemberNumber m →
+        words.old ≡ decimal node ∷ id_text id ∷ decimal m ∷ kind_name kind ∷ rest →
+        ⊥) (λ p. IsNodeOf nodes p.0 × IsId p.1 × IsMemberNumber p.2
+        × (words.old ≡ decimal p.0 ∷ id_text p.1 ∷ decimal p.2 ∷ kind_name p.3 ∷ words.new)) }
 {
     let (node, id, member) = next_participant(words, nodes)?;
     let kind = kind_of(words.next()?)?;
@@ -46,7 +50,8 @@ fn next_call(words: &mut Words<'_>, nodes: u8) -> Option<(NodeId, LraId, u8, Kin
 }
 
 fn kind_of(word: &[u8]) -> Option<Kind>
-    ensures { MatchOption result ((kind : Kind) → word.now ≡ kind_name kind → ⊥) (λ kind. word.now ≡ kind_name kind) }
+    ensures { MatchOption result ((kind : Kind) → word.now ≡ kind_name kind → ⊥)
+        (λ kind. word.now ≡ kind_name kind) }
 {
     if word == b"complete".as_slice() {
         return Some(Kind::Complete);
@@ -64,7 +69,9 @@ fn kind_of(word: &[u8]) -> Option<Kind>
 }
 
 fn answer_of(alloc: Global, mut words: Words<'_>) -> Result<Option<Answer>, AllocError>
-    ensures { IfOk result (λ found. MatchOption found ((answer : Answer) → IsAnswerInRange answer → GivesAnswer words.entry answer → ⊥) (λ answer. IsAnswerInRange answer × GivesAnswer words.entry answer)) }
+    ensures { IfOk result (λ found. MatchOption found ((answer : Answer) →
+        IsAnswerInRange answer → GivesAnswer words.entry answer →
+        ⊥) (λ answer. IsAnswerInRange answer × GivesAnswer words.entry answer)) }
 {
     let Some(word) = words.next() else {
         return Ok(None);

@@ -52,7 +52,8 @@ pub fn join_of(alloc: Global, mut words: Words<'_>, nodes: u8) -> Result<Option<
 }
 
 fn links_of(alloc: Global, words: &Words<'_>) -> Result<Option<Links>, AllocError>
-    ensures { IfOk result (λ found. MatchOption found ((links : Links) → GivesLinks words.now links → ⊥) (GivesLinks words.now)) }
+    ensures { IfOk result (λ found. MatchOption found
+        ((links : Links) → GivesLinks words.now links → ⊥) (GivesLinks words.now)) }
 {
     if !are_link_words(words) {
         return Ok(None);
@@ -79,7 +80,9 @@ fn kept(
     status: Option<&str>,
     forget: Option<&str>,
 ) -> Result<Option<Links>, AllocError>
-    ensures { IfOk result (λ found. found ≡ kept_links (option_copied complete.entry) (option_copied compensate.entry) (option_copied status.entry) (option_copied forget.entry)) }
+    ensures { IfOk result
+        (λ found. found ≡ kept_links (option_copied complete.entry) (option_copied compensate.entry)
+        (option_copied status.entry) (option_copied forget.entry)) }
 {
     match Links::read(alloc, complete, compensate, status, forget) {
         Ok(links) => Ok(Some(links)),
@@ -157,7 +160,8 @@ fn is_given(words: &Words<'_>, name: LinkName) -> bool
 }
 
 fn text_given<'a>(words: &Words<'a>, name: LinkName) -> Option<Option<&'a str>>
-    ensures { MatchOption result (IsTextUnder name words.now → ⊥) (λ text. IsTextUnder name words.now × (option_copied text ≡ text_under name words.now)) }
+    ensures { MatchOption result (IsTextUnder name words.now → ⊥)
+        (λ text. IsTextUnder name words.now × (option_copied text ≡ text_under name words.now)) }
 {
     let Some(text) = text_under(words, name) else {
         return Some(None);

@@ -24,7 +24,9 @@ pub fn begin_of(mut words: Words<'_>, nodes: u8) -> Option<Ask>
 }
 
 fn parent_of(mut words: Words<'_>) -> Option<Option<LraId>>
-    ensures { MatchOption result ((parent : Option Id) → IfSome parent IsId → words.entry ≡ parent_words parent → ⊥) (λ parent. IfSome parent IsId × (words.entry ≡ parent_words parent)) }
+    ensures { MatchOption result ((parent : Option Id) →
+        IfSome parent IsId → words.entry ≡ parent_words parent →
+        ⊥) (λ parent. IfSome parent IsId × (words.entry ≡ parent_words parent)) }
 {
     let Some(word) = words.next() else {
         return Some(None);
@@ -64,7 +66,9 @@ pub fn show_of(words: Words<'_>, nodes: u8) -> Option<Ask>
 
 fn node_and_id(mut words: Words<'_>, nodes: u8) -> Option<(NodeId, LraId)>
     requires { nodes ≤ 8 }
-    ensures { MatchOption result ((node : ℕ) (id : Id) → IsNodeOf nodes node → IsId id → words.entry ≡ decimal node ∷ id_text id ∷ [] → ⊥) (λ p. IsNodeOf nodes p.0 × IsId p.1 × (words.entry ≡ decimal p.0 ∷ id_text p.1 ∷ [])) }
+    ensures { MatchOption result ((node : ℕ) (id : Id) →
+        IsNodeOf nodes node → IsId id → words.entry ≡ decimal node ∷ id_text id ∷ [] →
+        ⊥) (λ p. IsNodeOf nodes p.0 × IsId p.1 × (words.entry ≡ decimal p.0 ∷ id_text p.1 ∷ [])) }
 {
     let node_and_id = next_node_and_id(&mut words, nodes)?;
     if !words.is_done() {
@@ -76,7 +80,9 @@ fn node_and_id(mut words: Words<'_>, nodes: u8) -> Option<(NodeId, LraId)>
 /// The node and the id that the next two words spell.
 pub fn next_node_and_id(words: &mut Words<'_>, nodes: u8) -> Option<(NodeId, LraId)>
     requires { nodes ≤ 8 }
-    ensures { MatchOption result ((node : ℕ) (id : Id) (rest : List (List ℕ)) → IsNodeOf nodes node → IsId id → words.old ≡ decimal node ∷ id_text id ∷ rest → ⊥) (λ p. IsNodeOf nodes p.0 × IsId p.1 × (words.old ≡ decimal p.0 ∷ id_text p.1 ∷ words.new)) }
+    ensures { MatchOption result ((node : ℕ) (id : Id) (rest : List (List ℕ)) →
+        IsNodeOf nodes node → IsId id → words.old ≡ decimal node ∷ id_text id ∷ rest → ⊥)
+        (λ p. IsNodeOf nodes p.0 × IsId p.1 × (words.old ≡ decimal p.0 ∷ id_text p.1 ∷ words.new)) }
 {
     let node = node_of(words.next()?, nodes)?;
     let id = id_of(words.next()?)?;

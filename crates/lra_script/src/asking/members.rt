@@ -58,7 +58,10 @@ pub fn report_of(mut words: Words<'_>, nodes: u8) -> Option<Ask>
 
 fn participant_of(mut words: Words<'_>, nodes: u8) -> Option<(NodeId, LraId, u8)>
     requires { nodes ≤ 8 }
-    ensures { MatchOption result ((node : ℕ) (id : Id) (m : ℕ) → IsNodeOf nodes node → IsId id → IsMemberNumber m → words.entry ≡ decimal node ∷ id_text id ∷ decimal m ∷ [] → ⊥) (λ p. IsNodeOf nodes p.0 × IsId p.1 × IsMemberNumber p.2 × (words.entry ≡ decimal p.0 ∷ id_text p.1 ∷ decimal p.2 ∷ [])) }
+    ensures { MatchOption result ((node : ℕ) (id : Id) (m : ℕ) → IsNodeOf nodes node →
+        IsId id → IsMemberNumber m → words.entry ≡ decimal node ∷ id_text id ∷ decimal m ∷ [] →
+        ⊥) (λ p. IsNodeOf nodes p.0 × IsId p.1
+        × IsMemberNumber p.2 × (words.entry ≡ decimal p.0 ∷ id_text p.1 ∷ decimal p.2 ∷ [])) }
 {
     let participant = next_participant(&mut words, nodes)?;
     if !words.is_done() {
@@ -70,7 +73,10 @@ fn participant_of(mut words: Words<'_>, nodes: u8) -> Option<(NodeId, LraId, u8)
 /// The node, the id and the member number that the next three words spell.
 pub fn next_participant(words: &mut Words<'_>, nodes: u8) -> Option<(NodeId, LraId, u8)>
     requires { nodes ≤ 8 }
-    ensures { MatchOption result ((node : ℕ) (id : Id) (m : ℕ) (rest : List (List ℕ)) → IsNodeOf nodes node → IsId id → IsMemberNumber m → words.old ≡ decimal node ∷ id_text id ∷ decimal m ∷ rest → ⊥) (λ p. IsNodeOf nodes p.0 × IsId p.1 × IsMemberNumber p.2 × (words.old ≡ decimal p.0 ∷ id_text p.1 ∷ decimal p.2 ∷ words.new)) }
+    ensures { MatchOption result ((node : ℕ) (id : Id) (m : ℕ) (rest : List (List ℕ)) →
+        IsNodeOf nodes node → IsId id → IsMemberNumber m → words.old
+        ≡ decimal node ∷ id_text id ∷ decimal m ∷ rest → ⊥) (λ p. IsNodeOf nodes p.0 × IsId p.1
+        × IsMemberNumber p.2 × (words.old ≡ decimal p.0 ∷ id_text p.1 ∷ decimal p.2 ∷ words.new)) }
 {
     let (node, id) = next_node_and_id(words, nodes)?;
     let member = member_number_of(words.next()?)?;
@@ -78,7 +84,9 @@ pub fn next_participant(words: &mut Words<'_>, nodes: u8) -> Option<(NodeId, Lra
 }
 
 fn act_and_outcome(mut words: Words<'_>) -> Option<(Act, Outcome)>
-    ensures { MatchOption result ((act : Act) (outcome : Outcome) → words.entry ≡ act_name act ∷ outcome_name outcome ∷ [] → ⊥) (λ p. words.entry ≡ act_name p.0 ∷ outcome_name p.1 ∷ []) }
+    ensures { MatchOption result ((act : Act) (outcome : Outcome) →
+        words.entry ≡ act_name act ∷ outcome_name outcome ∷ [] →
+        ⊥) (λ p. words.entry ≡ act_name p.0 ∷ outcome_name p.1 ∷ []) }
 {
     let act = act_of(words.next()?)?;
     let outcome = outcome_of(words.next()?)?;
@@ -89,7 +97,8 @@ fn act_and_outcome(mut words: Words<'_>) -> Option<(Act, Outcome)>
 }
 
 fn act_of(word: &[u8]) -> Option<Act>
-    ensures { MatchOption result ((act : Act) → word.now ≡ act_name act → ⊥) (λ act. word.now ≡ act_name act) }
+    ensures { MatchOption result ((act : Act) → word.now ≡ act_name act → ⊥)
+        (λ act. word.now ≡ act_name act) }
 {
     if word == b"complete".as_slice() {
         return Some(Act::Complete);
@@ -101,7 +110,8 @@ fn act_of(word: &[u8]) -> Option<Act>
 }
 
 fn outcome_of(word: &[u8]) -> Option<Outcome>
-    ensures { MatchOption result ((outcome : Outcome) → word.now ≡ outcome_name outcome → ⊥) (λ outcome. word.now ≡ outcome_name outcome) }
+    ensures { MatchOption result ((outcome : Outcome) →
+        word.now ≡ outcome_name outcome → ⊥) (λ outcome. word.now ≡ outcome_name outcome) }
 {
     if word == b"busy".as_slice() {
         return Some(Outcome::Busy);

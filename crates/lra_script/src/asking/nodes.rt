@@ -77,7 +77,8 @@ pub fn deliver_of(mut words: Words<'_>, nodes: u8) -> Option<Ask>
 
 /// How many bytes the last words of a deliver give: no count, where there are no words left.
 fn kept_of(mut words: Words<'_>) -> Option<Option<u64>>
-    ensures { MatchOption result ((kept : Option ℕ) → IfSome kept IsNumber → words.entry ≡ kept_words kept → ⊥) (λ kept. IfSome kept IsNumber × (words.entry ≡ kept_words kept)) }
+    ensures { MatchOption result ((kept : Option ℕ) → IfSome kept IsNumber → words.entry
+        ≡ kept_words kept → ⊥) (λ kept. IfSome kept IsNumber × (words.entry ≡ kept_words kept)) }
 {
     let Some(word) = words.next() else {
         return Some(None);
@@ -101,7 +102,8 @@ pub fn send_of(mut words: Words<'_>, nodes: u8) -> Option<Ask>
 fn base_of(mut words: Words<'_>, nodes: u8) -> Option<Front>
     requires some { 1 ≤ nodes }
     requires few { nodes ≤ 8 }
-    ensures { MatchOption result ((base : List ℕ) → IsBaseOf nodes base → words.entry ≡ map decimal base → ⊥) (λ base. IsBaseOf nodes base × (words.entry ≡ map decimal base)) }
+    ensures { MatchOption result ((base : List ℕ) → IsBaseOf nodes base → words.entry
+        ≡ map decimal base → ⊥) (λ base. IsBaseOf nodes base × (words.entry ≡ map decimal base)) }
 {
     let nodes = usize::from(nodes);
     let mut counts = [0; 8];

@@ -1,5 +1,5 @@
 use Rattle.std.proofs.Common.{◌≡◌, ◌++◌, take}
-use Rattle.lra_delta.specs.Spelling.{vector}
+use Rattle.lra_delta.specs.Encoding.{vector}
 use Rattle.lra_peer.proofs.bodies.push_counts.Given as goal
 
 -- the counts so far were added

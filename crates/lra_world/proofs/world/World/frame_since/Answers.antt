@@ -24,7 +24,7 @@ returns-clause-sent c s w =
     let some : 1 ≤ c.args.node = omega (arith, c.number.ensures.range, c.number.ensures.value) in
     let closed = (w.world.current c.args.node some (omega (arith, c.requires.node, w.nodes))).closed in
     IfOk-weaker c.bytes_since.result _ _
-    (λ bytes sent. (sent.0, record { view = view_of c.index.result.now; sender = view; rules = sent.1; spells = sent.2 }))
+    (λ bytes sent. (sent.0, record { view = view_of c.index.result.now; sender = view; rules = sent.1; encodes = sent.2 }))
     (c.bytes_since.ensures.sent s.history (front_of s c.args.node) w.world.lawful closed view)
 
 pub returns-clause-refused : goal.returns-clause-refused

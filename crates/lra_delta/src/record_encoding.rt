@@ -1,8 +1,8 @@
-// The one spelling of a record, put field by field.
+// The one encoding of a record, put field by field.
 ghost use Rattle.std.specs.Prelude.{◌≡◌, ◌++◌, ◌≤◌, Some, length};
 ghost use Rattle.std.specs.List.{All, flat_map};
 ghost use Rattle.lra_delta.specs.Rules.{IsLink};
-ghost use Rattle.lra_delta.specs.Spelling.{byte, counted, decision_mark, link_text, member, members, number, outcome_mark, parent, participant, record_text, vector};
+ghost use Rattle.lra_delta.specs.Encoding.{byte, counted, decision_mark, link_text, member, members, number, outcome_mark, parent, participant, record_text, vector};
 ghost use Rattle.lra_delta.specs.Typed.{AreLinks, HasLinks, IsTypedRecord};
 
 use crate::output::Output;
@@ -27,7 +27,7 @@ pub(crate) fn put_number<O: Output>(out: &mut O, n: u64)
     out.put(&n.to_be_bytes());
 }
 
-#[tactic(auto, unfolding(crate::specs::Spelling::parent, crate::specs::Spelling::place))]
+#[tactic(auto, unfolding(crate::specs::Encoding::parent, crate::specs::Encoding::place))]
 fn put_parent<O: Output>(out: &mut O, p: Option<Place>)
     ensures same { O.start out.new ≡ O.start out.old }
     ensures text { O.text out.new ≡ O.text out.old ++ parent p }
@@ -63,7 +63,7 @@ fn outcome_mark(outcome: Option<Outcome>) -> u8
     }
 }
 
-#[tactic(auto, unfolding(crate::specs::Spelling::counted))]
+#[tactic(auto, unfolding(crate::specs::Encoding::counted))]
 fn put_text<O: Output>(out: &mut O, text: &[u8])
     requires { length text.now ≤ 127 }
     ensures same { O.start out.new ≡ O.start out.old }
@@ -94,7 +94,7 @@ fn put_link_or_none<O: Output>(out: &mut O, link: &Option<Link>)
     }
 }
 
-#[tactic(auto, unfolding(crate::specs::Spelling::participant))]
+#[tactic(auto, unfolding(crate::specs::Encoding::participant))]
 fn put_participant<O: Output>(out: &mut O, p: &Participant)
     ensures same { O.start out.new ≡ O.start out.old }
     ensures text { O.text out.new ≡ O.text out.old ++ participant p.now }
@@ -109,7 +109,7 @@ fn put_participant<O: Output>(out: &mut O, p: &Participant)
     put_byte(out, if p.forgotten { 1 } else { 0 });
 }
 
-#[tactic(auto, unfolding(crate::specs::Spelling::member))]
+#[tactic(auto, unfolding(crate::specs::Encoding::member))]
 fn put_member<O: Output>(out: &mut O, m: &Member)
     ensures same { O.start out.new ≡ O.start out.old }
     ensures text { O.text out.new ≡ O.text out.old ++ member m.now }
@@ -138,7 +138,7 @@ fn put_each_member<O: Output>(out: &mut O, ms: &[Member])
     }
 }
 
-#[tactic(auto, unfolding(crate::specs::Spelling::members))]
+#[tactic(auto, unfolding(crate::specs::Encoding::members))]
 fn put_members<O: Output>(out: &mut O, ms: &Members)
     ensures same { O.start out.new ≡ O.start out.old }
     ensures text { O.text out.new ≡ O.text out.old ++ members ms.now }
@@ -168,7 +168,7 @@ pub(crate) fn put_front<O: Output>(out: &mut O, front: &Front)
 }
 
 /// A record. What its numbers and links keep by their types is said beside.
-#[tactic(auto, unfolding(crate::specs::Spelling::record_text))]
+#[tactic(auto, unfolding(crate::specs::Encoding::record_text))]
 pub(crate) fn put_record<O: Output>(out: &mut O, r: &Record)
     ensures same { O.start out.new ≡ O.start out.old }
     ensures text { O.text out.new ≡ O.text out.old ++ record_text r.now }

@@ -1,9 +1,9 @@
 use Rattle.std.proofs.Common.{◌≡◌, ◌++◌, take}
 use Rattle.std.specs.List.{All, flat_map}
 use Rattle.lra_forest.specs.declared.merging.Told.{Told}
-use Rattle.lra_delta.specs.Spelling.{record_text}
+use Rattle.lra_delta.specs.Encoding.{record_text}
 use Rattle.lra_delta.specs.Typed.{IsTypedRecord}
-use Rattle.lra_delta.proofs.frame_spelling.put_each_home.Given as goal
+use Rattle.lra_delta.proofs.frame_encoding.put_each_home.Given as goal
 
 abbrev pub invariant-loop-told : goal.invariant-loop-told
 invariant-loop-told g l = record {

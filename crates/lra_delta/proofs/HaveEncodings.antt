@@ -1,4 +1,4 @@
--- what keeps the rules of frames, and has the types of a delta, has a spelling
+-- what keeps the rules of frames, and has the types of a delta, has an encoding
 use Rattle.std.proofs.Common.{◌≡◌, ◌≤◌, ◌<◌, ◌+◌, ◌-◌, ◌*◌, ◌^◌, ℕ, suc, List, [], ◌∷◌, true, Option, Some, None, refl, sym, ap, subst, ◌∙◌, arith, get_or, length, is_some}
 use Rattle.std.specs.Prelude.{IfSome, nat_le, nat_lt, slice_index}
 use Rattle.std.specs.List.{All, AllByRecursion}
@@ -16,7 +16,7 @@ use Rattle.lra_delta.specs.Frames.{Frame, IsRising, live_at}
 use Rattle.lra_delta.specs.Grammar.{AreLive as AreLiveNumbers, KeepsRulesIn, IsOfGrammar}
 use Rattle.lra_delta.specs.Rules.{IsDelta, IsLink, IsLive, are_counts, at_most, by_home, context, is_given_length, is_live_number, is_node_count, start}
 use Rattle.lra_delta.specs.FrameSizes.{HasShortLinks, IsShort}
-use Rattle.lra_delta.specs.Spelling.{body, flat}
+use Rattle.lra_delta.specs.Encoding.{body, flat}
 use Rattle.lra_delta.specs.Typed.{HasLinks, IsTyped, IsTypedRecord}
 use Rattle.lra_delta.proofs.Fitted.{at_most_by, at_place, both_true, le_true}
 use Rattle.lra_delta.proofs.Lengths.{length_body}

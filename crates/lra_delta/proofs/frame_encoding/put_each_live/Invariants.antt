@@ -2,8 +2,8 @@ use Rattle.std.proofs.Common.{◌≡◌, ◌++◌, take}
 use Rattle.std.specs.List.{flat_map}
 use Rattle.lra_forest.specs.declared.merging.Told.{Told}
 use Rattle.lra_forest.specs.RecordMerges.{held_numbers}
-use Rattle.lra_delta.specs.Spelling.{live}
-use Rattle.lra_delta.proofs.frame_spelling.put_each_live.Given as goal
+use Rattle.lra_delta.specs.Encoding.{live}
+use Rattle.lra_delta.proofs.frame_encoding.put_each_live.Given as goal
 
 abbrev pub invariant-loop-told : goal.invariant-loop-told
 invariant-loop-told g l = record {

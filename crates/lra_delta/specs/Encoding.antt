@@ -1,4 +1,4 @@
--- the one spelling of a frame
+-- the one encoding of a frame
 use Rattle.std.specs.Prelude.{◌++◌, ℕ, List, [], Bool, true, false, Option, Some, None, length}
 use Rattle.std.specs.List.{flat_map}
 use Rattle.std.specs.Int.{w8, w16, w32, w64, to_be_bytes}
@@ -122,5 +122,5 @@ body d =
 abbrev pub magic : ℕ
 magic = 0x4c524144
 
-abbrev pub spelling : Frame → List ℕ
-spelling d = four_bytes magic ++ (byte 1 ++ (four_bytes (length (body d)) ++ body d))
+abbrev pub encoding : Frame → List ℕ
+encoding d = four_bytes magic ++ (byte 1 ++ (four_bytes (length (body d)) ++ body d))

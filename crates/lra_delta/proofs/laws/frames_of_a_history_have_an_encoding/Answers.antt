@@ -1,8 +1,8 @@
 use Rattle.lra_delta.specs.Frames.{frame_of}
 use Rattle.lra_delta.proofs.FrameCodes.{frame_again}
 use Rattle.lra_delta.proofs.Grammar.{grammar_law}
-use Rattle.lra_delta.proofs.HaveSpellings.{is_delta}
-use Rattle.lra_delta.proofs.laws.frames_of_a_history_have_a_spelling.Goals as goal
+use Rattle.lra_delta.proofs.HaveEncodings.{is_delta}
+use Rattle.lra_delta.proofs.laws.frames_of_a_history_have_an_encoding.Goals as goal
 
 pub returns : goal.returns
 returns c = record {

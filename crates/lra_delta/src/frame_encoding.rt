@@ -1,4 +1,4 @@
-// The one spelling of a frame, put field by field.
+// The one encoding of a frame, put field by field.
 ghost use Rattle.std.specs.Prelude.{◌≡◌, ◌≤◌, ◌%◌, ◌^◌, ◌++◌, length, IfOk};
 ghost use Rattle.std.specs.List.{All, flat_map};
 ghost use Rattle.lra_forest.specs.declared.merging.Told.{Told};
@@ -6,14 +6,14 @@ ghost use Rattle.lra_forest.specs.RecordMerges.{held_numbers};
 ghost use Rattle.lra_delta.specs.Grammar.{IsOfGrammar};
 ghost use Rattle.lra_delta.specs.Order.{lists, records_told};
 ghost use Rattle.lra_delta.specs.Rules.{IsDelta};
-ghost use Rattle.lra_delta.specs.Spelling.{body, byte, flat, four_bytes, live, live_list, magic, record_text, records, spelling, two_bytes};
+ghost use Rattle.lra_delta.specs.Encoding.{body, byte, flat, four_bytes, live, live_list, magic, record_text, records, encoding, two_bytes};
 ghost use Rattle.lra_delta.specs.Typed.{IsTyped, IsTypedRecord};
 
 use crate::Delta;
 use crate::buffer::Buffer;
 use crate::count::Count;
 use crate::output::Output;
-use crate::record_spelling::{put_byte, put_front, put_numbers, put_record};
+use crate::record_encoding::{put_byte, put_front, put_numbers, put_record};
 use lra_forest::{Record, Told};
 use std::alloc::{AllocError, Global};
 
@@ -26,7 +26,7 @@ fn put_count<O: Output>(out: &mut O, n: u64)
     out.put(&((n % 65_536) as u16).to_be_bytes());
 }
 
-#[tactic(auto, unfolding(crate::specs::Spelling::live_list))]
+#[tactic(auto, unfolding(crate::specs::Encoding::live_list))]
 fn put_live_list<O: Output>(out: &mut O, numbers: &[u64])
     ensures same { O.start out.new ≡ O.start out.old }
     ensures text { O.text out.new ≡ O.text out.old ++ live_list numbers.now }
@@ -35,7 +35,7 @@ fn put_live_list<O: Output>(out: &mut O, numbers: &[u64])
     put_numbers(out, numbers);
 }
 
-#[tactic(auto, unfolding(crate::specs::Spelling::live))]
+#[tactic(auto, unfolding(crate::specs::Encoding::live))]
 fn put_live<O: Output>(out: &mut O, told: &Told)
     ensures same { O.start out.new ≡ O.start out.old }
     ensures text { O.text out.new ≡ O.text out.old ++ live (held_numbers told.now.held) }
@@ -51,7 +51,8 @@ fn put_live<O: Output>(out: &mut O, told: &Told)
 
 fn put_each_live<O: Output>(out: &mut O, homes: &[Told])
     ensures same { O.start out.new ≡ O.start out.old }
-    ensures text { O.text out.new ≡ O.text out.old ++ flat_map (λ (told : Told). live (held_numbers told.held)) homes.now }
+    ensures text { O.text out.new
+        ≡ O.text out.old ++ flat_map (λ (told : Told). live (held_numbers told.held)) homes.now }
 {
     for told in homes {
         put_live(out, told);
@@ -78,7 +79,8 @@ fn put_each_record<O: Output>(out: &mut O, records: &[Record])
 
 fn put_each_home<O: Output>(out: &mut O, homes: &[Told])
     ensures same { O.start out.new ≡ O.start out.old }
-    ensures text { O.text out.new ≡ O.text out.old ++ flat_map (λ (told : Told). flat_map record_text told.records.records) homes.now }
+    ensures text { O.text out.new ≡ O.text out.old ++ flat_map
+        (λ (told : Told). flat_map record_text told.records.records) homes.now }
     ensures typed { All (λ (told : Told). All IsTypedRecord told.records.records) homes.now }
 {
     for told in homes {
@@ -89,7 +91,8 @@ fn put_each_home<O: Output>(out: &mut O, homes: &[Told])
 #[tactic(auto, using(crate::proofs::Put::homes_put, crate::proofs::Put::homes_typed))]
 fn put_homes<O: Output>(out: &mut O, homes: &[Told])
     ensures same { O.start out.new ≡ O.start out.old }
-    ensures text { O.text out.new ≡ O.text out.old ++ flat_map record_text (flat (records_told homes.now)) }
+    ensures text { O.text out.new
+        ≡ O.text out.old ++ flat_map record_text (flat (records_told homes.now)) }
     ensures typed { All (All IsTypedRecord) (records_told homes.now) }
 {
     put_each_home(out, homes);
@@ -105,7 +108,7 @@ fn record_count(homes: &[Told]) -> u64
     count
 }
 
-#[tactic(auto, unfolding(crate::specs::Spelling::records), using(crate::proofs::Widths::two_of_eight))]
+#[tactic(auto, unfolding(crate::specs::Encoding::records), using(crate::proofs::Widths::two_of_eight))]
 fn put_records<O: Output>(out: &mut O, homes: &[Told])
     ensures same { O.start out.new ≡ O.start out.old }
     ensures text { O.text out.new ≡ O.text out.old ++ records (flat (records_told homes.now)) }
@@ -115,7 +118,7 @@ fn put_records<O: Output>(out: &mut O, homes: &[Told])
     put_homes(out, homes);
 }
 
-#[tactic(auto, unfolding(crate::specs::Spelling::body))]
+#[tactic(auto, unfolding(crate::specs::Encoding::body))]
 fn put_body<O: Output>(out: &mut O, delta: &Delta)
     ensures same { O.start out.new ≡ O.start out.old }
     ensures text { O.text out.new ≡ O.text out.old ++ body delta.now }
@@ -142,28 +145,29 @@ fn body_length(delta: &Delta) -> u64
 #[tactic(auto, using(crate::proofs::Widths::in_four_bytes))]
 fn put_header<O: Output>(out: &mut O, len: u64)
     ensures same { O.start out.new ≡ O.start out.old }
-    ensures text { O.text out.new ≡ O.text out.old ++ (four_bytes magic ++ (byte 1 ++ four_bytes len)) }
+    ensures text { O.text out.new
+        ≡ O.text out.old ++ (four_bytes magic ++ (byte 1 ++ four_bytes len)) }
 {
     out.put(&0x4c52_4144u32.to_be_bytes());
     out.put(&[1]);
     out.put(&((len % 4_294_967_296) as u32).to_be_bytes());
 }
 
-/// Puts the bytes that spell what a node tells.
+/// Puts the bytes that encode what a node tells.
 #[tactic(auto, using(crate::proofs::Widths::four_of_eight))]
 pub fn put_frame<O: Output>(out: &mut O, delta: &Delta)
     ensures same { O.start out.new ≡ O.start out.old }
-    ensures text { O.text out.new ≡ O.text out.old ++ spelling delta.now }
+    ensures text { O.text out.new ≡ O.text out.old ++ encoding delta.now }
     ensures typed { IsTyped delta.now }
 {
     put_header(out, body_length(delta));
     put_body(out, delta);
 }
 
-/// The bytes that spell what a node tells. What keeps the rules that the frames of nodes of a history keep keeps those of a
+/// The bytes that encode what a node tells. What keeps the rules that the frames of nodes of a history keep keeps those of a
 /// frame, so that its bytes are read as itself again.
 pub fn encode(alloc: Global, delta: &Delta) -> Result<Vec<u8>, AllocError>
-    ensures text { IfOk result (λ bytes. bytes.items ≡ spelling delta.now) }
+    ensures text { IfOk result (λ bytes. bytes.items ≡ encoding delta.now) }
     ensures frame { IsOfGrammar delta.now → IsDelta delta.now }
 {
     let mut out = Buffer::new(alloc);

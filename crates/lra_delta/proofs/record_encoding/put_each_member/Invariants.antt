@@ -1,8 +1,8 @@
 use Rattle.std.proofs.Common.{◌≡◌, ◌++◌, take}
 use Rattle.std.specs.List.{All, flat_map}
-use Rattle.lra_delta.specs.Spelling.{member}
+use Rattle.lra_delta.specs.Encoding.{member}
 use Rattle.lra_delta.specs.Typed.{HasLinks}
-use Rattle.lra_delta.proofs.record_spelling.put_each_member.Given as goal
+use Rattle.lra_delta.proofs.record_encoding.put_each_member.Given as goal
 
 abbrev pub invariant-loop-m : goal.invariant-loop-m
 invariant-loop-m g l = record {

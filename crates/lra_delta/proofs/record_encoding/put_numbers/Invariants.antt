@@ -1,7 +1,7 @@
 use Rattle.std.proofs.Common.{◌≡◌, ◌++◌, take}
 use Rattle.std.specs.List.{flat_map}
-use Rattle.lra_delta.specs.Spelling.{number}
-use Rattle.lra_delta.proofs.record_spelling.put_numbers.Given as goal
+use Rattle.lra_delta.specs.Encoding.{number}
+use Rattle.lra_delta.proofs.record_encoding.put_numbers.Given as goal
 
 abbrev pub invariant-loop-n : goal.invariant-loop-n
 invariant-loop-n g l = record {

@@ -1,8 +1,8 @@
 use Rattle.std.proofs.Common.{◌≡◌, ◌++◌, take}
 use Rattle.std.specs.List.{All, flat_map}
-use Rattle.lra_delta.specs.Spelling.{record_text}
+use Rattle.lra_delta.specs.Encoding.{record_text}
 use Rattle.lra_delta.specs.Typed.{IsTypedRecord}
-use Rattle.lra_delta.proofs.frame_spelling.put_each_record.Given as goal
+use Rattle.lra_delta.proofs.frame_encoding.put_each_record.Given as goal
 
 abbrev pub invariant-loop-kept : goal.invariant-loop-kept
 invariant-loop-kept g l = record {

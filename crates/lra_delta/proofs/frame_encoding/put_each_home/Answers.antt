@@ -2,10 +2,10 @@ use Rattle.std.proofs.Common.{◌∙◌, ◌++◌, List, ap, rules, subst}
 use Rattle.std.specs.List.{All, flat_map}
 use Rattle.lra_forest.specs.declared.merging.Told.{Told}
 use Rattle.lra_forest.specs.declared.record.Record.{Record}
-use Rattle.lra_delta.specs.Spelling.{record_text}
+use Rattle.lra_delta.specs.Encoding.{record_text}
 use Rattle.lra_delta.specs.Typed.{IsTypedRecord}
 use Rattle.lra_delta.proofs.Put.{all_next, text_next}
-use Rattle.lra_delta.proofs.frame_spelling.put_each_home.Goals as goal
+use Rattle.lra_delta.proofs.frame_encoding.put_each_home.Goals as goal
 
 pub loop-told-preserved : goal.loop-told-preserved
 loop-told-preserved g c =

@@ -1,8 +1,8 @@
 use Rattle.std.proofs.Common.{rules}
-use Rattle.lra_delta.specs.Spelling.{record_text}
+use Rattle.lra_delta.specs.Encoding.{record_text}
 use Rattle.lra_delta.specs.Typed.{IsTypedRecord}
 use Rattle.lra_delta.proofs.Put.{all_next, text_next}
-use Rattle.lra_delta.proofs.frame_spelling.put_each_record.Goals as goal
+use Rattle.lra_delta.proofs.frame_encoding.put_each_record.Goals as goal
 
 pub loop-kept-preserved : goal.loop-kept-preserved
 loop-kept-preserved g c =

@@ -1,8 +1,8 @@
 use Rattle.std.proofs.Common.{rules}
-use Rattle.lra_delta.specs.Spelling.{member}
+use Rattle.lra_delta.specs.Encoding.{member}
 use Rattle.lra_delta.specs.Typed.{HasLinks}
 use Rattle.lra_delta.proofs.Put.{all_next, text_next}
-use Rattle.lra_delta.proofs.record_spelling.put_each_member.Goals as goal
+use Rattle.lra_delta.proofs.record_encoding.put_each_member.Goals as goal
 
 pub loop-m-preserved : goal.loop-m-preserved
 loop-m-preserved g c =
