@@ -6,7 +6,8 @@ mod streams;
 mod texts;
 
 use lra_http::{
-    Count, Fault, MAX_BODY_BYTES, OverRead, Source, read_byte, read_request, read_response,
+    Count, Fault, MAX_BODY_BYTES, OverRead, Request, Response, Source, read_byte, read_request,
+    read_response,
 };
 use std::alloc::Global;
 use std::io;
@@ -54,20 +55,24 @@ fn is_left<S: Source>(source: &mut S, rest: &[u8]) -> bool {
     read_byte(source, &mut 0) == Ok(None)
 }
 
+/// Reads a request. It is read here alone, since a function is proved sooner without the long clauses of that call.
+fn read<R: Read + Drop>(alloc: Global, source: &mut OverRead<R>) -> Result<Request, Fault> {
+    read_request(alloc, source, MAX_BODY_BYTES)
+}
+
+/// Reads a response, here alone too.
+fn receive<R: Read + Drop>(alloc: Global, source: &mut OverRead<R>) -> Result<Response, Fault> {
+    read_response(alloc, source, MAX_BODY_BYTES)
+}
+
 /// Why no request is read from this reader.
 fn request_fault<R: Read + Drop>(alloc: Global, reader: R) -> Option<Fault> {
-    match read_request(alloc, &mut OverRead::new(reader), MAX_BODY_BYTES) {
-        Ok(_) => None,
-        Err(fault) => Some(fault),
-    }
+    read(alloc, &mut OverRead::new(reader)).err()
 }
 
 /// Why no response is read from this reader.
 fn response_fault<R: Read + Drop>(alloc: Global, reader: R) -> Option<Fault> {
-    match read_response(alloc, &mut OverRead::new(reader), MAX_BODY_BYTES) {
-        Ok(_) => None,
-        Err(fault) => Some(fault),
-    }
+    receive(alloc, &mut OverRead::new(reader)).err()
 }
 
 #[test]

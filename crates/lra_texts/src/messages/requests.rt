@@ -1,6 +1,6 @@
 // Requests as clients send them, and those that are refused.
-use crate::messages::{is_left, request_fault};
-use lra_http::{Fault, MAX_BODY_BYTES, OverRead, read_request};
+use crate::messages::{is_left, read, request_fault};
+use lra_http::{Fault, OverRead, Request};
 use std::alloc::Global;
 
 /// A text that is a whole request and then `rest`, and what is read of it. `name` and `value` are of one field.
@@ -17,23 +17,32 @@ struct Taken {
     rest: &'static str,
 }
 
-/// Whether the request is read so.
-fn is_taken(alloc: Global, case: &Taken) -> bool {
-    let mut source = OverRead::new(case.text.as_bytes());
-    let Ok(request) = read_request(alloc, &mut source, MAX_BODY_BYTES) else {
-        return false;
-    };
+/// Whether the request's line and host are those.
+fn is_headed(request: &Request, case: &Taken) -> bool {
     request.method.as_str() == case.method
         && request.target.as_str() == case.target
         && request.host().unwrap_or(b"none") == case.host.as_bytes()
-        && request
-            .fields
-            .value(case.name.as_bytes())
-            .unwrap_or(b"none")
-            == case.value.as_bytes()
+}
+
+/// Whether the request has so many fields, one of that value, and that body.
+fn is_filled(request: &Request, case: &Taken) -> bool {
+    let value = request.fields.value(case.name.as_bytes());
+    value.unwrap_or(b"none") == case.value.as_bytes()
         && request.fields.as_slice().len() == case.lines
         && request.body.as_slice() == case.body.as_bytes()
-        && is_left(&mut source, case.rest.as_bytes())
+}
+
+/// Whether the request is read so.
+fn is_taken(alloc: Global, case: &Taken) -> bool {
+    let mut source = OverRead::new(case.text.as_bytes());
+    match read(alloc, &mut source) {
+        Ok(request) => {
+            is_headed(&request, case)
+                && is_filled(&request, case)
+                && is_left(&mut source, case.rest.as_bytes())
+        }
+        Err(_) => false,
+    }
 }
 
 // curl 8, Firefox, Go's net/http, Java's HttpClient and HttpURLConnection, and a bare nc.

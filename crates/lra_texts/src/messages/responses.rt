@@ -1,6 +1,6 @@
 // Responses as servers send them, and those that are refused.
-use crate::messages::{is_left, response_fault};
-use lra_http::{Fault, MAX_BODY_BYTES, OverRead, read_response};
+use crate::messages::{is_left, receive, response_fault};
+use lra_http::{Fault, OverRead, Response};
 use std::alloc::Global;
 
 /// A text that is a whole response and then `rest`, and what is read of it. `name` and `value` are of one field.
@@ -15,21 +15,22 @@ struct Taken {
     rest: &'static str,
 }
 
+/// Whether the response has that code, so many fields, one of that value, and that body.
+fn is_filled(response: &Response, case: &Taken) -> bool {
+    let value = response.fields.value(case.name.as_bytes());
+    response.status.as_u16() == case.code
+        && value.unwrap_or(b"none") == case.value.as_bytes()
+        && response.fields.as_slice().len() == case.lines
+        && response.body.as_slice() == case.body.as_bytes()
+}
+
 /// Whether the response is read so.
 fn is_taken(alloc: Global, case: &Taken) -> bool {
     let mut source = OverRead::new(case.text.as_bytes());
-    let Ok(response) = read_response(alloc, &mut source, MAX_BODY_BYTES) else {
-        return false;
-    };
-    response.status.as_u16() == case.code
-        && response
-            .fields
-            .value(case.name.as_bytes())
-            .unwrap_or(b"none")
-            == case.value.as_bytes()
-        && response.fields.as_slice().len() == case.lines
-        && response.body.as_slice() == case.body.as_bytes()
-        && is_left(&mut source, case.rest.as_bytes())
+    match receive(alloc, &mut source) {
+        Ok(response) => { is_filled(&response, case) && is_left(&mut source, case.rest.as_bytes()) }
+        Err(_) => false,
+    }
 }
 
 #[test]

@@ -1,9 +1,9 @@
 // The texts of messages, and writers that fail or are interrupted.
-use crate::messages::Failing;
+use crate::messages::{Failing, receive};
 use http::{Method, StatusCode};
 use lra_http::{
-    Bytes, CallRequest, Fault, Fields, MAX_BODY_BYTES, OverRead, OverWrite, Response, Text,
-    read_response, write_request, write_response,
+    Bytes, CallRequest, Fault, Fields, OverRead, OverWrite, Response, Text, write_request,
+    write_response,
 };
 use std::alloc::Global;
 use std::io;
@@ -18,7 +18,16 @@ const CALL: &[u8] =
 
 /// The answer to a begin, as it is read.
 fn answer(alloc: Global) -> Result<Response, Fault> {
-    read_response(alloc, &mut OverRead::new(ANSWER), MAX_BODY_BYTES)
+    receive(alloc, &mut OverRead::new(ANSWER))
+}
+
+/// Writes a response, here alone.
+fn send<W: Write + Drop>(
+    alloc: Global,
+    sink: &mut OverWrite<W>,
+    response: &Response,
+) -> Result<(), Fault> {
+    write_response(alloc, sink, response)
 }
 
 // A code without a phrase keeps the space before it.
@@ -30,7 +39,7 @@ fn a_status_without_a_phrase(rt: HostRuntime) -> Result<(), Fail> {
         body: Bytes::new(Vec::new(rt.alloc())),
     };
     let mut sink = OverWrite::new(Vec::new(rt.alloc()));
-    write_response(rt.alloc(), &mut sink, &response)?;
+    send(rt.alloc(), &mut sink, &response)?;
     assert_eq!(rt;
         sink.into_inner().as_slice(),
         b"HTTP/1.1 299 \r\n\r\n".as_slice()
@@ -44,7 +53,7 @@ fn a_response_is_written_to_the_byte(rt: HostRuntime) -> Result<(), Fail> {
     let response = answer(rt.alloc())?;
     for n in 0..=ANSWER.len() {
         let mut sink = OverWrite::new(Failing::after(rt.alloc(), n));
-        let whole = write_response(rt.alloc(), &mut sink, &response).is_ok();
+        let whole = send(rt.alloc(), &mut sink, &response).is_ok();
         assert!(rt; whole == (n == ANSWER.len()), "{n}");
         assert!(rt; sink.into_inner().taken.as_slice() == &ANSWER[..n], "{n}");
     }
@@ -105,7 +114,7 @@ fn interruptions_of_writes_are_summed(rt: HostRuntime) -> Result<(), Fail> {
             paused: 0,
             taken: 0,
         });
-        assert_eq!(rt; write_response(rt.alloc(), &mut sink, &response), want);
+        assert_eq!(rt; send(rt.alloc(), &mut sink, &response), want);
         assert_eq!(rt; sink.into_inner().taken, count);
     }
     Ok(())
