@@ -11,3 +11,4 @@ mod Runs
 mod Splits
 mod Steps
 mod TwoWords
+mod Verbs

@@ -6,3 +6,4 @@ pub mod LineParts
 pub mod NodeHoldings
 pub mod ScriptEnds
 pub mod Scripts
+pub mod Verbs

@@ -13,6 +13,7 @@ mod playing;
 mod room;
 mod showing;
 mod telling;
+mod verb;
 mod words;
 
 pub use course::{ScriptFault, script};

@@ -53,19 +53,13 @@ fn kind_of(word: &[u8]) -> Option<Kind>
     ensures { MatchOption result ((kind : Kind) → word.now ≡ kind_name kind → ⊥)
         (λ kind. word.now ≡ kind_name kind) }
 {
-    if word == b"complete".as_slice() {
-        return Some(Kind::Complete);
+    match word {
+        b"complete" => Some(Kind::Complete),
+        b"compensate" => Some(Kind::Compensate),
+        b"status" => Some(Kind::Status),
+        b"forget" => Some(Kind::Forget),
+        _ => None,
     }
-    if word == b"compensate".as_slice() {
-        return Some(Kind::Compensate);
-    }
-    if word == b"status".as_slice() {
-        return Some(Kind::Status);
-    }
-    if word == b"forget".as_slice() {
-        return Some(Kind::Forget);
-    }
-    None
 }
 
 fn answer_of(alloc: Global, mut words: Words<'_>) -> Result<Option<Answer>, AllocError>

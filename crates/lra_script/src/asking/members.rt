@@ -100,27 +100,21 @@ fn act_of(word: &[u8]) -> Option<Act>
     ensures { MatchOption result ((act : Act) → word.now ≡ act_name act → ⊥)
         (λ act. word.now ≡ act_name act) }
 {
-    if word == b"complete".as_slice() {
-        return Some(Act::Complete);
+    match word {
+        b"complete" => Some(Act::Complete),
+        b"compensate" => Some(Act::Compensate),
+        _ => None,
     }
-    if word == b"compensate".as_slice() {
-        return Some(Act::Compensate);
-    }
-    None
 }
 
 fn outcome_of(word: &[u8]) -> Option<Outcome>
     ensures { MatchOption result ((outcome : Outcome) →
         word.now ≡ outcome_name outcome → ⊥) (λ outcome. word.now ≡ outcome_name outcome) }
 {
-    if word == b"busy".as_slice() {
-        return Some(Outcome::Busy);
+    match word {
+        b"busy" => Some(Outcome::Busy),
+        b"done" => Some(Outcome::Done),
+        b"failed" => Some(Outcome::Failed),
+        _ => None,
     }
-    if word == b"done".as_slice() {
-        return Some(Outcome::Done);
-    }
-    if word == b"failed".as_slice() {
-        return Some(Outcome::Failed);
-    }
-    None
 }

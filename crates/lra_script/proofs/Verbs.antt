@@ -1,0 +1,32 @@
+-- Each ask begins with the name of a verb.
+use Rattle.std.proofs.Common.{◌≡◌, refl}
+use Rattle.lra_states.specs.declared.outcome.Verdict.TheVariants as verdict
+use Rattle.lra_history.specs.declared.command.Command.TheVariants as command
+use Rattle.lra_script.specs.declared.ask.Ask.{Ask}
+use Rattle.lra_script.specs.declared.ask.Ask.TheVariants as ask
+use Rattle.lra_script.specs.declared.verb.Verb.{Verb}
+use Rattle.lra_script.specs.declared.verb.Verb.TheVariants as verb
+use Rattle.lra_script.specs.Asks.{verb_of}
+use Rattle.lra_script.specs.Verbs.{verb_name}
+
+pub each_ask_has_a_verb : (a : Ask) → (v : Verb) × (verb_of a ≡ verb_name v)
+each_ask_has_a_verb (ask.Enter node (command.Begin parent deadline)) = (verb.Begin, refl)
+each_ask_has_a_verb (ask.Enter node (command.Join id links)) = (verb.Join, refl)
+each_ask_has_a_verb (ask.Enter node (command.Leave id member)) = (verb.Leave, refl)
+each_ask_has_a_verb (ask.Enter node (command.Decide id verdict.Close)) = (verb.Close, refl)
+each_ask_has_a_verb (ask.Enter node (command.Decide id verdict.Cancel)) = (verb.Cancel, refl)
+each_ask_has_a_verb (ask.Enter node (command.Report id member act outcome)) = (verb.Report, refl)
+each_ask_has_a_verb (ask.Enter node (command.Forgot id member)) = (verb.Forgot, refl)
+each_ask_has_a_verb (ask.Enter node (command.Purge root)) = (verb.Purge, refl)
+each_ask_has_a_verb (ask.Tick node now) = (verb.Tick, refl)
+each_ask_has_a_verb (ask.Send node base) = (verb.Send, refl)
+each_ask_has_a_verb (ask.Deliver frame node kept) = (verb.Deliver, refl)
+each_ask_has_a_verb (ask.Restart node) = (verb.Restart, refl)
+each_ask_has_a_verb (ask.Show node id) = (verb.Show, refl)
+each_ask_has_a_verb (ask.Member node id member) = (verb.Member, refl)
+each_ask_has_a_verb (ask.Duties node) = (verb.Duties, refl)
+each_ask_has_a_verb (ask.Hear node id member kind answer) = (verb.Answer, refl)
+each_ask_has_a_verb (ask.Front node) = (verb.Front, refl)
+each_ask_has_a_verb (ask.Same node other) = (verb.Same, refl)
+each_ask_has_a_verb (ask.Text id) = (verb.Text, refl)
+each_ask_has_a_verb (ask.Read id) = (verb.Read, refl)
