@@ -1,7 +1,7 @@
 // Books of node 1 of 2, and what they are asked.
-ghost use Rattle.std.specs.Prelude.{◌≡◌, [], None, Some, IfOk};
+ghost use Rattle.std.specs.Prelude.{◌≡◌, [], None, Some, IfOk, IsSome};
 
-use lra_book::{Book, Call, Clerk, Pass, Reply};
+use lra_book::{Book, Call, Clerk, Pass, Receipt, Reply};
 use lra_facts::Refusal;
 use lra_history::Command;
 use lra_id::{LraId, NodeId};
@@ -22,6 +22,20 @@ pub(crate) fn begin(deadline: u64) -> Call {
     })
 }
 
+/// The book of node 1 of 2 over a connection. It is opened here alone, since a function is proved sooner without the long
+/// clauses of that call; so are `refused` and `looked`.
+pub(crate) fn open<S: Alter + Drop>(
+    alloc: Global,
+    connection: Connection<S>,
+) -> Result<Book<S>, (Refusal, Connection<S>)>
+    ensures { IfOk result (λ book. (book.opening ≡ None) × (book.trail ≡ [])) }
+{
+    match NodeId::new(1) {
+        Ok(me) => Book::open(alloc, connection, me, 2),
+        Err(_) => Err((Refusal::BadText, connection)),
+    }
+}
+
 /// The book over a connection.
 pub(crate) fn opened<S: Alter + Drop>(
     alloc: Global,
@@ -29,10 +43,31 @@ pub(crate) fn opened<S: Alter + Drop>(
 ) -> Result<Book<S>, Fail>
     ensures { IfOk result (λ book. (book.opening ≡ None) × (book.trail ≡ [])) }
 {
-    match Book::open(alloc, connection, NodeId::new(1)?, 2) {
+    match open(alloc, connection) {
         Ok(book) => Ok(book),
         Err((refusal, _connection)) => Err(Fail::new(refusal)),
     }
+}
+
+/// Why a book refuses a call at moment 0, if it does.
+pub(crate) fn refused<S: Alter>(
+    alloc: Global,
+    book: &mut Book<S>,
+    pass: &mut Pass,
+    call: Call,
+) -> Option<Refusal>
+    requires { IsSome book.old.opening }
+{
+    book.call(alloc, pass, call, 0).err()
+}
+
+/// Whether a book has what a pass has seen, and these receipts.
+pub(crate) fn looked<S: Alter>(
+    book: &Book<S>,
+    pass: &Pass,
+    receipts: &[Receipt],
+) -> Result<(), Refusal> {
+    book.look(pass, receipts)
 }
 
 /// The book over a connection, with a run on, and the run's pass.

@@ -1,11 +1,10 @@
 // A book over files that stop: the call is refused, the next ones too, and opened again the book has what it had, or the fact.
 ghost use Rattle.std.specs.Prelude.{◌≡◌, None};
 
-use crate::asking::{asked, begin, lra};
+use crate::asking::{asked, begin, looked, lra, open, refused};
 use crate::books::clerk;
 use lra_book::{Book, Call, Pass, Reply};
 use lra_facts::Refusal;
-use lra_id::NodeId;
 use lra_states::LraStatus;
 use sqlite::{Alter, Connection, FileStore, Options};
 use sqlite_disk::{Crash, Files, Fuse, Memory};
@@ -66,9 +65,8 @@ fn is_stopped<S: Alter>(alloc: Global, book: &mut Book<S>, pass: &mut Pass) -> b
     if !book.in_run() {
         return false;
     }
-    let refused = book.call(alloc, pass, Call::Duties, 0).err();
-    refused == Some(Refusal::Stopped)
-        && book.look(pass, &[]) == Err(Refusal::Stopped)
+    refused(alloc, book, pass, Call::Duties) == Some(Refusal::Stopped)
+        && looked(book, pass, &[]) == Err(Refusal::Stopped)
         && book.trail().is_empty()
 }
 
@@ -77,8 +75,7 @@ fn asked_once(alloc: Global, mut book: Book<FileStore<Fused>>) -> Result<(Came, 
     requires { book.opening ≡ None }
 {
     let mut pass = book.start_run(alloc)?;
-    let refused = book.call(alloc, &mut pass, begin(0), 0).err();
-    let came = match refused {
+    let came = match refused(alloc, &mut book, &mut pass, begin(0)) {
         None => Came::Entered,
         Some(Refusal::JournalFailed) if is_stopped(alloc, &mut book, &mut pass) => Came::Stopped,
         Some(other) => return Err(Fail::new(other)),
@@ -88,7 +85,7 @@ fn asked_once(alloc: Global, mut book: Book<FileStore<Fused>>) -> Result<(Came, 
 
 /// Has a book begin an LRA, of which the log stops after so many calls.
 fn begun_until(alloc: Global, calls: u64) -> Result<(Came, bool), Fail> {
-    match Book::open(alloc, fused(alloc, calls)?, NodeId::new(1)?, 2) {
+    match open(alloc, fused(alloc, calls)?) {
         Ok(book) => asked_once(alloc, book),
         Err((Refusal::JournalFailed, _connection)) => Ok((Came::NotOpened, false)),
         Err((other, _connection)) => Err(Fail::new(other)),

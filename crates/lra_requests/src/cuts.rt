@@ -1,7 +1,6 @@
 // Requests that are cut or are none, calls that fail, and requests as clients write them.
-use crate::served::{answer_of, fresh, serve};
-use lra_api::{Paths, ServeError, serve_one};
-use lra_http::{OverRead, OverWrite};
+use crate::served::{answer_of, fresh, serve, serve_over};
+use lra_api::ServeError;
 use std::io;
 use std::io::{ErrorKind, Read, Write};
 use std::test::Fail;
@@ -124,15 +123,12 @@ impl<'a> Read for Failing<'a> {
 #[test]
 fn a_read_that_fails(rt: HostRuntime) -> Result<(), Fail> {
     let alloc = rt.alloc();
-    let (mut clerk, paths) = (fresh(alloc)?, Paths::new(alloc)?);
+    let mut clerk = fresh(alloc)?;
     for size in 0..BEGIN.len() {
-        let mut reader = OverRead::new(Failing {
-            bytes: &BEGIN[..size],
-        });
-        let mut writer = OverWrite::new(Vec::new(alloc));
-        let told = serve_one(alloc, &paths, &mut reader, &mut writer, &mut clerk, 0);
+        let bytes = &BEGIN[..size];
+        let (told, written) = serve_over(alloc, &mut clerk, Failing { bytes }, Vec::new(alloc), 0);
         assert_eq!(rt; told, Err(ServeError::ReadFault));
-        assert!(rt; writer.into_inner().is_empty());
+        assert!(rt; written.is_empty());
     }
     let (_, _, receipts) = clerk.into_parts();
     assert!(rt; receipts.is_empty());
@@ -166,16 +162,13 @@ impl Write for Full {
 #[test]
 fn a_write_that_fails(rt: HostRuntime) -> Result<(), Fail> {
     let alloc = rt.alloc();
-    let paths = Paths::new(alloc)?;
     for size in 0..=BEGUN.len() {
         let mut clerk = fresh(alloc)?;
         let full = Full {
             left: size,
             bytes: Vec::new(alloc),
         };
-        let mut writer = OverWrite::new(full);
-        let mut reader = OverRead::new(BEGIN);
-        let told = serve_one(alloc, &paths, &mut reader, &mut writer, &mut clerk, 0);
+        let (told, full) = serve_over(alloc, &mut clerk, BEGIN, full, 0);
         let whole = size == BEGUN.len();
         assert_eq!(rt;
             told,
@@ -185,7 +178,7 @@ fn a_write_that_fails(rt: HostRuntime) -> Result<(), Fail> {
                 Err(ServeError::WriteFault)
             }
         );
-        assert_eq!(rt; writer.into_inner().bytes.as_slice(), &BEGUN[..size]);
+        assert_eq!(rt; full.bytes.as_slice(), &BEGUN[..size]);
         let (_, _, receipts) = clerk.into_parts();
         assert_eq!(rt; receipts.len(), 1);
     }

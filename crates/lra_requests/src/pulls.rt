@@ -1,9 +1,8 @@
 // Pulls over HTTP, and what the refusals of a clerk come to.
 use crate::served::{Exchange, answer_of, clerk_of, first_other, fresh, request_of, serve};
-use lra_book::{Book, BookClerk, Call, Clerk};
+use lra_book::{BookClerk, Call, Clerk};
 use lra_delta::Delta;
-use lra_id::NodeId;
-use sqlite::{Connection, MemStore};
+use sqlite::MemStore;
 use std::alloc::Global;
 use std::test::Fail;
 
@@ -71,7 +70,7 @@ fn pulls_are_refused_at_their_place(rt: HostRuntime) -> Result<(), Fail> {
 
 /// What node 1 of two, which began an LRA, tells node 2 over HTTP.
 fn told_to_second(alloc: Global) -> Result<Delta, Fail> {
-    let mut clerk = clerk_of(alloc, 2)?;
+    let mut clerk = clerk_of(alloc, 1, 2)?;
     serve(alloc, &mut clerk, &request_of(alloc, "POST /lra", b"")?, 0).told?;
     let body = b"\x02\0\0\0\0\0\0\0\0\0\0\0\0\0\0\0\0";
     let request = request_of(alloc, "POST /peer/pull", body)?;
@@ -84,17 +83,6 @@ fn told_to_second(alloc: Global) -> Result<Delta, Fail> {
         Some(end) => Ok(Delta::decode(alloc, &served.written[end + 4..])?),
         None => Err("no answer")?,
     }
-}
-
-/// A clerk of a fresh node 2 of two.
-fn second(alloc: Global) -> Result<BookClerk<MemStore>, Fail> {
-    let connection = Connection::open_in_memory(alloc)?;
-    let mut book = match Book::open(alloc, connection, NodeId::new(2)?, 2) {
-        Ok(book) => book,
-        Err(_) => return Err("no book")?,
-    };
-    let pass = book.start_run(alloc)?;
-    Ok(BookClerk::new(alloc, book, pass))
 }
 
 // What another node shows of an LRA that it was told of, and may not enter.
@@ -134,7 +122,7 @@ const AWAY: [Exchange; 5] = [
 #[test]
 fn another_node_shows_what_it_was_told(rt: HostRuntime) -> Result<(), Fail> {
     let alloc = rt.alloc();
-    let mut clerk = second(alloc)?;
+    let mut clerk = clerk_of(alloc, 2, 2)?;
     let delta = told_to_second(alloc)?;
     clerk.call(alloc, Call::Take(delta), 0)?;
     assert_eq!(rt; first_other(alloc, &mut clerk, &AWAY, 0)?, None);

@@ -8,6 +8,7 @@ use lra_http::{OverRead, OverWrite};
 use lra_id::NodeId;
 use sqlite::{Connection, MemStore};
 use std::alloc::Global;
+use std::io::{Read, Write};
 use std::test::Fail;
 
 /// What is asked, with its body, and what is answered: the status with the fields that stand before those of the body, and a
@@ -21,13 +22,14 @@ pub(crate) struct Served {
     pub(crate) written: Vec<u8>,
 }
 
-/// A clerk of a fresh node 1 of so many, whose journal is in memory, with a run that is on.
-pub(crate) fn clerk_of(alloc: Global, nodes: usize) -> Result<BookClerk<MemStore>, Fail>
+/// A clerk of a fresh node of so many, whose journal is in memory, with a run that is on.
+pub(crate) fn clerk_of(alloc: Global, node: u8, nodes: usize) -> Result<BookClerk<MemStore>, Fail>
+    requires me { node ≤ nodes }
     requires some { 1 ≤ nodes }
     requires nodes { nodes ≤ 8 }
 {
     let connection = Connection::open_in_memory(alloc)?;
-    let mut book = match Book::open(alloc, connection, NodeId::new(1)?, nodes) {
+    let mut book = match Book::open(alloc, connection, NodeId::new(node)?, nodes) {
         Ok(book) => book,
         Err(_) => return Err("no book")?,
     };
@@ -37,21 +39,31 @@ pub(crate) fn clerk_of(alloc: Global, nodes: usize) -> Result<BookClerk<MemStore
 
 /// A clerk of a fresh node that is alone.
 pub(crate) fn fresh(alloc: Global) -> Result<BookClerk<MemStore>, Fail> {
-    clerk_of(alloc, 1)
+    clerk_of(alloc, 1, 1)
 }
 
-/// Has a clerk serve the bytes of a request at a moment.
-pub(crate) fn serve<C: Clerk>(alloc: Global, clerk: &mut C, request: &[u8], now: u64) -> Served {
-    let mut writer = OverWrite::new(Vec::new(alloc));
-    let mut reader = OverRead::new(request);
+/// Has a clerk serve one request over a reader and a writer at a moment, and gives the writer back. It is served here alone,
+/// since a function is proved sooner without the long clauses of that call.
+pub(crate) fn serve_over<R: Read + Drop, W: Write + Drop, C: Clerk>(
+    alloc: Global,
+    clerk: &mut C,
+    reader: R,
+    writer: W,
+    now: u64,
+) -> (Result<(), ServeError>, W) {
+    let mut writer = OverWrite::new(writer);
+    let mut reader = OverRead::new(reader);
     let told = match Paths::new(alloc) {
         Ok(paths) => serve_one(alloc, &paths, &mut reader, &mut writer, clerk, now),
         Err(_) => Err(ServeError::Refused(Refusal::NoMemory)),
     };
-    Served {
-        told,
-        written: writer.into_inner(),
-    }
+    (told, writer.into_inner())
+}
+
+/// Has a clerk serve the bytes of a request at a moment.
+pub(crate) fn serve<C: Clerk>(alloc: Global, clerk: &mut C, request: &[u8], now: u64) -> Served {
+    let (told, written) = serve_over(alloc, clerk, request, Vec::new(alloc), now);
+    Served { told, written }
 }
 
 /// The bytes of a request: method and target, and the body.

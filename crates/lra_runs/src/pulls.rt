@@ -2,7 +2,7 @@
 use crate::commands::enter;
 use crate::places::{FIRST, SECOND, closed};
 use http::StatusCode;
-use lra_delta::{encode, prepare};
+use lra_delta::{Delta, encode, prepare};
 use lra_facts::Refusal;
 use lra_history::Command;
 use lra_http::{
@@ -155,13 +155,25 @@ fn response(alloc: Global, frame: Vec<u8>) -> Result<Response, Fail> {
     })
 }
 
+/// What comes of a pull from a front over a reader and a writer, and the writer. The pull is made here alone, since a
+/// function is proved sooner without its long clauses.
+fn pulled<R: Read + Drop, W: Write + Drop>(
+    alloc: Global,
+    reader: R,
+    writer: W,
+    front: &Front,
+) -> (Result<Delta, PullError>, W) {
+    let mut writer = OverWrite::new(writer);
+    let told = pull(alloc, &mut OverRead::new(reader), &mut writer, front);
+    (told, writer.into_inner())
+}
+
 /// What a node writes that asks from a front.
 fn asked(alloc: Global, front: &Front) -> Result<Vec<u8>, Fail> {
-    let mut writer = OverWrite::new(Vec::new(alloc));
-    let mut nothing = OverRead::new(b"".as_slice());
-    match pull(alloc, &mut nothing, &mut writer, front) {
+    let (told, written) = pulled(alloc, b"".as_slice(), Vec::new(alloc), front);
+    match told {
         Ok(_) => Err("out of nothing")?,
-        Err(PullError::Fault(Fault::Cut)) => Ok(writer.into_inner()),
+        Err(PullError::Fault(Fault::Cut)) => Ok(written),
         Err(error) => Err(error)?,
     }
 }
@@ -187,42 +199,29 @@ fn catch_up(
 ) -> Result<usize, Fail> {
     let request = asked(alloc, front)?;
     let answer = answered(alloc, &request, server)?;
-    let mut writer = OverWrite::new(Vec::new(alloc));
-    let delta = pull(
-        alloc,
-        &mut OverRead::new(answer.as_slice()),
-        &mut writer,
-        front,
-    )?;
-    if writer.into_inner() != request {
+    let (told, written) = pulled(alloc, answer.as_slice(), Vec::new(alloc), front);
+    if written != request {
         return Err("another request")?;
     }
-    let patch = prepare(alloc, asker, delta)?;
+    let patch = prepare(alloc, asker, told?)?;
     let records = patch.records().len();
     asker.apply(patch);
     Ok(records)
 }
 
 /// Why one that asks from a front of one node has no delta, over this reader and this writer; and the writer.
-fn pulled<R: Read + Drop, W: Write + Drop>(
+fn failed<R: Read + Drop, W: Write + Drop>(
     alloc: Global,
     reader: R,
     writer: W,
 ) -> (Option<PullError>, W) {
-    let mut writer = OverWrite::new(writer);
-    let error = pull(
-        alloc,
-        &mut OverRead::new(reader),
-        &mut writer,
-        &Front::zero(1),
-    )
-    .err();
-    (error, writer.into_inner())
+    let (told, writer) = pulled(alloc, reader, writer, &Front::zero(1));
+    (told.err(), writer)
 }
 
 /// Why these bytes give it no delta.
 fn stopped(alloc: Global, answer: &[u8]) -> Option<PullError> {
-    pulled(alloc, answer, Vec::new(alloc)).0
+    failed(alloc, answer, Vec::new(alloc)).0
 }
 
 /// A response with the first worked frame.
@@ -404,7 +403,7 @@ fn a_read_that_fails_once(rt: HostRuntime) -> Result<(), Fail> {
             let once = Once::new(before, kind);
             let bytes = answer.as_slice();
             let reader = OnceReader { bytes, once };
-            let (found, written) = pulled(rt.alloc(), reader, Vec::new(rt.alloc()));
+            let (found, written) = failed(rt.alloc(), reader, Vec::new(rt.alloc()));
             assert_eq!(rt; found, error, "{before}");
             assert!(rt; written.as_slice() == ASKED_OF_ONE, "{before}");
         }
@@ -424,7 +423,7 @@ fn a_write_that_fails_once(rt: HostRuntime) -> Result<(), Fail> {
             let once = Once::new(before, kind);
             let taken = Vec::new(rt.alloc());
             let writer = OnceWriter { taken, once };
-            let (found, writer) = pulled(rt.alloc(), answer.as_slice(), writer);
+            let (found, writer) = failed(rt.alloc(), answer.as_slice(), writer);
             let lost = found == Some(PullError::Fault(Fault::WriteFault));
             assert_eq!(rt; lost, kind == ErrorKind::BrokenPipe, "{before}");
             assert!(rt;

@@ -2,7 +2,7 @@
 ghost use Rattle.std.specs.Prelude.{IfOk};
 ghost use Rattle.lra_replica.specs.Replicas.{Fits};
 
-use lra_facts::Links;
+use lra_facts::{Links, Refusal};
 use lra_history::Command;
 use lra_id::{LraId, NodeId};
 use lra_journal::Journal;
@@ -12,19 +12,42 @@ use sqlite::{Alter, Connection};
 use std::alloc::Global;
 use std::test::Fail;
 
+/// A journal that is opened, with the replica of its rows; or the refusal, with the connection.
+pub(crate) type Opened<S> = Result<(Journal<S>, Replica), (Refusal, Connection<S>)>;
+
+/// Opens the journal of a node of so many. It is opened here alone, since a function is proved sooner without the long
+/// clauses of that call.
+pub(crate) fn open<S: Alter + Drop>(
+    alloc: Global,
+    connection: Connection<S>,
+    me: u8,
+    nodes: usize,
+) -> Result<Opened<S>, Fail> {
+    if nodes < 1 || nodes > 8 {
+        return Err("not so many nodes")?;
+    }
+    Ok(Journal::open(alloc, connection, NodeId::new(me)?, nodes))
+}
+
 /// Opens the journal of node 1 of so many.
 pub(crate) fn opened<S: Alter + Drop>(
     alloc: Global,
     connection: Connection<S>,
     nodes: usize,
 ) -> Result<(Journal<S>, Replica), Fail> {
-    if nodes < 1 || nodes > 8 {
-        return Err("not so many nodes")?;
-    }
-    match Journal::open(alloc, connection, NodeId::new(1)?, nodes) {
+    match open(alloc, connection, 1, nodes)? {
         Ok(opened) => Ok(opened),
         Err((refusal, _connection)) => Err(Fail::new(refusal)),
     }
+}
+
+/// Stores a patch, here alone too.
+pub(crate) fn stored<S: Alter>(
+    alloc: Global,
+    journal: &mut Journal<S>,
+    patch: &Patch,
+) -> Result<(), Refusal> {
+    journal.store(alloc, patch)
 }
 
 /// What a node enters by a command.
@@ -55,7 +78,7 @@ pub(crate) fn enter<S: Alter>(
     command: Command,
 ) -> Result<(), Fail> {
     let patch = patch_of(alloc, replica, 1, command)?;
-    journal.store(alloc, &patch)?;
+    stored(alloc, journal, &patch)?;
     replica.apply(patch);
     Ok(())
 }

@@ -1,8 +1,6 @@
 // Rows that no journal of node 1 of 2 has: where they break, and tables that are refused.
-use crate::journals::{begin, enter, opened};
+use crate::journals::{begin, enter, open, opened};
 use lra_facts::Refusal;
-use lra_id::NodeId;
-use lra_journal::Journal;
 use sqlite::{Connection, MemStore};
 use std::alloc::Global;
 use std::test::Fail;
@@ -23,10 +21,7 @@ fn changed(alloc: Global, sql: &str) -> Result<Connection<MemStore>, Fail> {
 
 /// What an opening of them is refused for.
 fn refused(alloc: Global, sql: &str, me: u8, nodes: usize) -> Result<Refusal, Fail> {
-    if nodes < 1 || nodes > 8 {
-        return Err("not so many nodes")?;
-    }
-    match Journal::open(alloc, changed(alloc, sql)?, NodeId::new(me)?, nodes) {
+    match open(alloc, changed(alloc, sql)?, me, nodes)? {
         Ok(_opened) => Err(Fail::new(sql)),
         Err((refusal, _connection)) => Ok(refusal),
     }

@@ -2,7 +2,7 @@
 ghost use Rattle.std.specs.Prelude.{IfOk};
 ghost use Rattle.lra_replica.specs.Replicas.{Fits};
 
-use crate::journals::{begin, enter, opened, patch_of};
+use crate::journals::{begin, enter, opened, patch_of, stored};
 use lra_facts::Links;
 use lra_history::Command;
 use lra_id::{LraId, NodeId};
@@ -64,7 +64,7 @@ fn as_many_lras_as_there_can_be(rt: HostRuntime) -> Result<(), Fail> {
     let (mut journal, mut replica) = opened(alloc, Connection::open_in_memory(alloc)?, 8)?;
     let patch = taken(alloc, &mut replica, &whole)?;
     assert_eq!(rt; patch.records().len(), 2_048);
-    journal.store(alloc, &patch)?;
+    stored(alloc, &mut journal, &patch)?;
     let (_, again) = opened(alloc, journal.close(), 8)?;
     assert!(rt; again.same(&whole));
     Ok(())

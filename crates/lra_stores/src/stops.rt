@@ -1,6 +1,5 @@
 // A stop at each call of the disk: a journal is then what it was before a patch, or what it is with it.
-use crate::journals::{command, opened, patch_of};
-use lra_id::NodeId;
+use crate::journals::{command, open, opened, patch_of, stored};
 use lra_journal::Journal;
 use lra_replica::Replica;
 use sqlite::{Alter, Connection, FileStore, Options};
@@ -26,7 +25,7 @@ fn is_stored<S: Alter>(
     step: u64,
 ) -> Result<bool, Fail> {
     let patch = patch_of(alloc, replica, 1, command(alloc, step)?)?;
-    if journal.store(alloc, &patch).is_err() {
+    if stored(alloc, journal, &patch).is_err() {
         return Ok(false);
     }
     replica.apply(patch);
@@ -34,7 +33,7 @@ fn is_stored<S: Alter>(
 }
 
 /// Stores the begin and the join of one LRA, or one of them, or none, if the disk stops: how many were stored.
-fn stored<S: Alter>(
+fn both<S: Alter>(
     alloc: Global,
     journal: &mut Journal<S>,
     mut replica: Replica,
@@ -63,9 +62,9 @@ fn stopped(files: Files<Fused>) -> Trial {
 
 /// Opens a journal over these files, and stores.
 fn run(alloc: Global, connection: Connection<FileStore<Fused>>) -> Result<Trial, Fail> {
-    match Journal::open(alloc, connection, NodeId::new(1)?, 1) {
+    match open(alloc, connection, 1, 1)? {
         Ok((mut journal, replica)) => {
-            let stored = stored(alloc, &mut journal, replica)?;
+            let stored = both(alloc, &mut journal, replica)?;
             Ok(Trial {
                 stored,
                 tried: stored.saturating_add(1).min(2),

@@ -28,18 +28,7 @@ fn enter(alloc: Global, replica: &mut Replica, command: Command) -> Result<(), F
     if usize::from(me.number()) > replica.front().nodes() {
         return Ok(());
     }
-    let prepared = match command {
-        Command::Begin { parent, deadline } => replica.begin(alloc, me, parent, deadline)?,
-        Command::Join { id, links } => replica.join(alloc, me, id, links)?,
-        Command::Decide { id, verdict } => replica.decide(alloc, me, id, verdict)?,
-        Command::Report {
-            id,
-            member,
-            act,
-            outcome,
-        } => replica.report(alloc, me, id, member, act, outcome)?,
-        _ => return Ok(()),
-    };
+    let prepared = replica.prepare(alloc, me, command)?;
     if let Some(patch) = prepared.patch {
         replica.apply(patch);
     }
@@ -84,6 +73,11 @@ pub fn code(alloc: Global, code: u16, body: &str) -> Result<Answer, Fail> {
     Ok(Answer::Code(code, Bytes::new(bytes)))
 }
 
+/// What is heard of an answer. It is asked here alone, since a function is proved sooner without that call's clause.
+pub fn hears(act: Act, kind: Kind, answer: &Answer) -> Heard {
+    hear(act, kind, answer)
+}
+
 /// Reports what is heard of an answer to the first duty.
 pub fn answer(alloc: Global, replica: &mut Replica, answer: &Answer) -> Result<Heard, Fail> {
     let me = NodeId::new(1)?;
@@ -95,7 +89,7 @@ pub fn answer(alloc: Global, replica: &mut Replica, answer: &Answer) -> Result<H
         return Ok(Heard::Again);
     };
     let (act, id, member) = (duty.act, duty.id, duty.member);
-    let heard = hear(act, duty.kind, answer);
+    let heard = hears(act, duty.kind, answer);
     if let Heard::Told(outcome) = heard {
         let report = Command::Report {
             id,
@@ -177,10 +171,10 @@ fn each_code_of_each_kind(rt: HostRuntime) {
         let (by_act, by_status, by_forget) = heard_of_code(code);
         let answer = Answer::Code(code, Bytes::new(Vec::new(rt.alloc())));
         for act in [Act::Complete, Act::Compensate] {
-            assert_eq!(rt; hear(act, Kind::Complete, &answer), by_act, "{code}");
-            assert_eq!(rt; hear(act, Kind::Compensate, &answer), by_act, "{code}");
-            assert_eq!(rt; hear(act, Kind::Status, &answer), by_status, "{code}");
-            assert_eq!(rt; hear(act, Kind::Forget, &answer), by_forget, "{code}");
+            assert_eq!(rt; hears(act, Kind::Complete, &answer), by_act, "{code}");
+            assert_eq!(rt; hears(act, Kind::Compensate, &answer), by_act, "{code}");
+            assert_eq!(rt; hears(act, Kind::Status, &answer), by_status, "{code}");
+            assert_eq!(rt; hears(act, Kind::Forget, &answer), by_forget, "{code}");
         }
     }
 }
@@ -196,7 +190,7 @@ const NAMES: [(Act, &str, Outcome); 4] = [
 /// What is heard where a status is asked for, of a code and a body.
 fn heard_of_status(alloc: Global, act: Act, code: u16, body: &[u8]) -> Result<Heard, Fail> {
     let body = Bytes::new(Vec::from_slice(alloc, body)?);
-    Ok(hear(act, Kind::Status, &Answer::Code(code, body)))
+    Ok(hears(act, Kind::Status, &Answer::Code(code, body)))
 }
 
 #[test]

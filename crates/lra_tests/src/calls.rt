@@ -1,7 +1,7 @@
 // Calls over connections in memory: the bytes of requests, and what is heard of answers that are whole, cut or broken.
-use crate::callbacks::{F, K, S, answer, begin, code, decide, join, lra};
-use lra_callback::{Answer, Heard, Kind, NetCaller, hear, pick, request_of};
-use lra_http::{CallRequest, OverRead, OverWrite};
+use crate::callbacks::{F, K, S, answer, begin, code, decide, hears, join, lra};
+use lra_callback::{Answer, Heard, Kind, NetCaller, pick, request_of};
+use lra_http::{CallRequest, OverRead, OverWrite, Sink, Source};
 use lra_id::NodeId;
 use lra_replica::Replica;
 use lra_states::{Act, Outcome, Verdict};
@@ -34,22 +34,59 @@ fn first_request(alloc: Global, replica: &Replica) -> Result<CallRequest, Fail> 
     Ok(request_of(alloc, duty)?)
 }
 
-/// The request whose text is `COMPLETE`.
-pub(crate) fn completion(alloc: Global) -> Result<CallRequest, Fail> {
+/// The request to complete at this link, for the one participant of 1.1.
+fn completion_at(alloc: Global, link: Option<&str>) -> Result<CallRequest, Fail> {
     let mut replica = Replica::new(alloc, 1)?;
     begin(alloc, &mut replica, None)?;
-    join(alloc, &mut replica, 1, K, None, None)?;
+    join(alloc, &mut replica, 1, link, None, None)?;
     decide(alloc, &mut replica, 1, Verdict::Close)?;
     first_request(alloc, &replica)
 }
 
-/// What is written to a participant, and what it answers in these bytes.
-fn ask(alloc: Global, request: &CallRequest, bytes: &[u8]) -> Result<(Vec<u8>, Answer), Fail> {
-    let reader = OverRead::new(bytes);
-    let writer = OverWrite::new(Vec::new(alloc));
+/// The request whose text is `COMPLETE`.
+pub(crate) fn completion(alloc: Global) -> Result<CallRequest, Fail> {
+    completion_at(alloc, K)
+}
+
+/// The request for the status of a participant that is busy, in an LRA that is nested.
+fn status_request(alloc: Global) -> Result<CallRequest, Fail> {
+    let mut replica = Replica::new(alloc, 1)?;
+    begin(alloc, &mut replica, None)?;
+    begin(alloc, &mut replica, Some(lra(1)?))?;
+    join(alloc, &mut replica, 2, K, S, None)?;
+    decide(alloc, &mut replica, 2, Verdict::Close)?;
+    answer(alloc, &mut replica, &code(alloc, 202, "")?)?;
+    first_request(alloc, &replica)
+}
+
+/// The request to forget, of a participant of an LRA that is nested.
+fn forget_request(alloc: Global) -> Result<CallRequest, Fail> {
+    let mut replica = Replica::new(alloc, 1)?;
+    begin(alloc, &mut replica, None)?;
+    begin(alloc, &mut replica, Some(lra(1)?))?;
+    join(alloc, &mut replica, 2, None, None, F)?;
+    decide(alloc, &mut replica, 1, Verdict::Close)?;
+    first_request(alloc, &replica)
+}
+
+/// Calls over a reader and a writer, and gives them back. The call is made here alone, since a function is proved sooner
+/// without its long clauses.
+pub(crate) fn ask_over<R: Source + Drop, W: Sink + Drop>(
+    alloc: Global,
+    request: &CallRequest,
+    reader: R,
+    writer: W,
+) -> Result<(Answer, R, W), Fail> {
     let mut caller = NetCaller::new(reader, writer);
     let answer = caller.ask(alloc, request)?;
-    let (_, writer) = caller.into_parts();
+    let (reader, writer) = caller.into_parts();
+    Ok((answer, reader, writer))
+}
+
+/// What is written to a participant, and what it answers in these bytes.
+fn ask(alloc: Global, request: &CallRequest, bytes: &[u8]) -> Result<(Vec<u8>, Answer), Fail> {
+    let writer = OverWrite::new(Vec::new(alloc));
+    let (answer, _, writer) = ask_over(alloc, request, OverRead::new(bytes), writer)?;
     Ok((writer.into_inner(), answer))
 }
 
@@ -71,11 +108,12 @@ fn body_length(answer: &Answer) -> usize {
 
 /// Whether an answer is heard as nothing, whatever the call was for.
 fn is_never_heard(answer: &Answer) -> bool {
-    let act = Act::Complete;
-    hear(act, Kind::Complete, answer) == Heard::Again
-        && hear(act, Kind::Compensate, answer) == Heard::Again
-        && hear(act, Kind::Status, answer) == Heard::Again
-        && hear(act, Kind::Forget, answer) == Heard::Again
+    for kind in [Kind::Complete, Kind::Compensate, Kind::Status, Kind::Forget] {
+        if hears(Act::Complete, kind, answer) != Heard::Again {
+            return false;
+        }
+    }
+    true
 }
 
 #[test]
@@ -85,7 +123,7 @@ fn a_request_to_complete(rt: HostRuntime) -> Result<(), Fail> {
     assert!(rt; written.as_slice() == COMPLETE.as_bytes());
     assert_eq!(rt; code_of(&answer), Some(200));
     assert_eq!(rt; body_length(&answer), 0);
-    let heard = hear(Act::Complete, Kind::Complete, &answer);
+    let heard = hears(Act::Complete, Kind::Complete, &answer);
     assert_eq!(rt; heard, Heard::Told(Outcome::Done));
     Ok(())
 }
@@ -93,16 +131,7 @@ fn a_request_to_complete(rt: HostRuntime) -> Result<(), Fail> {
 #[test]
 fn a_request_for_the_status_of_a_nested_one(rt: HostRuntime) -> Result<(), Fail> {
     let alloc = rt.alloc();
-    let mut replica = Replica::new(alloc, 1)?;
-    begin(alloc, &mut replica, None)?;
-    begin(alloc, &mut replica, Some(lra(1)?))?;
-    join(alloc, &mut replica, 2, K, S, None)?;
-    decide(alloc, &mut replica, 2, Verdict::Close)?;
-    let busy = code(alloc, 202, "")?;
-    let heard = answer(alloc, &mut replica, &busy)?;
-    assert_eq!(rt; heard, Heard::Told(Outcome::Busy));
-    let request = first_request(alloc, &replica)?;
-    let (written, answer) = ask(alloc, &request, COMPLETED)?;
+    let (written, answer) = ask(alloc, &status_request(alloc)?, COMPLETED)?;
     let wanted = "GET /s?m=1 HTTP/1.1\r\nHost: p:81\r\n\
         Long-Running-Action: urn:uuid:00000000-0000-8001-8000-000000000002\r\n\
         Long-Running-Action-Parent: urn:uuid:00000000-0000-8001-8000-000000000001\r\n\
@@ -111,7 +140,7 @@ fn a_request_for_the_status_of_a_nested_one(rt: HostRuntime) -> Result<(), Fail>
     assert!(rt; written.as_slice() == wanted.as_bytes());
     assert_eq!(rt; code_of(&answer), Some(200));
     assert_eq!(rt; body_length(&answer), 11);
-    let heard = hear(Act::Complete, Kind::Status, &answer);
+    let heard = hears(Act::Complete, Kind::Status, &answer);
     assert_eq!(rt; heard, Heard::Told(Outcome::Done));
     Ok(())
 }
@@ -119,13 +148,11 @@ fn a_request_for_the_status_of_a_nested_one(rt: HostRuntime) -> Result<(), Fail>
 #[test]
 fn a_request_to_forget(rt: HostRuntime) -> Result<(), Fail> {
     let alloc = rt.alloc();
-    let mut replica = Replica::new(alloc, 1)?;
-    begin(alloc, &mut replica, None)?;
-    begin(alloc, &mut replica, Some(lra(1)?))?;
-    join(alloc, &mut replica, 2, None, None, F)?;
-    decide(alloc, &mut replica, 1, Verdict::Close)?;
-    let request = first_request(alloc, &replica)?;
-    let (written, answer) = ask(alloc, &request, b"HTTP/1.1 204 No Content\r\n\r\n")?;
+    let (written, answer) = ask(
+        alloc,
+        &forget_request(alloc)?,
+        b"HTTP/1.1 204 No Content\r\n\r\n",
+    )?;
     let wanted = "DELETE /f HTTP/1.1\r\nHost: p\r\n\
         Long-Running-Action: urn:uuid:00000000-0000-8001-8000-000000000002\r\n\
         Long-Running-Action-Parent: urn:uuid:00000000-0000-8001-8000-000000000001\r\n\
@@ -133,7 +160,7 @@ fn a_request_to_forget(rt: HostRuntime) -> Result<(), Fail> {
         Connection: close\r\n\r\n";
     assert!(rt; written.as_slice() == wanted.as_bytes());
     assert_eq!(rt; code_of(&answer), Some(204));
-    let heard = hear(Act::Complete, Kind::Forget, &answer);
+    let heard = hears(Act::Complete, Kind::Forget, &answer);
     assert_eq!(rt; heard, Heard::Forgotten);
     Ok(())
 }
@@ -149,11 +176,7 @@ fn a_host_and_its_port(rt: HostRuntime) -> Result<(), Fail> {
         ("http://[::1]:81/a/../k?a=/b?c", "/k?a=/b?c", "[::1]:81"),
         ("http://127.1/%41 b", "/%41%20b", "127.0.0.1"),
     ] {
-        let mut replica = Replica::new(alloc, 1)?;
-        begin(alloc, &mut replica, None)?;
-        join(alloc, &mut replica, 1, Some(link), None, None)?;
-        decide(alloc, &mut replica, 1, Verdict::Close)?;
-        let request = first_request(alloc, &replica)?;
+        let request = completion_at(alloc, Some(link))?;
         assert_eq!(rt; request.target.as_str(), target);
         assert_eq!(rt; request.host.as_str(), host);
     }
@@ -173,7 +196,7 @@ fn a_cut_answer_is_heard_again(rt: HostRuntime) -> Result<(), Fail> {
             assert!(rt; is_never_heard(&answer), "{n}");
         }
         let (_, answer) = ask(alloc, &request, whole)?;
-        let heard = hear(Act::Complete, Kind::Complete, &answer);
+        let heard = hears(Act::Complete, Kind::Complete, &answer);
         assert_eq!(rt; heard, Heard::Told(Outcome::Done));
     }
     Ok(())
@@ -240,7 +263,7 @@ fn what_is_heard_of_answers_to_complete(rt: HostRuntime) -> Result<(), Fail> {
         let (_, answer) = ask(alloc, &request, bytes.as_bytes())?;
         assert_eq!(rt; code_of(&answer), code, "{bytes}");
         assert_eq!(rt;
-            hear(Act::Complete, Kind::Complete, &answer),
+            hears(Act::Complete, Kind::Complete, &answer),
             heard,
             "{bytes}"
         );

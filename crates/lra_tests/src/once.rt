@@ -1,8 +1,8 @@
 // Readers and writers that fail once, with each kind of error that std has, at each byte, and then go on.
-use crate::calls::{COMPLETE, DONE, completion};
-use lra_callback::{Answer, NetCaller};
+use crate::calls::{COMPLETE, DONE, ask_over, completion};
+use lra_callback::Answer;
 use lra_http::{
-    CallRequest, Fault, MAX_BODY_BYTES, OverRead, OverWrite, read_byte, read_request,
+    CallRequest, Fault, MAX_BODY_BYTES, OverRead, OverWrite, Source, read_byte, read_request,
     read_response, write_request,
 };
 use std::alloc::Global;
@@ -174,10 +174,15 @@ fn make_reader(bytes: &'static [u8], before: usize, kind: ErrorKind) -> OnceRead
     }
 }
 
+/// Why no request is read from this reader.
+fn request_fault<R: Read>(alloc: Global, reader: &mut R) -> Option<Fault> {
+    read_request(alloc, &mut OverRead::new(reader), MAX_BODY_BYTES).err()
+}
+
 /// Reads a request of which the call behind so many bytes fails.
 fn request_once(alloc: Global, bytes: &'static [u8], before: usize, kind: ErrorKind) -> Outcome {
     let mut reader = make_reader(bytes, before, kind);
-    let fault = read_request(alloc, &mut OverRead::new(&mut reader), MAX_BODY_BYTES).err();
+    let fault = request_fault(alloc, &mut reader);
     Outcome {
         fault,
         turns: reader.once.turns,
@@ -291,7 +296,7 @@ impl Read for Endless {
 fn a_head_without_an_end_takes_so_many_calls(rt: HostRuntime) {
     let alloc = rt.alloc();
     let mut reader = Endless { calls: 0 };
-    let fault = read_request(alloc, &mut OverRead::new(&mut reader), MAX_BODY_BYTES).err();
+    let fault = request_fault(alloc, &mut reader);
     assert_eq!(rt; fault, Some(Fault::HeadTooLong));
     assert_eq!(rt; reader.calls, 16_385);
 }
@@ -328,6 +333,11 @@ fn a_write_that_fails_once_is_the_last(rt: HostRuntime) -> Result<(), Fail> {
     Ok(())
 }
 
+/// The byte that is left to read next, if there is one.
+fn next_of<R: Source + Drop>(mut reader: R) -> Option<u8> {
+    read_byte(&mut reader, &mut 0).unwrap_or(None)
+}
+
 /// Whether an answer is none.
 fn is_broken(answer: &Answer) -> bool {
     match answer {
@@ -338,14 +348,10 @@ fn is_broken(answer: &Answer) -> bool {
 
 /// Whether a call whose flush fails once is broken, makes no write behind it and reads nothing.
 fn is_unsent(alloc: Global, request: &CallRequest, kind: ErrorKind) -> Result<bool, Fail> {
-    let reader = OverRead::new(DONE);
     let writer = OverWrite::new(make_writer(alloc, COMPLETE.len(), kind));
-    let mut caller = NetCaller::new(reader, writer);
-    let answer = caller.ask(alloc, request)?;
-    let (mut reader, writer) = caller.into_parts();
+    let (answer, reader, writer) = ask_over(alloc, request, OverRead::new(DONE), writer)?;
     let turns = writer.into_inner().once.turns;
-    let next = read_byte(&mut reader, &mut 0)?;
-    Ok(is_broken(&answer) && turns == LAST && next == Some(b'H'))
+    Ok(is_broken(&answer) && turns == LAST && next_of(reader) == Some(b'H'))
 }
 
 /// Whether a call whose read fails once behind so many bytes is broken, and reads nothing behind it: the next byte is left.
@@ -357,11 +363,8 @@ fn is_unread(
 ) -> Result<bool, Fail> {
     let reader = OverRead::new(make_reader(DONE, before, kind));
     let writer = OverWrite::new(Vec::new(alloc));
-    let mut caller = NetCaller::new(reader, writer);
-    let answer = caller.ask(alloc, request)?;
-    let (mut reader, _) = caller.into_parts();
-    let next = read_byte(&mut reader, &mut 0)?;
-    Ok(is_broken(&answer) && next == DONE.get(before).copied())
+    let (answer, reader, _) = ask_over(alloc, request, reader, writer)?;
+    Ok(is_broken(&answer) && next_of(reader) == DONE.get(before).copied())
 }
 
 #[test]
