@@ -111,11 +111,24 @@ def commits(folder, clients, times):
     return many(clients, times, act)
 
 
+def bare(method, path):
+    """The bytes of one answer, over a plain socket: Python's http.client takes longer for a call than the server does."""
+    while True:
+        with socket.create_connection(("127.0.0.1", PORT), 30) as connection:
+            connection.sendall(f"{method} {path} HTTP/1.1\r\nHost: p\r\nContent-Length: 0\r\n\r\n".encode())
+            answer = b""
+            while piece := connection.recv(65536):
+                answer += piece
+        if b"E20" not in answer:
+            return answer
+
+
 def begins_and_closes(times):
     """Each pair is two durable calls; it purges what it closed, so that the home doesn't fill."""
     def act():
-        lra = ask("POST", "/lra")[1]["lra"]
-        ask("PUT", f"/lra/{lra}/close")
+        lra = re.search(rb"urn:uuid:([0-9a-f-]+)", bare("POST", "/lra"))[1].decode()
+        if not bare("PUT", f"/lra/{lra}/close").startswith(b"HTTP/1.1 200 "):
+            raise SystemExit(f"{lra} isn't closed")
         ended.append(lra)
 
     ended = []
