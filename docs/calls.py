@@ -20,7 +20,7 @@ Made by `python3 docs/calls.py` from the code; laws, which do nothing, stand in 
 - **Unchanged**: the clauses that say what stays after an error. A dash: the call takes nothing by `&mut`, or has no error.
 
 """
-IGNORED = {"lra_tests", "lra_answers", "lra_runs", "lra_texts", "lra_requests", "lra_stores", "lra_desks", "lra_served", "lra_scripts"}
+IGNORED = {"lra_answers", "lra_calls", "lra_served", "lra_scripts"}
 
 
 def calls_of(path):

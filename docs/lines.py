@@ -8,7 +8,7 @@ import sys
 
 TOP = os.path.dirname(os.path.dirname(os.path.abspath(__file__)))
 PAGE = f"{TOP}/docs/THEOREMS.md"
-TESTS = ["lra_texts", "lra_tests", "lra_answers", "lra_runs", "lra_stores", "lra_desks", "lra_requests", "lra_scripts", "lra_served"]
+TESTS = ["lra_answers", "lra_calls", "lra_scripts", "lra_served"]
 LAYERS = [("lra_node", "lra_play", "the programs"), ("lra_server", "threads and sockets"), ("lra_work", "a worker"), ("lra_script", "the script"),
           ("lra_trail", "laws of a node in the world"), ("lra_api", "the HTTP interface"), ("lra_book", "calls, trails and the desk"),
           ("lra_journal", "rows"), ("lra_world", "all nodes"), ("lra_peer", "pulls"), ("lra_callback", "duties, calls and answers"),
@@ -18,16 +18,16 @@ LAYERS = [("lra_node", "lra_play", "the programs"), ("lra_server", "threads and 
 
 def lines_of(pattern, mark):
     """The lines of some files that are neither blank nor comments."""
-    for path in sorted(glob.glob(f"{TOP}/crates/{pattern}", recursive=True)):
+    for path in sorted(glob.glob(f"{TOP}/{pattern}", recursive=True)):
         for line in open(path, encoding="utf-8"):
             if line.strip() and not line.strip().startswith(mark):
                 yield line
 
 
-def code_and_contracts(crate):
+def code_and_contracts(pattern):
     code = contracts = 0
     within = False
-    for line in lines_of(f"{crate}/src/**/*.rt", "//"):
+    for line in lines_of(pattern, "//"):
         starts = re.match(r"\s*(ensures|requires)\b", line)
         within = bool(starts) or (within and not re.match(r"\s*\{\s*\}?$|\{\}$", line))
         contracts += within
@@ -38,9 +38,9 @@ def code_and_contracts(crate):
 
 
 def count(crates):
-    code, contracts = (sum(part) for part in zip(*map(code_and_contracts, crates)))
-    specs = sum(1 for crate in crates for _ in lines_of(f"{crate}/specs/**/*.antt", "--"))
-    proofs = sum(1 for crate in crates for _ in lines_of(f"{crate}/proofs/**/*.antt", "--"))
+    code, contracts = (sum(part) for part in zip(*(code_and_contracts(f"crates/{crate}/src/**/*.rt") for crate in crates)))
+    specs = sum(1 for crate in crates for _ in lines_of(f"crates/{crate}/specs/**/*.antt", "--"))
+    proofs = sum(1 for crate in crates for _ in lines_of(f"crates/{crate}/proofs/**/*.antt", "--"))
     edits = sum(len(glob.glob(f"{TOP}/crates/{crate}/must-fail/*.edit")) for crate in crates)
     return code, contracts, specs, proofs, edits
 
@@ -50,8 +50,10 @@ def table():
     for *crates, what in LAYERS:
         numbers = " | ".join(f"{n:,}" for n in count(crates))
         out += f"| {', '.join(f'`{crate}`' for crate in crates)}: {what} | {numbers} |\n"
-    tests = sum(code_and_contracts(crate)[0] for crate in TESTS)
-    return out + f"| tests of all these by their public calls: {', '.join(f'`{crate}`' for crate in TESTS)} | {tests:,} | | | | |\n"
+    tests = sum(code_and_contracts(f"crates/{crate}/src/**/*.rt")[0] for crate in TESTS)
+    units = code_and_contracts("tests/units/**/*.rt.txt")[0]
+    out += f"| proved tests of all these by their public calls: {', '.join(f'`{crate}`' for crate in TESTS)} | {tests:,} | | | | |\n"
+    return out + f"| tests of these without proof: `tests/units` | {units:,} | | | | |\n"
 
 
 page = open(PAGE, encoding="utf-8").read()
