@@ -15,7 +15,7 @@ from concurrent.futures import ThreadPoolExecutor
 
 TOP = os.path.dirname(os.path.dirname(os.path.abspath(__file__)))
 UNITS = f"{TOP}/tests/units"
-# How long the tests of one crate may run, in seconds: the build looks at each access, and takes some five times as long as the gate's.
+# How long one test may run, in seconds: the build looks at each access, and takes some five times as long as the gate's.
 SECONDS = 900
 # How many steps the interpreter may take. The build that looks at each access is to judge alone, so it stops at once.
 STEPS = 1
@@ -58,7 +58,7 @@ def run(copy, name, count):
     passed = int(told[1]) if told else len(re.findall(r"^test .* \.\.\. ok$", ran.stdout, re.M))
     well = ran.returncode == 0 and told is not None and passed == count > 0
     why = "" if well else f"{ran.stdout.rstrip()}\n"
-    end = "" if well else ": FAILED, as rt try ended with 6, so something was cut off" if ran.returncode == 6 else ": FAILED"
+    end = "" if well else ": FAILED, and a test was cut off" if ran.returncode == 6 else ": FAILED"
     print(f"{why}{name}: {passed} of {count} tests passed, {time.time() - began:.0f} seconds{end}", flush=True)
     return passed, well
 
