@@ -41,7 +41,8 @@ def count(crates):
     code, contracts = (sum(part) for part in zip(*(code_and_contracts(f"crates/{crate}/src/**/*.rt") for crate in crates)))
     specs = sum(1 for crate in crates for _ in lines_of(f"crates/{crate}/specs/**/*.antt", "--"))
     proofs = sum(1 for crate in crates for _ in lines_of(f"crates/{crate}/proofs/**/*.antt", "--"))
-    edits = sum(len(glob.glob(f"{TOP}/crates/{crate}/must-fail/*.edit")) for crate in crates)
+    places = [at for crate in crates for at in (f"{TOP}/crates/{crate}/must-fail", f"{TOP}/tests/wrong/{crate}")]
+    edits = sum(len(glob.glob(f"{at}/*.edit")) for at in places)
     return code, contracts, specs, proofs, edits
 
 

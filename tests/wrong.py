@@ -146,8 +146,8 @@ def open_goals(said, name):
     return found
 
 
-def check(kit, name, libraries, edits):
-    """What the prover says of one copy of the crate with these edits."""
+def check(kit, name, libraries, edits, kept):
+    """What the prover says of one copy of the crate with these edits, over what is kept of other copies."""
     folder = f"{TOP}/crates/{name}"
     with tempfile.TemporaryDirectory(prefix="wrong-") as room:
         for part in PARTS:
@@ -159,10 +159,7 @@ def check(kit, name, libraries, edits):
         for file, text in texts.items():
             with open(f"{room}/{file}", "w", encoding="utf-8") as it:
                 it.write(text)
-        said, kept = words(kit, name, libraries), f"{folder}/out/incremental"
-        if os.path.isdir(kept) and "WHOLE" not in os.environ:
-            shutil.copytree(kept, f"{room}/kept", copy_function=os.link)
-            said += ["--incremental", f"{room}/kept"]
+        said = [*words(kit, name, libraries), "--incremental", kept]
         for function in sorted({it.function for it in edits}):
             said += ["--only", function]
         ran = subprocess.run(
@@ -175,9 +172,9 @@ def check(kit, name, libraries, edits):
     return ran.stdout
 
 
-def tried(kit, name, libraries, edits):
+def tried(kit, name, libraries, edits, kept):
     """Of each of these edits, in one copy, whether it is refused, and why or why not."""
-    said = check(kit, name, libraries, edits)
+    said = check(kit, name, libraries, edits, kept)
     if not re.search(r"^only=\d+ proved=\d+", said, re.M):
         first = next((it for it in said.split("\n") if "error" in it), said[:200])
         return {edit.name: (False, f"the check told nothing: {first[:200]}") for edit in edits}
@@ -209,20 +206,37 @@ def copies(edits):
     return [it["edits"] for it in rooms]
 
 
-def of_crate(kit, name, libraries, edits):
-    """Tries a crate's edits and prints a line of each: the names of those that are not refused."""
-    began, spent, told, missed = time.time(), sum(os.times()[2:4]), {}, []
+def linked(old, new):
+    """Copies a file, by a link where that goes: a check replaces what is kept, and changes no file."""
+    try:
+        os.link(old, new)
+    except OSError:
+        shutil.copyfile(old, new)
+
+
+def each_tried(kit, name, libraries, edits, kept):
+    """Of each edit of a crate in turn, whether it is refused, and why or why not."""
+    told = {}
     for room in copies(edits):
-        told.update(tried(kit, name, libraries, room))
+        told.update(tried(kit, name, libraries, room, kept))
     for edit in edits:
         well, why = told[edit.name]
-        beside = why
         if not well and len(edits) > 1:
             # (another function's wrong body may hide its own)
-            well, why = tried(kit, name, libraries, [edit])[edit.name]
-            why += f" (alone in a copy; beside others: {beside})" if well else ""
-        print(f"{name}/{edit.name}: {'refused' if well else 'NOT REFUSED'}: {why}", flush=True)
-        missed += [] if well else [f"{name}/{edit.name}"]
+            well, alone = tried(kit, name, libraries, [edit], kept)[edit.name]
+            why = f"{alone} (alone in a copy; beside others: {why})" if well else alone
+        yield edit, well, why
+
+
+def of_crate(kit, name, libraries, edits):
+    """Tries a crate's edits and prints a line of each: the names of those that are not refused."""
+    began, spent, missed, own = time.time(), sum(os.times()[2:4]), [], f"{TOP}/crates/{name}/out/incremental"
+    with tempfile.TemporaryDirectory(prefix="wrong-kept-") as kept:
+        if os.path.isdir(own) and "WHOLE" not in os.environ:
+            shutil.copytree(own, kept, copy_function=linked, dirs_exist_ok=True)
+        for edit, well, why in each_tried(kit, name, libraries, edits, kept):
+            print(f"{name}/{edit.name}: {'refused' if well else 'NOT REFUSED'}: {why}", flush=True)
+            missed += [] if well else [f"{name}/{edit.name}"]
     cost = sum(os.times()[2:4]) - spent
     print(f"{name}: {len(edits)} wrong bodies, {time.time() - began:.0f} seconds, {cost:.0f} of a processor", flush=True)
     return missed
