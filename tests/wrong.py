@@ -3,13 +3,13 @@
 A wrong body is a file tests/wrong/NAME/WHAT.edit of the form that must-fail/ has: a line 'file: src/x.rt', and pairs of lines
 'old: TEXT' and 'new: TEXT', each TEXT one line that stands exactly once in the file. A line 'fn: PATH' names the function that has to
 be refused, as `front::Front::below`; without one it is the function in which the first changed line stands. With `--must-fail` those
-of crates/NAME/must-fail are tried instead, which is quicker than `rt must-fail` for who changes a crate.
+of crates/NAME/must-fail are tried instead, a quick control for who changes a crate.
 
 Bodies of different functions stand in one copy of the crate, and one check tells of each function by itself: the prover prints which
 goals of its own are open. A function that is unproved only since another isn't proved counts as nothing, and so does a proof file
 that only misses a name which the edit took away. What is not refused so is tried once more, alone in a copy. Bodies of one function,
 or that change the same line, stand in different copies. `rattle check --only` proves those functions and what they call, over the
-libraries below the crate that stand built in crates/*/out/rlib, as `rt ci` leaves them in a clean clone.
+libraries below the crate that stand built in crates/*/out/rlib, as `rt ci` leaves them in a clean clone. It builds none itself.
 
 A line a body, and last 'N refused, M not'; it ends with 0 if each is refused. Where crates/NAME/out/incremental has what `rt check`
 kept, a check begins with that; WHOLE=1 has it begin with nothing. SAID=FILE appends what the prover said to FILE-NAME."""
@@ -24,7 +24,7 @@ import time
 TOP = os.path.dirname(os.path.dirname(os.path.abspath(__file__)))
 PARTS = ("src", "specs", "proofs")
 # What the prover says of a proof file that names what an edit took away, and of what cites that proof.
-NAMES = re.compile(r"has no field|is not in scope|has no `|was not admitted")
+NAMES = re.compile(r"has no field|is not in scope|has no `|was not admitted|which was rejected, was not checked")
 
 
 def crates():
@@ -131,17 +131,18 @@ def type_above(lines, at):
 
 def open_goals(said, name):
     """Of each function that is not proved by itself, the goals of its own that are open, and those of proof files that miss a name."""
-    found, own, of_files = {}, [], {}
-    error = r"^\./proofs/(\S+)/(?:Answers|Invariants|Proof)\.antt:\d+:\d+: error: (.*)"
+    found, own, missing, wrong = {}, [], {}, {}
+    error = r"^\./proofs/(\S+)/(?:Answers|Invariants|Proof)\.antt:\d+:\d+: error: (.*(?:\n .*)*)"
     for at, goal in re.findall(error, said, re.M):
-        of_files.setdefault(at.replace("/", "::"), []).append(goal)
+        kind = missing if NAMES.search(goal) else wrong
+        kind.setdefault(at.replace("/", "::"), []).append(goal.split("\n")[0])
     for line in said.split("\n"):
         note = re.match(r"note: src/\S+: (it is not proved .*)", line)
         own += [note[1]] if note else []
         told = re.match(rf"fn {name}::(\S+): (.*)", line)
         if told:
-            goals = [] if told[2].startswith("proved") else own + of_files.get(told[1], [])
-            found[told[1]] = [it for it in goals if not NAMES.search(it)], [it for it in goals if NAMES.search(it)]
+            is_open = not told[2].startswith("proved")
+            found[told[1]] = (own + wrong.get(told[1], []), missing.get(told[1], [])) if is_open else ([], [])
             own = []
     return found
 
@@ -256,8 +257,10 @@ def main(asked):
             edits = [Edit(f"{at}/{it}", f"{TOP}/crates/{name}") for it in sorted(os.listdir(at)) if it.endswith(".edit")]
             missed += of_crate(kit, name, libraries, edits)
             count += len(edits)
+        elif name in names:
+            print(f"{name}: there are none")
     print(f"{count - len(missed)} refused, {len(missed)} not{': ' + ' '.join(missed) if missed else ''}")
-    return 1 if missed or not count else 0
+    return 1 if missed else 0
 
 
 if __name__ == "__main__":
