@@ -24,7 +24,7 @@ import time
 TOP = os.path.dirname(os.path.dirname(os.path.abspath(__file__)))
 PARTS = ("src", "specs", "proofs")
 # What the prover says of a proof file that names what an edit took away, and of what cites that proof.
-NAMES = re.compile(r"has no field|is not in scope|has no `|was not admitted|which was rejected, was not checked")
+NAMES = re.compile(r"has no field|is not in scope|has no `|was not admitted|(was|were) rejected, (was|were) not checked")
 
 
 def crates():
