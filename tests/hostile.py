@@ -2,13 +2,16 @@
 """Treats the built server badly, and looks whether it keeps what it answered: python3 tests/hostile.py [KILLS] [PROGRAM].
 
 It is killed with kill -9 under load KILLS times, 100 by default; has a disk that is full, where this may mount one; journals that are
-read-only, another node's or torn; and clients that are silent, slow, gone, or send garbage. PROGRAM is crates/lra_node/out/lra_node,
-which ./coordinator builds. Each check prints a line; the status is 1 where one fails. Standard library alone, some minutes."""
+read-only, another node's or torn; clients that are silent, slow, gone, send garbage, or flood a node with pulls; 2,048 participants that
+complete at once; a hundred thousand requests; and links to addresses that don't answer. PROGRAM is crates/lra_node/out/lra_node, which
+./coordinator builds. Each check prints a line; the status is 1 where one fails. Standard library alone, some ten minutes."""
 import http.client
 import http.server
+import multiprocessing
 import os
 import random
 import resource
+import selectors
 import shutil
 import socket
 import struct
@@ -179,6 +182,18 @@ def fill(lras):
     return begun
 
 
+def without_room(server, lras):
+    """What holds while the disk is full: the program lives, commands are refused, and questions are answered once the journal is open."""
+    began, refused, slowest = time.monotonic(), [], 0
+    while time.monotonic() < began + 10:
+        refused.append(ask("PUT", f"/lra/{random.choice(lras)}/cancel")[0])
+        asked = time.monotonic()
+        is_answered = comes_to(20, lambda: ask("GET", "/lra")[0] == 200)
+        slowest = max(slowest, time.monotonic() - asked)
+    check(f"while the disk is full {len(refused)} commands are refused, and questions answered after {slowest:.1f} seconds at most",
+          server.process.poll() is None and set(refused) == {503} and is_answered and slowest < 10, (server.process.poll(), set(refused)))
+
+
 def full_disk(folder):
     disk = f"{folder}/disk"
     os.mkdir(disk)
@@ -187,15 +202,21 @@ def full_disk(folder):
         return
     try:
         server = Server(1, disk).wait_until_up()
-        begun = fill(256)
-        time.sleep(1)
-        ended = server.end()
-        check(f"on a full disk it says so, {len(begun)} begins later: {' / '.join(ended[1].splitlines())}", "E18 JournalFailed" in ended[1], ended)
+        overdue = ask("POST", "/lra", {"limit": 5000})[1]["lra"]
+        begun, began = fill(256), time.monotonic()
+        without_room(server, begun)
+        time.sleep(2)
         subprocess.run(["mount", "-o", "remount,size=64m", disk], check=True)
-        server = Server(1, disk)
-        check("with room again it starts", server.is_up())
-        check("what was answered is there, and it takes calls", set(begun) <= set(shown_by()) and ask("POST", "/lra", {})[0] == 201)
-        server.kill()
+        full = time.monotonic() - began
+        is_well = comes_to(30, lambda: ask("POST", "/lra", {})[0] == 201)
+        took = time.monotonic() - began - full
+        check(f"with room again it goes on by itself after {took:.1f} seconds", is_well and took < 10)
+        check("what was answered is there", set(begun) <= set(shown_by()))
+        check("what was overdue meanwhile is cancelled", comes_to(10, lambda: shown_by()[overdue] == "Cancelled"), shown_by()[overdue])
+        status, said = server.end()
+        warned = said.splitlines()
+        is_said = {line.partition(": ")[2] for line in warned} <= {"E18 JournalFailed", "E19 Stopped"}
+        check(f"it warned {len(warned)} times in {full:.0f} seconds, of nothing else", status == 0 and is_said and 0 < len(warned) <= full + 2, (status, said))
     finally:
         subprocess.run(["umount", disk], check=True)
 
@@ -346,10 +367,156 @@ def crowd(folder):
     check("it ends with its input then, and had nothing to say", ended == (0, ""), ended)
 
 
+def flood(seconds, clients):
+    """So many clients that each send a pull with a byte of garbage, again and again. Half of them wait for the answer."""
+    text, poll, end = b"POST /peer/pull HTTP/1.1\r\nHost: p\r\nContent-Length: 1\r\n\r\n\x09", selectors.DefaultSelector(), time.monotonic() + seconds
+
+    def connect(waits):
+        it = socket.socket()
+        it.setblocking(False)
+        it.connect_ex(("127.0.0.1", PORT))
+        poll.register(it, selectors.EVENT_WRITE, waits)
+
+    for i in range(clients):
+        connect(i % 2)
+    while time.monotonic() < end:
+        for key, events in poll.select(0.5):
+            try:
+                if events & selectors.EVENT_WRITE:
+                    key.fileobj.send(text)
+                    if key.data:
+                        poll.modify(key.fileobj, selectors.EVENT_READ, key.data)
+                        continue
+                else:
+                    key.fileobj.recv(512)
+            except OSError:
+                pass
+            poll.unregister(key.fileobj)
+            key.fileobj.close()
+            connect(key.data)
+
+
+def halves(until):
+    """Two connections that begin a request and send no more, made anew where they are closed."""
+    open_ones = []
+    while time.monotonic() < until:
+        open_ones = [it for it in open_ones if not is_closed(it, time.monotonic())]
+        try:
+            while len(open_ones) < 2:
+                open_ones.append(connection(b"GET /lra HT"))
+        except OSError:
+            pass
+        time.sleep(0.05)
+
+
+def slowest_of(until, node=1):
+    """The longest that a question waits, asked again and again until a moment."""
+    slowest = 0
+    while time.monotonic() < until:
+        began = time.monotonic()
+        if ask("GET", "/lra", node=node)[0] != 200:
+            return None
+        slowest = max(slowest, time.monotonic() - began)
+        time.sleep(0.1)
+    return slowest
+
+
+def flooded(folder):
+    """1,500 clients that send garbage as pulls, each of which is one of a run's sixteen, beside two half requests."""
+    server, seconds = Server(2, folder).wait_until_up(), 20
+    floods = [multiprocessing.Process(target=flood, args=(seconds, 500)) for _ in range(3)]
+    threading.Thread(target=halves, args=(time.monotonic() + seconds,), daemon=True).start()
+    for it in floods:
+        it.start()
+    during = slowest_of(time.monotonic() + seconds)
+    for it in floods:
+        it.join()
+    after = slowest_of(time.monotonic() + 2)
+    check(f"amid a flood of pulls another waits {during if during is None else round(during, 2)} seconds at most", during is not None and during < 5)
+    check(f"behind it {after if after is None else round(after, 2)}", after is not None and after < 5)
+    began = time.monotonic()
+    ended = server.end()
+    took = time.monotonic() - began
+    check(f"it ends {took:.1f} seconds behind its input then", ended[0] == 0 and took < 15, ended)
+
+
+def memory_of(process):
+    """The most memory that a process has had, in MiB."""
+    with open(f"/proc/{process.pid}/status", encoding="utf-8") as it:
+        return next(int(line.split()[1]) for line in it if line.startswith("VmHWM")) / 1024
+
+
+def crowded(folder):
+    """64 LRAs of 32 participants that complete at once, all at one host."""
+    server, part = Server(1, folder).wait_until_up(), Participant()
+    lras = [ask("POST", "/lra", {})[1]["lra"] for _ in range(64)]
+    for lra in lras:
+        for place in range(32):
+            ask("PUT", f"/lra/{lra}/join", part.links(place))
+    began = time.monotonic()
+    for lra in lras:
+        ask("PUT", f"/lra/{lra}/close")
+    slowest, times = 0, []
+    while time.monotonic() < began + 60 and set(shown_by().values()) != {"Closed"}:
+        for lra in random.sample(lras, 8):
+            asked = time.monotonic()
+            ask("GET", f"/lra/{lra}")
+            times.append(time.monotonic() - asked)
+    took, slowest, most = time.monotonic() - began, max(times, default=0), memory_of(server.process)
+    check(f"2,048 participants complete in {took:.1f} seconds", took < 30, took)
+    check(f"{most:.0f} MiB of memory at most meanwhile", most < 64, most)
+    check(f"a status takes {slowest * 1000:.0f} ms at most meanwhile", slowest < 0.05, slowest)
+    server.end()
+
+
+def ask_on(count, codes):
+    """Asks for a page so many times over connections of their own, and notes what isn't answered as it is to be."""
+    for _ in range(count):
+        it = http.client.HTTPConnection("127.0.0.1", PORT, timeout=60)
+        try:
+            it.request("GET", "/lra/00000000-0000-8001-8000-000000000001")
+            answer = it.getresponse()
+            text = answer.read()
+            if answer.status != 200:
+                codes.append(text)
+        except OSError as error:
+            codes.append(repr(error))
+        finally:
+            it.close()
+
+
+def many_runs(folder):
+    server, count = Server(1, folder).wait_until_up(), 100_000
+    ask("POST", "/lra", {})
+    with multiprocessing.Manager() as manager:
+        wrong, began = manager.list(), time.monotonic()
+        clients = [multiprocessing.Process(target=ask_on, args=(count // 8, wrong)) for _ in range(8)]
+        for it in clients:
+            it.start()
+        for it in clients:
+            it.join()
+        check(f"{count:,} requests over some hundred runs, {count / (time.monotonic() - began):.0f} a second: each is answered", not wrong, list(wrong)[:5])
+    server.end()
+
+
+def dead_addresses(folder):
+    """Participants at an address that nobody has: the program's end waits for no connection."""
+    server = Server(1, folder).wait_until_up()
+    for host in ("10.255.255.1", "192.0.2.1", "198.51.100.1", "203.0.113.1"):
+        lra = ask("POST", "/lra", {})[1]["lra"]
+        ask("PUT", f"/lra/{lra}/join", {"compensate": f"http://{host}:81/c"})
+        ask("PUT", f"/lra/{lra}/cancel")
+    time.sleep(1)
+    began = time.monotonic()
+    ended = server.end()
+    took = time.monotonic() - began
+    check(f"beside calls to dead addresses it ends after {took:.1f} seconds", ended[0] == 0 and took < 12, ended)
+
+
 def main():
     if len(sys.argv) > 2:
         Server.program = sys.argv[2]
-    for test in (crowd, wrong_journals, torn, full_disk, kills):
+    for test in (crowd, wrong_journals, torn, full_disk, flooded, crowded, many_runs, dead_addresses, kills):
         with tempfile.TemporaryDirectory() as folder:
             test(folder)
     finish()

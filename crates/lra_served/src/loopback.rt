@@ -1,6 +1,6 @@
 // What tests of running nodes need: journals in memory, an input that ends when it is told, and requests over sockets.
 
-use lra_server::Stores;
+use lra_server::{Stores, Unopened};
 use sqlite::{Connection, MemStore};
 use std::alloc::Global;
 use std::io::{ErrorKind, Read, Write};
@@ -14,6 +14,9 @@ use std::time::{Clock, Duration};
 /// The most milliseconds that a test waits for something.
 pub(crate) const MAX_TURNS: u32 = 20_000;
 
+/// A request that begins an LRA.
+pub(crate) const BEGIN: &str = "POST /lra HTTP/1.1\r\nHost: p\r\nContent-Length: 2\r\n\r\n{}";
+
 /// Journals in memory.
 #[derive(Drop)]
 pub(crate) struct InMemory {
@@ -23,8 +26,11 @@ pub(crate) struct InMemory {
 impl Stores for InMemory {
     type Store = MemStore;
 
-    fn open(&self, _number: u8) -> Option<Connection<MemStore>> {
-        Connection::open_in_memory(self.alloc).ok()
+    fn open(&self, _number: u8) -> Result<Connection<MemStore>, Unopened> {
+        match Connection::open_in_memory(self.alloc) {
+            Ok(connection) => Ok(connection),
+            Err(_) => Err(Unopened::ForGood),
+        }
     }
 }
 

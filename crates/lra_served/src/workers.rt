@@ -44,17 +44,20 @@ impl Arrivals for Given {
     }
 }
 
-/// Holds each worker before a call until two have come there, 10,000 turns at most, and counts those who waited in vain.
+/// Holds each worker before a call until two have come there, 10,000 turns at most. It counts those who come before a call, those who
+/// come behind one, and those who waited in vain.
 #[derive(Drop)]
 struct Meeting<'a, C: Clock> {
     clock: &'a C,
     came: &'a AtomicU64,
+    left: &'a AtomicU64,
     missed: &'a AtomicU64,
 }
 
 impl<'a, C: Clock> Gate for Meeting<'a, C> {
     fn pause(&self, place: u64) {
         if place != 1 {
+            self.left.fetch_add(u64::from(place == 2), Ordering::SeqCst);
             return;
         }
         self.came.fetch_add(1, Ordering::SeqCst);
@@ -73,6 +76,9 @@ const FIRST: [&str; 3] = [
     "PUT /lra/00000000-0000-8001-8000-000000000001/close HTTP/1.1\r\nHost: p\r\nContent-Length: 0\r\n\r\n",
     "GET /lra/00000000-0000-8001-8000-000000000001 HTTP/1.1\r\nHost: p\r\n\r\n",
 ];
+
+/// The calls of both workers.
+const CALLS: u64 = 4;
 
 const SECOND: [&str; 1] = [
     "GET /lra/00000000-0000-8002-8000-000000000001 HTTP/1.1\r\nHost: p\r\n\r\n",
@@ -128,10 +134,11 @@ fn by_two<J: Run + Send + Sync, S: Alter + Send + Drop, R: Threads + Wait + Cloc
     let (Some(one), Some(two)) = (passes.pop(), passes.pop()) else {
         return Err(Fail::new("no passes"));
     };
-    let (came, missed) = (AtomicU64::new(0), AtomicU64::new(0));
+    let (came, left, missed) = (AtomicU64::new(0), AtomicU64::new(0), AtomicU64::new(0));
     let gate = Meeting {
         clock: rt,
         came: &came,
+        left: &left,
         missed: &missed,
     };
     let (one, two) = join(
@@ -142,13 +149,16 @@ fn by_two<J: Run + Send + Sync, S: Alter + Send + Drop, R: Threads + Wait + Cloc
     if missed.load(Ordering::SeqCst) != 0 {
         return Err(Fail::new("one waits for the other"));
     }
+    if came.load(Ordering::SeqCst) != CALLS || left.load(Ordering::SeqCst) != CALLS {
+        return Err(Fail::new("the gate isn't asked before and behind each call"));
+    }
     if !ends_closed(&one) {
         return Err(Fail::new("the close isn't shown"));
     }
     passes.push(one)?;
     passes.push(two)?;
     let (_book, trail, found) = desk.close(passes);
-    if trail.len() != 4 {
+    if trail.len() as u64 != CALLS {
         return Err(Fail::new("another trail"));
     }
     Ok(found?)

@@ -4,6 +4,7 @@ ghost use Rattle.std.specs.Iterator.{IsFinite};
 use crate::guest::set_slices;
 use crate::node::Node;
 use crate::patient::{Haste, Patient};
+use crate::signal::Signal;
 use lra_callback::{Answer, Duty, Heard, NetCaller, hear, request_of};
 use lra_http::{OverRead, OverWrite};
 use std::alloc::Global;
@@ -20,16 +21,37 @@ const PATIENCE: u64 = 10_000;
 /// How many bytes are read at once.
 const BUFFER: usize = 4096;
 
-/// The first of some addresses that answers.
-fn connect_to_one<R: Net<Stream = TcpStream>, A: Iterator<Item = SocketAddr>>(
+/// A connection to one address, tried in slices until this moment or until the program is to end.
+fn connect_until<R: Wait + Clock + Net<Stream = TcpStream>>(
     rt: &R,
+    signal: &Signal,
+    address: SocketAddr,
+    until: Duration,
+) -> io::Result<TcpStream> {
+    if signal.has_ended(rt) {
+        return Err(Error::from(ErrorKind::TimedOut));
+    }
+    let left = until.saturating_sub(rt.monotonic()?);
+    if left.is_zero() {
+        return Err(Error::from(ErrorKind::TimedOut));
+    }
+    TcpStream::connect_timeout(rt, &address, left)
+}
+
+/// The first of some addresses that answers. All of them together have the patience of one.
+fn connect_to_one<R: Wait + Clock + Net<Stream = TcpStream>, A: Iterator<Item = SocketAddr>>(
+    rt: &R,
+    signal: &Signal,
     addresses: A,
 ) -> io::Result<TcpStream>
     requires { A.can_next addresses × IsFinite (A.remaining addresses) }
 {
+    let until = rt
+        .monotonic()?
+        .saturating_add(Duration::from_millis(PATIENCE));
     let mut last = Error::from(ErrorKind::NotFound);
     for address in addresses {
-        match TcpStream::connect_timeout(rt, &address, Duration::from_millis(PATIENCE)) {
+        match connect_until(rt, signal, address, until) {
             Ok(stream) => return Ok(stream),
             Err(error) => last = error,
         }
@@ -38,12 +60,16 @@ fn connect_to_one<R: Net<Stream = TcpStream>, A: Iterator<Item = SocketAddr>>(
 }
 
 /// A connection to the host of a link.
-fn connect<R: Net<Stream = TcpStream>>(rt: &R, url: &Url) -> io::Result<TcpStream> {
+fn connect<R: Wait + Clock + Net<Stream = TcpStream>>(
+    rt: &R,
+    signal: &Signal,
+    url: &Url,
+) -> io::Result<TcpStream> {
     let port = url.port_or_known_default().unwrap_or(80);
     match url.host() {
-        Some(Host::Domain(name)) => connect_to_one(rt, (name, port).to_socket_addrs(rt)?),
-        Some(Host::Ipv4(address)) => connect_to_one(rt, (address, port).to_socket_addrs(rt)?),
-        Some(Host::Ipv6(address)) => connect_to_one(rt, (address, port).to_socket_addrs(rt)?),
+        Some(Host::Domain(name)) => connect_to_one(rt, signal, (name, port).to_socket_addrs(rt)?),
+        Some(Host::Ipv4(ip)) => connect_to_one(rt, signal, (ip, port).to_socket_addrs(rt)?),
+        Some(Host::Ipv6(ip)) => connect_to_one(rt, signal, (ip, port).to_socket_addrs(rt)?),
         None => Err(Error::from(ErrorKind::NotFound)),
     }
 }
@@ -77,7 +103,7 @@ fn call_one<R: Wait + Clock + Net<Listener = TcpListener, Stream = TcpStream>>(
     let Ok(url) = Url::parse(alloc, duty.link.as_str()) else {
         return Heard::Again;
     };
-    let Ok(stream) = connect(rt, &url) else {
+    let Ok(stream) = connect(rt, &node.signal, &url) else {
         return Heard::Again;
     };
     match ask(rt, alloc, node, duty, stream) {

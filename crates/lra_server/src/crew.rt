@@ -14,6 +14,7 @@ use lra_book::{Book, Desk, DeskClerk, DeskPass, Run};
 use lra_work::{Open, work};
 use sqlite::Alter;
 use std::alloc::Global;
+use std::io::Error;
 use std::marker::Brand;
 use std::net::{Net, TcpListener, TcpStream};
 use std::sync::Wait;
@@ -25,8 +26,28 @@ use std::time::{Clock, Duration};
 /// The threads that have a pass: four workers, and the one that enters.
 const SEATS: usize = 5;
 
-/// How long the accepting thread waits where no connection can be had, in milliseconds.
+/// How long a thread waits where no connection can be had, or no memory, in milliseconds.
 const PAUSE: u64 = 10;
+
+/// What the system answers where the process has no file left.
+const EMFILE: i32 = 24;
+
+/// What it answers where it has none itself.
+const ENFILE: i32 = 23;
+
+/// A table of paths, once there is memory for it; none where the run is over before.
+fn paths_of<R: Wait + Clock>(rt: &R, alloc: Global, node: &Node) -> Option<Paths> {
+    for _ in rt.forever() {
+        if let Ok(paths) = Paths::new(alloc) {
+            return Some(paths);
+        }
+        if node.signal.over(rt).is_some() {
+            return None;
+        }
+        thread::sleep(rt, Duration::from_millis(PAUSE));
+    }
+    unreachable!()
+}
 
 /// Serves what waits, until the run is over.
 fn serve_all<
@@ -34,11 +55,10 @@ fn serve_all<
     J: Run,
     S: Alter + Drop,
 >(rt: &R, alloc: Global, node: &Node, clerk: DeskClerk<'_, J, S, R>) -> DeskPass<J> {
-    let Ok(paths) = Paths::new(alloc) else {
-        node.end_run(rt, Over::Starved);
+    let Some(paths) = paths_of(rt, alloc, node) else {
         return clerk.into_pass();
     };
-    let mut taken = Taken::new(rt, alloc, &node.queue, &node.signal);
+    let mut taken = Taken::new(rt, alloc, node);
     let seat = Seat { rt, node, clerk };
     let (seat, ending) = work(rt, alloc, &paths, &mut taken, seat, &Open);
     taken.close_served();
@@ -85,8 +105,13 @@ fn play<R: Wait + Clock + Net<Listener = TcpListener, Stream = TcpStream>, J: Ru
     }
 }
 
+/// Whether no connection can be had since no file is left, for the process or the system.
+fn wants_files(error: &Error) -> bool {
+    matches!(error.raw_os_error(), Some(EMFILE | ENFILE))
+}
+
 /// Takes connections and puts them on the queue, until the run is over. What comes with the end is served in the next run. Where no
-/// connection can be had, the one that has waited longest is closed.
+/// file is left for a connection, the one that has waited longest is closed.
 fn accept<R: Wait + Clock>(rt: &R, node: &Node, listener: &TcpListener) {
     for stream in listener.incoming() {
         match stream {
@@ -95,8 +120,10 @@ fn accept<R: Wait + Clock>(rt: &R, node: &Node, listener: &TcpListener) {
                     let _waiting = node.queue.put(rt, guest);
                 }
             }
-            Err(_) => {
-                node.queue.close_first(rt);
+            Err(error) => {
+                if wants_files(&error) {
+                    node.queue.close_first(rt);
+                }
                 thread::sleep(rt, Duration::from_millis(PAUSE));
             }
         }

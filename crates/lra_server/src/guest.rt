@@ -14,8 +14,8 @@ const SILENCE: u64 = 30_000;
 /// How long a connection that is served is kept for what its client still sends, in milliseconds.
 const LINGER: u64 = 1_000;
 
-/// How long one call of the system may wait for a connection that is being served, in milliseconds.
-const SLICE: u64 = 20;
+/// How long one call of the system may wait for a connection that is being served, in milliseconds. A change of run waits for it.
+const SLICE: u64 = 5;
 
 /// What is still to come of a connection.
 #[derive(Clone, Copy, PartialEq, Eq)]

@@ -17,9 +17,10 @@ mod queue;
 mod scribe;
 mod seat;
 mod server;
+mod setbacks;
 mod signal;
 mod taken;
 mod tally;
 
-pub use opening::{Folder, Stores};
+pub use opening::{Folder, Stores, Unopened};
 pub use server::serve;

@@ -1,7 +1,6 @@
 // A node: its runs, one after another, and the threads that outlive them.
 ghost use Rattle.std.specs.Prelude.{◌≡◌, ◌≤◌, IfOk, IfSome, None};
 
-use crate::Stores;
 use crate::address::address_of;
 use crate::asking::pull_in_turn;
 use crate::begun::{Begun, begun_by};
@@ -9,13 +8,17 @@ use crate::calling::call_out;
 use crate::crew::named_run;
 use crate::post::Post;
 use crate::queue::Queue;
+use crate::setbacks::Setbacks;
 use crate::signal::{Over, Signal};
 use crate::tally::Tally;
+use crate::{Stores, Unopened};
 use log::{Log, warn};
 use lra_book::Book;
+use lra_facts::Refusal;
 use lra_id::NodeId;
 use sqlite::Alter;
 use std::alloc::Global;
+use std::io::ErrorKind;
 use std::net::{Net, TcpListener, TcpStream};
 use std::sync::Wait;
 use std::thread;
@@ -25,7 +28,10 @@ use std::time::{Clock, Duration};
 /// The threads that outlive runs: four that call participants, and one that pulls.
 const HELPERS: usize = 5;
 
-/// How long it waits before it tries to reach its own port again, in milliseconds.
+/// How long a node tries to reach its own port, in milliseconds.
+const REACH: u64 = 100;
+
+/// How long it waits before it tries again, in milliseconds.
 const PAUSE: u64 = 10;
 
 /// How often it tries that.
@@ -59,8 +65,7 @@ impl Node {
         }
     }
 
-    /// Ends the run for this cause: sets the signal, and connects once to the node's own port, so that the accepting thread looks
-    /// at it. Where no socket can be had it tries again: that thread, too, gets none then, and looks at the signal each time.
+    /// Ends the run for this cause: sets the signal, and has the accepting thread look at it.
     pub fn end_run<R: Wait + Clock + Net<Listener = TcpListener, Stream = TcpStream>>(
         &self,
         rt: &R,
@@ -70,9 +75,28 @@ impl Node {
             return;
         }
         self.post.wake(rt);
+        self.knock(rt);
+    }
+
+    /// Ends a run that is nearly full.
+    pub fn end_if_spent<R: Wait + Clock + Net<Listener = TcpListener, Stream = TcpStream>>(
+        &self,
+        rt: &R,
+    ) {
+        if self.tally.is_spent() {
+            self.end_run(rt, Over::Full);
+        }
+    }
+
+    // Connects once to the node's own port, so that the accepting thread looks at the signal. Where the port's queue is full the try
+    // ends with its time: that thread has others to take then, and looks behind each. Where no socket can be had it tries again: that
+    // thread, too, gets none then, and looks each time.
+    fn knock<R: Wait + Clock + Net<Listener = TcpListener, Stream = TcpStream>>(&self, rt: &R) {
+        let address = address_of(self.first_port, self.number);
         for _turn in 0..MAX_TURNS {
-            if TcpStream::connect(rt, address_of(self.first_port, self.number)).is_ok() {
-                return;
+            match TcpStream::connect_timeout(rt, &address, Duration::from_millis(REACH)) {
+                Err(error) if error.kind() != ErrorKind::TimedOut => {}
+                _ => return,
             }
             thread::sleep(rt, Duration::from_millis(PAUSE));
         }
@@ -86,45 +110,69 @@ pub enum Failure {
     Run,
 }
 
-/// The book of a node, whose journal is opened.
-pub fn open_book<S: Stores>(alloc: Global, stores: &S, node: &Node) -> Option<Book<S::Store>>
-    ensures { IfSome result (λ b. b.opening ≡ None) }
+/// The book of a node, whose journal is opened, or why it can't be opened.
+pub fn open_book<S: Stores>(
+    alloc: Global,
+    stores: &S,
+    node: &Node,
+) -> Result<Book<S::Store>, Unopened>
+    ensures { IfOk result (λ b. b.opening ≡ None) }
 {
-    let me = NodeId::new(node.number).ok()?;
+    let Ok(me) = NodeId::new(node.number) else {
+        return Err(Unopened::ForGood);
+    };
     if node.number > node.nodes || node.nodes > 8 {
-        return None;
+        return Err(Unopened::ForGood);
     }
     let connection = stores.open(node.number)?;
     match Book::open(alloc, connection, me, usize::from(node.nodes)) {
-        Ok(book) => Some(book),
-        Err(_) => None,
+        Ok(book) => Ok(book),
+        Err((Refusal::BadFrame(_), _)) => Err(Unopened::ForGood),
+        Err(_) => Err(Unopened::ForNow),
     }
 }
 
-/// The book of a node whose journal failed: it is closed, and opened again.
-fn reopened<S: Stores>(
+/// The book of a node whose journal failed: it is closed, and opened again once that can be done; none where the program is to end
+/// before. Each time it rests longer before it tries.
+fn reopened<R: Wait + Clock, S: Stores>(
+    rt: &R,
     alloc: Global,
     node: &Node,
     stores: &S,
     book: Book<S::Store>,
+    setbacks: &mut Setbacks,
 ) -> Result<Option<Book<S::Store>>, Failure>
     ensures { IfOk result (λ next. IfSome next (λ b. b.opening ≡ None)) }
 {
-    let _connection = book.close();
-    match open_book(alloc, stores, node) {
-        Some(book) => Ok(Some(book)),
-        None => Err(Failure::Journal),
+    // (it holds the file's lock until it is dropped)
+    drop(book.close());
+    for _ in rt.forever() {
+        node.signal.rest(rt, setbacks.next_pause());
+        if node.signal.has_ended(rt) {
+            return Ok(None);
+        }
+        match open_book(alloc, stores, node) {
+            Ok(book) => {
+                node.post.hold(rt, setbacks.pause());
+                return Ok(Some(book));
+            }
+            Err(Unopened::ForNow) => {}
+            Err(Unopened::ForGood) => return Err(Failure::Journal),
+        }
     }
+    unreachable!()
 }
 
 /// The book that the next run is on, by why the last is over: the same, or, where the journal failed, one whose journal is opened
 /// again; none where the program is to end.
-fn next_book<S: Stores>(
+fn next_book<R: Wait + Clock, S: Stores>(
+    rt: &R,
     alloc: Global,
     node: &Node,
     stores: &S,
     book: Book<S::Store>,
     over: Option<Over>,
+    setbacks: &mut Setbacks,
 ) -> Result<Option<Book<S::Store>>, Failure>
     requires { book.opening ≡ None }
     ensures { IfOk result (λ next. IfSome next (λ b. b.opening ≡ None)) }
@@ -132,34 +180,49 @@ fn next_book<S: Stores>(
     match over {
         Some(Over::Program) => Ok(None),
         Some(Over::Full | Over::RunFull | Over::TrailLost(_)) => Ok(Some(book)),
-        Some(Over::JournalFailed | Over::Stopped) => reopened(alloc, node, stores, book),
+        Some(Over::JournalFailed | Over::Stopped) => {
+            reopened(rt, alloc, node, stores, book, setbacks)
+        }
         Some(Over::Starved) | None => Err(Failure::Run),
     }
 }
 
-/// Warns of the refusal for which a run is over, if it is one.
-fn warn_of<L: Log>(log: &L, node: &Node, over: Option<Over>) {
+/// Warns of the refusal for which a run is over, if it is one, once a second at most.
+fn warn_of<R: Clock, L: Log>(
+    rt: &R,
+    log: &L,
+    node: &Node,
+    over: Option<Over>,
+    setbacks: &mut Setbacks,
+) {
+    let now = rt.monotonic().unwrap_or(Duration::from_millis(0));
     if let Some(over) = over {
         if let Some(refusal) = over.refusal() {
-            warn!(log; "node {}: {}", node.number, refusal);
+            if setbacks.may_warn(now) {
+                warn!(log; "node {}: {}", node.number, refusal);
+            }
         }
     }
 }
 
 /// The next run, begun, or none where the program is to end.
-fn next_run<R: Wait, L: Log, S: Stores>(
+fn next_run<R: Wait + Clock, L: Log, S: Stores>(
     rt: &R,
     log: &L,
     alloc: Global,
     node: &Node,
     stores: &S,
     book: Book<S::Store>,
+    setbacks: &mut Setbacks,
 ) -> Result<Option<Begun<S::Store>>, Failure>
     requires { book.opening ≡ None }
 {
+    if node.tally.has_stored() {
+        setbacks.forget();
+    }
     let over = node.signal.over(rt);
-    warn_of(log, node, over);
-    let Some(book) = next_book(alloc, node, stores, book, over)? else {
+    warn_of(rt, log, node, over, setbacks);
+    let Some(book) = next_book(rt, alloc, node, stores, book, over, setbacks)? else {
         return Ok(None);
     };
     if !node.signal.begin(rt) {
@@ -185,12 +248,13 @@ where
     R: Threads + Wait + Clock + Net<Listener = TcpListener, Stream = TcpStream> + Sync,
     L: Log + Sync,
 {
+    let mut setbacks = Setbacks::new();
     for _ in rt.forever() {
         let Begun { book } = begun;
         let Some(ended) = named_run(rt, log, alloc, node, listener, book) else {
             return Err(Failure::Run);
         };
-        match next_run(rt, log, alloc, node, stores, ended)? {
+        match next_run(rt, log, alloc, node, stores, ended, &mut setbacks)? {
             Some(next) => begun = next,
             None => return Ok(()),
         }

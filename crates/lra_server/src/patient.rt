@@ -7,10 +7,10 @@ use std::net::TcpStream;
 use std::sync::Wait;
 use std::time::{Clock, Duration};
 
-/// How long a message may still take once nobody waits for it any more, in milliseconds.
+/// How long an answer may still take once nobody waits for it any more, in milliseconds.
 const GRACE: u64 = 500;
 
-// A message of ten seconds takes 500 slices of 20 milliseconds.
+// A message of ten seconds takes 2,000 slices of 5 milliseconds.
 const MAX_TURNS: u32 = 10_000;
 
 /// When a connection is hurried.
@@ -62,6 +62,11 @@ impl<'a, R: Wait + Clock> Patient<'a, R> {
         }
     }
 
+    // Whether a request of which nothing comes now is given up: its run is over, and the next one waits for it.
+    fn is_given_up(&self) -> bool {
+        self.haste == Haste::WithRun && self.is_hurried()
+    }
+
     // Fails once the time is up.
     fn look(&mut self) -> io::Result<()> {
         let now = self.rt.monotonic()?;
@@ -86,7 +91,11 @@ impl<'a, R: Wait + Clock> Read for Patient<'a, R> {
         for _turn in 0..MAX_TURNS {
             self.look()?;
             match self.stream.read(buf) {
-                Err(error) if error.kind() == ErrorKind::WouldBlock => {}
+                Err(error) if error.kind() == ErrorKind::WouldBlock => {
+                    if self.is_given_up() {
+                        return Err(Error::from(ErrorKind::TimedOut));
+                    }
+                }
                 outcome => return outcome,
             }
         }

@@ -4,10 +4,10 @@
 ghost use Rattle.std.specs.Prelude.{◌≤◌};
 
 use crate::hosts::{Hosts, Pace};
-use lra_callback::{Duties, Duty, Heard};
+use lra_callback::{Duties, Duty, Heard, Kind};
 use lra_delta::Delta;
 use lra_id::{Front, LraId};
-use lra_states::Outcome;
+use lra_states::{Act, Outcome};
 use std::alloc::{AllocError, Global};
 use std::collections::VecDeque;
 use std::sync::{Condvar, CondvarTimeouts, Mutex, Wait};
@@ -110,9 +110,13 @@ struct Mail {
     delta: Option<Delta>,
     front: Front,
     stirred: bool,
-    /// Whether something is to be asked again for lack of memory.
-    lost: bool,
+    /// Whether it is to be asked at the next tick.
+    later: bool,
     ticks_at: Duration,
+    /// Until when nothing is entered: the journal failed.
+    held_until: Duration,
+    /// Whether the thread that enters is to look whether the run is over.
+    hurried: bool,
     ended: bool,
 }
 
@@ -122,12 +126,28 @@ impl Mail {
         self.stirred || self.slips.iter().any(|slip| slip.is_over(now))
     }
 
+    /// Has it asked who is to be called: at once, or, behind a completion, when those have been called that wait. Nobody else is to be
+    /// called before, and a list of all that is due may be long.
+    fn stir(&mut self, is_completion: bool) {
+        if is_completion && !self.due.is_empty() {
+            self.later = true;
+        } else {
+            self.stirred = true;
+        }
+    }
+
     /// Whether the thread that enters has something to do.
     fn has_task(&self, now: Duration) -> bool {
-        self.ticks_at <= now
-            || !self.letters.is_empty()
-            || self.delta.is_some()
-            || self.is_to_ask(now)
+        self.held_until <= now
+            && (self.ticks_at <= now
+                || !self.letters.is_empty()
+                || self.delta.is_some()
+                || self.is_to_ask(now))
+    }
+
+    /// When there is something to do at the latest, whatever comes.
+    fn rests_until(&self) -> Duration {
+        self.ticks_at.max(self.held_until)
     }
 
     /// Whether a duty's participant may be called now, and isn't called or in a pause. It counts as called from here on.
@@ -155,11 +175,11 @@ impl Mail {
             Ok(true) => {
                 if let Err(refused) = self.due.push_back(duty) {
                     self.drop_slip(&refused.value);
-                    self.lost = true;
+                    self.later = true;
                 }
             }
             Ok(false) => {}
-            Err(_) => self.lost = true,
+            Err(_) => self.later = true,
         }
     }
 
@@ -202,7 +222,7 @@ impl Mail {
     fn put_letter(&mut self, letter: Letter) {
         if let Err(refused) = self.letters.push_back(letter) {
             self.drop_slip(&refused.value.duty);
-            self.lost = true;
+            self.later = true;
         }
     }
 
@@ -236,8 +256,10 @@ impl Post {
                 delta: None,
                 front: Front::zero(usize::from(nodes)),
                 stirred: true,
-                lost: false,
+                later: false,
                 ticks_at: Duration::from_millis(0),
+                held_until: Duration::from_millis(0),
+                hurried: false,
                 ended: false,
             }),
             came: Condvar::new(),
@@ -245,15 +267,21 @@ impl Post {
         }
     }
 
-    /// Tells that other participants may be to be called.
-    pub fn stir<R: Wait>(&self, rt: &R) {
-        self.mail.lock(rt).stirred = true;
+    /// Tells that other participants may be to be called, behind a completion or something else.
+    pub fn stir<R: Wait>(&self, rt: &R, is_completion: bool) {
+        self.mail.lock(rt).stir(is_completion);
         self.came.notify_all();
     }
 
-    /// Wakes the thread that enters.
+    /// Has nothing entered for so long: the journal failed, and questions are to be answered meanwhile.
+    pub fn hold<R: Wait + Clock>(&self, rt: &R, time: Duration) {
+        let now = rt.monotonic().unwrap_or(Duration::from_millis(0));
+        self.mail.lock(rt).held_until = now.saturating_add(time);
+    }
+
+    /// Has the thread that enters look whether the run is over, also where it is only about to wait.
     pub fn wake<R: Wait>(&self, rt: &R) {
-        let _mail = self.mail.lock(rt);
+        self.mail.lock(rt).hurried = true;
         self.came.notify_all();
     }
 
@@ -281,17 +309,21 @@ impl Post {
     pub fn next<R: Wait + Clock>(&self, rt: &R) -> Task {
         let now = rt.monotonic().unwrap_or(Duration::from_millis(0));
         let mut mail = self.mail.lock(rt);
-        if !mail.has_task(now) {
-            let rest = mail.ticks_at.saturating_sub(now);
+        if !mail.has_task(now) && !mail.hurried {
+            let rest = mail.rests_until().saturating_sub(now);
             let (waited, _) = self
                 .came
                 .wait_timeout(rt, mail, rest.min(Duration::from_millis(FIRST_PAUSE)));
             mail = waited;
         }
+        if mail.hurried || !mail.has_task(now) {
+            mail.hurried = false;
+            return Task::Rest;
+        }
         if mail.ticks_at <= now {
             mail.ticks_at = now.saturating_add(Duration::from_millis(TICK));
-            mail.stirred = mail.stirred || mail.lost;
-            mail.lost = false;
+            mail.stirred = mail.stirred || mail.later;
+            mail.later = false;
             return Task::Tick;
         }
         if let Some(letter) = mail.letters.pop_front() {
@@ -365,7 +397,7 @@ impl Post {
             Heard::Told(Outcome::Busy) => mail.pause(&letter.duty, now),
             _ => mail.drop_slip(&letter.duty),
         }
-        mail.stirred = true;
+        mail.stir(letter.duty.kind != Kind::Forget && letter.duty.act == Act::Complete);
     }
 
     /// Hands over what another node told, unless something waits already.

@@ -135,7 +135,7 @@ fn attend<R: Wait + Clock, C: Clerk>(
         Task::Ask => match ask(rt, alloc, node, clerk) {
             Ok(()) => Ok(()),
             Err(refusal) => {
-                node.post.stir(rt);
+                node.post.stir(rt, false);
                 Err(refusal)
             }
         },
@@ -162,6 +162,7 @@ pub fn enter_all<
     C: Clerk + Drop,
 >(rt: &R, alloc: Global, node: &Node, mut clerk: C) -> C {
     for _ in rt.forever() {
+        node.end_if_spent(rt);
         if node.signal.over(rt).is_some() {
             return clerk;
         }

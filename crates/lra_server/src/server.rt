@@ -50,7 +50,7 @@ fn books_of<S: Stores>(
 ) -> Result<Vec<Shut<S::Store>>, Trouble> {
     let mut books = Vec::new(alloc);
     for node in nodes {
-        let Some(book) = open_book(alloc, stores, node) else {
+        let Ok(book) = open_book(alloc, stores, node) else {
             return Err(Trouble::Journal(node.number));
         };
         if books.push(Shut { book }).is_err() {

@@ -1,7 +1,8 @@
 // What tells the threads of a node that its run is over.
 
 use lra_facts::Refusal;
-use std::sync::{Condvar, Mutex, Wait};
+use std::sync::{Condvar, CondvarTimeouts, Mutex, Wait};
+use std::time::{Clock, Duration};
 
 /// Why a run is over.
 #[derive(Clone, Copy, PartialEq, Eq, Debug)]
@@ -33,6 +34,17 @@ impl Over {
         }
     }
 
+    // Which of two causes stands: the weightier, since more is to be done for it.
+    fn weight(self) -> u8 {
+        match self {
+            Over::Full | Over::RunFull | Over::TrailLost(_) => 0,
+            Over::Stopped => 1,
+            Over::JournalFailed => 2,
+            Over::Starved => 3,
+            Over::Program => 4,
+        }
+    }
+
     /// The refusal that a call met, if it was one.
     pub fn refusal(self) -> Option<Refusal> {
         match self {
@@ -49,23 +61,40 @@ impl Over {
 #[derive(Drop)]
 pub struct Signal {
     over: Mutex<Option<Over>>,
+    /// Wakes who rests, at the program's end.
+    told: Condvar,
 }
 
 impl Signal {
     pub fn new() -> Signal {
         Signal {
             over: Mutex::new(None),
+            told: Condvar::new(),
         }
     }
 
-    /// Ends the run, if nobody did before, and says whether it was so. The end of the program goes before each other cause.
+    /// Ends the run, if nobody did before, and says whether it was so. Of several causes the weightiest stands, whatever their order.
     pub fn end<R: Wait>(&self, rt: &R, why: Over) -> bool {
         let mut over = self.over.lock(rt);
-        let first = over.is_none();
-        if first || why == Over::Program {
+        let Some(was) = *over else {
             *over = Some(why);
+            self.told.notify_all();
+            return true;
+        };
+        if was.weight() < why.weight() {
+            *over = Some(why);
+            self.told.notify_all();
         }
-        first
+        false
+    }
+
+    /// Rests so long, or until the program is to end.
+    pub fn rest<R: Wait + Clock>(&self, rt: &R, time: Duration) {
+        let _rested = self
+            .told
+            .wait_timeout_while(rt, self.over.lock(rt), time, |over| {
+                *over != Some(Over::Program)
+            });
     }
 
     /// Why the run is over, if it is.

@@ -2,14 +2,13 @@
 ghost use Rattle.std.specs.Prelude.{⊤};
 
 use crate::guest::{Guest, Seen};
+use crate::node::Node;
 use crate::patient::{Haste, Patient};
-use crate::queue::Queue;
-use crate::signal::Signal;
 use lra_http::{OverRead, OverWrite};
 use lra_work::{Arrivals, Connection};
 use std::alloc::Global;
 use std::io::BufReader;
-use std::net::TcpStream;
+use std::net::{Net, TcpListener, TcpStream};
 use std::sync::Wait;
 use std::time::{Clock, Duration};
 use std::{io, thread};
@@ -34,8 +33,7 @@ const BUFFER: usize = 4096;
 pub struct Taken<'a, R: Wait + Clock> {
     rt: &'a R,
     alloc: Global,
-    queue: &'a Queue,
-    signal: &'a Signal,
+    node: &'a Node,
     served: Option<TcpStream>,
 }
 
@@ -51,13 +49,12 @@ pub fn moment(clock: &impl Clock) -> u64 {
 type Ends<'a, R> = Connection<OverRead<BufReader<Patient<'a, R>>>, OverWrite<Patient<'a, R>>>;
 
 impl<'a, R: Wait + Clock> Taken<'a, R> {
-    /// From this queue, until this signal.
-    pub fn new(rt: &'a R, alloc: Global, queue: &'a Queue, signal: &'a Signal) -> Taken<'a, R> {
+    /// From this node's queue, until its run is over.
+    pub fn new(rt: &'a R, alloc: Global, node: &'a Node) -> Taken<'a, R> {
         Taken {
             rt,
             alloc,
-            queue,
-            signal,
+            node,
             served: None,
         }
     }
@@ -68,7 +65,7 @@ impl<'a, R: Wait + Clock> Taken<'a, R> {
             if let Ok(more) = stream.try_clone() {
                 return Ok(more);
             }
-            self.queue.close_first(self.rt);
+            self.node.queue.close_first(self.rt);
         }
         stream.try_clone()
     }
@@ -80,14 +77,14 @@ impl<'a, R: Wait + Clock> Taken<'a, R> {
         let haste = Haste::WithRun;
         let reader = Patient::new(
             self.rt,
-            self.signal,
+            &self.node.signal,
             haste,
             stream,
             Duration::from_millis(REQUEST),
         );
         let writer = Patient::new(
             self.rt,
-            self.signal,
+            &self.node.signal,
             haste,
             other,
             Duration::from_millis(ANSWER),
@@ -104,14 +101,15 @@ impl<'a, R: Wait + Clock> Taken<'a, R> {
         if let Some(stream) = self.served.take() {
             if let Ok(guest) = Guest::closing(self.rt, stream) {
                 if let Seen::Silent(guest) = guest.look(self.rt) {
-                    let _waiting = self.queue.put(self.rt, guest);
+                    let _waiting = self.node.queue.put(self.rt, guest);
                 }
             }
         }
     }
 }
 
-impl<'a, R: Wait + Clock> Arrivals for Taken<'a, R> {
+impl<'a, R: Wait + Clock + Net<Listener = TcpListener, Stream = TcpStream>> Arrivals
+    for Taken<'a, R> {
     type Reader = OverRead<BufReader<Patient<'a, R>>>;
 
     type Writer = OverWrite<Patient<'a, R>>;
@@ -121,13 +119,17 @@ impl<'a, R: Wait + Clock> Arrivals for Taken<'a, R> {
 
     fn next(&mut self) -> Option<Ends<'a, R>> {
         self.close_served();
+        self.node.end_if_spent(self.rt);
         let mut silent = 0usize;
         for _ in self.rt.forever() {
-            let guest = self.queue.take(self.rt)?;
+            if self.node.signal.over(self.rt).is_some() {
+                return None;
+            }
+            let guest = self.node.queue.take(self.rt)?;
             match guest.look(self.rt) {
                 // Who is silent makes room for those who speak.
                 Seen::Silent(guest) => {
-                    let waiting = self.queue.put(self.rt, guest);
+                    let waiting = self.node.queue.put(self.rt, guest);
                     silent = silent.saturating_add(1);
                     if silent >= waiting {
                         thread::sleep(self.rt, Duration::from_millis(REST));
