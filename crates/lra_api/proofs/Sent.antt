@@ -42,7 +42,7 @@ no_memory_written sink old new response (Err fault.NotOffered) is ok part stream
 -- where the memory was refused before any call, it doesn't matter what was asked for
 pub no_memory_served : {W : Type 0} (same : Type 0) (makes : Call → Result Reply Refusal → Type 0) (sink : OfSink W) (old new : W)
     (right : Result Call Unrouted) (result : Result ⊤ ServeError)
-    → same → EndsNoMemory sink old new result → ServesRequest same makes sink old new right result
+    → same → EndsNoMemory sink old new None result → ServesRequest same makes sink old new right result
 no_memory_served same makes sink old new (Ok call) result s ends = inr (s, ends)
 no_memory_served same makes sink old new (Err u) result s ends = (s, inr (inr ends))
 

@@ -26,11 +26,7 @@ WritesNoMemory sink old new =
     ⊎ (Sends sink old new (response_text (refusal_answer NoMemory))
     ⊎ SendsPart sink old new (response_text (refusal_answer NoMemory)))
 
--- the memory was refused: that is told, whatever of it was written
-abbrev pub EndsNoMemory : {W : Type 0} → OfSink W → (old new : W) → Result ⊤ ServeError → Type 0
-EndsNoMemory sink old new result = (result ≡ Err (Refused NoMemory)) × WritesNoMemory sink old new
-
--- what is told behind a whole answer, and where a write failed: a refusal goes before that
+-- what is told behind a whole answer, where a write failed, and where the memory was refused: a clerk's refusal goes before that
 abbrev pub told : Option Refusal → Result ⊤ ServeError
 told None = Ok tt
 told (Some refusal) = Err (Refused refusal)
@@ -39,12 +35,20 @@ abbrev pub told_if_lost : Option Refusal → Result ⊤ ServeError
 told_if_lost None = Err WriteFault
 told_if_lost (Some refusal) = Err (Refused refusal)
 
+abbrev pub told_if_starved : Option Refusal → Result ⊤ ServeError
+told_if_starved None = Err (Refused NoMemory)
+told_if_starved (Some refusal) = Err (Refused refusal)
+
+-- the memory was refused, and that is written, or a part of it, or nothing
+abbrev pub EndsNoMemory : {W : Type 0} → OfSink W → (old new : W) → Option Refusal → Result ⊤ ServeError → Type 0
+EndsNoMemory sink old new refusal result = (result ≡ told_if_starved refusal) × WritesNoMemory sink old new
+
 -- the text of an answer was written, or a part of it where a write failed; or the memory was refused
 abbrev pub Ends : {W : Type 0} → OfSink W → (old new : W) → Response → Option Refusal → Result ⊤ ServeError → Type 0
 Ends sink old new response refusal result =
     ((result ≡ told refusal) × Sends sink old new (response_text response))
     ⊎ (((result ≡ told_if_lost refusal) × SendsPart sink old new (response_text response))
-    ⊎ EndsNoMemory sink old new result)
+    ⊎ EndsNoMemory sink old new refusal result)
 
 -- Serving. `same`: no call is made. `makes`: this call is made, once, and this comes of it
 
@@ -69,7 +73,7 @@ ServesCall makes sink old new result =
 -- a request is served that asks for this call, or for none
 abbrev pub ServesRequest : {W : Type 0} → (same : Type 0) → (makes : Call → Result Reply Refusal → Type 0) → OfSink W → (old new : W) → Result Call Unrouted → Result ⊤ ServeError → Type 0
 ServesRequest same makes sink old new (Ok call) result =
-    ServesCall (makes call) sink old new result ⊎ (same × EndsNoMemory sink old new result)
+    ServesCall (makes call) sink old new result ⊎ (same × EndsNoMemory sink old new None result)
 ServesRequest same makes sink old new (Err unrouted) result =
     same × Ends sink old new (unrouted_answer unrouted) None result
 
@@ -77,7 +81,7 @@ ServesRequest same makes sink old new (Err unrouted) result =
 abbrev pub ServesFault : {W : Type 0} → OfSink W → (old new : W) → Fault → Result ⊤ ServeError → Type 0
 ServesFault sink old new fault.Cut result = (result ≡ Err Cut) × SendsNothing old new
 ServesFault sink old new fault.ReadFault result = (result ≡ Err ReadFault) × SendsNothing old new
-ServesFault sink old new fault.NoMemory result = EndsNoMemory sink old new result
+ServesFault sink old new fault.NoMemory result = EndsNoMemory sink old new None result
 ServesFault sink old new fault.WriteFault result = ⊥
 ServesFault sink old new fault.BadHead result = Ends sink old new (fault_answer fault.BadHead) None result
 ServesFault sink old new fault.BodyTooLong result = Ends sink old new (fault_answer fault.BodyTooLong) None result

@@ -6,7 +6,7 @@ ghost use Rattle.lra_http.specs.declared.message.Request.{Request as TheRequest}
 ghost use Rattle.lra_http.specs.declared.message.Response.{Response as TheResponse};
 ghost use Rattle.lra_api.specs.Answers.{answer_of, fault_answer, refusal_answer, unrouted_answer};
 ghost use Rattle.lra_api.specs.Routes.{routed};
-ghost use Rattle.lra_api.specs.Serving.{Ends, EndsNoMemory, Makes, Serves, ServesCall, ServesFault, ServesRequest, WritesNoMemory, told, told_if_lost};
+ghost use Rattle.lra_api.specs.Serving.{Ends, EndsNoMemory, Makes, Serves, ServesCall, ServesFault, ServesRequest, WritesNoMemory, told, told_if_lost, told_if_starved};
 ghost use Rattle.lra_api.specs.Streams.{IsReading};
 
 use crate::Paths;
@@ -22,7 +22,7 @@ use std::alloc::{AllocError, Global};
 /// Why a request was not served as it was asked.
 #[derive(Clone, Copy, Debug, PartialEq, Eq)]
 pub enum ServeError {
-    /// The clerk refused the call, E17 to E21; or E17: the memory was refused here.
+    /// The clerk refused the call, E17 to E21; or E17: the memory was refused here, and the clerk refused nothing.
     Refused(Refusal),
     /// The input ended before the request did.
     Cut,
@@ -42,12 +42,25 @@ fn write_no_memory<W: Sink>(alloc: Global, writer: &mut W)
     let _written = write_response(alloc, writer, &response);
 }
 
-/// Tells that the memory was refused, and writes that, if there is enough for it.
-fn end_no_memory<W: Sink>(alloc: Global, writer: &mut W) -> Result<(), ServeError>
-    ensures { EndsNoMemory W.Sink writer.old writer.new result }
+fn told_if_starved(refusal: Option<Refusal>) -> Result<(), ServeError>
+    ensures { result ≡ told_if_starved refusal }
+{
+    match refusal {
+        Some(refusal) => Err(ServeError::Refused(refusal)),
+        None => Err(ServeError::Refused(Refusal::NoMemory)),
+    }
+}
+
+/// Writes that the memory was refused, if there is enough for it, and tells that, or the refusal behind which it was.
+fn end_no_memory<W: Sink>(
+    alloc: Global,
+    writer: &mut W,
+    refusal: Option<Refusal>,
+) -> Result<(), ServeError>
+    ensures { EndsNoMemory W.Sink writer.old writer.new refusal result }
 {
     write_no_memory(alloc, writer);
-    Err(ServeError::Refused(Refusal::NoMemory))
+    told_if_starved(refusal)
 }
 
 fn told(refusal: Option<Refusal>) -> Result<(), ServeError>
@@ -80,7 +93,7 @@ fn end_with<W: Sink>(
         Ok(()) => told(refusal),
         Err(fault) => {
             if fault == Fault::NoMemory {
-                return end_no_memory(alloc, writer);
+                return end_no_memory(alloc, writer, refusal);
             }
             told_if_lost(refusal)
         }
@@ -99,7 +112,7 @@ fn end<W: Sink>(
 {
     match made {
         Ok(response) => end_with(alloc, writer, &response, refusal),
-        Err(_) => end_no_memory(alloc, writer),
+        Err(_) => end_no_memory(alloc, writer, refusal),
     }
 }
 
@@ -160,7 +173,7 @@ fn serve_request<W: Sink, C: Clerk>(
         Ok(call) => serve_call(alloc, writer, clerk, call, now),
         Err(unrouted) => {
             if unrouted == Unrouted::Refused(Refusal::NoMemory) {
-                return end_no_memory(alloc, writer);
+                return end_no_memory(alloc, writer, None);
             }
             end_unrouted(alloc, writer, unrouted)
         }
@@ -182,7 +195,7 @@ fn serve_fault<W: Sink>(alloc: Global, writer: &mut W, fault: Fault) -> Result<(
         Fault::Cut => Err(ServeError::Cut),
         Fault::ReadFault => Err(ServeError::ReadFault),
         Fault::WriteFault => unreachable!(),
-        Fault::NoMemory => end_no_memory(alloc, writer),
+        Fault::NoMemory => end_no_memory(alloc, writer, None),
         Fault::BadHead => end_fault(alloc, writer, Fault::BadHead),
         Fault::BodyTooLong => end_fault(alloc, writer, Fault::BodyTooLong),
         Fault::HeadTooLong => end_fault(alloc, writer, Fault::HeadTooLong),
@@ -193,7 +206,8 @@ fn serve_fault<W: Sink>(alloc: Global, writer: &mut W, fault: Fault) -> Result<(
 
 /// Reads one request, makes the call that it asks for by the table of paths, and writes one answer. Errors: the clerk's own refusals, E17 to E21,
 /// which are written too and go before a fault of writing; `Cut` and `ReadFault`, behind which nothing is written; `WriteFault`,
-/// before which a prefix of the answer was; and E17 where the memory is refused here: a call that was made then stands.
+/// before which a prefix of the answer was; and E17 where the memory is refused here and the clerk refused nothing: a call that was
+/// made then stands.
 pub fn serve_one<R: Source, W: Sink, C: Clerk>(
     alloc: Global,
     paths: &Paths,
