@@ -14,9 +14,6 @@ use std::time::{Clock, Duration};
 /// The most milliseconds that a test waits for something.
 pub(crate) const MAX_TURNS: u32 = 20_000;
 
-/// A request that begins an LRA.
-pub(crate) const BEGIN: &str = "POST /lra HTTP/1.1\r\nHost: p\r\nContent-Length: 2\r\n\r\n{}";
-
 /// Journals in memory.
 #[derive(Drop)]
 pub(crate) struct InMemory {

@@ -1,9 +1,7 @@
 // Nodes on loopback.
 
 use crate::hanging;
-use crate::loopback::{
-    BEGIN, InMemory, Until, address, answers, comes_to, needs, stopped, take_part,
-};
+use crate::loopback::{InMemory, Until, address, answers, comes_to, needs, stopped, take_part};
 use log::sink::Console;
 use log::{Level, Log, Logged};
 use lra_server::serve;
@@ -22,6 +20,8 @@ const PARTICIPANT: u16 = 18_477;
 
 /// The number of node 1's next fact, behind a begin, a join, a close and what was heard.
 const NEXT: u64 = 5;
+
+const BEGIN: &str = "POST /lra HTTP/1.1\r\nHost: p\r\nContent-Length: 2\r\n\r\n{}";
 
 const BEGUN: &str =
     "HTTP/1.1 201 Created\r\nLong-Running-Action: urn:uuid:00000000-0000-8001-8000-000000000001\r\nContent-Type: application/json\r\nContent-Length: 64\r\nConnection: close\r\n\r\n{\"lra\":\"00000000-0000-8001-8000-000000000001\",\"status\":\"Active\"}";
