@@ -9,4 +9,6 @@ mod loopback;
 #[cfg(test)]
 mod nodes;
 #[cfg(test)]
+mod signals;
+#[cfg(test)]
 mod workers;

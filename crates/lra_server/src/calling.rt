@@ -21,7 +21,7 @@ const PATIENCE: u64 = 10_000;
 /// How many bytes are read at once.
 const BUFFER: usize = 4096;
 
-/// A connection to one address, tried in slices until this moment or until the program is to end.
+/// A connection to one address, tried until this moment; none where the program is to end.
 fn connect_until<R: Wait + Clock + Net<Stream = TcpStream>>(
     rt: &R,
     signal: &Signal,

@@ -24,3 +24,4 @@ mod tally;
 
 pub use opening::{Folder, Stores, Unopened};
 pub use server::serve;
+pub use signal::{Over, Signal};

@@ -25,7 +25,7 @@ pub enum Over {
 
 impl Over {
     /// That a call met this refusal, which ends a run.
-    pub fn by(refusal: Refusal) -> Over {
+    pub(crate) fn by(refusal: Refusal) -> Over {
         match refusal {
             Refusal::JournalFailed => Over::JournalFailed,
             Refusal::Stopped => Over::Stopped,
@@ -46,7 +46,7 @@ impl Over {
     }
 
     /// The refusal that a call met, if it was one.
-    pub fn refusal(self) -> Option<Refusal> {
+    pub(crate) fn refusal(self) -> Option<Refusal> {
         match self {
             Over::JournalFailed => Some(Refusal::JournalFailed),
             Over::Stopped => Some(Refusal::Stopped),
@@ -66,6 +66,7 @@ pub struct Signal {
 }
 
 impl Signal {
+    /// Of a run that goes on.
     pub fn new() -> Signal {
         Signal {
             over: Mutex::new(None),
@@ -89,7 +90,7 @@ impl Signal {
     }
 
     /// Rests so long, or until the program is to end.
-    pub fn rest<R: Wait + Clock>(&self, rt: &R, time: Duration) {
+    pub(crate) fn rest<R: Wait + Clock>(&self, rt: &R, time: Duration) {
         let _rested = self
             .told
             .wait_timeout_while(rt, self.over.lock(rt), time, |over| {
@@ -103,12 +104,12 @@ impl Signal {
     }
 
     /// Whether the program is to end.
-    pub fn has_ended<R: Wait>(&self, rt: &R) -> bool {
+    pub(crate) fn has_ended<R: Wait>(&self, rt: &R) -> bool {
         self.over(rt) == Some(Over::Program)
     }
 
     /// Lets the next run begin, unless the program is to end. It says whether it may begin.
-    pub fn begin<R: Wait>(&self, rt: &R) -> bool {
+    pub(crate) fn begin<R: Wait>(&self, rt: &R) -> bool {
         let mut over = self.over.lock(rt);
         if *over == Some(Over::Program) {
             return false;

@@ -1,0 +1,44 @@
+// Of several causes for the end of a run the weightiest stands, whatever their order.
+
+use crate::loopback::needs;
+use lra_server::{Over, Signal};
+use std::sync::Wait;
+use std::test::Fail;
+
+/// The cause that stands where two are told in this order.
+fn stands<R: Wait>(rt: &R, first: Over, second: Over) -> Option<Over> {
+    let signal = Signal::new();
+    let _first = signal.end(rt, first);
+    let _second = signal.end(rt, second);
+    signal.over(rt)
+}
+
+/// Whether the weightier of two causes stands, whichever comes first.
+fn outweighs<R: Wait>(rt: &R, weightier: Over, other: Over) -> bool {
+    stands(rt, weightier, other) == Some(weightier)
+        && stands(rt, other, weightier) == Some(weightier)
+}
+
+#[test]
+fn the_weightiest_cause_stands(rt: HostRuntime) -> Result<(), Fail> {
+    needs(
+        outweighs(&rt, Over::JournalFailed, Over::Full),
+        "E18 beside an early end",
+    )?;
+    needs(
+        outweighs(&rt, Over::Stopped, Over::RunFull),
+        "E19 beside E20",
+    )?;
+    needs(
+        outweighs(&rt, Over::JournalFailed, Over::TrailLost(7)),
+        "E18 beside E21",
+    )?;
+    needs(
+        outweighs(&rt, Over::JournalFailed, Over::Stopped),
+        "E18 beside E19",
+    )?;
+    needs(
+        outweighs(&rt, Over::Program, Over::JournalFailed),
+        "the program's end beside E18",
+    )
+}
