@@ -1,7 +1,7 @@
 // Of several causes for the end of a run the weightiest stands, whatever their order.
 
 use crate::loopback::needs;
-use lra_server::{Over, Signal};
+use lra_threads::{Over, Signal};
 use std::sync::Wait;
 use std::test::Fail;
 

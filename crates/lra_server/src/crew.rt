@@ -2,15 +2,14 @@
 ghost use Rattle.std.specs.Prelude.{◌≡◌, [], IfSome, None, Some};
 ghost use Rattle.lra_server.specs.Running.{IsFresh};
 
-use crate::guest::Guest;
-use crate::node::Node;
+use crate::refusals::over_by;
 use crate::scribe::enter_all;
 use crate::seat::Seat;
-use crate::signal::Over;
 use crate::taken::Taken;
 use log::{Log, warn};
 use lra_api::Paths;
 use lra_book::{Book, Desk, DeskClerk, DeskPass, Run};
+use lra_threads::{Guest, Node, Over};
 use lra_work::{Open, work};
 use sqlite::Alter;
 use std::alloc::Global;
@@ -63,7 +62,7 @@ fn serve_all<
     let (seat, ending) = work(rt, alloc, &paths, &mut taken, seat, &Open);
     taken.close_served();
     if let Some(refusal) = ending {
-        node.end_run(rt, Over::by(refusal));
+        node.end_run(rt, over_by(refusal));
     }
     let Seat {
         rt: _,

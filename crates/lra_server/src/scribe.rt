@@ -1,14 +1,13 @@
 // The thread that enters what the others hear, in each run of a node.
 
-use crate::node::Node;
-use crate::post::{Letter, Task};
-use crate::signal::Over;
+use crate::refusals::over_by;
 use crate::taken::moment;
 use lra_book::{Call, Clerk, Reply};
 use lra_callback::{Duties, Heard};
 use lra_delta::Delta;
 use lra_facts::Refusal;
 use lra_history::Command;
+use lra_threads::{Letter, Node, Task};
 use lra_work::ending_by;
 use std::alloc::Global;
 use std::net::{Net, TcpListener, TcpStream};
@@ -151,7 +150,7 @@ fn rest<R: Wait + Clock + Net<Listener = TcpListener, Stream = TcpStream>>(
     refusal: Refusal,
 ) {
     match ending_by(refusal) {
-        Some(refusal) => node.end_run(rt, Over::by(refusal)),
+        Some(refusal) => node.end_run(rt, over_by(refusal)),
         None => thread::sleep(rt, Duration::from_millis(REST)),
     }
 }

@@ -1,12 +1,20 @@
 // The clerk of a thread in a run of a node.
 
-use crate::node::Node;
 use lra_book::{Call, Clerk, Reply};
+use lra_delta::Delta;
 use lra_facts::Refusal;
 use lra_history::{Command, CommandReply};
 use lra_states::Act;
+use lra_threads::Node;
 use std::alloc::Global;
 use std::sync::Wait;
+
+/// How many facts of a frame, or duties of a list, count as one call more. The trail keeps each frame and list, so a run with long
+/// ones ends early.
+const SHARE: u64 = 64;
+
+/// How many calls more a frame counts as at most: of the facts that it could tell, many may be purged.
+const MAX_SHARES: u64 = 320;
 
 /// A clerk whose calls are counted, and after whose calls the other threads are told what came of them. That the run is to end is
 /// told by the thread that makes the calls, once the answer is written (`Node::end_if_spent`).
@@ -40,6 +48,42 @@ fn is_completion(call: &Call) -> bool {
     )
 }
 
+/// How many calls more a frame counts as, by the facts between its base and its front.
+fn shares_of(delta: &Delta) -> u64 {
+    let (base, front) = (delta.base(), delta.front());
+    let mut facts = 0u64;
+    for (since, now) in base.as_slice().iter().zip(front.as_slice()) {
+        facts = facts.saturating_add(now.saturating_sub(*since));
+    }
+    (facts / SHARE).min(MAX_SHARES)
+}
+
+/// How many calls a call counts as, by what it hands over.
+fn weight_of_call(call: &Call) -> u64 {
+    match call {
+        Call::Take(delta) => shares_of(delta).saturating_add(1),
+        _ => 1,
+    }
+}
+
+/// How many calls more it counts as, by its reply.
+fn weight_of_reply(reply: &Reply) -> u64 {
+    match reply {
+        Reply::Due(duties) => duties.as_slice().len() as u64 / SHARE,
+        Reply::Gave(delta) => shares_of(delta),
+        _ => 0,
+    }
+}
+
+/// Whether a fact was stored before this reply.
+fn is_stored(reply: &Reply) -> bool {
+    match reply {
+        Reply::Command(CommandReply::Known | CommandReply::Refused(_)) => false,
+        Reply::Command(_) | Reply::Took | Reply::Expired(_) => true,
+        _ => false,
+    }
+}
+
 /// Tells the other threads of a reply.
 fn tell<R: Wait>(rt: &R, node: &Node, reply: &Reply, is_completion: bool) {
     if let Reply::Gave(delta) = reply {
@@ -57,10 +101,13 @@ impl<'n, R: Wait, C: Clerk + Drop> Clerk for Seat<'n, R, C> {
 
     fn call(&mut self, alloc: Global, call: Call, now: u64) -> Result<(), Refusal> {
         let (is_move, completes) = (call.is_move(), is_completion(&call));
+        let weight = weight_of_call(&call);
         match self.clerk.call(alloc, call, now) {
             Ok(()) => {
-                self.node.tally.count(is_move, self.clerk.reply());
-                tell(self.rt, self.node, self.clerk.reply(), completes);
+                let reply = self.clerk.reply();
+                let calls = weight.saturating_add(weight_of_reply(reply));
+                self.node.tally.count(calls, is_move, is_stored(reply));
+                tell(self.rt, self.node, reply, completes);
                 Ok(())
             }
             Err(refusal) => Err(refusal),

@@ -2,13 +2,11 @@
 ghost use Rattle.std.specs.Prelude.{◌≡◌, ◌≤◌, None};
 
 use crate::Stores;
-use crate::address::port_of;
 use crate::begun::{Begun, begun_by};
-use crate::ends::{End, Ends, drain};
-use crate::node::{Failure, Life, Node, life_of, live, open_book};
-use crate::signal::Over;
+use crate::life::{Failure, Life, life_of, live, open_book};
 use log::Log;
-use lra_book::Book;
+use lra_book::{Book, MAX_ENTRIES, MAX_MOVES};
+use lra_threads::{End, Ends, Node, Over, Tally, drain, port_of};
 use sqlite::Alter;
 use std::alloc::{AllocError, Global};
 use std::io::Read;
@@ -17,6 +15,12 @@ use std::sync::{Arc, Wait};
 use std::thread;
 use std::thread::{Scope, Threads};
 use std::time::Clock;
+
+/// How many entries are left for those who are in the midst of a call when a run is ended early.
+const ENTRIES_LEFT: u64 = 64;
+
+/// How many frames are left, likewise: four workers, and the thread that enters.
+const MOVES_LEFT: u64 = 5;
 
 /// What stands on standard error where the program can't go on.
 #[derive(Clone, Copy, PartialEq, Eq, Debug)]
@@ -96,13 +100,21 @@ fn lives_of<R: Net<Listener = TcpListener, Stream = TcpStream>, S: Alter + Drop>
     Ok(lives)
 }
 
+/// A tally by which a run ends before it is full.
+fn tally() -> Tally {
+    Tally::new(
+        (MAX_ENTRIES as u64).saturating_sub(ENTRIES_LEFT),
+        (MAX_MOVES as u64).saturating_sub(MOVES_LEFT),
+    )
+}
+
 /// What the nodes share with their threads.
 fn nodes_of(alloc: Global, nodes: u8, port: u16) -> Result<Vec<Node>, AllocError>
     requires { (1 ≤ nodes) × (nodes ≤ 8) }
 {
     let mut all = Vec::new(alloc);
     for number in 1..=nodes {
-        all.push(Node::new(alloc, number, nodes, port))?;
+        all.push(Node::new(alloc, number, nodes, port, tally()))?;
     }
     Ok(all)
 }

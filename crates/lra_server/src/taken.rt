@@ -1,14 +1,11 @@
 // The connections of a node, as its workers take them.
 ghost use Rattle.std.specs.Prelude.{⊤};
 
-use crate::guest::{Guest, Seen};
-use crate::node::Node;
-use crate::patient::{Haste, Patient};
-use lra_http::{OverRead, OverWrite};
+use lra_threads::{Guest, Haste, LineReader, LineWriter, Node, Seen, Times, Wire, line_over};
 use lra_work::{Arrivals, Connection};
 use std::alloc::Global;
-use std::io::BufReader;
 use std::net::{Net, TcpListener, TcpStream};
+use std::rc::Rc;
 use std::sync::Wait;
 use std::time::{Clock, Duration};
 use std::{io, thread};
@@ -22,19 +19,13 @@ const ANSWER: u64 = 10_000;
 /// How long a worker rests where all that wait are silent, in milliseconds.
 const REST: u64 = 2;
 
-/// How many waiting connections are closed at most so that there are files for one that speaks.
-const MAX_CLOSED: u32 = 8;
-
-/// How many bytes are read at once.
-const BUFFER: usize = 4096;
-
 /// What a worker takes from the queue of its node.
 #[derive(Drop)]
 pub struct Taken<'a, R: Wait + Clock> {
     rt: &'a R,
     alloc: Global,
     node: &'a Node,
-    served: Option<TcpStream>,
+    served: Option<Rc<Wire>>,
 }
 
 /// Milliseconds since 1970, 0 where the clock can't be read.
@@ -45,8 +36,8 @@ pub fn moment(clock: &impl Clock) -> u64 {
     }
 }
 
-/// A buffered reader and a writer over one socket.
-type Ends<'a, R> = Connection<OverRead<BufReader<Patient<'a, R>>>, OverWrite<Patient<'a, R>>>;
+/// A reader and a writer over one socket.
+type Ends<'a, R> = Connection<LineReader<'a, R>, LineWriter<'a, R>>;
 
 impl<'a, R: Wait + Clock> Taken<'a, R> {
     /// From this node's queue, until its run is over.
@@ -59,47 +50,39 @@ impl<'a, R: Wait + Clock> Taken<'a, R> {
         }
     }
 
-    // A socket once more. Where there are no files left for that, the connections are closed that have waited longest.
-    fn more_of(&self, stream: &TcpStream) -> io::Result<TcpStream> {
-        for _turn in 0..MAX_CLOSED {
-            if let Ok(more) = stream.try_clone() {
-                return Ok(more);
-            }
-            self.node.queue.close_first(self.rt);
-        }
-        stream.try_clone()
-    }
-
-    // A reader and a writer over a socket. It is kept once more, to be closed when it is served.
+    // A reader and a writer over a socket. It is kept, to be closed when it is served.
     fn ends_of(&mut self, stream: TcpStream) -> io::Result<Ends<'a, R>> {
-        let other = self.more_of(&stream)?;
-        self.served = Some(self.more_of(&stream)?);
-        let haste = Haste::WithRun;
-        let reader = Patient::new(
+        let times = Times {
+            reading: Duration::from_millis(REQUEST),
+            writing: Duration::from_millis(ANSWER),
+        };
+        let signal = &self.node.signal;
+        let (reader, writer, wire) = line_over(
             self.rt,
-            &self.node.signal,
-            haste,
+            self.alloc,
+            signal,
+            Haste::WithRun,
             stream,
-            Duration::from_millis(REQUEST),
-        );
-        let writer = Patient::new(
-            self.rt,
-            &self.node.signal,
-            haste,
-            other,
-            Duration::from_millis(ANSWER),
-        );
+            times,
+        )?;
+        self.served = Some(wire);
         Ok(Connection {
-            reader: OverRead::new(BufReader::with_capacity(self.alloc, BUFFER, reader)?),
-            writer: OverWrite::new(writer),
+            reader,
+            writer,
             now: moment(self.rt),
         })
     }
 
     /// Closes the connection that was served, so that its client gets the answer whole.
     pub fn close_served(&mut self) {
-        if let Some(stream) = self.served.take() {
-            if let Ok(guest) = Guest::closing(self.rt, stream) {
+        let Some(wire) = self.served.take() else {
+            return;
+        };
+        if wire.is_done() {
+            return;
+        }
+        if let Some(wire) = Rc::into_inner(wire) {
+            if let Ok(guest) = Guest::closing(self.rt, wire.into_stream()) {
                 if let Seen::Silent(guest) = guest.look(self.rt) {
                     let _waiting = self.node.queue.put(self.rt, guest);
                 }
@@ -110,9 +93,9 @@ impl<'a, R: Wait + Clock> Taken<'a, R> {
 
 impl<'a, R: Wait + Clock + Net<Listener = TcpListener, Stream = TcpStream>> Arrivals
     for Taken<'a, R> {
-    type Reader = OverRead<BufReader<Patient<'a, R>>>;
+    type Reader = LineReader<'a, R>;
 
-    type Writer = OverWrite<Patient<'a, R>>;
+    type Writer = LineWriter<'a, R>;
 
     // Nothing is known of what comes. A connection that can't be served is closed.
     ghost gives = { λ _ _ _. ⊤ };

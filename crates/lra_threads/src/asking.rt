@@ -1,15 +1,13 @@
 // The thread that pulls from the other nodes in turn. It outlives the runs of its node.
 
 use crate::address::address_of;
-use crate::guest::set_slices;
+use crate::line::{Times, line_over};
 use crate::node::Node;
-use crate::patient::{Haste, Patient};
+use crate::patient::{Haste, SLICE};
 use lra_delta::Delta;
-use lra_http::{OverRead, OverWrite};
 use lra_id::Front;
 use lra_peer::pull;
 use std::alloc::Global;
-use std::io::BufReader;
 use std::net::{Net, TcpListener, TcpStream};
 use std::sync::Wait;
 use std::time::{Clock, Duration};
@@ -26,9 +24,6 @@ const SHORT_ROUND: u64 = 500;
 /// How long it takes at rest, in milliseconds.
 const LONG_ROUND: u64 = 5_000;
 
-/// How many bytes are read at once.
-const BUFFER: usize = 4096;
-
 /// What another node has beyond a front.
 fn pull_from<R: Wait + Clock + Net<Listener = TcpListener, Stream = TcpStream>>(
     rt: &R,
@@ -39,13 +34,16 @@ fn pull_from<R: Wait + Clock + Net<Listener = TcpListener, Stream = TcpStream>>(
 ) -> Option<Delta> {
     let address = address_of(node.first_port, other);
     let stream = TcpStream::connect_timeout(rt, &address, Duration::from_millis(REACH)).ok()?;
-    set_slices(&stream).ok()?;
-    let half = stream.try_clone().ok()?;
-    let (haste, patience) = (Haste::WithProgram, Duration::from_millis(PATIENCE));
-    let reader = Patient::new(rt, &node.signal, haste, stream, patience);
-    let writer = Patient::new(rt, &node.signal, haste, half, patience);
-    let buffered = BufReader::with_capacity(alloc, BUFFER, reader).ok()?;
-    let (mut reader, mut writer) = (OverRead::new(buffered), OverWrite::new(writer));
+    stream
+        .set_read_timeout(Some(Duration::from_millis(SLICE)))
+        .ok()?;
+    let patience = Duration::from_millis(PATIENCE);
+    let times = Times {
+        reading: patience,
+        writing: patience,
+    };
+    let line = line_over(rt, alloc, &node.signal, Haste::WithProgram, stream, times);
+    let (mut reader, mut writer, _wire) = line.ok()?;
     pull(alloc, &mut reader, &mut writer, front).ok()
 }
 

@@ -1,15 +1,14 @@
 // The threads that call participants. They outlive the runs of their node.
 ghost use Rattle.std.specs.Iterator.{IsFinite};
 
-use crate::guest::set_slices;
+use crate::line::{Times, line_over};
 use crate::node::Node;
-use crate::patient::{Haste, Patient};
+use crate::patient::{Haste, SLICE};
 use crate::signal::Signal;
 use lra_callback::{Answer, Duty, Heard, NetCaller, hear, request_of};
-use lra_http::{OverRead, OverWrite};
 use std::alloc::Global;
 use std::io;
-use std::io::{BufReader, Error, ErrorKind};
+use std::io::{Error, ErrorKind};
 use std::net::{Net, SocketAddr, TcpListener, TcpStream, ToSocketAddrs};
 use std::sync::Wait;
 use std::time::{Clock, Duration};
@@ -17,9 +16,6 @@ use url::{Host, Url};
 
 /// How long a participant may take to be reached, to take its request, and to answer, in milliseconds each.
 const PATIENCE: u64 = 10_000;
-
-/// How many bytes are read at once.
-const BUFFER: usize = 4096;
 
 /// A connection to one address, tried until this moment; none where the program is to end.
 fn connect_until<R: Wait + Clock + Net<Stream = TcpStream>>(
@@ -82,14 +78,18 @@ fn ask<R: Wait + Clock>(
     duty: &Duty,
     stream: TcpStream,
 ) -> Option<Answer> {
-    set_slices(&stream).ok()?;
-    let other = stream.try_clone().ok()?;
-    let (haste, patience) = (Haste::WithProgram, Duration::from_millis(PATIENCE));
-    let reader = Patient::new(rt, &node.signal, haste, stream, patience);
-    let writer = Patient::new(rt, &node.signal, haste, other, patience);
-    let buffered = BufReader::with_capacity(alloc, BUFFER, reader).ok()?;
+    stream
+        .set_read_timeout(Some(Duration::from_millis(SLICE)))
+        .ok()?;
+    let patience = Duration::from_millis(PATIENCE);
+    let times = Times {
+        reading: patience,
+        writing: patience,
+    };
+    let line = line_over(rt, alloc, &node.signal, Haste::WithProgram, stream, times);
+    let (reader, writer, _wire) = line.ok()?;
     let request = request_of(alloc, duty).ok()?;
-    let mut caller = NetCaller::new(OverRead::new(buffered), OverWrite::new(writer));
+    let mut caller = NetCaller::new(reader, writer);
     caller.ask(alloc, &request).ok()
 }
 

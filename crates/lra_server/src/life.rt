@@ -1,24 +1,18 @@
-// A node: its runs, one after another, and the threads that outlive them.
-ghost use Rattle.std.specs.Prelude.{◌≡◌, ◌≤◌, IfOk, IfSome, None};
+// The life of a node: its runs, one after another, and the threads that outlive them.
+ghost use Rattle.std.specs.Prelude.{◌≡◌, IfOk, IfSome, None};
 
-use crate::address::address_of;
-use crate::asking::pull_in_turn;
 use crate::begun::{Begun, begun_by};
-use crate::calling::call_out;
 use crate::crew::named_run;
-use crate::post::Post;
-use crate::queue::Queue;
+use crate::refusals::refusal_of;
 use crate::setbacks::Setbacks;
-use crate::signal::{Over, Signal};
-use crate::tally::Tally;
 use crate::{Stores, Unopened};
 use log::{Log, warn};
 use lra_book::Book;
 use lra_facts::Refusal;
 use lra_id::NodeId;
+use lra_threads::{Node, Over, address_of, call_out, pull_in_turn};
 use sqlite::Alter;
 use std::alloc::Global;
-use std::io::ErrorKind;
 use std::net::{Net, TcpListener, TcpStream};
 use std::sync::Wait;
 use std::thread;
@@ -27,81 +21,6 @@ use std::time::{Clock, Duration};
 
 /// The threads that outlive runs: four that call participants, and one that pulls.
 const HELPERS: usize = 5;
-
-/// How long a node tries to reach its own port, in milliseconds.
-const REACH: u64 = 100;
-
-/// How long it waits before it tries again, in milliseconds.
-const PAUSE: u64 = 10;
-
-/// How often it tries that.
-const MAX_TURNS: u32 = 100;
-
-/// What the threads of a node share besides the desk.
-#[derive(Drop)]
-pub struct Node {
-    pub number: u8,
-    pub nodes: u8,
-    pub first_port: u16,
-    pub queue: Queue,
-    pub signal: Signal,
-    pub tally: Tally,
-    pub post: Post,
-}
-
-impl Node {
-    /// One of so many nodes, of which the first listens at this port.
-    pub fn new(alloc: Global, number: u8, nodes: u8, first_port: u16) -> Node
-        requires { (1 ≤ nodes) × (nodes ≤ 8) }
-    {
-        Node {
-            number,
-            nodes,
-            first_port,
-            queue: Queue::new(alloc),
-            signal: Signal::new(),
-            tally: Tally::new(),
-            post: Post::new(alloc, nodes),
-        }
-    }
-
-    /// Ends the run for this cause: sets the signal, and has the accepting thread look at it.
-    pub fn end_run<R: Wait + Clock + Net<Listener = TcpListener, Stream = TcpStream>>(
-        &self,
-        rt: &R,
-        why: Over,
-    ) {
-        if !self.signal.end(rt, why) && why != Over::Program {
-            return;
-        }
-        self.post.wake(rt);
-        self.knock(rt);
-    }
-
-    /// Ends a run that is nearly full.
-    pub fn end_if_spent<R: Wait + Clock + Net<Listener = TcpListener, Stream = TcpStream>>(
-        &self,
-        rt: &R,
-    ) {
-        if self.tally.is_spent() {
-            self.end_run(rt, Over::Full);
-        }
-    }
-
-    // Connects once to the node's own port, so that the accepting thread looks at the signal. Where the port's queue is full the try
-    // ends with its time: that thread has others to take then, and looks behind each. Where no socket can be had it tries again: that
-    // thread, too, gets none then, and looks each time.
-    fn knock<R: Wait + Clock + Net<Listener = TcpListener, Stream = TcpStream>>(&self, rt: &R) {
-        let address = address_of(self.first_port, self.number);
-        for _turn in 0..MAX_TURNS {
-            match TcpStream::connect_timeout(rt, &address, Duration::from_millis(REACH)) {
-                Err(error) if error.kind() != ErrorKind::TimedOut => {}
-                _ => return,
-            }
-            thread::sleep(rt, Duration::from_millis(PAUSE));
-        }
-    }
-}
 
 /// What a node couldn't do.
 #[derive(Clone, Copy, PartialEq, Eq, Debug)]
@@ -197,7 +116,7 @@ fn warn_of<R: Clock, L: Log>(
 ) {
     let now = rt.monotonic().unwrap_or(Duration::from_millis(0));
     if let Some(over) = over {
-        if let Some(refusal) = over.refusal() {
+        if let Some(refusal) = refusal_of(over) {
             if setbacks.may_warn(now) {
                 warn!(log; "node {}: {}", node.number, refusal);
             }

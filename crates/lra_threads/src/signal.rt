@@ -1,6 +1,5 @@
 // What tells the threads of a node that its run is over.
 
-use lra_facts::Refusal;
 use std::sync::{Condvar, CondvarTimeouts, Mutex, Wait};
 use std::time::{Clock, Duration};
 
@@ -24,16 +23,6 @@ pub enum Over {
 }
 
 impl Over {
-    /// That a call met this refusal, which ends a run.
-    pub(crate) fn by(refusal: Refusal) -> Over {
-        match refusal {
-            Refusal::JournalFailed => Over::JournalFailed,
-            Refusal::Stopped => Over::Stopped,
-            Refusal::TrailLost(number) => Over::TrailLost(number),
-            _ => Over::RunFull,
-        }
-    }
-
     // Which of two causes stands: the weightier, since more is to be done for it.
     fn weight(self) -> u8 {
         match self {
@@ -42,17 +31,6 @@ impl Over {
             Over::JournalFailed => 2,
             Over::Starved => 3,
             Over::Program => 4,
-        }
-    }
-
-    /// The refusal that a call met, if it was one.
-    pub(crate) fn refusal(self) -> Option<Refusal> {
-        match self {
-            Over::JournalFailed => Some(Refusal::JournalFailed),
-            Over::Stopped => Some(Refusal::Stopped),
-            Over::RunFull => Some(Refusal::RunFull),
-            Over::TrailLost(number) => Some(Refusal::TrailLost(number)),
-            Over::Program | Over::Full | Over::Starved => None,
         }
     }
 }
@@ -90,7 +68,7 @@ impl Signal {
     }
 
     /// Rests so long, or until the program is to end.
-    pub(crate) fn rest<R: Wait + Clock>(&self, rt: &R, time: Duration) {
+    pub fn rest<R: Wait + Clock>(&self, rt: &R, time: Duration) {
         let _rested = self
             .told
             .wait_timeout_while(rt, self.over.lock(rt), time, |over| {
@@ -104,12 +82,12 @@ impl Signal {
     }
 
     /// Whether the program is to end.
-    pub(crate) fn has_ended<R: Wait>(&self, rt: &R) -> bool {
+    pub fn has_ended<R: Wait>(&self, rt: &R) -> bool {
         self.over(rt) == Some(Over::Program)
     }
 
     /// Lets the next run begin, unless the program is to end. It says whether it may begin.
-    pub(crate) fn begin<R: Wait>(&self, rt: &R) -> bool {
+    pub fn begin<R: Wait>(&self, rt: &R) -> bool {
         let mut over = self.over.lock(rt);
         if *over == Some(Over::Program) {
             return false;

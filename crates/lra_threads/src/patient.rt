@@ -1,16 +1,23 @@
 // A connection that is read and written with patience, and not for ever.
 
 use crate::signal::Signal;
+use crate::wire::Wire;
 use std::io;
 use std::io::{Error, ErrorKind, Read, Write};
-use std::net::TcpStream;
+use std::rc::Rc;
 use std::sync::Wait;
 use std::time::{Clock, Duration};
+
+/// How long one call of the system may wait for a connection, in milliseconds. A read of one that is served waits less (`Guest`).
+pub const SLICE: u64 = 20;
+
+/// How many bytes an empty socket takes at once, at the least.
+const AT_ONCE: usize = 4096;
 
 /// How long an answer may still take once nobody waits for it any more, in milliseconds.
 const GRACE: u64 = 500;
 
-// A message of ten seconds takes 2,000 slices of 5 milliseconds.
+// A message of ten seconds takes 5,000 slices of 2 milliseconds.
 const MAX_TURNS: u32 = 10_000;
 
 /// When a connection is hurried.
@@ -28,10 +35,14 @@ pub struct Patient<'a, R: Wait + Clock> {
     rt: &'a R,
     signal: &'a Signal,
     haste: Haste,
-    stream: TcpStream,
+    wire: Rc<Wire>,
     patience: Duration,
     until: Option<Duration>,
     hurried: bool,
+    /// Whether something was written.
+    wrote: bool,
+    /// Whether a write waits for a slice at most.
+    sliced: bool,
 }
 
 impl<'a, R: Wait + Clock> Patient<'a, R> {
@@ -40,17 +51,19 @@ impl<'a, R: Wait + Clock> Patient<'a, R> {
         rt: &'a R,
         signal: &'a Signal,
         haste: Haste,
-        stream: TcpStream,
+        wire: Rc<Wire>,
         patience: Duration,
     ) -> Patient<'a, R> {
         Patient {
             rt,
             signal,
             haste,
-            stream,
+            wire,
             patience,
             until: None,
             hurried: false,
+            wrote: false,
+            sliced: false,
         }
     }
 
@@ -84,19 +97,35 @@ impl<'a, R: Wait + Clock> Patient<'a, R> {
         }
         Ok(())
     }
+
+    // Has each write wait for a slice at most. A first one of few bytes waits for nothing.
+    fn slice(&mut self, count: usize) -> io::Result<()> {
+        if !self.sliced && (self.wrote || count > AT_ONCE) {
+            let slice = Duration::from_millis(SLICE);
+            self.wire.stream().set_write_timeout(Some(slice))?;
+            self.sliced = true;
+        }
+        self.wrote = true;
+        Ok(())
+    }
 }
 
 impl<'a, R: Wait + Clock> Read for Patient<'a, R> {
     fn read(&mut self, buf: &mut [u8]) -> io::Result<usize> {
         for _turn in 0..MAX_TURNS {
             self.look()?;
-            match self.stream.read(buf) {
+            let mut stream = self.wire.stream();
+            match stream.read(buf) {
+                Ok(count) => {
+                    self.wire.has_read(count, buf.len());
+                    return Ok(count);
+                }
                 Err(error) if error.kind() == ErrorKind::WouldBlock => {
                     if self.is_given_up() {
                         return Err(Error::from(ErrorKind::TimedOut));
                     }
                 }
-                outcome => return outcome,
+                Err(error) => return Err(error),
             }
         }
         Err(Error::from(ErrorKind::TimedOut))
@@ -105,9 +134,12 @@ impl<'a, R: Wait + Clock> Read for Patient<'a, R> {
 
 impl<'a, R: Wait + Clock> Write for Patient<'a, R> {
     fn write(&mut self, buf: &[u8]) -> io::Result<usize> {
+        self.wire.writes(buf);
         for _turn in 0..MAX_TURNS {
             self.look()?;
-            match self.stream.write(buf) {
+            self.slice(buf.len())?;
+            let mut stream = self.wire.stream();
+            match stream.write(buf) {
                 Err(error) if error.kind() == ErrorKind::WouldBlock => {}
                 outcome => return outcome,
             }
@@ -116,6 +148,6 @@ impl<'a, R: Wait + Clock> Write for Patient<'a, R> {
     }
 
     fn flush(&mut self) -> io::Result<()> {
-        self.stream.flush()
+        Ok(())
     }
 }

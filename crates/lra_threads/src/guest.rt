@@ -5,7 +5,8 @@ use std::io::{ErrorKind, Read};
 use std::net::{Shutdown, TcpStream};
 use std::time::{Clock, Duration};
 
-/// How long the first look at a connection waits for its request, in milliseconds: most come with it.
+/// How long a read of a connection waits, in milliseconds, and so the first look for its request: most come with it. A change of run
+/// waits for such a read.
 const WELCOME: u64 = 2;
 
 /// How long a connection may send nothing, in milliseconds.
@@ -13,9 +14,6 @@ const SILENCE: u64 = 30_000;
 
 /// How long a connection that is served is kept for what its client still sends, in milliseconds.
 const LINGER: u64 = 1_000;
-
-/// How long one call of the system may wait for a connection that is being served, in milliseconds. A change of run waits for it.
-const SLICE: u64 = 5;
 
 /// What is still to come of a connection.
 #[derive(Clone, Copy, PartialEq, Eq)]
@@ -50,7 +48,6 @@ pub enum Seen {
 impl Guest {
     /// A connection that comes now.
     pub fn new<R: Clock>(rt: &R, stream: TcpStream) -> io::Result<Guest> {
-        stream.set_read_timeout(Some(Duration::from_millis(WELCOME)))?;
         let until = rt
             .monotonic()?
             .saturating_add(Duration::from_millis(SILENCE));
@@ -107,17 +104,17 @@ impl Guest {
         }
     }
 
-    // From here on a call of the system may wait, for a slice.
+    // From here on a read waits again.
     fn is_ready(self) -> Seen {
         let Guest {
             stream,
-            stage: _,
+            stage,
             until: _,
         } = self;
-        match set_slices(&stream) {
-            Ok(()) => Seen::Ready(stream),
-            Err(_) => Seen::Gone,
+        if stage == Stage::Asking && stream.set_nonblocking(false).is_err() {
+            return Seen::Gone;
         }
+        Seen::Ready(stream)
     }
 
     // Reads on behind the request.
@@ -132,18 +129,21 @@ impl Guest {
         }
     }
 
+    // The first look. It says how long a read waits, here and later.
+    fn is_welcome<R: Clock>(self, rt: &R) -> Seen {
+        let wait = Duration::from_millis(WELCOME);
+        match self.stream.set_read_timeout(Some(wait)) {
+            Ok(()) => self.asks(rt),
+            Err(_) => Seen::Gone,
+        }
+    }
+
     /// Looks at what has come. The first look waits a little for it, and others for nothing.
     pub fn look<R: Clock>(self, rt: &R) -> Seen {
         match self.stage {
-            Stage::Coming | Stage::Asking => self.asks(rt),
+            Stage::Coming => self.is_welcome(rt),
+            Stage::Asking => self.asks(rt),
             Stage::Closing => self.drains(rt),
         }
     }
-}
-
-/// Has each call of the system wait for a slice at most.
-pub fn set_slices(stream: &TcpStream) -> io::Result<()> {
-    stream.set_nonblocking(false)?;
-    stream.set_read_timeout(Some(Duration::from_millis(SLICE)))?;
-    stream.set_write_timeout(Some(Duration::from_millis(SLICE)))
 }

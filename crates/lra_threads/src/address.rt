@@ -1,0 +1,19 @@
+// Where nodes listen.
+ghost use Rattle.std.specs.Prelude.{◌≡◌, ◌+◌, ◌-◌, ◌^◌, min};
+ghost use Rattle.std.specs.Net.Socket.{socket_port};
+
+use std::net::{Ipv4Addr, SocketAddr, SocketAddrV4};
+
+/// Where a node listens, by the port of the first node: on the loopback interface, one port after another.
+pub fn address_of(first: u16, number: u8) -> SocketAddr
+    ensures port { socket_port result ≡ min (first + (number - 1)) (2 ^ 16 - 1) }
+{
+    SocketAddr::V4(SocketAddrV4::new(Ipv4Addr::LOCALHOST, port_of(first, number)))
+}
+
+/// A node's port.
+pub fn port_of(first: u16, number: u8) -> u16
+    ensures { result ≡ min (first + (number - 1)) (2 ^ 16 - 1) }
+{
+    first.saturating_add(u16::from(number.saturating_sub(1)))
+}

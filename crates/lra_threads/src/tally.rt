@@ -1,0 +1,53 @@
+// How much of a run is used up.
+
+use std::sync::atomic::{AtomicBool, AtomicU64, Ordering};
+
+/// Counts the calls of a run, and those that moved a frame, over all its threads.
+#[derive(Drop)]
+pub struct Tally {
+    max_calls: u64,
+    max_moves: u64,
+    calls: AtomicU64,
+    moves: AtomicU64,
+    stored: AtomicBool,
+}
+
+impl Tally {
+    /// Of runs that end early, at so many calls or so many moves of a frame.
+    pub fn new(max_calls: u64, max_moves: u64) -> Tally {
+        Tally {
+            max_calls,
+            max_moves,
+            calls: AtomicU64::new(0),
+            moves: AtomicU64::new(0),
+            stored: AtomicBool::new(false),
+        }
+    }
+
+    /// Begins a run.
+    pub fn begin(&self) {
+        self.calls.store(0, Ordering::SeqCst);
+        self.moves.store(0, Ordering::SeqCst);
+        self.stored.store(false, Ordering::SeqCst);
+    }
+
+    /// Counts a call that was entered, as so many calls: by whether it moved a frame, and whether a fact was stored.
+    pub fn count(&self, calls: u64, is_move: bool, is_stored: bool) {
+        self.calls.fetch_add(calls, Ordering::SeqCst);
+        self.moves.fetch_add(u64::from(is_move), Ordering::SeqCst);
+        if is_stored {
+            self.stored.store(true, Ordering::SeqCst);
+        }
+    }
+
+    /// Whether the run is to end now, so that no client meets its end.
+    pub fn is_spent(&self) -> bool {
+        self.calls.load(Ordering::SeqCst) >= self.max_calls
+            || self.moves.load(Ordering::SeqCst) >= self.max_moves
+    }
+
+    /// Whether a fact was stored in this run.
+    pub fn has_stored(&self) -> bool {
+        self.stored.load(Ordering::SeqCst)
+    }
+}

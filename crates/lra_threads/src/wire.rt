@@ -1,0 +1,57 @@
+// A socket that its reader and its writer share.
+
+use std::cell::Cell;
+use std::net::TcpStream;
+
+/// A socket that its reader and its writer share, and what they saw on it. One thread has it.
+#[derive(Drop)]
+pub struct Wire {
+    stream: TcpStream,
+    /// Whether the last read took all that had come.
+    is_dry: Cell<bool>,
+    /// Whether what is written is the answer to a request that was read to its end.
+    is_heard: Cell<bool>,
+}
+
+impl Wire {
+    /// Over this socket.
+    pub fn new(stream: TcpStream) -> Wire {
+        Wire {
+            stream,
+            is_dry: Cell::new(false),
+            is_heard: Cell::new(false),
+        }
+    }
+
+    pub(crate) fn stream(&self) -> &TcpStream {
+        &self.stream
+    }
+
+    /// Gives the socket back.
+    pub fn into_stream(self) -> TcpStream {
+        let Wire {
+            stream,
+            is_dry: _,
+            is_heard: _,
+        } = self;
+        stream
+    }
+
+    /// Notes what a read with so much room came to.
+    pub(crate) fn has_read(&self, count: usize, room: usize) {
+        self.is_dry.set(count < room);
+    }
+
+    /// Notes what is written. An answer of the codes 200 to 299 is one to a request that was read to its end.
+    pub(crate) fn writes(&self, bytes: &[u8]) {
+        if bytes.starts_with(b"HTTP/1.1 2") {
+            self.is_heard.set(true);
+        }
+    }
+
+    /// Whether nothing is left of the request that its client could still send. Then the system doesn't reset the connection when it
+    /// is closed, and the client gets the answer whole.
+    pub fn is_done(&self) -> bool {
+        self.is_dry.get() && self.is_heard.get()
+    }
+}
