@@ -1,8 +1,9 @@
 #!/usr/bin/env python3
 """Four services book trips with a coordinator of three nodes, which this starts: python3 demo/trip.py [PROGRAM]
 
-A trip is an LRA. The order begins it and asks hotel, flight and payment over HTTP; each joins it, and the coordinator calls each
-when the trip ends. The exit status is 1 where anything differs from what must be. Standard library alone; a few seconds."""
+PROGRAM is crates/lra_node/out/lra_node, which ./coordinator builds, or --unproved (unproved.py). A trip is an LRA. The order begins it
+and asks hotel, flight and payment over HTTP; each joins it, and the coordinator calls each when the trip ends. The exit status is 1 where
+anything differs from what must be. Standard library alone; a few seconds."""
 import http.client
 import http.server
 import json
@@ -15,8 +16,10 @@ import tempfile
 import threading
 import time
 
+import unproved
+
 TOP = os.path.dirname(os.path.dirname(os.path.abspath(__file__)))
-PROGRAM = sys.argv[1] if len(sys.argv) > 1 else f"{TOP}/crates/lra_node/out/lra_node"
+PROGRAM = unproved.program_of(sys.argv[1]) if len(sys.argv) > 1 else f"{TOP}/crates/lra_node/out/lra_node"
 DONE = {"complete": "Completed", "compensate": "Compensated", "forget": "Forgotten"}
 ALL = ("order", "hotel", "flight", "payment")
 

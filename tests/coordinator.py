@@ -8,6 +8,7 @@ import sys
 import time
 
 TOP = os.path.dirname(os.path.dirname(os.path.abspath(__file__)))
+sys.path.append(f"{TOP}/demo")
 PORT = 18200
 failures = []
 

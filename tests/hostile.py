@@ -2,9 +2,10 @@
 """Treats the built server badly, and looks whether it keeps what it answered: python3 tests/hostile.py [KILLS] [PROGRAM].
 
 It is killed with kill -9 under load KILLS times, 100 by default; has a disk that is full, where this may mount one; journals that are
-read-only, another node's or torn; clients that are silent, slow, gone, send garbage, or flood a node with pulls; 2,048 participants that
-complete at once; a hundred thousand requests; and links to addresses that don't answer. PROGRAM is crates/lra_node/out/lra_node, which
-./coordinator builds. Each check prints a line; the status is 1 where one fails. Standard library alone, some ten minutes."""
+read-only, another node's or torn; clients that are silent, slow, gone, send garbage, or flood a node with pulls; changes of run beside
+half requests; 2,048 participants that complete at once; a hundred thousand requests; and links to addresses that don't answer. PROGRAM
+is crates/lra_node/out/lra_node, which ./coordinator builds, or --unproved (demo/unproved.py). Each check prints a line; the status is 1
+where one fails. Standard library alone, some ten minutes."""
 import http.client
 import http.server
 import multiprocessing
@@ -22,6 +23,7 @@ import threading
 import time
 
 from coordinator import PORT, Server, ask, check, comes_to, finish, shown_by
+import unproved
 
 KILLS = int(sys.argv[1]) if len(sys.argv) > 1 else 100
 NODES, NOBODY = 3, 65534
@@ -367,9 +369,13 @@ def crowd(folder):
     check("it ends with its input then, and had nothing to say", ended == (0, ""), ended)
 
 
+# A pull with a byte of garbage: it is answered 400, and is one of a run's sixteen.
+GARBAGE = b"POST /peer/pull HTTP/1.1\r\nHost: p\r\nContent-Length: 1\r\n\r\n\x09"
+
+
 def flood(seconds, clients):
     """So many clients that each send a pull with a byte of garbage, again and again. Half of them wait for the answer."""
-    text, poll, end = b"POST /peer/pull HTTP/1.1\r\nHost: p\r\nContent-Length: 1\r\n\r\n\x09", selectors.DefaultSelector(), time.monotonic() + seconds
+    poll, end = selectors.DefaultSelector(), time.monotonic() + seconds
 
     def connect(waits):
         it = socket.socket()
@@ -383,7 +389,7 @@ def flood(seconds, clients):
         for key, events in poll.select(0.5):
             try:
                 if events & selectors.EVENT_WRITE:
-                    key.fileobj.send(text)
+                    key.fileobj.send(GARBAGE)
                     if key.data:
                         poll.modify(key.fileobj, selectors.EVENT_READ, key.data)
                         continue
@@ -438,6 +444,31 @@ def flooded(folder):
     ended = server.end()
     took = time.monotonic() - began
     check(f"it ends {took:.1f} seconds behind its input then", ended[0] == 0 and took < 15, ended)
+
+
+def question(text=b"GET /lra HTTP/1.1\r\nHost: h\r\n\r\n"):
+    """How long it takes until a request is answered whole."""
+    began = time.monotonic()
+    with connection(text) as it:
+        while it.recv(4096):
+            pass
+    return time.monotonic() - began
+
+
+def changes(folder):
+    """Changes of run beside two half requests: a client that asks amid one waits for it. Each sixteen pulls bring one at least."""
+    server = Server(1, folder).wait_until_up()
+    until, longest = time.monotonic() + 10, []
+    threading.Thread(target=halves, args=(until,), daemon=True).start()
+    while time.monotonic() < until:
+        waits = []
+        for _ in range(16):
+            question(GARBAGE)
+            waits.append(question())
+        longest.append(max(waits))
+    middle = sorted(longest)[len(longest) // 2] * 1000
+    check(f"of {len(longest)} changes of run half cost a client {middle:.1f} ms at most, the worst {max(longest) * 1000:.1f}", middle < 10, middle)
+    server.end()
 
 
 def memory_of(process):
@@ -515,8 +546,8 @@ def dead_addresses(folder):
 
 def main():
     if len(sys.argv) > 2:
-        Server.program = sys.argv[2]
-    for test in (crowd, wrong_journals, torn, full_disk, flooded, crowded, many_runs, dead_addresses, kills):
+        Server.program = unproved.program_of(sys.argv[2])
+    for test in (crowd, wrong_journals, torn, full_disk, flooded, changes, crowded, many_runs, dead_addresses, kills):
         with tempfile.TemporaryDirectory() as folder:
             test(folder)
     finish()

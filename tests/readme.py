@@ -33,7 +33,7 @@ def scripts():
 
 def curl_lines():
     """The server's words, and the lines of the quick start, each with what README says that it prints, if it says so."""
-    block = re.search(r"\./coordinator (\d) (\d+) .*?\n\n(?=The participant)", README, re.S)
+    block = re.search(r"\./coordinator --unproved (\d) (\d+) .*?\n\n(?=The participant)", README, re.S)
     lines = [it.strip() for it in block[0].split("\n") if it.startswith("    ")]
     pairs = []
     for line in lines:

@@ -1,7 +1,8 @@
 #!/usr/bin/env python3
 """Tests the built server as a user meets it: python3 tests/serve.py [PROGRAM]. Standard library alone; half a minute.
 
-PROGRAM is crates/lra_node/out/lra_node, which ./coordinator builds. Each check prints a line; the status is 1 where one fails."""
+PROGRAM is crates/lra_node/out/lra_node, which ./coordinator builds, or --unproved (demo/unproved.py). Each check prints a line; the
+status is 1 where one fails."""
 import http.server
 import os
 import shutil
@@ -14,6 +15,7 @@ import threading
 import time
 
 from coordinator import PORT, Server, ask, check, comes_to, finish
+import unproved
 
 
 def status(lra, node=1):
@@ -183,7 +185,7 @@ def refusals(folder):
 
 def main():
     if len(sys.argv) > 1:
-        Server.program = sys.argv[1]
+        Server.program = unproved.program_of(sys.argv[1])
     with tempfile.TemporaryDirectory() as folder:
         restart(folder, *three_nodes(folder))
     with tempfile.TemporaryDirectory() as folder:

@@ -1,0 +1,142 @@
+#!/usr/bin/env python3
+"""The server without proofs, to try it out: ./coordinator --unproved N PORT DIR calls this. Standard library alone.
+
+`rt try` compiles a program with checks, runs it in a folder that goes with it, and shows what it printed once it has ended. A server is to
+stay. So this has `rt try` play a long script by the program of crates/lra_node, copies the program while it runs, and keeps it in
+demo/out/unproved, for the text that it was compiled from. An address sanitizer watches it."""
+import glob
+import hashlib
+import os
+import shlex
+import shutil
+import signal
+import socket
+import subprocess
+import sys
+import tempfile
+import time
+
+TOP = os.path.dirname(os.path.dirname(os.path.abspath(__file__)))
+KEPT = f"{TOP}/demo/out/unproved"
+PARTS = ("crates.txt", "crates/*/src/**/*.rt", "crates/*/specs/**/*.antt")
+# Lines of a script that runs for some minutes.
+LINES = 2_000_000
+
+
+def say(text):
+    print(f"coordinator: {text}", file=sys.stderr, flush=True)
+
+
+def text_sum():
+    """What the program is compiled from: the kit, and each file of the crates."""
+    told = hashlib.sha256(subprocess.run(["rt", "doc"], capture_output=True).stdout)
+    for part in PARTS:
+        for path in sorted(glob.glob(part, root_dir=TOP, recursive=True)):
+            with open(f"{TOP}/{path}", "rb") as file:
+                told.update(path.encode() + b"\0" + file.read() + b"\0")
+    return told.hexdigest()
+
+
+def running_in(folder):
+    """The words that run a program which lies in a folder, up to the program, or nothing where none runs."""
+    for path in glob.glob("/proc/[0-9]*/cmdline"):
+        try:
+            with open(path, encoding="utf-8", errors="replace") as file:
+                words = file.read().split("\0")
+        except OSError:
+            continue
+        for i, word in enumerate(words):
+            if word.startswith(f"{folder}/") and word.endswith("/program") and "/ld-linux" in words[0]:
+                return words[: i + 1]
+    return None
+
+
+def keep(words, text):
+    """Keeps a program that runs, with the words that load it."""
+    shutil.rmtree(KEPT, ignore_errors=True)
+    os.makedirs(KEPT)
+    shutil.copy(words[-1], f"{KEPT}/program")
+    with open(f"{KEPT}/lra_node", "w", encoding="utf-8") as file:
+        file.write(f"#!/bin/sh\nexec {shlex.join([*words[:-1], f'{KEPT}/program'])} \"$@\"\n")
+    os.chmod(f"{KEPT}/lra_node", 0o755)
+    with open(f"{KEPT}/text", "w", encoding="utf-8") as file:
+        file.write(text)
+
+
+def compile_for(text):
+    """Has `rt try` compile the program, and keeps it."""
+    say("compiling the server without proofs. This takes some three minutes, once.")
+    with tempfile.TemporaryDirectory() as folder, open(f"{folder}/script", "w+") as script, open(f"{folder}/said", "w+") as said:
+        script.write("show 1 1.1\n" * LINES)
+        script.seek(0)
+        trial = subprocess.Popen(
+            ["rt", "try", "--seconds", "3600", "--", "script", "1"],
+            cwd=f"{TOP}/crates/lra_node",
+            env={**os.environ, "TMPDIR": folder},
+            stdin=script,
+            stdout=said,
+            stderr=said,
+            start_new_session=True,
+        )
+        try:
+            while trial.poll() is None:
+                words = running_in(folder)
+                if words:
+                    return keep(words, text)
+                time.sleep(0.1)
+        finally:
+            if trial.poll() is None:
+                os.killpg(trial.pid, signal.SIGKILL)
+            trial.wait()
+        said.seek(0)
+        raise SystemExit(f"coordinator: rt try didn't come to run the program:\n{said.read()[-2000:]}")
+
+
+def built():
+    """The path of the program, which is compiled where it isn't there for this text."""
+    text = text_sum()
+    try:
+        with open(f"{KEPT}/text", encoding="utf-8") as file:
+            is_kept = file.read() == text
+    except OSError:
+        is_kept = False
+    if not is_kept:
+        compile_for(text)
+    return f"{KEPT}/lra_node"
+
+
+def program_of(word):
+    """The program that a demonstration or a test runs: a path, or the unproved build."""
+    return built() if word == "--unproved" else word
+
+
+def is_open(port):
+    with socket.socket() as it:
+        return it.connect_ex(("127.0.0.1", port)) == 0
+
+
+def tell_when_up(server, words):
+    """Says when all ports answer, unless the server ends before: where its words are wrong it tells how they must be."""
+    while server.poll() is None:
+        ports = range(int(words[1]), int(words[1]) + int(words[0])) if len(words) == 3 and all(map(str.isdigit, words[:2])) else ()
+        if ports and all(map(is_open, ports)):
+            return say(f"the ports {ports[0]} to {ports[-1]} answer. Ctrl-C ends it.")
+        time.sleep(0.05)
+
+
+def serve(words):
+    """Runs the server until Ctrl-C, and gives its status."""
+    program = built()
+    say("this is the unproved build, for trying out: it is slow.")
+    # In a group of its own: Ctrl-C is for this program, which then ends the server's input.
+    server = subprocess.Popen([program, "serve", *words], stdin=subprocess.PIPE, process_group=0)
+    try:
+        tell_when_up(server, words)
+        return server.wait()
+    except KeyboardInterrupt:
+        server.stdin.close()
+        return server.wait()
+
+
+if __name__ == "__main__":
+    sys.exit(serve(sys.argv[1:]))
