@@ -1,5 +1,5 @@
 -- A node's trail, with what happens elsewhere, is a run of the world.
-use Rattle.std.proofs.Common.{◌≡◌, ℕ, List, [], ◌∷◌, refl, sym, ap, subst, ◌∙◌, Option, Some, None}
+use Rattle.std.proofs.Common.{◌≡◌, ◌⊎◌, inl, inr, ℕ, List, [], ◌∷◌, refl, sym, ap, subst, ◌∙◌, Option, Some, None}
 use Rattle.lra_history.specs.Views.{View}
 use Rattle.lra_delta.specs.Frames.{Frame}
 use Rattle.lra_world.specs.declared.event.Event.{Event}
@@ -160,3 +160,13 @@ entry_happens me s a b entry frame served next sent = by (entry_means me s frame
     by : Means me s frame entry.moment entry.call entry.reply b → (t : State) × Follows s (event_of me frame entry) t
     by (Nothing e holds) = (s, subst (λ (o : Option Event). Follows s o s) (sym e) refl)
     by (Something event is u e own steps says holds) = (u, subst (λ (o : Option Event). Follows s o u) (sym e) (is, steps))
+
+-- A call whose answer was lost
+
+pub lost_answer : (me : ℕ) (s : State) (a b found : View) (entry : Entry) (frame : ℕ) → IsServed me s a → IsNext me a entry.call entry.moment entry.reply b → WasSent s frame entry.call entry.reply
+    → (found ≡ a) ⊎ (found ≡ b) → (t : State) × ((t ≡ s) ⊎ Follows s (event_of me frame entry) t) × IsServed me t found
+lost_answer me s a b found entry frame served next sent (inl same) = (s, inl refl, subst (IsServed me s) (sym same) served)
+lost_answer me s a b found entry frame served next sent (inr same) =
+    let went = entry_happens me s a b entry frame served next sent in
+    let meant = entry_meant me s frame a b entry went.0 served next sent went.1 in
+    (went.0, inr went.1, subst (IsServed me went.0) (sym same) meant.served)

@@ -1,5 +1,5 @@
 //! Laws of a node in the world: each function does nothing, and its contract is the law.
-ghost use Rattle.std.specs.Prelude.{◌≡◌, ℕ, List, Ok, Some, length};
+ghost use Rattle.std.specs.Prelude.{◌≡◌, ◌⊎◌, ℕ, List, Ok, Some, length};
 ghost use Rattle.lra_id.specs.Ids.{Id};
 ghost use Rattle.lra_states.specs.declared.status.LraStatus.{LraStatus};
 ghost use Rattle.lra_states.specs.declared.status.MemberStatus.{MemberStatus};
@@ -33,6 +33,16 @@ pub fn an_entry_can_happen()
     ensures { (me : ℕ) (s : State) (a b : View) (entry : Entry) (frame : ℕ) → IsServed me s a →
         IsNext me a entry.call entry.moment entry.reply b → WasSent s frame entry.call entry.reply →
         (t : State) × Follows s (event_of me frame entry) t }
+{}
+
+/// A call whose answer was lost, since the program stopped in it or its journal failed. Where the next start finds what the node held
+/// before the call, or what it holds behind it, the call is no event in the world, or the one that its entry is; and the node is served
+/// by what was found.
+pub fn a_lost_answer_is_at_most_one_event()
+    ensures { (me : ℕ) (s : State) (a b found : View) (entry : Entry) (frame : ℕ) →
+        IsServed me s a → IsNext me a entry.call entry.moment entry.reply b →
+        WasSent s frame entry.call entry.reply → (found ≡ a) ⊎ (found ≡ b) → (t : State)
+        × ((t ≡ s) ⊎ Follows s (event_of me frame entry) t) × IsServed me t found }
 {}
 
 /// What a node answers is what the definitions give for what it holds in the world: of an LRA and of a participant it shows what
