@@ -1,6 +1,5 @@
 """What benches/serve.sh runs."""
 import http.client
-import http.server
 import json
 import os
 import re
@@ -111,10 +110,10 @@ def commits(folder, clients, times):
     return many(clients, times, act)
 
 
-def bare(method, path):
+def bare(method, path, port=PORT):
     """The bytes of one answer, over a plain socket: Python's http.client takes longer for a call than the server does."""
     while True:
-        with socket.create_connection(("127.0.0.1", PORT), 30) as connection:
+        with socket.create_connection(("127.0.0.1", port), 30) as connection:
             connection.sendall(f"{method} {path} HTTP/1.1\r\nHost: p\r\nContent-Length: 0\r\n\r\n".encode())
             answer = b""
             while piece := connection.recv(65536):
@@ -186,39 +185,40 @@ def durable(folder):
         print(f"  ratio of commits a second {calls / rate:.2f}")
 
 
-class Participant(http.server.BaseHTTPRequestHandler):
-    called = []
+def takes_calls(called):
+    """A participant over plain sockets, which answers each call that it is done, and notes when it came."""
+    def run(listener):
+        while True:
+            connection = listener.accept()[0]
+            called.append(time.perf_counter())
+            with connection:
+                connection.recv(65536)
+                connection.sendall(b"HTTP/1.1 200 OK\r\nContent-Length: 0\r\n\r\n")
 
-    def do_PUT(self):
-        Participant.called.append(time.perf_counter())
-        self.send_response(200)
-        self.send_header("Content-Length", "0")
-        self.end_headers()
-
-    def log_message(self, *_):
-        pass
+    listener = socket.create_server(("127.0.0.1", PARTICIPANT))
+    threading.Thread(target=run, args=(listener,), daemon=True).start()
 
 
 def delays():
     """From a close to the participant's call, and from a begin at node 1 to its being shown by node 2."""
-    server = http.server.ThreadingHTTPServer(("127.0.0.1", PARTICIPANT), Participant)
-    threading.Thread(target=server.serve_forever, daemon=True).start()
+    called, to_call, to_other = [], [], []
+    takes_calls(called)
     link = f"http://127.0.0.1:{PARTICIPANT}/k"
-    to_call, to_other = [], []
-    for _ in range(20):
-        lra = ask("POST", "/lra")[1]["lra"]
+    for _ in range(50):
+        time.sleep(0.2)
         start = time.perf_counter()
-        while ask("GET", f"/lra/{lra}", port=PORT + 1)[0] != 200:
-            time.sleep(0.005)
+        lra = re.search(rb"urn:uuid:([0-9a-f-]+)", bare("POST", "/lra"))[1].decode()
+        while not bare("GET", f"/lra/{lra}", PORT + 1).startswith(b"HTTP/1.1 200 "):
+            time.sleep(0.001)
         to_other.append(time.perf_counter() - start)
         ask("PUT", f"/lra/{lra}/join", json.dumps({"compensate": link, "complete": link}))
-        Participant.called.clear()
+        time.sleep(0.2)
+        called.clear()
         start = time.perf_counter()
-        ask("PUT", f"/lra/{lra}/close")
-        while not Participant.called:
+        bare("PUT", f"/lra/{lra}/close")
+        while not called:
             time.sleep(0.001)
-        to_call.append(Participant.called[0] - start)
-    server.shutdown()
+        to_call.append(called[0] - start)
     for what, spans in (("from a close to the participant's call", to_call), ("from a begin to its being shown elsewhere", to_other)):
         print(f"{what:44} median {statistics.median(spans) * 1000:7.1f} ms   longest {max(spans) * 1000:7.1f} ms", flush=True)
 
@@ -259,7 +259,8 @@ def len_of(port):
 
 with tempfile.TemporaryDirectory() as place:
     os.mkdir(f"{place}/a")
-    with Server(1, f"{place}/a"):
+    with Server(1, f"{place}/a") as served:
+        print(f"resident memory, 1 node with nothing {served.resident():30,.0f} MiB", flush=True)
         durable(place)
         statuses(place)
     os.mkdir(f"{place}/b")

@@ -9,57 +9,30 @@ use crate::taken::Taken;
 use log::{Log, warn};
 use lra_api::Paths;
 use lra_book::{Book, Desk, DeskClerk, DeskPass, Run};
-use lra_threads::{Guest, Node, Over};
+use lra_threads::{Node, Over};
 use lra_work::{Open, work};
 use sqlite::Alter;
 use std::alloc::Global;
-use std::io::Error;
 use std::marker::Brand;
 use std::net::{Net, TcpListener, TcpStream};
 use std::sync::Wait;
 use std::sync::ledger::Blank;
 use std::thread;
 use std::thread::{JoinHandle, Scope, Threads};
-use std::time::{Clock, Duration};
+use std::time::Clock;
 
 /// The threads that have a pass: four workers, and the one that enters.
 const SEATS: usize = 5;
-
-/// How long a thread waits where no connection can be had, or no memory, in milliseconds.
-const PAUSE: u64 = 10;
-
-/// What the system answers where the process has no file left.
-const EMFILE: i32 = 24;
-
-/// What it answers where it has none itself.
-const ENFILE: i32 = 23;
-
-/// A table of paths, once there is memory for it; none where the run is over before.
-fn paths_of<R: Wait + Clock>(rt: &R, alloc: Global, node: &Node) -> Option<Paths> {
-    for _ in rt.forever() {
-        if let Ok(paths) = Paths::new(alloc) {
-            return Some(paths);
-        }
-        if node.signal.over(rt).is_some() {
-            return None;
-        }
-        thread::sleep(rt, Duration::from_millis(PAUSE));
-    }
-    unreachable!()
-}
 
 /// Serves what waits, until the run is over.
 fn serve_all<
     R: Wait + Clock + Net<Listener = TcpListener, Stream = TcpStream>,
     J: Run,
     S: Alter + Drop,
->(rt: &R, alloc: Global, node: &Node, clerk: DeskClerk<'_, J, S, R>) -> DeskPass<J> {
-    let Some(paths) = paths_of(rt, alloc, node) else {
-        return clerk.into_pass();
-    };
+>(rt: &R, alloc: Global, node: &Node, paths: &Paths, clerk: DeskClerk<'_, J, S, R>) -> DeskPass<J> {
     let mut taken = Taken::new(rt, alloc, node);
     let seat = Seat { rt, node, clerk };
-    let (seat, ending) = work(rt, alloc, &paths, &mut taken, seat, &Open);
+    let (seat, ending) = work(rt, alloc, paths, &mut taken, seat, &Open);
     taken.close_served();
     if let Some(refusal) = ending {
         node.end_run(rt, over_by(refusal));
@@ -92,6 +65,7 @@ fn play<R: Wait + Clock + Net<Listener = TcpListener, Stream = TcpStream>, J: Ru
     rt: &R,
     alloc: Global,
     node: &Node,
+    paths: &Paths,
     desk: &Desk<J, S>,
     pass: DeskPass<J>,
     place: usize,
@@ -100,35 +74,7 @@ fn play<R: Wait + Clock + Net<Listener = TcpListener, Stream = TcpStream>, J: Ru
     if place == 0 {
         write_all(rt, alloc, node, clerk)
     } else {
-        serve_all(rt, alloc, node, clerk)
-    }
-}
-
-/// Whether no connection can be had since no file is left, for the process or the system.
-fn wants_files(error: &Error) -> bool {
-    matches!(error.raw_os_error(), Some(EMFILE | ENFILE))
-}
-
-/// Takes connections and puts them on the queue, until the run is over. What comes with the end is served in the next run. Where no
-/// file is left for a connection, the one that has waited longest is closed.
-fn accept<R: Wait + Clock>(rt: &R, node: &Node, listener: &TcpListener) {
-    for stream in listener.incoming() {
-        match stream {
-            Ok(stream) => {
-                if let Ok(guest) = Guest::new(rt, stream) {
-                    let _waiting = node.queue.put(rt, guest);
-                }
-            }
-            Err(error) => {
-                if wants_files(&error) {
-                    node.queue.close_first(rt);
-                }
-                thread::sleep(rt, Duration::from_millis(PAUSE));
-            }
-        }
-        if node.signal.over(rt).is_some() {
-            return;
-        }
+        serve_all(rt, alloc, node, paths, clerk)
     }
 }
 
@@ -138,6 +84,7 @@ fn start<'s, E, J: Run + Send + Sync + 's, S: Alter + Send + Drop + 's, R>(
     rt: &'s R,
     alloc: Global,
     node: &'s Node,
+    paths: &'s Paths,
     desk: &'s Desk<J, S>,
     pass: DeskPass<J>,
     place: usize,
@@ -145,12 +92,11 @@ fn start<'s, E, J: Run + Send + Sync + 's, S: Alter + Send + Drop + 's, R>(
 where
     R: Threads + Wait + Clock + Net<Listener = TcpListener, Stream = TcpStream> + Sync,
 {
-    match scope.spawn(move || play(rt, alloc, node, desk, pass, place)) {
+    match scope.spawn(move || play(rt, alloc, node, paths, desk, pass, place)) {
         Ok(thread) => Ok(thread),
         Err(refused) => {
             // The run is over, so this comes back at once.
-            node.signal.end(rt, Over::Starved);
-            node.queue.end(rt);
+            node.end_run(rt, Over::Starved);
             Err((refused.value)())
         }
     }
@@ -162,6 +108,7 @@ fn start_all<'s, E, J: Run + Send + Sync + 's, S: Alter + Send + Drop + 's, R>(
     rt: &'s R,
     alloc: Global,
     node: &'s Node,
+    paths: &'s Paths,
     desk: &'s Desk<J, S>,
     passes: Vec<DeskPass<J>>,
     threads: &mut Vec<JoinHandle<DeskPass<J>>>,
@@ -171,7 +118,7 @@ where
     R: Threads + Wait + Clock + Net<Listener = TcpListener, Stream = TcpStream> + Sync,
 {
     for (place, pass) in passes.into_iter().enumerate() {
-        match start(scope, rt, alloc, node, desk, pass, place) {
+        match start(scope, rt, alloc, node, paths, desk, pass, place) {
             Ok(thread) => {
                 let _ = threads.push(thread);
             }
@@ -197,7 +144,7 @@ fn crew<J: Run + Send + Sync, S: Alter + Send + Drop, R>(
     rt: &R,
     alloc: Global,
     node: &Node,
-    listener: &TcpListener,
+    paths: &Paths,
     desk: &Desk<J, S>,
     passes: Vec<DeskPass<J>>,
 ) -> Vec<DeskPass<J>>
@@ -214,16 +161,16 @@ where
             rt,
             alloc,
             node,
+            paths,
             desk,
             passes,
             &mut threads,
             &mut back,
         );
-        if node.signal.over(rt).is_none() {
-            accept(rt, node, listener);
+        if node.signal.over(rt).is_some() {
+            // (the program's end may have come before the queue began)
+            node.queue.end(rt);
         }
-        node.queue.end(rt);
-        node.post.wake(rt);
         for thread in threads {
             let _ = back.push(thread.join(rt));
         }
@@ -237,7 +184,7 @@ fn run<J: Run + Send + Sync, S: Alter + Send + Drop, R, L>(
     log: &L,
     alloc: Global,
     node: &Node,
-    listener: &TcpListener,
+    paths: &Paths,
     book: Book<S>,
     blank: Blank,
 ) -> Option<Book<S>>
@@ -254,7 +201,7 @@ where
     };
     node.tally.begin();
     node.queue.begin(rt);
-    let passes = crew(rt, alloc, node, listener, &desk, passes);
+    let passes = crew(rt, alloc, node, paths, &desk, passes);
     if passes.len() != SEATS {
         return None;
     }
@@ -271,7 +218,7 @@ pub fn named_run<S: Alter + Send + Drop, R, L>(
     log: &L,
     alloc: Global,
     node: &Node,
-    listener: &TcpListener,
+    paths: &Paths,
     book: Book<S>,
 ) -> Option<Book<S>>
 where
@@ -280,5 +227,5 @@ where
     requires { IsFresh book }
     ensures { IfSome result (λ b. b.opening ≡ None) }
 {
-    run::<Brand, S, R, L>(rt, log, alloc, node, listener, book, Blank::new(5))
+    run::<Brand, S, R, L>(rt, log, alloc, node, paths, book, Blank::new(5))
 }

@@ -7,10 +7,11 @@ use crate::refusals::refusal_of;
 use crate::setbacks::Setbacks;
 use crate::{Stores, Unopened};
 use log::{Log, warn};
+use lra_api::Paths;
 use lra_book::Book;
 use lra_facts::Refusal;
 use lra_id::NodeId;
-use lra_threads::{Node, Over, address_of, call_out, pull_in_turn};
+use lra_threads::{Node, Over, accept, address_of, call_out, pull_in_turn};
 use sqlite::Alter;
 use std::alloc::Global;
 use std::net::{Net, TcpListener, TcpStream};
@@ -19,8 +20,14 @@ use std::thread;
 use std::thread::Threads;
 use std::time::{Clock, Duration};
 
-/// The threads that outlive runs: four that call participants, and one that pulls.
-const HELPERS: usize = 5;
+/// The threads that outlive runs: one that pulls, four that call participants, and one that accepts.
+const HELPERS: usize = 6;
+
+/// The place of the one that accepts.
+const ACCEPTING: usize = 5;
+
+/// How long a node waits where no memory can be had for its table of paths, in milliseconds.
+const PAUSE: u64 = 10;
 
 /// What a node couldn't do.
 #[derive(Clone, Copy, PartialEq, Eq, Debug)]
@@ -153,13 +160,26 @@ fn next_run<R: Wait + Clock, L: Log, S: Stores>(
     }
 }
 
+/// A table of paths, once there is memory for it; none where the program is to end before.
+fn paths_of<R: Wait + Clock>(rt: &R, alloc: Global, node: &Node) -> Option<Paths> {
+    for _ in rt.forever() {
+        if let Ok(paths) = Paths::new(alloc) {
+            return Some(paths);
+        }
+        if node.signal.over(rt).is_some() {
+            return None;
+        }
+        thread::sleep(rt, Duration::from_millis(PAUSE));
+    }
+    unreachable!()
+}
+
 /// The runs of a node, one after another, until the program is to end.
 fn live_on<R, L, S: Stores>(
     rt: &R,
     log: &L,
     alloc: Global,
     node: &Node,
-    listener: &TcpListener,
     stores: &S,
     mut begun: Begun<S::Store>,
 ) -> Result<(), Failure>
@@ -167,10 +187,13 @@ where
     R: Threads + Wait + Clock + Net<Listener = TcpListener, Stream = TcpStream> + Sync,
     L: Log + Sync,
 {
+    let Some(paths) = paths_of(rt, alloc, node) else {
+        return Ok(());
+    };
     let mut setbacks = Setbacks::new();
     for _ in rt.forever() {
         let Begun { book } = begun;
-        let Some(ended) = named_run(rt, log, alloc, node, listener, book) else {
+        let Some(ended) = named_run(rt, log, alloc, node, &paths, book) else {
             return Err(Failure::Run);
         };
         match next_run(rt, log, alloc, node, stores, ended, &mut setbacks)? {
@@ -181,18 +204,31 @@ where
     unreachable!()
 }
 
-/// What the thread at a place does besides the runs.
+/// What the thread at a place does besides the runs: the first pulls, the last accepts, and the others call.
 fn help<R: Wait + Clock + Net<Listener = TcpListener, Stream = TcpStream>>(
     rt: &R,
     alloc: Global,
     node: &Node,
+    listener: &TcpListener,
     place: usize,
 ) {
-    if place > 0 {
+    if place == ACCEPTING {
+        accept(rt, node, listener);
+    } else if place > 0 {
         call_out(rt, alloc, node);
     } else if node.nodes > 1 {
         pull_in_turn(rt, alloc, node);
     }
+}
+
+/// Ends the threads that outlive runs.
+fn end_helpers<R: Wait + Clock + Net<Listener = TcpListener, Stream = TcpStream>>(
+    rt: &R,
+    node: &Node,
+) {
+    node.end_run(rt, Over::Program);
+    node.post.end(rt);
+    node.news.end(rt);
 }
 
 /// A node that is to live: its first run, and its port.
@@ -214,7 +250,7 @@ pub fn life_of<R: Net<Listener = TcpListener, Stream = TcpStream>, S: Alter + Dr
     }
 }
 
-/// The life of a node: its runs, with the threads that call and pull beside them, until the program is to end.
+/// The life of a node: its runs, with the threads that accept, call and pull beside them, until the program is to end.
 pub fn live<R, L, S: Stores + Sync>(
     rt: &R,
     log: &L,
@@ -227,17 +263,20 @@ where
     R: Threads + Wait + Clock + Net<Listener = TcpListener, Stream = TcpStream> + Sync,
     L: Log + Sync,
 {
+    let Life { begun, listener } = life;
+    let listener = &listener;
     thread::scope(thread::scope_env(), rt, move |scope| {
         for place in 0..HELPERS {
-            if scope.spawn(move || help(rt, alloc, node, place)).is_err() {
-                node.post.end(rt);
+            if scope
+                .spawn(move || help(rt, alloc, node, listener, place))
+                .is_err()
+            {
+                end_helpers(rt, node);
                 return Err(Failure::Run);
             }
         }
-        let Life { begun, listener } = life;
-        let outcome = live_on(rt, log, alloc, node, &listener, stores, begun);
-        node.signal.end(rt, Over::Program);
-        node.post.end(rt);
+        let outcome = live_on(rt, log, alloc, node, stores, begun);
+        end_helpers(rt, node);
         outcome
     })
 }

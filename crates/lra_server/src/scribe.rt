@@ -161,6 +161,7 @@ pub fn enter_all<
     C: Clerk + Drop,
 >(rt: &R, alloc: Global, node: &Node, mut clerk: C) -> C {
     for _ in rt.forever() {
+        node.pass_on(rt);
         node.end_if_spent(rt);
         if node.signal.over(rt).is_some() {
             return clerk;

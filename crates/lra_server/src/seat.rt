@@ -16,8 +16,8 @@ const SHARE: u64 = 64;
 /// How many calls more a frame counts as at most: of the facts that it could tell, many may be purged.
 const MAX_SHARES: u64 = 320;
 
-/// A clerk whose calls are counted, and after whose calls the other threads are told what came of them. That the run is to end is
-/// told by the thread that makes the calls, once the answer is written (`Node::end_if_spent`).
+/// A clerk whose calls are counted, and after whose calls is noted what other threads are to go on with. They are told by the thread
+/// that makes the calls, once the answer is written (`Node::pass_on`), and so is the end of the run (`Node::end_if_spent`).
 #[derive(Drop)]
 pub struct Seat<'n, R, C: Clerk> {
     pub rt: &'n R,
@@ -84,13 +84,21 @@ fn is_stored(reply: &Reply) -> bool {
     }
 }
 
-/// Tells the other threads of a reply.
+/// Whether a fact of the node's own was stored before this reply, and not one that another node told.
+fn is_own_fact(reply: &Reply) -> bool {
+    is_stored(reply) && !matches!(reply, Reply::Took)
+}
+
+/// Notes what the other threads and nodes are to go on with behind a reply (`Node::pass_on`).
 fn tell<R: Wait>(rt: &R, node: &Node, reply: &Reply, is_completion: bool) {
     if let Reply::Gave(delta) = reply {
         node.post.learn(rt, &delta.front());
     }
     if stirs(reply) {
         node.post.stir(rt, is_completion);
+    }
+    if is_own_fact(reply) {
+        node.note_fact();
     }
 }
 

@@ -6,7 +6,7 @@ use crate::begun::{Begun, begun_by};
 use crate::life::{Failure, Life, life_of, live, open_book};
 use log::Log;
 use lra_book::{Book, MAX_ENTRIES, MAX_MOVES};
-use lra_threads::{End, Ends, Node, Over, Tally, drain, port_of};
+use lra_threads::{End, Ends, News, Node, Over, Tally, drain, port_of};
 use sqlite::Alter;
 use std::alloc::{AllocError, Global};
 use std::io::Read;
@@ -112,9 +112,11 @@ fn tally() -> Tally {
 fn nodes_of(alloc: Global, nodes: u8, port: u16) -> Result<Vec<Node>, AllocError>
     requires { (1 ≤ nodes) × (nodes ≤ 8) }
 {
+    let news = Arc::new(alloc, News::new())?;
     let mut all = Vec::new(alloc);
     for number in 1..=nodes {
-        all.push(Node::new(alloc, number, nodes, port, tally()))?;
+        let shared = Arc::try_clone(&news)?;
+        all.push(Node::new(alloc, number, nodes, port, tally(), shared))?;
     }
     Ok(all)
 }

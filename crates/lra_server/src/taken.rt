@@ -4,11 +4,11 @@ ghost use Rattle.std.specs.Prelude.{⊤};
 use lra_threads::{Guest, Haste, LineReader, LineWriter, Node, Seen, Times, Wire, line_over};
 use lra_work::{Arrivals, Connection};
 use std::alloc::Global;
+use std::io;
 use std::net::{Net, TcpListener, TcpStream};
 use std::rc::Rc;
 use std::sync::Wait;
 use std::time::{Clock, Duration};
-use std::{io, thread};
 
 /// How long a request may take once it has begun, in milliseconds.
 const REQUEST: u64 = 5_000;
@@ -16,7 +16,7 @@ const REQUEST: u64 = 5_000;
 /// How long its answer may take, in milliseconds.
 const ANSWER: u64 = 10_000;
 
-/// How long a worker rests where all that wait are silent, in milliseconds.
+/// How long a worker rests where nothing comes of all that wait, in milliseconds.
 const REST: u64 = 2;
 
 /// What a worker takes from the queue of its node.
@@ -84,7 +84,7 @@ impl<'a, R: Wait + Clock> Taken<'a, R> {
         if let Some(wire) = Rc::into_inner(wire) {
             if let Ok(guest) = Guest::closing(self.rt, wire.into_stream()) {
                 if let Seen::Silent(guest) = guest.look(self.rt) {
-                    let _waiting = self.node.queue.put(self.rt, guest);
+                    let _waiting = self.node.queue.put_back(self.rt, guest);
                 }
             }
         }
@@ -102,6 +102,7 @@ impl<'a, R: Wait + Clock + Net<Listener = TcpListener, Stream = TcpStream>> Arri
 
     fn next(&mut self) -> Option<Ends<'a, R>> {
         self.close_served();
+        self.node.pass_on(self.rt);
         self.node.end_if_spent(self.rt);
         let mut silent = 0usize;
         for _ in self.rt.forever() {
@@ -112,16 +113,17 @@ impl<'a, R: Wait + Clock + Net<Listener = TcpListener, Stream = TcpStream>> Arri
             match guest.look(self.rt) {
                 // Who is silent makes room for those who speak.
                 Seen::Silent(guest) => {
-                    let waiting = self.node.queue.put(self.rt, guest);
+                    let waiting = self.node.queue.put_back(self.rt, guest);
                     silent = silent.saturating_add(1);
                     if silent >= waiting {
-                        thread::sleep(self.rt, Duration::from_millis(REST));
+                        self.node.queue.rest(self.rt, Duration::from_millis(REST));
                         silent = 0;
                     }
                 }
                 Seen::Gone => {}
                 Seen::Ready(stream) => {
                     if let Ok(connection) = self.ends_of(stream) {
+                        self.node.queue.hand_on(self.rt);
                         return Some(connection);
                     }
                 }

@@ -2,6 +2,7 @@
 
 use crate::address::address_of;
 use crate::line::{Times, line_over};
+use crate::news::Counts;
 use crate::node::Node;
 use crate::patient::{Haste, SLICE};
 use lra_delta::Delta;
@@ -17,6 +18,9 @@ const PATIENCE: u64 = 10_000;
 
 /// How long it may take to be reached, in milliseconds.
 const REACH: u64 = 1_000;
+
+/// How long a node pauses behind each pull, in milliseconds.
+const PAUSE: u64 = 50;
 
 /// How long a round over all other nodes takes at least where something is new, in milliseconds.
 const SHORT_ROUND: u64 = 500;
@@ -47,23 +51,37 @@ fn pull_from<R: Wait + Clock + Net<Listener = TcpListener, Stream = TcpStream>>(
     pull(alloc, &mut reader, &mut writer, front).ok()
 }
 
-/// Pulls from another node, and hands over what is new. It says whether anything is.
+/// What a pull came to.
+#[derive(Clone, Copy, PartialEq, Eq)]
+enum Pulled {
+    /// Something new is handed over.
+    New,
+    /// Nothing is new.
+    Nothing,
+    /// Nothing could be had, or something waits to be taken already.
+    Failed,
+}
+
+/// Pulls from another node, and hands over what is new.
 fn pull_one<R: Wait + Clock + Net<Listener = TcpListener, Stream = TcpStream>>(
     rt: &R,
     alloc: Global,
     node: &Node,
     other: u8,
-) -> bool {
+) -> Pulled {
     let front = node.post.front(rt);
     let Some(delta) = pull_from(rt, alloc, node, other, &front) else {
-        return false;
+        return Pulled::Failed;
     };
     let told = delta.front();
     if told.nodes() != front.nodes() || told.below(&front) {
-        return false;
+        return Pulled::Nothing;
     }
-    node.post.put_delta(rt, delta);
-    true
+    if node.post.put_delta(rt, delta) {
+        Pulled::New
+    } else {
+        Pulled::Failed
+    }
 }
 
 /// How long a pause after a pull is, in milliseconds, by how long a round is to take.
@@ -81,8 +99,20 @@ fn next_other(node: &Node, other: u8) -> u8 {
     if next >= node.nodes { 1 } else { next + 1 }
 }
 
-/// Pulls from the other nodes in turn, until the program is to end: each about twice a second while something is new, every five
-/// seconds at rest.
+/// The next node in turn that told more than was seen, or else the next one.
+fn next_teller(node: &Node, other: u8, told: &Counts, seen: &Counts) -> u8 {
+    let mut next = other;
+    for _turn in 0..node.nodes {
+        next = next_other(node, next);
+        if told.of(next) > seen.of(next) {
+            return next;
+        }
+    }
+    next_other(node, other)
+}
+
+/// Pulls from the other nodes, until the program is to end: from one that told that it has something new at once, if there was a pause
+/// behind the last pull; and from each in turn, about twice a second while that brings anything, every five seconds at rest.
 pub fn pull_in_turn<R: Wait + Clock + Net<Listener = TcpListener, Stream = TcpStream>>(
     rt: &R,
     alloc: Global,
@@ -90,15 +120,25 @@ pub fn pull_in_turn<R: Wait + Clock + Net<Listener = TcpListener, Stream = TcpSt
 ) {
     let mut other = node.number;
     let mut round = SHORT_ROUND;
+    let mut seen = Counts::new();
     for _ in rt.forever() {
-        if node.post.sleep(rt, pause_of(node, round)) {
+        if node.post.sleep(rt, Duration::from_millis(PAUSE)) {
             return;
         }
-        other = next_other(node, other);
-        round = if pull_one(rt, alloc, node, other) {
-            SHORT_ROUND
-        } else {
-            round.saturating_mul(2).min(LONG_ROUND)
+        let Some(told) = node
+            .news
+            .wait(rt, node.number, &seen, pause_of(node, round))
+        else {
+            return;
+        };
+        other = next_teller(node, other, &told, &seen);
+        let pulled = pull_one(rt, alloc, node, other);
+        if pulled != Pulled::Failed {
+            seen.set(other, told.of(other));
+        }
+        round = match pulled {
+            Pulled::New => SHORT_ROUND,
+            Pulled::Nothing | Pulled::Failed => round.saturating_mul(2).min(LONG_ROUND),
         };
     }
 }

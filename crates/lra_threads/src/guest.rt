@@ -58,6 +58,11 @@ impl Guest {
         })
     }
 
+    /// Whether nobody has looked at it yet.
+    pub(crate) fn is_coming(&self) -> bool {
+        self.stage == Stage::Coming
+    }
+
     /// A connection that has its answer. What its client still sends is read on for a moment, so that the answer reaches it; none
     /// where the client is gone already.
     pub fn closing<R: Clock>(rt: &R, stream: TcpStream) -> io::Result<Guest> {

@@ -2,6 +2,7 @@
 ghost use Rattle.std.specs.Prelude.{◌≤◌};
 
 use crate::address::address_of;
+use crate::news::News;
 use crate::post::Post;
 use crate::queue::Queue;
 use crate::signal::{Over, Signal};
@@ -9,7 +10,8 @@ use crate::tally::Tally;
 use std::alloc::Global;
 use std::io::ErrorKind;
 use std::net::{Net, TcpListener, TcpStream};
-use std::sync::Wait;
+use std::sync::atomic::{AtomicBool, Ordering};
+use std::sync::{Arc, Wait};
 use std::thread;
 use std::time::{Clock, Duration};
 
@@ -32,11 +34,20 @@ pub struct Node {
     pub signal: Signal,
     pub tally: Tally,
     pub post: Post,
+    pub news: Arc<News>,
+    has_news: AtomicBool,
 }
 
 impl Node {
-    /// One of so many nodes, of which the first listens at this port. Its runs are as long as the tally says.
-    pub fn new(alloc: Global, number: u8, nodes: u8, first_port: u16, tally: Tally) -> Node
+    /// One of so many nodes, of which the first listens at this port. Its runs are as long as the tally says, and all share the news.
+    pub fn new(
+        alloc: Global,
+        number: u8,
+        nodes: u8,
+        first_port: u16,
+        tally: Tally,
+        news: Arc<News>,
+    ) -> Node
         requires { (1 ≤ nodes) × (nodes ≤ 8) }
     {
         Node {
@@ -47,10 +58,27 @@ impl Node {
             signal: Signal::new(),
             tally,
             post: Post::new(alloc, nodes),
+            news,
+            has_news: AtomicBool::new(false),
         }
     }
 
-    /// Ends the run for this cause: sets the signal, and has the accepting thread look at it.
+    /// Notes that a fact of the node's own was stored.
+    pub fn note_fact(&self) {
+        self.has_news.store(true, Ordering::SeqCst);
+    }
+
+    /// Wakes those who are to go on with what the calls so far came to: who enters, and the other nodes. That is done behind the
+    /// answer, so that no client waits for it.
+    pub fn pass_on<R: Wait>(&self, rt: &R) {
+        self.post.pass_on(rt);
+        if self.has_news.swap(false, Ordering::SeqCst) {
+            self.news.tell(rt, self.number);
+        }
+    }
+
+    /// Ends the run for this cause: sets the signal, and has the threads of the run look at it; at the program's end the accepting
+    /// thread, too.
     pub fn end_run<R: Wait + Clock + Net<Listener = TcpListener, Stream = TcpStream>>(
         &self,
         rt: &R,
@@ -59,8 +87,11 @@ impl Node {
         if !self.signal.end(rt, why) && why != Over::Program {
             return;
         }
+        self.queue.end(rt);
         self.post.wake(rt);
-        self.knock(rt);
+        if why == Over::Program {
+            self.knock(rt);
+        }
     }
 
     /// Ends a run that is nearly full.

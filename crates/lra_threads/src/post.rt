@@ -226,6 +226,30 @@ impl Mail {
         }
     }
 
+    /// Hands those who are to be called to the threads that call, in place of those that no thread has begun with, and says how many
+    /// wait. Who is no longer among them is forgotten, unless it is called now.
+    fn put_duties(&mut self, duties: Duties, now: Duration) -> usize {
+        self.recall();
+        for slip in self.slips.iter_mut() {
+            slip.due = false;
+        }
+        for duty in duties.into_vec() {
+            self.put_due(duty, now);
+        }
+        self.slips.retain(|slip| slip.due || slip.until.is_none());
+        self.due.len()
+    }
+
+    /// Puts what was heard of a participant, and says how many wait to be called. One that is to be called again pauses first.
+    fn hear(&mut self, duty: Duty, pace: Pace, heard: Heard, now: Duration) -> usize {
+        self.hosts.end(&duty, pace);
+        match heard {
+            Heard::Again => self.pause(&duty, now),
+            Heard::Told(_) | Heard::Forgotten => self.put_letter(Letter { duty, heard }),
+        }
+        self.due.len()
+    }
+
     /// Forgets that a participant was called.
     fn drop_slip(&mut self, duty: &Duty) {
         self.slips.retain(|slip| !slip.is_of(duty));
@@ -238,8 +262,10 @@ pub struct Post {
     mail: Mutex<Mail>,
     /// Wakes the thread that enters.
     came: Condvar,
-    /// Wakes those who call and pull.
+    /// Wakes those who call.
     due: Condvar,
+    /// Wakes who sleeps, at the program's end.
+    over: Condvar,
 }
 
 impl Post {
@@ -264,13 +290,21 @@ impl Post {
             }),
             came: Condvar::new(),
             due: Condvar::new(),
+            over: Condvar::new(),
         }
     }
 
-    /// Tells that other participants may be to be called, behind a completion or something else.
+    /// Notes that other participants may be to be called, behind a completion or something else.
     pub fn stir<R: Wait>(&self, rt: &R, is_completion: bool) {
         self.mail.lock(rt).stir(is_completion);
-        self.came.notify_all();
+    }
+
+    /// Wakes the thread that enters, if that was noted.
+    pub fn pass_on<R: Wait>(&self, rt: &R) {
+        let is_stirred = self.mail.lock(rt).stirred;
+        if is_stirred {
+            self.came.notify_all();
+        }
     }
 
     /// Has nothing entered for so long: the journal failed, and questions are to be answered meanwhile.
@@ -290,6 +324,7 @@ impl Post {
         self.mail.lock(rt).ended = true;
         self.came.notify_all();
         self.due.notify_all();
+        self.over.notify_all();
     }
 
     /// Tells how many facts of each node this one has at least.
@@ -339,20 +374,15 @@ impl Post {
         Task::Rest
     }
 
-    /// Hands those who are to be called to the threads that call, in place of those that no thread has begun with. Who is no longer
-    /// among them is forgotten, unless it is called now.
+    /// Hands those who are to be called to the threads that call.
     pub fn put_duties<R: Wait + Clock>(&self, rt: &R, duties: Duties) {
         let now = rt.monotonic().unwrap_or(Duration::from_millis(0));
-        let mut mail = self.mail.lock(rt);
-        mail.recall();
-        for slip in mail.slips.iter_mut() {
-            slip.due = false;
+        let waiting = self.mail.lock(rt).put_duties(duties, now);
+        match waiting {
+            0 => {}
+            1 => self.due.notify_one(),
+            _ => self.due.notify_all(),
         }
-        for duty in duties.into_vec() {
-            mail.put_due(duty, now);
-        }
-        mail.slips.retain(|slip| slip.due || slip.until.is_none());
-        self.due.notify_all();
     }
 
     /// A participant that is to be called. It waits for one whose host may be called, and gives none once the program is to end.
@@ -366,17 +396,16 @@ impl Post {
         mail.take_duty(alloc)
     }
 
-    /// Tells what was heard of a participant that was called at this moment. One that is to be called again pauses first.
+    /// Tells what was heard of a participant that was called at this moment. Its host may be called once more then, by another thread
+    /// too.
     pub fn tell<R: Wait + Clock>(&self, rt: &R, duty: Duty, began: Duration, heard: Heard) {
         let now = rt.monotonic().unwrap_or(Duration::from_millis(0));
-        let mut mail = self.mail.lock(rt);
-        mail.hosts.end(&duty, pace_of(now.saturating_sub(began)));
-        self.due.notify_all();
-        match heard {
-            Heard::Again => mail.pause(&duty, now),
-            Heard::Told(_) | Heard::Forgotten => mail.put_letter(Letter { duty, heard }),
-        }
+        let pace = pace_of(now.saturating_sub(began));
+        let waiting = self.mail.lock(rt).hear(duty, pace, heard, now);
         self.came.notify_all();
+        if waiting > 0 {
+            self.due.notify_one();
+        }
     }
 
     /// Has deadlines looked at once more at once.
@@ -400,19 +429,21 @@ impl Post {
         mail.stir(letter.duty.kind != Kind::Forget && letter.duty.act == Act::Complete);
     }
 
-    /// Hands over what another node told, unless something waits already.
-    pub fn put_delta<R: Wait>(&self, rt: &R, delta: Delta) {
+    /// Hands over what another node told, unless something waits already. It says whether it did.
+    pub fn put_delta<R: Wait>(&self, rt: &R, delta: Delta) -> bool {
         let mut mail = self.mail.lock(rt);
-        if mail.delta.is_none() {
-            mail.delta = Some(delta);
-            self.came.notify_all();
+        if mail.delta.is_some() {
+            return false;
         }
+        mail.delta = Some(delta);
+        self.came.notify_all();
+        true
     }
 
     /// Waits so long, or until the program is to end. It says whether it is to end.
     pub fn sleep<R: Wait + Clock>(&self, rt: &R, time: Duration) -> bool {
         let (mail, _) = self
-            .due
+            .over
             .wait_timeout_while(rt, self.mail.lock(rt), time, |mail| !mail.ended);
         mail.ended
     }

@@ -4,7 +4,7 @@ use crate::guest::Guest;
 use std::alloc::Global;
 use std::collections::VecDeque;
 use std::sync::atomic::{AtomicU64, Ordering};
-use std::sync::{Condvar, Mutex, Wait};
+use std::sync::{Condvar, CondvarTimeouts, Mutex, Wait};
 use std::thread;
 use std::time::{Clock, Duration};
 
@@ -14,12 +14,19 @@ const WATCH: u64 = 100;
 /// How often it looks at most.
 const MAX_LOOKS: u32 = 10_000;
 
+/// How many connections wait at most at which nobody has looked yet. More wait in the system.
+const MAX_COMING: usize = 1_024;
+
 // What lies under the lock.
 #[derive(Drop)]
 struct Waiting {
     guests: VecDeque<Guest>,
+    /// At how many of them nobody has looked yet.
+    coming: usize,
     /// Whether a worker looks, and doesn't sleep.
     watched: bool,
+    /// How many workers sleep.
+    asleep: usize,
     ended: bool,
 }
 
@@ -33,12 +40,31 @@ pub struct Queue {
     count: AtomicU64,
 }
 
+impl Waiting {
+    fn push(&mut self, guest: Guest) {
+        let is_coming = guest.is_coming();
+        if self.guests.push_back(guest).is_ok() && is_coming {
+            self.coming = self.coming.saturating_add(1);
+        }
+    }
+
+    fn pop(&mut self) -> Option<Guest> {
+        let guest = self.guests.pop_front()?;
+        if guest.is_coming() {
+            self.coming = self.coming.saturating_sub(1);
+        }
+        Some(guest)
+    }
+}
+
 impl Queue {
     pub fn new(alloc: Global) -> Queue {
         Queue {
             waiting: Mutex::new(Waiting {
                 guests: VecDeque::new(alloc),
+                coming: 0,
                 watched: false,
+                asleep: 0,
                 ended: false,
             }),
             came: Condvar::new(),
@@ -61,18 +87,54 @@ impl Queue {
     // Puts a connection last. It says how many wait, and whether the worker that looks takes this one.
     fn push<R: Wait>(&self, rt: &R, guest: Guest) -> (usize, bool) {
         let mut waiting = self.waiting.lock(rt);
-        let _refused = waiting.guests.push_back(guest);
+        waiting.push(guest);
         let count = self.tell(&waiting);
         (count, waiting.watched && count <= 1)
     }
 
-    /// Puts a connection last, and says how many wait. One for which there is no memory is closed.
-    pub fn put<R: Wait>(&self, rt: &R, guest: Guest) -> usize {
-        let (count, is_seen) = self.push(rt, guest);
+    /// Puts a connection last that comes now. One for which there is no memory is closed.
+    pub fn put<R: Wait>(&self, rt: &R, guest: Guest) {
+        let (_count, is_seen) = self.push(rt, guest);
         if !is_seen {
             self.came.notify_one();
         }
+    }
+
+    /// Whether as many wait as may at which nobody has looked yet.
+    pub fn is_full<R: Wait>(&self, rt: &R) -> bool {
+        self.waiting.lock(rt).coming >= MAX_COMING
+    }
+
+    /// Puts a connection last of which nothing comes, and says how many wait. Whoever puts it back looks at it again, so nobody is
+    /// woken. One for which there is no memory is closed.
+    pub fn put_back<R: Wait>(&self, rt: &R, guest: Guest) -> usize {
+        let (count, _is_seen) = self.push(rt, guest);
         count
+    }
+
+    /// Wakes a worker that sleeps, if connections wait: the one that looked at them has something else to do now.
+    pub fn hand_on<R: Wait>(&self, rt: &R) {
+        let is_wanted = self.wants_another(rt);
+        if is_wanted {
+            self.came.notify_one();
+        }
+    }
+
+    // Whether connections wait, and a worker sleeps.
+    fn wants_another<R: Wait>(&self, rt: &R) -> bool {
+        let waiting = self.waiting.lock(rt);
+        !waiting.guests.is_empty() && waiting.asleep > 0
+    }
+
+    /// Sleeps so long where nothing comes of all that wait, or until one comes or the run is over.
+    pub fn rest<R: Wait + Clock>(&self, rt: &R, time: Duration) {
+        let mut waiting = self.waiting.lock(rt);
+        if waiting.ended {
+            return;
+        }
+        waiting.asleep = waiting.asleep.saturating_add(1);
+        let (mut waiting, _) = self.came.wait_timeout(rt, waiting, time);
+        waiting.asleep = waiting.asleep.saturating_sub(1);
     }
 
     // Looks for a connection for a moment.
@@ -113,13 +175,15 @@ impl Queue {
         if watches {
             waiting.watched = false;
         }
+        waiting.asleep = waiting.asleep.saturating_add(1);
         let mut waiting = self.came.wait_while(rt, waiting, |waiting| {
             waiting.guests.is_empty() && !waiting.ended
         });
+        waiting.asleep = waiting.asleep.saturating_sub(1);
         if waiting.ended {
             return None;
         }
-        let first = waiting.guests.pop_front();
+        let first = waiting.pop();
         let _left = self.tell(&waiting);
         first
     }
@@ -127,7 +191,7 @@ impl Queue {
     /// Closes the connection that has waited longest.
     pub fn close_first<R: Wait>(&self, rt: &R) {
         let mut waiting = self.waiting.lock(rt);
-        let _closed = waiting.guests.pop_front();
+        let _closed = waiting.pop();
         let _left = self.tell(&waiting);
     }
 

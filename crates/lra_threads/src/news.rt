@@ -1,0 +1,102 @@
+// What the nodes of a program tell one another: that one has something new.
+
+use std::sync::{Condvar, CondvarTimeouts, Mutex, Wait};
+use std::time::{Clock, Duration};
+
+/// How often each of eight nodes told that it has something new.
+#[derive(Clone, Copy)]
+pub struct Counts {
+    each: [u64; 8],
+}
+
+impl Counts {
+    /// Nobody told anything.
+    pub fn new() -> Counts {
+        Counts { each: [0; 8] }
+    }
+
+    /// How often a node told it.
+    pub fn of(&self, number: u8) -> u64 {
+        match self.each.get(usize::from(number.saturating_sub(1))) {
+            Some(count) => *count,
+            None => 0,
+        }
+    }
+
+    /// Has a node have told it so often.
+    pub fn set(&mut self, number: u8, count: u64) {
+        if let Some(place) = self.each.get_mut(usize::from(number.saturating_sub(1))) {
+            *place = count;
+        }
+    }
+
+    // Whether another node has told it more often than was seen.
+    fn exceeds(&self, seen: &Counts, me: u8) -> bool {
+        for number in 1..=8u8 {
+            if number != me && self.of(number) > seen.of(number) {
+                return true;
+            }
+        }
+        false
+    }
+}
+
+// What lies under the lock.
+#[derive(Drop)]
+struct Told {
+    counts: Counts,
+    ended: bool,
+}
+
+/// Where the nodes of a program tell one another that they have something new, so that the others pull it at once.
+#[derive(Drop)]
+pub struct News {
+    told: Mutex<Told>,
+    came: Condvar,
+}
+
+impl News {
+    pub fn new() -> News {
+        News {
+            told: Mutex::new(Told {
+                counts: Counts::new(),
+                ended: false,
+            }),
+            came: Condvar::new(),
+        }
+    }
+
+    /// Tells that a node has something new.
+    pub fn tell<R: Wait>(&self, rt: &R, number: u8) {
+        let mut told = self.told.lock(rt);
+        let count = told.counts.of(number).saturating_add(1);
+        told.counts.set(number, count);
+        self.came.notify_all();
+    }
+
+    /// Sends those home who wait: the program is to end.
+    pub fn end<R: Wait>(&self, rt: &R) {
+        self.told.lock(rt).ended = true;
+        self.came.notify_all();
+    }
+
+    /// Waits so long until another node has told more than was seen. It gives what all have told, or nothing once the program is to
+    /// end.
+    pub fn wait<R: Wait + Clock>(
+        &self,
+        rt: &R,
+        me: u8,
+        seen: &Counts,
+        time: Duration,
+    ) -> Option<Counts> {
+        let (told, _) = self
+            .came
+            .wait_timeout_while(rt, self.told.lock(rt), time, |told| {
+                !told.ended && !told.counts.exceeds(seen, me)
+            });
+        if told.ended {
+            return None;
+        }
+        Some(told.counts)
+    }
+}
