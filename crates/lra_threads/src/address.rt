@@ -1,14 +1,15 @@
 // Where nodes listen.
 ghost use Rattle.std.specs.Prelude.{◌≡◌, ◌+◌, ◌-◌, ◌^◌, min};
-ghost use Rattle.std.specs.Net.Socket.{socket_port};
+ghost use Rattle.std.specs.Net.Socket.{socket_ip, socket_port};
 
-use std::net::{Ipv4Addr, SocketAddr, SocketAddrV4};
+use std::net::{IpAddr, Ipv4Addr, SocketAddr};
 
 /// Where a node listens, by the port of the first node: on the loopback interface, one port after another.
 pub fn address_of(first: u16, number: u8) -> SocketAddr
+    ensures ip { socket_ip result ≡ IpAddr.V4 Ipv4Addr.LOCALHOST }
     ensures port { socket_port result ≡ min (first + (number - 1)) (2 ^ 16 - 1) }
 {
-    SocketAddr::V4(SocketAddrV4::new(Ipv4Addr::LOCALHOST, port_of(first, number)))
+    SocketAddr::new(IpAddr::V4(Ipv4Addr::LOCALHOST), port_of(first, number))
 }
 
 /// A node's port.

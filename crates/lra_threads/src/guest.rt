@@ -47,7 +47,7 @@ pub enum Seen {
 
 impl Guest {
     /// A connection that comes now.
-    pub fn new<R: Clock>(rt: &R, stream: TcpStream) -> io::Result<Guest> {
+    pub(crate) fn new<R: Clock>(rt: &R, stream: TcpStream) -> io::Result<Guest> {
         let until = rt
             .monotonic()?
             .saturating_add(Duration::from_millis(SILENCE));

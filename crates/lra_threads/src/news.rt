@@ -5,18 +5,18 @@ use std::time::{Clock, Duration};
 
 /// How often each of eight nodes told that it has something new.
 #[derive(Clone, Copy)]
-pub struct Counts {
+pub(crate) struct Counts {
     each: [u64; 8],
 }
 
 impl Counts {
     /// Nobody told anything.
-    pub fn new() -> Counts {
+    pub(crate) fn new() -> Counts {
         Counts { each: [0; 8] }
     }
 
     /// How often a node told it.
-    pub fn of(&self, number: u8) -> u64 {
+    pub(crate) fn of(&self, number: u8) -> u64 {
         match self.each.get(usize::from(number.saturating_sub(1))) {
             Some(count) => *count,
             None => 0,
@@ -24,7 +24,7 @@ impl Counts {
     }
 
     /// Has a node have told it so often.
-    pub fn set(&mut self, number: u8, count: u64) {
+    pub(crate) fn set(&mut self, number: u8, count: u64) {
         if let Some(place) = self.each.get_mut(usize::from(number.saturating_sub(1))) {
             *place = count;
         }
@@ -67,7 +67,7 @@ impl News {
     }
 
     /// Tells that a node has something new.
-    pub fn tell<R: Wait>(&self, rt: &R, number: u8) {
+    pub(crate) fn tell<R: Wait>(&self, rt: &R, number: u8) {
         let mut told = self.told.lock(rt);
         let count = told.counts.of(number).saturating_add(1);
         told.counts.set(number, count);
@@ -82,7 +82,7 @@ impl News {
 
     /// Waits so long until another node has told more than was seen. It gives what all have told, or nothing once the program is to
     /// end.
-    pub fn wait<R: Wait + Clock>(
+    pub(crate) fn wait<R: Wait + Clock>(
         &self,
         rt: &R,
         me: u8,

@@ -300,7 +300,7 @@ impl Post {
     }
 
     /// Wakes the thread that enters, if that was noted.
-    pub fn pass_on<R: Wait>(&self, rt: &R) {
+    pub(crate) fn pass_on<R: Wait>(&self, rt: &R) {
         let is_stirred = self.mail.lock(rt).stirred;
         if is_stirred {
             self.came.notify_all();
@@ -314,7 +314,7 @@ impl Post {
     }
 
     /// Has the thread that enters look whether the run is over, also where it is only about to wait.
-    pub fn wake<R: Wait>(&self, rt: &R) {
+    pub(crate) fn wake<R: Wait>(&self, rt: &R) {
         self.mail.lock(rt).hurried = true;
         self.came.notify_all();
     }
@@ -336,7 +336,7 @@ impl Post {
     }
 
     /// How many facts of each node this one has at least.
-    pub fn front<R: Wait>(&self, rt: &R) -> Front {
+    pub(crate) fn front<R: Wait>(&self, rt: &R) -> Front {
         self.mail.lock(rt).front
     }
 
@@ -386,7 +386,7 @@ impl Post {
     }
 
     /// A participant that is to be called. It waits for one whose host may be called, and gives none once the program is to end.
-    pub fn next_duty<R: Wait>(&self, rt: &R, alloc: Global) -> Option<Duty> {
+    pub(crate) fn next_duty<R: Wait>(&self, rt: &R, alloc: Global) -> Option<Duty> {
         let mut mail = self.due.wait_while(rt, self.mail.lock(rt), |mail| {
             mail.hosts.next_of(&mail.due).is_none() && !mail.ended
         });
@@ -398,7 +398,7 @@ impl Post {
 
     /// Tells what was heard of a participant that was called at this moment. Its host may be called once more then, by another thread
     /// too.
-    pub fn tell<R: Wait + Clock>(&self, rt: &R, duty: Duty, began: Duration, heard: Heard) {
+    pub(crate) fn tell<R: Wait + Clock>(&self, rt: &R, duty: Duty, began: Duration, heard: Heard) {
         let now = rt.monotonic().unwrap_or(Duration::from_millis(0));
         let pace = pace_of(now.saturating_sub(began));
         let waiting = self.mail.lock(rt).hear(duty, pace, heard, now);
@@ -430,7 +430,7 @@ impl Post {
     }
 
     /// Hands over what another node told, unless something waits already. It says whether it did.
-    pub fn put_delta<R: Wait>(&self, rt: &R, delta: Delta) -> bool {
+    pub(crate) fn put_delta<R: Wait>(&self, rt: &R, delta: Delta) -> bool {
         let mut mail = self.mail.lock(rt);
         if mail.delta.is_some() {
             return false;
@@ -441,7 +441,7 @@ impl Post {
     }
 
     /// Waits so long, or until the program is to end. It says whether it is to end.
-    pub fn sleep<R: Wait + Clock>(&self, rt: &R, time: Duration) -> bool {
+    pub(crate) fn sleep<R: Wait + Clock>(&self, rt: &R, time: Duration) -> bool {
         let (mail, _) = self
             .over
             .wait_timeout_while(rt, self.mail.lock(rt), time, |mail| !mail.ended);

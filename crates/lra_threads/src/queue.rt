@@ -93,7 +93,7 @@ impl Queue {
     }
 
     /// Puts a connection last that comes now. One for which there is no memory is closed.
-    pub fn put<R: Wait>(&self, rt: &R, guest: Guest) {
+    pub(crate) fn put<R: Wait>(&self, rt: &R, guest: Guest) {
         let (_count, is_seen) = self.push(rt, guest);
         if !is_seen {
             self.came.notify_one();
@@ -101,7 +101,7 @@ impl Queue {
     }
 
     /// Whether as many wait as may at which nobody has looked yet.
-    pub fn is_full<R: Wait>(&self, rt: &R) -> bool {
+    pub(crate) fn is_full<R: Wait>(&self, rt: &R) -> bool {
         self.waiting.lock(rt).coming >= MAX_COMING
     }
 
@@ -189,7 +189,7 @@ impl Queue {
     }
 
     /// Closes the connection that has waited longest.
-    pub fn close_first<R: Wait>(&self, rt: &R) {
+    pub(crate) fn close_first<R: Wait>(&self, rt: &R) {
         let mut waiting = self.waiting.lock(rt);
         let _closed = waiting.pop();
         let _left = self.tell(&waiting);
