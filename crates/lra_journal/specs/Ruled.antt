@@ -6,6 +6,7 @@ use Rattle.lra_forest.specs.declared.record.Record.{Record}
 use Rattle.lra_history.specs.Views.{View}
 use Rattle.lra_history.specs.ViewShape.{HasShape}
 use Rattle.lra_delta.specs.OneRecord.{IsRecordUnder}
+use Rattle.lra_delta.specs.Typed.{IsTypedRecord}
 use Rattle.lra_journal.specs.Schema.{front_tree, lra_tree}
 use Rattle.lra_journal.specs.Stands.{IsHeld}
 
@@ -21,3 +22,7 @@ pub record KeepsRules (view : View) : Type 0 where
   pub small : (node : ℕ) → count view.front node < 2 ^ 48
   pub records : (r : Record) → IsHeld view r → IsRecordUnder view.front r
   pub shape : HasShape view
+
+-- each of its records has the types of one: a deadline of 64 bits, and kept links
+abbrev pub AreTyped : View → Type 0
+AreTyped view = (r : Record) → IsHeld view r → IsTypedRecord r

@@ -1,14 +1,16 @@
 // The journal of a replica.
-ghost use Rattle.std.specs.Prelude.{◌≡◌, ◌≢◌, ◌≤◌, ◌+◌, ◌⊎◌, ℕ, false, IfErr, IfOk, IsTrue, MatchResult, OnErr, OnOk, length};
+ghost use Rattle.std.specs.Prelude.{◌≡◌, ◌≢◌, ◌≤◌, ◌+◌, ◌⊎◌, ℕ, None, false, true, IfErr, IfOk, IsTrue, MatchResult, OnErr, OnOk, length};
 ghost use Rattle.sqlite.specs.Held.{state};
 ghost use Rattle.sqlite.specs.State.{HasCleanDisk, Survives};
+ghost use Rattle.sqlite_disk.specs.Disk.{MoreFaults};
 ghost use Rattle.sqlite.specs.Tree.{Trees};
 ghost use Rattle.lra_facts.specs.declared.refusal.Refusal.TheVariants.{BadFrame, JournalFailed, NoMemory};
 ghost use Rattle.lra_history.specs.Changes.{patched};
 ghost use Rattle.lra_history.specs.Views.{View, empty_view};
 ghost use Rattle.lra_journal.specs.Broken.{IsBrokenAt};
 ghost use Rattle.lra_journal.specs.Keeping.{IsCounted, IsOwn, Keeps};
-ghost use Rattle.lra_journal.specs.NewStores.{IsNew};
+ghost use Rattle.lra_journal.specs.NewStores.{IsNew, MayLeaveNew};
+ghost use Rattle.lra_journal.specs.Ruled.{KeepsRules};
 ghost use Rattle.lra_journal.specs.Stands.{IsPatchOf, Stands};
 ghost use Rattle.lra_journal.specs.Tables.{IsJournal};
 ghost use Rattle.lra_replica.specs.Replicas.{view_of};
@@ -71,6 +73,9 @@ impl<S: Alter> Journal<S> {
         ensures reads { IfOk result (λ r. HasCleanDisk (state S.Store r.0.connection) →
             IsJournal (state S.Store connection) →
             Stands me (state S.Store connection).now.trees (view_of r.1)) }
+        // The replica keeps the rules by which rows are read. So rows that break them aren't opened, where none stands twice.
+        ensures ruled { IfOk result (λ r. HasCleanDisk (state S.Store r.0.connection) →
+            IsOwn (state S.Store connection) → KeepsRules (view_of r.1)) }
         // So much for a book: the journal keeps the replica's view.
         ensures keeps { IfOk result (λ r. Keeps S.Store me r.0 (view_of r.1)) }
         // Where the rows break the format.
@@ -84,15 +89,23 @@ impl<S: Alter> Journal<S> {
         ensures unchanged { IfErr result (λ e. HasCleanDisk (state S.Store e.1) →
             IsOwn (state S.Store connection) → IsTrue (state S.Store e.1).is_open →
             (state S.Store e.1).now ≡ (state S.Store connection).now) }
+        // A connection whose transaction is on is refused, before all else, and comes back as it was.
+        ensures busy { connection.in_transaction ≡ true →
+            MatchResult result (λ _. ⊥) (λ e. (e.0 ≡ JournalFailed) × (e.1 ≡ connection)) }
+        // Of a journal E18 else comes only where the disk failed.
+        ensures failed { IfErr result (λ e. HasCleanDisk (state S.Store e.1) →
+            IsJournal (state S.Store connection) → connection.in_transaction ≡ false →
+            connection.step_limit ≡ None → e.0 ≡ JournalFailed →
+            MoreFaults (state S.Store connection).faults (state S.Store e.1).faults) }
         ensures cause { IfErr result (λ e. (e.0 ≡ NoMemory)
             ⊎ ((e.0 ≡ JournalFailed) ⊎ ((k : ℕ) × (e.0 ≡ BadFrame k)))) }
-        // A stop leaves what it left before, or in the first opening the rows of a view of no facts.
+        // Of a journal a stop leaves what it left before. Of a new store it may also leave the rows of a view of no facts.
         ensures crash { IfOk result
             (λ r. Survives (state S.Store connection) (state S.Store r.0.connection)
-            (λ db. IsNew (state S.Store connection) → Stands me db (empty_view nodes))) }
+            (MayLeaveNew (state S.Store connection) me nodes)) }
         ensures crash_refused { IfErr result
             (λ e. Survives (state S.Store connection) (state S.Store e.1)
-            (λ db. IsNew (state S.Store connection) → Stands me db (empty_view nodes))) }
+            (MayLeaveNew (state S.Store connection) me nodes)) }
     {
         let first = First::of(&connection);
         match opened(alloc, &mut connection, me, nodes) {
@@ -141,6 +154,10 @@ impl<S: Alter> Journal<S> {
             (((state S.Store self.new.connection).now ≡ (state S.Store self.old.connection).now)
             × ((state S.Store self.new.connection).committed
             ≡ (state S.Store self.old.connection).committed)) }
+        // Ok comes only where the connection was open, and it still is.
+        ensures open { HasCleanDisk (state S.Store self.new.connection) →
+            OnOk result (IsTrue (state S.Store self.old.connection).is_open
+            × IsTrue (state S.Store self.new.connection).is_open) }
         // So much for a book: the journal keeps the patched view, or after a refusal the view.
         ensures stored { (me : ℕ) (view : View) →
             Keeps S.Store me self.old view → IsPatchOf view patch.now →

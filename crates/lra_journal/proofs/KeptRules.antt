@@ -1,0 +1,51 @@
+-- A view that rows are of keeps the rules by which they are read, and so does the view of no facts.
+use Rattle.std.proofs.Common.{inl, inr, ◌≡◌, ℕ, ◌<◌, ◌≤◌, ◌-◌, ◌^◌, suc, zero, List, length, sym, subst, arith}
+use Rattle.std.proofs.lemmas.Bool.{cases_lt}
+use Rattle.std.proofs.lemmas.List.{length-replicate}
+use Rattle.sqlite.specs.Order.{Row, column}
+use Rattle.sqlite.specs.Tree.{Trees}
+use Rattle.lra_id.specs.Fronts.{count}
+use Rattle.lra_forest.specs.Forests.{id_of}
+use Rattle.lra_forest.specs.Shape.{AreInShape}
+use Rattle.lra_history.proofs.Covered.{beyond_front}
+use Rattle.lra_history.specs.Views.{View, empty_view}
+use Rattle.lra_history.specs.ViewShape.{HasShape}
+use Rattle.lra_journal.specs.FrontRows.{AreFronts}
+use Rattle.lra_journal.specs.Listings.{AreLraRows}
+use Rattle.lra_journal.specs.Reads.{AreRowsOf}
+use Rattle.lra_journal.specs.Ruled.{KeepsRules}
+use Rattle.lra_journal.specs.Tables.{IsFormed}
+use Rattle.lra_journal.proofs.EmptyTables.{empty_at, none_held}
+use Rattle.lra_journal.proofs.RowsStand.{number_is, ruled}
+use Rattle.lra_journal.proofs.ToldViews.{no_count}
+
+-- the counts that rows tell have 48 bits
+small_in : (me : ℕ) (rows : List Row) (front purges : List ℕ) → AreFronts me rows front purges → (place : ℕ) → count front (suc place) < 2 ^ 48
+small_in me rows front purges are place = elim (cases_lt place (length front)) [
+  | inl within ↦ let said = are.each (suc place) (omega arith) (omega (arith, within)) in omega (arith, (number_is (column said.0 1) (count front (suc place)) said.2.first).1)
+  | inr past ↦ let none : count front (suc place) ≡ 0 = beyond_front front (suc place - 1) (omega (arith, past)) in omega (arith, none)
+]
+
+pub small : (me : ℕ) (rows : List Row) (front purges : List ℕ) → AreFronts me rows front purges → (node : ℕ) → count front node < 2 ^ 48
+small me rows front purges are zero = small_in me rows front purges are 0
+small me rows front purges are (suc place) = small_in me rows front purges are place
+
+pub keeps_rules : (me : ℕ) (db : Trees) (rows lra_rows : List Row) (view : View) → IsFormed db → AreLraRows db lra_rows → AreRowsOf me rows lra_rows view → length view.front ≤ 8 → HasShape view → KeepsRules view
+keeps_rules me db rows lra_rows view formed lras are few shape =
+    record { few = few; small = small me rows view.front view.purges are.fronts; records = ruled me db rows lra_rows view formed lras are; shape = shape }
+
+-- ---- the view of no facts
+
+empty_shape : (nodes : ℕ) → HasShape (empty_view nodes)
+empty_shape nodes = record {
+  homes = λ home some. subst (AreInShape (empty_view nodes).front home) (sym (empty_at nodes (home - 1))) (record { few = omega arith; in_place = λ num r found. absurd cc });
+  purges = λ node. omega arith;
+}
+
+pub empty_keeps_rules : (nodes : ℕ) → nodes ≤ 8 → KeepsRules (empty_view nodes)
+empty_keeps_rules nodes few = record {
+  few = let long : length (empty_view nodes).front ≡ nodes = length-replicate nodes 0 in omega (arith, few, long);
+  small = λ node. let none = no_count nodes (node - 1) in omega (arith, none);
+  records = λ r held. absurd (none_held nodes (id_of r) r held);
+  shape = empty_shape nodes;
+}
