@@ -1,16 +1,17 @@
 -- What a book keeps, with one entry more and where a call isn't stored.
-use Rattle.std.proofs.Common.{◌≡◌, ◌≤◌, ◌<◌, ℕ, Bool, true, false, List, [], ◌∷◌, ◌++◌, None, refl, sym, ap, subst, ◌∙◌, ◌&&◌, not, length, arith, length-append}
+use Rattle.std.proofs.Common.{◌≡◌, ◌⊎◌, inl, inr, ◌≤◌, ◌<◌, ℕ, Bool, Option, Some, true, false, List, [], ◌∷◌, ◌++◌, None, refl, sym, ap, subst, ◌∙◌, ◌&&◌, not, length, arith, length-append}
 use Rattle.std.proofs.lemmas.Bool.Decides.{nat_tests}
 use Rattle.std.specs.Prelude.{IfSome, nat_le, nat_lt}
 use Rattle.lra_facts.specs.declared.refusal.Refusal.TheVariants.{RunFull, Stopped, TrailLost}
 use Rattle.lra_facts.specs.Refusals.{first, unless}
+use Rattle.lra_history.specs.Changes.{Change}
 use Rattle.lra_history.specs.Views.{View}
 use Rattle.lra_book.specs.declared.calls.Call.{Call}
 use Rattle.lra_book.specs.declared.calls.Entry.{Entry}
 use Rattle.lra_book.specs.Books.{BookState, IsBook, refusal_at_once}
 use Rattle.sqlite_trees.specs.declared.store.Store.{Ghosts}
 use Rattle.lra_journal.specs.Keeping.{JournalState, Keeps}
-use Rattle.lra_book.specs.Next.{IsNext}
+use Rattle.lra_book.specs.Next.{IsNext, with_patch}
 use Rattle.lra_book.specs.Trails.{LeadsTo}
 use Rattle.lra_book.proofs.Trails.{legal_on}
 
@@ -44,3 +45,8 @@ has_room book seen asked free = by (not book.stopped) (nat_le seen (length book.
     by true false c d e free = absurd cc
     by true true false d e free = absurd cc
     by true true true d e free = grind (arith, nat_tests, e)
+
+-- what changes has a patch
+pub changed_by : {A : Type 0} (patch : Option Change) (old new : View) → new ≡ with_patch patch old → IfSome patch (λ _. A) → (new ≡ old) ⊎ A
+changed_by None old new is stored = inl is
+changed_by (Some change) old new is stored = inr stored

@@ -1,9 +1,9 @@
 mod Clerked
 mod EachOnce
 mod FittingPatches
+mod FoundBehind
 mod Frames
 mod KeptBooks
-mod Lent
 mod LostBelow
 mod NewPasses
 mod NextViews

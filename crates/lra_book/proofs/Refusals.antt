@@ -9,7 +9,7 @@ use Rattle.lra_book.specs.declared.calls.Call.{Call}
 use Rattle.lra_book.specs.declared.calls.Receipt.{Receipt}
 use Rattle.lra_book.specs.Books.{BookState, IsNotEntered, IsRefusedLate, has_room_for, refusal_at_once}
 use Rattle.lra_book.specs.Clerks.{IsOfClerk}
-use Rattle.lra_book.specs.Looks.{look_of, lost, lost_from}
+use Rattle.lra_book.specs.Looks.{IsRefusedAt, look_of, lost, lost_from}
 
 the_same : (r q : Refusal) → IsOfClerk q → Some q ≡ Some r → IsOfClerk r
 the_same r q of e = subst IsOfClerk (let same : q ≡ r = cc in same) of
@@ -40,3 +40,7 @@ late_of_clerk old new _ late = absurd late
 pub book_of_clerk : {S : Type 0} (old : BookState S) (seen : ℕ) (new : BookState S) (asked : Call) (r : Refusal) → IsNotEntered old seen new asked r → IsOfClerk r
 book_of_clerk old seen new asked r (inl once) = at_once_of_clerk old seen asked r once.0
 book_of_clerk old seen new asked r (inr late) = late_of_clerk old new r late.1
+
+pub refused_of_clerk : {S : Type 0} (old : BookState S) (seen : ℕ) (rs : List Receipt) (new : BookState S) (asked : Call) (r : Refusal) → IsRefusedAt old seen rs new asked r → IsOfClerk r
+refused_of_clerk old seen rs new asked r (inl found) = look_of_clerk old seen rs r found.0
+refused_of_clerk old seen rs new asked r (inr refused) = book_of_clerk old seen new asked r refused.1

@@ -1,5 +1,5 @@
 -- A book as contracts see it, and what a call of it does.
-use Rattle.std.specs.Prelude.{◌≡◌, ◌≤◌, ◌⊎◌, ◌&&◌, ◌||◌, ◌++◌, ◌∷◌, ℕ, Bool, true, false, Option, Some, None, List, [], ◌+◌, IfSome, if◌then◌else◌, length, nat_le, nat_lt}
+use Rattle.std.specs.Prelude.{◌≡◌, ◌≤◌, ◌⊎◌, ◌&&◌, ◌||◌, ◌++◌, ◌∷◌, ℕ, Bool, true, false, Option, Some, None, List, [], ◌+◌, IfSome, IsTrue, if◌then◌else◌, length, nat_le, nat_lt}
 use mathlib.Core.Bool.{not}
 use Rattle.lra_facts.specs.declared.refusal.Refusal.{Refusal}
 use Rattle.lra_facts.specs.declared.refusal.Refusal.TheVariants.{JournalFailed, NoMemory, RunFull, Stopped, TrailLost}
@@ -10,9 +10,11 @@ use Rattle.lra_book.specs.declared.calls.Entry.{Entry}
 use Rattle.lra_book.specs.declared.calls.Receipt.{Receipt}
 use Rattle.lra_book.specs.declared.calls.Reply.{Reply}
 use Rattle.sqlite_trees.specs.declared.store.Store.{Ghosts}
-use Rattle.sqlite.specs.Held.{state}
+use Rattle.sqlite.specs.Held.{Held, state}
+use Rattle.sqlite.specs.State.{HasCleanDisk, Survives}
 use Rattle.sqlite.specs.Tree.{Trees}
-use Rattle.lra_journal.specs.Keeping.{IsCounted, JournalState, Keeps}
+use Rattle.lra_journal.specs.Keeping.{IsCounted, IsOwn, JournalState, Keeps}
+use Rattle.lra_journal.specs.Ruled.{KeepsRules}
 use Rattle.lra_journal.specs.Stands.{Stands}
 use Rattle.lra_journal.specs.Tables.{IsJournal}
 use Rattle.lra_book.specs.Next.{IsNext, is_move}
@@ -94,6 +96,21 @@ IsNotEntered old seen new asked refusal =
 abbrev pub MayCommit : {S : Type 0} → Ghosts S → (old : BookState S) → Call → (now : ℕ) → Trees → Type 0
 MayCommit g old asked now db = IsJournal (state g old.journal.connection) → Stands old.me (state g old.journal.connection).now.trees old.records →
     (reply : Reply) × (next : View) × IsNext old.me old.records asked now reply next × Stands old.me db next
+
+-- The records, and those that come next, keep the rules by which rows are read
+pub record AreRuled {S : Type 0} (old : BookState S) (asked : Call) (now : ℕ) : Type 0 where
+  pub before : KeepsRules old.records
+  pub next : (reply : Reply) (b : View) → IsNext old.me old.records asked now reply b → KeepsRules b
+
+-- A start behind a call. The call left the connection so, a stop may leave these rows of it, and they stand for what is found
+pub record IsStartedBehind {S : Type 0} (g : Ghosts S) (old : BookState S) (asked : Call) (now : ℕ) (left : Held S) (db : Trees) (found : View) : Type 0 where
+  pub own : IsOwn (state g old.journal.opened)
+  pub was_open : IsTrue (state g old.journal.connection).is_open
+  pub survives : Survives (state g old.journal.connection) (state g left) (MayCommit g old asked now)
+  pub clean : HasCleanDisk (state g left)
+  pub may : (state g left).may_leave db
+  pub stands : Stands old.me db found
+  pub rules : KeepsRules found
 
 -- a run began: no entry, and the opening is the view
 pub record IsBegun {S : Type 0} (old new : BookState S) : Type 0 where

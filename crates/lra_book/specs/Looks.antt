@@ -1,12 +1,13 @@
 -- What a look at the trail finds.
-use Rattle.std.specs.Prelude.{◌∷◌, ℕ, Option, Some, None, List, [], if◌then◌else◌, length, nat_le, nat_lt}
+use Rattle.std.specs.Prelude.{◌≡◌, ◌⊎◌, ◌∷◌, ℕ, Option, Some, None, List, [], if◌then◌else◌, length, nat_le, nat_lt}
 use mathlib.Core.Bool.{not}
 use Rattle.lra_facts.specs.declared.refusal.Refusal.{Refusal}
 use Rattle.lra_facts.specs.declared.refusal.Refusal.TheVariants.{Stopped, TrailLost}
 use Rattle.lra_facts.specs.Refusals.{first, unless}
+use Rattle.lra_book.specs.declared.calls.Call.{Call}
 use Rattle.lra_book.specs.declared.calls.Entry.{Entry}
 use Rattle.lra_book.specs.declared.calls.Receipt.{Receipt}
-use Rattle.lra_book.specs.Books.{BookState}
+use Rattle.lra_book.specs.Books.{BookState, IsNotEntered}
 use Rattle.lra_book.specs.Trails.{stands}
 
 -- the lesser of a number and the one found so far
@@ -28,3 +29,9 @@ abbrev pub look_of : {S : Type 0} → BookState S → (seen : ℕ) → List Rece
 look_of book seen receipts =
     first (unless (not book.stopped) Stopped ∷ unless (nat_le seen (length book.trail)) (TrailLost (length book.trail))
     ∷ lost (lost_from book.trail None receipts) ∷ [])
+
+-- why a call at a desk is refused: what a look finds, and nothing changes; else why the book refuses it
+abbrev pub IsRefusedAt : {S : Type 0} → (old : BookState S) → (seen : ℕ) → List Receipt → (new : BookState S) → Call → Refusal → Type 0
+IsRefusedAt old seen receipts new asked refusal =
+    ((look_of old seen receipts ≡ Some refusal) × (new ≡ old))
+    ⊎ ((look_of old seen receipts ≡ None) × IsNotEntered old seen new asked refusal)

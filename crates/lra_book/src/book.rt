@@ -1,14 +1,17 @@
 // The book: what a node holds, its journal, and the trail of the run that is on.
-ghost use Rattle.std.specs.Prelude.{◌≡◌, ◌≢◌, ◌+◌, ◌<◌, ◌≤◌, ◌⊎◌, ◌↔◌, ◌++◌, ◌∷◌, [], ℕ, None, IfErr, IfOk, IfSome, IsSome, IsTrue, OnErr, OnOk, length, vec_capacity};
+ghost use Rattle.std.specs.Prelude.{◌≡◌, ◌≢◌, ◌+◌, ◌<◌, ◌≤◌, ◌⊎◌, ◌↔◌, ◌++◌, ◌∷◌, [], ℕ, None, false, true, IfErr, IfOk, IfSome, IsSome, IsTrue, MatchResult, OnErr, OnOk, length, vec_capacity};
 ghost use Rattle.lra_facts.specs.declared.refusal.Refusal.TheVariants.{BadFrame, JournalFailed, NoMemory};
 ghost use Rattle.sqlite.specs.Held.{state};
 ghost use Rattle.sqlite.specs.State.{HasCleanDisk, Survives};
+ghost use Rattle.sqlite_disk.specs.Disk.{MoreFaults};
+ghost use Rattle.sqlite.specs.Tree.{Trees};
 ghost use Rattle.lra_history.specs.Views.{empty_view};
 ghost use Rattle.lra_replica.specs.Replicas.{Fits, view_of};
 ghost use Rattle.lra_book.specs.Books.{IsBegun, IsEntered, IsEnded, IsLegal, IsNotBegun, IsNotEntered, IsOpened, MayCommit, Stays, has_room_for, moves_in, refusal_at_once};
 ghost use Rattle.lra_journal.specs.Broken.{IsBrokenAt};
 ghost use Rattle.lra_journal.specs.Keeping.{IsOwn, Keeps};
-ghost use Rattle.lra_journal.specs.NewStores.{IsNew};
+ghost use Rattle.lra_journal.specs.NewStores.{IsNew, MayLeaveNew};
+ghost use Rattle.lra_journal.specs.Ruled.{KeepsRules};
 ghost use Rattle.lra_journal.specs.Stands.{Stands};
 ghost use Rattle.lra_journal.specs.Tables.{IsJournal};
 ghost use Rattle.lra_book.specs.Desks.{AreSeen, IsLostBelow};
@@ -218,6 +221,9 @@ impl<S: Alter> Book<S> {
         ensures reads { IfOk result (λ book. HasCleanDisk (state S.Store book.journal.connection) →
             IsJournal (state S.Store connection) →
             Stands me (state S.Store connection).now.trees book.records) }
+        // The records keep the rules by which rows are read. So rows that break them aren't opened, where none stands twice.
+        ensures ruled { IfOk result (λ book. HasCleanDisk (state S.Store book.journal.connection) →
+            IsOwn (state S.Store connection) → KeepsRules book.records) }
         // Why it is refused: where the rows break the format, for lack of memory, or by the database. What the connection shows
         // is left, while it is open.
         ensures place { IfErr result (λ e. HasCleanDisk (state S.Store e.1) →
@@ -228,15 +234,23 @@ impl<S: Alter> Book<S> {
         ensures unchanged { IfErr result (λ e. HasCleanDisk (state S.Store e.1) →
             IsOwn (state S.Store connection) → IsTrue (state S.Store e.1).is_open →
             (state S.Store e.1).now ≡ (state S.Store connection).now) }
+        // A connection whose transaction is on is refused, before all else, and comes back as it was.
+        ensures busy { connection.in_transaction ≡ true →
+            MatchResult result (λ _. ⊥) (λ e. (e.0 ≡ JournalFailed) × (e.1 ≡ connection)) }
+        // Of a journal E18 else comes only where the disk failed.
+        ensures failed { IfErr result (λ e. HasCleanDisk (state S.Store e.1) →
+            IsJournal (state S.Store connection) → connection.in_transaction ≡ false →
+            connection.step_limit ≡ None → e.0 ≡ JournalFailed →
+            MoreFaults (state S.Store connection).faults (state S.Store e.1).faults) }
         ensures cause { IfErr result (λ e. (e.0 ≡ NoMemory)
             ⊎ ((e.0 ≡ JournalFailed) ⊎ ((k : ℕ) × (e.0 ≡ BadFrame k)))) }
-        // A stop leaves what it left before, or in the first opening the rows of a view of no facts.
+        // Of a journal a stop leaves what it left before. Of a new store it may also leave the rows of a view of no facts.
         ensures crash { IfOk result
             (λ book. Survives (state S.Store connection) (state S.Store book.journal.connection)
-            (λ db. IsNew (state S.Store connection) → Stands me db (empty_view nodes))) }
+            (MayLeaveNew (state S.Store connection) me nodes)) }
         ensures crash_refused { IfErr result
             (λ e. Survives (state S.Store connection) (state S.Store e.1)
-            (λ db. IsNew (state S.Store connection) → Stands me db (empty_view nodes))) }
+            (MayLeaveNew (state S.Store connection) me nodes)) }
     {
         match Journal::open(alloc, connection, me, nodes) {
             Ok((journal, replica)) => Ok(Book {
@@ -322,6 +336,17 @@ impl<S: Alter> Book<S> {
         // A stop leaves what it left before, or rows for the view that comes next.
         ensures crash { Survives (state S.Store self.old.journal.connection)
             (state S.Store self.new.journal.connection) (MayCommit S.Store self.old call now) }
+        // While the connection is open, a stop leaves only rows for the records. So no answered call is lost.
+        ensures durable { HasCleanDisk (state S.Store self.new.journal.connection) →
+            IsOwn (state S.Store self.new.journal.opened) →
+            IsTrue (state S.Store self.new.journal.connection).is_open → (db : Trees) →
+            (state S.Store self.new.journal.connection).may_leave db →
+            Stands self.new.me db self.new.records }
+        // A call that changed the records found the connection open, and left it open.
+        ensures open { HasCleanDisk (state S.Store self.new.journal.connection) →
+            OnOk result ((self.new.records ≡ self.old.records)
+            ⊎ (IsTrue (state S.Store self.old.journal.connection).is_open
+            × IsTrue (state S.Store self.new.journal.connection).is_open)) }
         ensures seen { IfOk result (λ receipt. (pass.old ≤ receipt.index)
             × (pass.new ≡ receipt.index + 1)) }
         ensures refused { IfErr result

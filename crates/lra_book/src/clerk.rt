@@ -155,7 +155,7 @@ impl<'a, J: Run, S: Alter, R: Wait> Clerk for DeskClerk<'a, J, S, R> {
     ghost called = { λ old new. DeskCalled J.opening old.pass new.pass };
 
     fn call(&mut self, alloc: Global, call: Call, now: u64) -> Result<(), Refusal> {
-        self.desk.enter(alloc, self.rt, &mut self.pass, call, now)
+        self.desk.call(alloc, self.rt, &mut self.pass, call, now)
     }
 
     fn reply(&self) -> &Reply {

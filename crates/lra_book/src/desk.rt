@@ -1,8 +1,10 @@
 // The desk: a book under one lock, and the passes of the threads that share it.
-ghost use Rattle.std.specs.Prelude.{◌≡◌, ◌+◌, ◌-◌, ◌<◌, ◌≤◌, ◌==◌, ◌++◌, ◌∷◌, [], ℕ, None, Some, IfErr, IfNone, IfOk, IfSome, OnErr, OnOk, count_by, flat_map, length, slice_get, sum_by, vec_len};
+ghost use Rattle.std.specs.Prelude.{◌≡◌, ◌+◌, ◌-◌, ◌<◌, ◌≤◌, ◌==◌, ◌++◌, ◌∷◌, [], ℕ, None, Some, IfErr, IfNone, IfOk, IfSome, IsTrue, OnErr, OnOk, count_by, flat_map, length, slice_get, sum_by, vec_len};
 ghost use Rattle.lra_facts.specs.declared.refusal.Refusal.TheVariants.{NoMemory};
-ghost use Rattle.lra_journal.specs.Keeping.{Keeps};
+ghost use Rattle.sqlite.specs.Held.{state};
+ghost use Rattle.lra_journal.specs.Keeping.{IsOwn, Keeps};
 ghost use Rattle.lra_book.specs.Clerks.{IsOfClerk};
+ghost use Rattle.lra_book.specs.Looks.{IsRefusedAt};
 ghost use Rattle.lra_book.specs.Desks.{AreNew, AreSeen, HasTrail, IsCalled, IsLostBelow, first_stray, first_strange, names, new_pass, strange_of};
 ghost use Rattle.lra_book.specs.Trails.{LeadsTo};
 
@@ -16,7 +18,8 @@ use std::marker::{Brand, Model};
 use std::sync::ledger::{Blank, Ledger, Share};
 use std::sync::{Mutex, Wait, ledger};
 
-/// Which run it is: its ledger, its node, and the view that the node had when it began.
+/// Which run it is: its ledger, its node, the view that the node had when it began, and whether it is known that the journal was
+/// opened on a store of its own.
 pub trait Run: Ledger {
     ghost use Rattle.lra_book.specs.Desks.{Opening};
 
@@ -24,8 +27,10 @@ pub trait Run: Ledger {
 }
 
 impl Run for Brand {
+    ghost use Rattle.std.specs.Prelude.{false};
+
     ghost opening = { record
-        { node = 0; view = record { front = []; purges = []; records = [] } } };
+        { node = 0; view = record { front = []; purges = []; records = [] }; own = false } };
 }
 
 /// What a thread keeps of its calls: what it has seen, a share of the run's ledger, and its receipts.
@@ -57,9 +62,10 @@ pub(crate) struct Locked<J: Run, S: Alter> {
 }
 
 impl<J: Run, S: Alter> Model for Locked<J, S> {
-    ghost use Rattle.std.specs.Prelude.{◌≡◌, Some, length};
+    ghost use Rattle.std.specs.Prelude.{◌≡◌, IsTrue, Some, length};
     ghost use Rattle.std.specs.Coded.{codes};
-    ghost use Rattle.sqlite.specs.Held.{held_code};
+    ghost use Rattle.sqlite.specs.Held.{held_code, state};
+    ghost use Rattle.lra_journal.specs.Keeping.{IsOwn};
     ghost use Rattle.lra_book.specs.Books.{BookState};
 
     ghost Value = { BookState S };
@@ -69,7 +75,8 @@ impl<J: Run, S: Alter> Model for Locked<J, S> {
     ghost view = { λ l. l.book };
 
     ghost invariant = { λ l. (l.book.opening ≡ Some J.opening.view)
-        × (l.book.me ≡ J.opening.node) × (length l.book.trail ≡ l.calls.total) };
+        × (l.book.me ≡ J.opening.node) × (length l.book.trail ≡ l.calls.total)
+        × (IsTrue J.opening.own → IsOwn (state S.Store l.book.journal.opened)) };
 }
 
 impl<J: Run, S: Alter> Locked<J, S> {
@@ -90,7 +97,9 @@ impl<J: Run, S: Alter> Locked<J, S> {
         ensures kept { OnErr result ((pass.new ≡ pass.old)
             × (share.new.amount ≡ share.old.amount)) }
         ensures lost { AreSeen pass.old receipts.now → IfErr result (IsLostBelow pass.old) }
-        ensures refused { IfErr result IsOfClerk }
+        // What a look finds, else why the book refuses the call.
+        ensures refused { IfErr result
+            (IsRefusedAt self.old pass.old receipts.now self.new call) }
     {
         if let Err(refusal) = self.book.look(pass, receipts) {
             return Err(refusal);
@@ -269,6 +278,7 @@ impl<J: Run, S: Alter> Desk<J, S> {
             × (book.me ≡ J.opening.node) × (book.trail ≡ []) }
         requires name { blank.name ≡ J.name }
         requires parts { (blank.parts ≡ J.parts) × (blank.parts ≡ workers) × (1 ≤ workers) }
+        requires own { IsTrue J.opening.own → IsOwn (state S.Store book.journal.opened) }
         ensures passes { IfOk result (λ r. (vec_len r.1 ≡ workers) × AreNew r.1.items) }
         ensures refused { IfErr result (λ e. (e.0 ≡ NoMemory) × (e.1 ≡ book)) }
     {
@@ -286,7 +296,7 @@ impl<J: Run, S: Alter> Desk<J, S> {
 
     /// Makes a call at a moment, and puts its receipt last on the pass's list. There is room for it before the lock is taken.
     /// E17 to E21 leave the pass.
-    pub fn enter<R: Wait>(
+    pub fn call<R: Wait>(
         &self,
         alloc: Global,
         rt: &R,
@@ -327,8 +337,9 @@ impl<J: Run, S: Alter> Desk<J, S> {
         ensures legal { LeadsTo J.opening.node J.opening.view result.1.items result.0.records }
         ensures counted { length result.1.items ≡ sum_by (λ p. p.share) passes.items }
         ensures ended { (result.0.opening ≡ None) × (result.0.me ≡ J.opening.node) }
-        // The journal's rows stand for the records.
+        // The journal's rows stand for the records, where it was opened on a store of its own.
         ensures rows { Keeps S.Store result.0.me result.0.journal result.0.records }
+        ensures own { IsTrue J.opening.own → IsOwn (state S.Store result.0.journal.opened) }
         ensures ok { OnOk result.2
             (strange_of result.1.items (flat_map (λ p. p.receipts) passes.items) ≡ None) }
         ensures err { IfErr result.2 (λ refusal.
@@ -345,47 +356,5 @@ impl<J: Run, S: Alter> Desk<J, S> {
             calls.audit(&mut all);
         }
         (book, trail, found)
-    }
-}
-
-impl<J: Run> DeskPass<J> {
-    /// Makes a call at a desk at a moment, puts its receipt last on the list, and lends it.
-    #[tactic(auto, using(crate::proofs::Lent::lent_trail))]
-    pub fn call<S: Alter, R: Wait>(
-        &mut self,
-        desk: &Desk<J, S>,
-        alloc: Global,
-        rt: &R,
-        call: Call,
-        now: u64,
-    ) -> Result<&Receipt, Refusal>
-        ensures trail { IfOk result
-            (λ r. HasTrail J.opening (self.old.receipts ++ r.now ∷ []) call now r.now) }
-        ensures refused { IfErr result IsOfClerk }
-        ensures lost { IfErr result (IsLostBelow self.old.seen) }
-    {
-        match desk.enter(alloc, rt, self, call, now) {
-            Ok(()) => Ok(self.last()),
-            Err(refusal) => Err(refusal),
-        }
-    }
-}
-
-impl<J: Run, S: Alter> Desk<J, S> {
-    /// Makes a call at a moment, puts its receipt last on the pass's list, and lends it.
-    pub fn call<'m, R: Wait>(
-        &self,
-        alloc: Global,
-        rt: &R,
-        mine: &'m mut DeskPass<J>,
-        call: Call,
-        now: u64,
-    ) -> Result<&'m Receipt, Refusal>
-        ensures trail { IfOk result
-            (λ r. HasTrail J.opening (mine.old.receipts ++ r.now ∷ []) call now r.now) }
-        ensures refused { IfErr result IsOfClerk }
-        ensures lost { IfErr result (IsLostBelow mine.old.seen) }
-    {
-        mine.call(self, alloc, rt, call, now)
     }
 }

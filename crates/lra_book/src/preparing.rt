@@ -1,5 +1,5 @@
 // What a call comes to, and carrying it out.
-ghost use Rattle.std.specs.Prelude.{◌≡◌, ◌≤◌, ◌<◌, ◌⊎◌, ℕ, Err, IfErr, IfOk, IfSome, OnErr, OnOk, length};
+ghost use Rattle.std.specs.Prelude.{◌≡◌, ◌≤◌, ◌<◌, ◌⊎◌, ℕ, Err, IfErr, IfOk, IfSome, IsTrue, OnErr, OnOk, length};
 ghost use Rattle.lra_facts.specs.declared.refusal.Refusal.TheVariants.{JournalFailed, NoMemory};
 ghost use Rattle.lra_history.specs.declared.command.Command.TheVariants.{Decide};
 ghost use Rattle.lra_history.specs.Next.{member_shown_on, next_view, overdue_on, reply_on, shown_on};
@@ -11,7 +11,7 @@ ghost use Rattle.lra_journal.specs.Keeping.{Keeps};
 ghost use Rattle.lra_journal.specs.Stands.{IsPatchOf, Stands};
 ghost use Rattle.lra_journal.specs.Tables.{IsJournal};
 ghost use Rattle.sqlite.specs.Held.{state};
-ghost use Rattle.sqlite.specs.State.{Survives};
+ghost use Rattle.sqlite.specs.State.{HasCleanDisk, Survives};
 ghost use Rattle.lra_book.specs.declared.calls.Reply.TheVariants.{Due};
 ghost use Rattle.lra_book.specs.Books.{IsStoreFault};
 ghost use Rattle.lra_book.specs.Next.{IsListing, IsNext, IsTakeReply, expire_reply, expired, member_reply, pull_reply, status_reply, view_expired, with_patch};
@@ -249,6 +249,9 @@ fn store<S: Alter>(
         (λ db. IsJournal (state S.Store journal.old.connection) →
         (me : ℕ) (view : View) → Stands me (state S.Store journal.old.connection).now.trees view →
         IfSome patch.now (IsPatchOf view) → Stands me db (with_patch patch.now view)) }
+    ensures open { HasCleanDisk (state S.Store journal.new.connection) →
+        OnOk result (IfSome patch.now (λ _. IsTrue (state S.Store journal.old.connection).is_open
+        × IsTrue (state S.Store journal.new.connection).is_open)) }
     ensures opened { journal.new.opened ≡ journal.old.opened }
     ensures cause { IfErr result (IsStoreFault journal.old journal.new) }
 {
@@ -278,6 +281,10 @@ pub fn carry_out<S: Alter>(
         (λ db. IsJournal (state S.Store journal.old.connection) → (me : ℕ) →
         Stands me (state S.Store journal.old.connection).now.trees (view_of replica.old) →
         Stands me db (with_patch patch (view_of replica.old))) }
+    // What is changed was stored, and the connection is open.
+    ensures open { HasCleanDisk (state S.Store journal.new.connection) →
+        OnOk result (IfSome patch (λ _. IsTrue (state S.Store journal.old.connection).is_open
+        × IsTrue (state S.Store journal.new.connection).is_open)) }
     ensures opened { journal.new.opened ≡ journal.old.opened }
     ensures cause { IfErr result (IsStoreFault journal.old journal.new) }
 {

@@ -1,5 +1,5 @@
 use Rattle.std.proofs.Common.{Option, subst, sym}
-use Rattle.std.specs.Prelude.{IfSome, OnOk}
+use Rattle.std.specs.Prelude.{IfSome, IsTrue, OnOk}
 use Rattle.lra_history.specs.Changes.{Change}
 use Rattle.lra_journal.specs.Keeping.{Keeps}
 use Rattle.sqlite.specs.Held.{state}
@@ -22,3 +22,9 @@ returns-in-Some-clause-crash g c =
 
 pub returns-in-None-clause-crash : goal.returns-in-None-clause-crash
 returns-in-None-clause-crash g c = survives_same (state g.S.Store c.args.journal.now.connection) _
+
+pub returns-in-Some-clause-open : goal.returns-in-Some-clause-open
+returns-in-Some-clause-open g c clean =
+    let old = state g.S.Store c.args.journal.now.connection in
+    let new = state g.S.Store c.store.new.self.connection in
+    subst (λ (o : Option Change). OnOk c.store.result (IfSome o (λ _. IsTrue old.is_open × IsTrue new.is_open))) (sym c.in-Some.is) (c.store.ensures.open clean)

@@ -1,4 +1,4 @@
-use Rattle.std.proofs.Common.{◌≡◌, ◌<◌, ◌∙◌, ◌++◌, ◌∷◌, [], None, ap, arith, length, rules, subst, sym}
+use Rattle.std.proofs.Common.{◌≡◌, ◌⊎◌, ◌<◌, IsTrue, ◌∙◌, ◌++◌, ◌∷◌, [], None, ap, arith, length, rules, subst, sym}
 use Rattle.std.specs.Option.{option_map}
 use Rattle.lra_history.specs.Views.{View}
 use Rattle.lra_replica.specs.Replicas.{view_of}
@@ -6,11 +6,12 @@ use Rattle.sqlite.specs.Held.{state}
 use Rattle.sqlite.specs.State.{Survives}
 use Rattle.lra_journal.specs.Keeping.{Keeps}
 use Rattle.lra_journal.specs.Stands.{Stands}
+use Rattle.lra_journal.proofs.Stored.{leaves}
 use Rattle.lra_book.specs.declared.calls.Entry.{Entry}
 use Rattle.lra_book.specs.Books.{BookState, MayCommit, refusal_at_once}
 use Rattle.lra_book.specs.Next.{IsNext, with_patch}
 use Rattle.lra_book.specs.Trails.{entry}
-use Rattle.lra_book.proofs.KeptBooks.{has_room, not_stored, with_entry}
+use Rattle.lra_book.proofs.KeptBooks.{changed_by, has_room, not_stored, with_entry}
 use Rattle.lra_book.proofs.LostBelow.{at_once_lost}
 use Rattle.lra_book.proofs.Stops.{survives_more, survives_same}
 use Rattle.lra_book.proofs.book.Book.call.Goals as goal
@@ -114,3 +115,29 @@ returns-clause-crash g c =
 
 pub returns-in-Some-clause-lost : goal.returns-in-Some-clause-lost
 returns-in-Some-clause-lost g c = at_once_lost c.args.self.now c.args.pass.now c.args.call c.in-Some.refusal (search rules)
+
+pub returns-in-Some-clause-durable : goal.returns-in-Some-clause-durable
+returns-in-Some-clause-durable g c =
+    let keeps = subst (λ (b : BookState g.row.S.Denot). Keeps g.S.Store b.me b.journal b.records) c.self.view_is c.self.invariant.0.stored in
+    leaves g.S.Store g.met.S.Store.settled c.args.self.now.me c.args.self.now.journal c.args.self.now.records keeps
+
+pub returns-in-Err-clause-durable : goal.returns-in-Err-clause-durable
+returns-in-Err-clause-durable g c =
+    let before = subst (λ (v : View). Keeps g.S.Store c.self.inside.me c.self.inside.journal v) (sym c.make_ready.ensures.view) c.self.invariant.0.stored in
+    leaves g.S.Store g.met.S.Store.settled c.self.inside.me c.self.inside.journal (view_of c.make_ready.new.replica) before
+
+pub returns-in-Err-carry_out-clause-durable : goal.returns-in-Err-carry_out-clause-durable
+returns-in-Err-carry_out-clause-durable g c =
+    let before = subst (λ (v : View). Keeps g.S.Store c.self.inside.me c.self.inside.journal v) (sym c.in-Ok.ensures.view) c.self.invariant.0.stored in
+    leaves g.S.Store g.met.S.Store.settled c.self.inside.me c.carry_out.new.journal (view_of c.carry_out.new.replica) (c.carry_out.ensures.keeps c.self.inside.me before)
+
+pub returns-clause-durable : goal.returns-clause-durable
+returns-clause-durable g c =
+    let before = subst (λ (v : View). Keeps g.S.Store c.self.inside.me c.self.inside.journal v) (sym c.in-Ok.ensures.view) c.self.invariant.0.stored in
+    leaves g.S.Store g.met.S.Store.settled c.self.inside.me c.carry_out.new.journal (view_of c.carry_out.new.replica) (c.carry_out.ensures.keeps c.self.inside.me before)
+
+pub returns-clause-open : goal.returns-clause-open
+returns-clause-open g c clean =
+    let is : view_of c.carry_out.new.replica ≡ with_patch c.in-Ok.ready.patch (view_of c.self.inside.replica) = c.in_default-carry_out.ensures.view ∙ ap (with_patch c.in-Ok.ready.patch) c.in-Ok.ensures.view in
+    let on = changed_by c.in-Ok.ready.patch (view_of c.self.inside.replica) (view_of c.carry_out.new.replica) is (c.in_default-carry_out.ensures.open clean) in
+    subst (λ (b : BookState g.row.S.Denot). (view_of c.carry_out.new.replica ≡ b.records) ⊎ (IsTrue (state g.S.Store b.journal.connection).is_open × IsTrue (state g.S.Store c.carry_out.new.journal.connection).is_open)) c.self.view_is on

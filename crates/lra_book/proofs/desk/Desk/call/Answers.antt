@@ -2,7 +2,8 @@ use Rattle.std.proofs.Common.{◌∙◌, ◌∷◌, [], List, ap, arith, length,
 use Rattle.lra_book.specs.declared.calls.Receipt.{Receipt}
 use Rattle.lra_book.specs.Desks.{AreSeen}
 use Rattle.lra_book.proofs.LostBelow.{seen_one_more}
-use Rattle.lra_book.proofs.desk.Desk.enter.Goals as goal
+use Rattle.lra_book.proofs.Refusals.{refused_of_clerk}
+use Rattle.lra_book.proofs.desk.Desk.call.Goals as goal
 
 pub invariant_of-mine-2 : goal.invariant_of-mine-2
 invariant_of-mine-2 g c =
@@ -12,3 +13,7 @@ invariant_of-mine-2 g c =
     let long = ap (λ (rs : List Receipt). length rs) c.put_last.ensures ∙ length-append c.make_room.new.receipts.items (c.in-Ok.receipt ∷ []) in
     let short = ap (λ (rs : List Receipt). length rs) same in
     (c.enter-entered.ensures.parts ∙ c.mine.invariant.0, omega (arith, long, short, c.in-Ok.ensures.counted, c.mine.invariant.1), subst (λ (rs : List Receipt). AreSeen c.enter-entered.new.pass rs) (sym c.put_last.ensures) all)
+
+pub returns-in-Err-entered-clause-refused : goal.returns-in-Err-entered-clause-refused
+returns-in-Err-entered-clause-refused g c =
+    refused_of_clerk c.deref_mut.result.now c.mine.inside.pass c.as_slice.result.now c.enter-entered.new.self c.args.call c.in-Err-entered.refusal c.in-Err-entered.ensures.refused

@@ -1,0 +1,34 @@
+-- What a start finds behind a call.
+use Rattle.std.proofs.Common.{◌≡◌, ◌⊎◌, inl, inr, ℕ, IsTrue, arith, subst, sym}
+use Rattle.sqlite.specs.Held.{Held, state}
+use Rattle.sqlite.specs.State.{HasCleanDisk}
+use Rattle.sqlite.specs.Tree.{Trees}
+use Rattle.sqlite_trees.specs.declared.store.Store.{Ghosts}
+use Rattle.lra_history.specs.Views.{View}
+use Rattle.lra_journal.proofs.RuledViews.{one_ruled_view}
+use Rattle.lra_journal.proofs.Stored.{leaves}
+use Rattle.lra_journal.specs.Tables.{IsJournal}
+use Rattle.lra_journal.specs.Stands.{Stands}
+use Rattle.lra_book.specs.declared.calls.Call.{Call}
+use Rattle.lra_book.specs.Books.{AreRuled, BookState, IsBook, IsStartedBehind, MayCommit}
+use Rattle.lra_book.specs.Next.{IsFoundBehind, IsNext}
+
+module _ {S : Type 0} (g : Ghosts S) (settled : (s : S) (db : Trees) → IsTrue (g.view s).is_open → g.recovers s db → db ≡ (g.view s).committed)
+    (old : BookState S) (asked : Call) (now : ℕ) (left : Held S) (db : Trees) (found : View) (is : IsBook g old) (ruled : AreRuled old asked now) (started : IsStartedBehind g old asked now left db found) where
+  clean : HasCleanDisk (state g old.journal.connection)
+  clean = omega (arith, started.survives.clean, started.clean)
+
+  shown : IsJournal (state g old.journal.connection) × Stands old.me (state g old.journal.connection).now.trees old.records
+  shown = is.stored started.own clean started.was_open
+
+  by : (state g old.journal.connection).may_leave db ⊎ MayCommit g old asked now db → IsFoundBehind old.me old.records asked now found
+  by (inl before) =
+      let stands = leaves g settled old.me old.journal old.records is.stored clean started.own started.was_open db before in
+      inl (one_ruled_view old.me db found old.records started.stands stands started.rules ruled.before)
+  by (inr commits) =
+      let it = commits shown.0 shown.1 in
+      let same = one_ruled_view old.me db found it.1 started.stands it.3 started.rules (ruled.next it.0 it.1 it.2) in
+      inr (it.0, subst (λ v. IsNext old.me old.records asked now it.0 v) (sym same) it.2)
+
+  pub found_behind : IsFoundBehind old.me old.records asked now found
+  found_behind = by (started.survives.crash started.clean db started.may)
