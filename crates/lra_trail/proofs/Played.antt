@@ -1,22 +1,25 @@
 -- A node's trail, with what happens elsewhere, is a run of the world.
-use Rattle.std.proofs.Common.{◌≡◌, ◌⊎◌, inl, inr, ℕ, List, [], ◌∷◌, refl, sym, ap, subst, ◌∙◌, Option, Some, None}
-use Rattle.lra_history.specs.Views.{View}
+use Rattle.std.proofs.Common.{◌≡◌, ◌≤◌, ◌⊎◌, inl, inr, ℕ, length, List, [], ◌∷◌, refl, sym, ap, subst, ◌∙◌, Option, Some, None}
+use Rattle.lra_history.specs.Histories.{History, IsClosed, IsLawful, facts}
+use Rattle.lra_history.specs.Views.{StandsFor, View}
 use Rattle.lra_delta.specs.Frames.{Frame}
 use Rattle.lra_world.specs.declared.event.Event.{Event}
 use Rattle.lra_world.specs.declared.event.Reply.{Reply}
 use Rattle.lra_world.specs.Headline.{Converges}
-use Rattle.lra_world.specs.Worlds.{IsWorld, Runs, State, Steps, nodes_of}
+use Rattle.lra_world.specs.Worlds.{IsWorld, Runs, State, Steps, front_of, nodes_of}
+use Rattle.lra_journal.specs.Ruled.{AreTyped, KeepsRules}
 use Rattle.lra_world.proofs.Agreeing.{nodes_agree}
 use Rattle.lra_world.proofs.Determined.{step_once}
 use Rattle.lra_world.proofs.Moving.{run_keeps, step_keeps}
 use Rattle.lra_world.proofs.Parting.{no_split}
 use Rattle.lra_world.proofs.StatusesRise.{statuses_rise}
+use Rattle.lra_book.specs.declared.calls.Call.{Call}
 use Rattle.lra_book.specs.declared.calls.Entry.{Entry}
 use Rattle.lra_book.specs.declared.calls.Reply.{Reply as BookReply}
 use Rattle.lra_book.specs.declared.calls.Reply.TheVariants.{Command as Entered, Took, Gave, Shown, ShownMember, Listed, Due, Quiet, Expired, Refused}
-use Rattle.lra_book.specs.Next.{IsNext}
-use Rattle.lra_book.specs.Trails.{LeadsTo}
-use Rattle.lra_trail.specs.NodeTrails.{AreReplies, Elsewhere, Follows, Happen, Here, IsPlayed, IsRun, IsServed, IsTold, Item, Leaves, Says, WasSent, event_of, events_of, node_of, trail_of, with_event}
+use Rattle.lra_book.specs.Next.{IsFoundBehind, IsNext}
+use Rattle.lra_book.specs.Trails.{LeadsTo, entry}
+use Rattle.lra_trail.specs.NodeTrails.{AreReplies, Elsewhere, Follows, Happen, Here, IsPlayed, IsReplied, IsRun, IsServed, IsTold, Item, Leaves, Says, WasSent, event_of, events_of, node_of, trail_of, with_event}
 use Rattle.lra_trail.proofs.AtOtherNodes.{node_still, served_still}
 use Rattle.lra_trail.proofs.Entries.{Means, Nothing, Something, entry_means}
 use Rattle.lra_trail.proofs.KeptFrames.{run_told}
@@ -170,3 +173,24 @@ lost_answer me s a b found entry frame served next sent (inr same) =
     let went = entry_happens me s a b entry frame served next sent in
     let meant = entry_meant me s frame a b entry went.0 served next sent went.1 in
     (went.0, inr went.1, subst (IsServed me went.0) (sym same) meant.served)
+
+pub found_answer : (me : ℕ) (s : State) (a found : View) (asked : Call) (now frame : ℕ) → IsServed me s a → ((reply : BookReply) → IsNext me a asked now reply found → WasSent s frame asked reply)
+    → IsFoundBehind me a asked now found → (t : State) × ((t ≡ s) ⊎ IsReplied me s a asked now frame found t) × IsServed me t found
+found_answer me s a found asked now frame served sent (inl same) = (s, inl refl, subst (IsServed me s) (sym same) served)
+found_answer me s a found asked now frame served sent (inr it) =
+    let went = entry_happens me s a found (entry asked now it.0) frame served it.1 (sent it.0 it.1) in
+    let meant = entry_meant me s frame a found (entry asked now it.0) went.0 served it.1 (sent it.0 it.1) went.1 in
+    (went.0, inr (it.0, it.1, went.1), meant.served)
+
+-- What a node holds
+
+module _ (rules : (h : History) (v : List ℕ) (view : View) → IsLawful h → IsClosed h v → StandsFor (facts h v) view → length view.front ≤ 8 → AreTyped view → KeepsRules view) where
+  pub held_rules : (me : ℕ) (s : State) (a : View) → IsServed me s a → length a.front ≤ 8 → AreTyped a → KeepsRules a
+  held_rules me s a served few typed = rules s.history (front_of s me) a served.world.lawful (served.world.current me served.node.some served.node.there).closed served.holds.stands few typed
+
+  pub next_rules : (me now frame : ℕ) (s : State) (a b : View) (call : Call) (reply : BookReply) → IsServed me s a → IsNext me a call now reply b → WasSent s frame call reply
+      → length b.front ≤ 8 → AreTyped b → KeepsRules b
+  next_rules me now frame s a b call reply served next sent few typed =
+      let went = entry_happens me s a b (entry call now reply) frame served next sent in
+      let meant = entry_meant me s frame a b (entry call now reply) went.0 served next sent went.1 in
+      held_rules me went.0 b meant.served few typed

@@ -1,5 +1,5 @@
 //! Laws of a node in the world: each function does nothing, and its contract is the law.
-ghost use Rattle.std.specs.Prelude.{◌≡◌, ◌⊎◌, ℕ, List, Ok, Some, length};
+ghost use Rattle.std.specs.Prelude.{◌≡◌, ◌≤◌, ◌⊎◌, ℕ, List, Ok, Some, length};
 ghost use Rattle.lra_id.specs.Ids.{Id};
 ghost use Rattle.lra_states.specs.declared.status.LraStatus.{LraStatus};
 ghost use Rattle.lra_states.specs.declared.status.MemberStatus.{MemberStatus};
@@ -15,10 +15,13 @@ ghost use Rattle.lra_book.specs.declared.calls.Call.TheVariants.{Member, Pull, S
 ghost use Rattle.lra_book.specs.declared.calls.Entry.{Entry};
 ghost use Rattle.lra_book.specs.declared.calls.Reply.{Reply};
 ghost use Rattle.lra_book.specs.declared.calls.Reply.TheVariants.{Gave, Shown, ShownMember};
-ghost use Rattle.lra_book.specs.Next.{IsNext};
+ghost use Rattle.lra_book.specs.Next.{IsFoundBehind, IsNext};
 ghost use Rattle.lra_book.specs.OfSets.{IsReplyOf};
 ghost use Rattle.lra_trail.specs.Servers.{AnswersConverge, AreOneRun, AreTrails, Turn};
-ghost use Rattle.lra_trail.specs.NodeTrails.{Follows, IsPlayed, IsRun, IsServed, IsTold, Item, WasSent, event_of};
+ghost use Rattle.lra_journal.specs.Ruled.{AreTyped, KeepsRules};
+ghost use Rattle.lra_trail.specs.NodeTrails.{Follows, IsPlayed, IsReplied, IsRun, IsServed, IsTold, Item, WasSent, event_of};
+
+use lra_journal::laws::views_of_a_history_keep_the_rules;
 
 /// A node's trail is a run of the world. Whatever happens at the other nodes between its entries: its commands that are accepted
 /// and its deadlines that pass are replied in the world as its entries say, the frames that it gives are those that are sent, and
@@ -37,13 +40,30 @@ pub fn an_entry_can_happen()
 
 /// A call whose answer was lost, since the program stopped in it or its journal failed. Where the next start finds what the node held
 /// before the call, or what it holds behind it, the call is no event in the world, or the one that its entry is; and the node is served
-/// by what was found.
+/// by what was found. That a start finds nothing else is the law `a_start_finds_the_records_before_or_after` of `lra_book`.
 pub fn a_lost_answer_is_at_most_one_event()
-    ensures { (me : ℕ) (s : State) (a b found : View) (entry : Entry) (frame : ℕ) →
+    ensures entry { (me : ℕ) (s : State) (a b found : View) (entry : Entry) (frame : ℕ) →
         IsServed me s a → IsNext me a entry.call entry.moment entry.reply b →
         WasSent s frame entry.call entry.reply → (found ≡ a) ⊎ (found ≡ b) → (t : State)
         × ((t ≡ s) ⊎ Follows s (event_of me frame entry) t) × IsServed me t found }
+    ensures found { (me : ℕ) (s : State) (a found : View) (asked : Call) (now frame : ℕ) →
+        IsServed me s a →
+        ((reply : Reply) → IsNext me a asked now reply found → WasSent s frame asked reply) →
+        IsFoundBehind me a asked now found → (t : State)
+        × ((t ≡ s) ⊎ IsReplied me s a asked now frame found t) × IsServed me t found }
 {}
+
+/// What a node holds keeps the rules by which rows are read, where its records have the types of records and there are at most eight
+/// nodes; and so does what it holds behind its next call.
+pub fn what_a_node_holds_keeps_the_rules()
+    ensures held { (me : ℕ) (s : State) (a : View) →
+        IsServed me s a → length a.front ≤ 8 → AreTyped a → KeepsRules a }
+    ensures next { (me now frame : ℕ) (s : State) (a b : View) (call : Call) (reply : Reply) →
+        IsServed me s a → IsNext me a call now reply b → WasSent s frame call reply →
+        length b.front ≤ 8 → AreTyped b → KeepsRules b }
+{
+    views_of_a_history_keep_the_rules();
+}
 
 /// What a node answers is what the definitions give for what it holds in the world: of an LRA and of a participant it shows what
 /// the headline speaks of.
