@@ -8,7 +8,7 @@ import sys
 TOP = os.path.dirname(os.path.dirname(os.path.abspath(__file__)))
 PAGE = f"{TOP}/docs/CALLS.md"
 REFUSES = {"refused", "cause", "err", "error", "missing", "long", "fault", "gap", "nodes", "place", "unbroken", "streams", "memory", "other",
-           "told", "said", "exact", "answer", "next", "says", "taken", "found", "entered", "served"}
+           "told", "said", "busy", "failed", "exact", "answer", "next", "says", "taken", "found", "entered", "served"}
 STAYS = {"unchanged", "kept", "err", "back", "state", "crash_refused", "part", "memory", "error", "streams", "stays"}
 HEAD = """# Every public call, and its clauses
 

@@ -15,7 +15,8 @@ fn open<S: Alter + Drop>(
     alloc: Global,
     connection: Connection<S>,
 ) -> Result<Book<S>, (Refusal, Connection<S>)>
-    ensures { IfOk result (λ book. (book.opening ≡ None) × (book.trail ≡ [])) }
+    ensures { IfOk result (λ book. (book.opening ≡ None)
+        × (book.trail ≡ []) × (book.journal.opened ≡ connection)) }
 {
     match NodeId::new(1) {
         Ok(me) => Book::open(alloc, connection, me, 2),
@@ -25,7 +26,8 @@ fn open<S: Alter + Drop>(
 
 /// The book over a connection.
 fn opened<S: Alter + Drop>(alloc: Global, connection: Connection<S>) -> Result<Book<S>, Fail>
-    ensures { IfOk result (λ book. (book.opening ≡ None) × (book.trail ≡ [])) }
+    ensures { IfOk result (λ book. (book.opening ≡ None)
+        × (book.trail ≡ []) × (book.journal.opened ≡ connection)) }
 {
     match open(alloc, connection) {
         Ok(book) => Ok(book),
@@ -38,7 +40,8 @@ pub(crate) fn begun<S: Alter + Drop>(
     alloc: Global,
     connection: Connection<S>,
 ) -> Result<(Book<S>, Pass), Fail>
-    ensures { IfOk result (λ made. (made.0.opening ≡ Some made.0.records) × (made.0.trail ≡ [])) }
+    ensures { IfOk result (λ made. (made.0.opening ≡ Some made.0.records)
+        × (made.0.trail ≡ []) × (made.0.journal.opened ≡ connection)) }
 {
     let mut book = opened(alloc, connection)?;
     let pass = book.start_run(alloc)?;

@@ -8,7 +8,8 @@ use log::sink::Console;
 use log::{Level, Logged};
 use lra_id::MAX_NODES;
 use lra_script::{arguments, code_of, node_of, play};
-use lra_server::{Folder, serve};
+use lra_server::{Folder, Starts, serve};
+use sqlite::Unknown;
 use std::fs::File;
 use std::process::ExitCode;
 
@@ -42,9 +43,25 @@ fn hold(rt: &HostRuntime) -> Option<File> {
     File::open(rt, "/dev/null").ok()
 }
 
+/// Nothing is known of what a file held. It is supposed that a torn write leaves each byte old or new.
+#[derive(Drop)]
+struct UnknownFiles;
+
+impl Starts for UnknownFiles {
+    type Start = Unknown;
+
+    fn start(&self) -> Unknown {
+        Unknown
+    }
+}
+
 /// The folder that the last word names.
-fn folder_of(rt: HostRuntime, mut words: Vec<String>) -> Folder {
-    Folder::new(rt, words.pop().unwrap_or(String::new(rt.alloc())))
+fn folder_of(rt: HostRuntime, mut words: Vec<String>) -> Folder<UnknownFiles> {
+    Folder::new(
+        rt,
+        words.pop().unwrap_or(String::new(rt.alloc())),
+        UnknownFiles,
+    )
 }
 
 fn asked_server(words: &[String]) -> Option<(u8, u16)>

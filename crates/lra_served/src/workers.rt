@@ -1,5 +1,5 @@
 // Two workers at one desk, each held before its first call until the other has come there.
-ghost use Rattle.std.specs.Prelude.{◌≡◌, [], ⊤, Some};
+ghost use Rattle.std.specs.Prelude.{◌≡◌, [], ⊤, Some, false};
 
 use lra_api::Paths;
 use lra_book::{Book, Desk, DeskClerk, DeskPass, Reply, Run};
@@ -126,6 +126,7 @@ fn by_two<J: Run + Send + Sync, S: Alter + Send + Drop, R: Threads + Wait + Cloc
 ) -> Result<(), Fail>
     requires run { (book.opening ≡ Some J.opening.view)
         × (book.me ≡ J.opening.node) × (book.trail ≡ []) }
+    requires own { J.opening.own ≡ false }
     requires blank { (blank.name ≡ J.name) × (blank.parts ≡ J.parts) × (blank.parts ≡ 2) }
 {
     let Ok((desk, mut passes)) = Desk::<J, S>::new(alloc, book, blank, 2) else {

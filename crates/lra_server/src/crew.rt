@@ -1,5 +1,7 @@
 // One run of a node: its desk, and the threads at it.
-ghost use Rattle.std.specs.Prelude.{◌≡◌, [], IfSome, None, Some};
+ghost use Rattle.std.specs.Prelude.{◌≡◌, [], IfSome, IsTrue, None, Some};
+ghost use Rattle.sqlite.specs.Held.{state};
+ghost use Rattle.lra_journal.specs.Keeping.{IsOwn};
 ghost use Rattle.lra_server.specs.Running.{IsFresh};
 
 use crate::refusals::over_by;
@@ -193,6 +195,7 @@ where
     L: Log + Sync,
     requires run { (book.opening ≡ Some J.opening.view)
         × (book.me ≡ J.opening.node) × (book.trail ≡ []) }
+    requires own { IsTrue J.opening.own → IsOwn (state S.Store book.journal.opened) }
     requires blank { (blank.name ≡ J.name) × (blank.parts ≡ J.parts) × (blank.parts ≡ 5) }
     ensures { IfSome result (λ b. b.opening ≡ None) }
 {

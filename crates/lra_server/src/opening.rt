@@ -1,6 +1,6 @@
 // Where the journals of nodes lie.
 
-use sqlite::{Alter, Connection, Error, ErrorCode, File, FileStore};
+use sqlite::{Alter, Connection, Error, ErrorCode, FileFrom, FileStore, Start};
 use std::string::String;
 
 /// Why a journal can't be opened.
@@ -20,17 +20,25 @@ pub trait Stores {
     fn open(&self, number: u8) -> Result<Connection<Self::Store>, Unopened>;
 }
 
-/// A folder in which node I has its journal in the file `node-I.db`.
-#[derive(Drop)]
-pub struct Folder {
-    host: HostRuntime,
-    path: String,
+/// The start of each opening: what the kit supposes that a file held, and what a torn write leaves in it. The program names its own.
+pub trait Starts {
+    type Start: Start + Send;
+
+    fn start(&self) -> Self::Start;
 }
 
-impl Folder {
-    /// The folder at this path. It has to be there.
-    pub fn new(host: HostRuntime, path: String) -> Folder {
-        Folder { host, path }
+/// A folder in which node I has its journal in the file `node-I.db`.
+#[derive(Drop)]
+pub struct Folder<T: Starts> {
+    host: HostRuntime,
+    path: String,
+    starts: T,
+}
+
+impl<T: Starts> Folder<T> {
+    /// The folder at this path, whose files are opened from such starts. It has to be there.
+    pub fn new(host: HostRuntime, path: String, starts: T) -> Folder<T> {
+        Folder { host, path, starts }
     }
 }
 
@@ -44,17 +52,18 @@ fn unopened_by(error: Error) -> Unopened {
     }
 }
 
-impl Stores for Folder {
-    type Store = FileStore<File>;
+impl<T: Starts> Stores for Folder<T> {
+    type Store = FileStore<FileFrom<T::Start>>;
 
-    fn open(&self, number: u8) -> Result<Connection<FileStore<File>>, Unopened> {
+    fn open(&self, number: u8) -> Result<Connection<FileStore<FileFrom<T::Start>>>, Unopened> {
         let folder = self.path.as_str();
         let Ok(file) = format!(in self.host.alloc(); "{folder}/node-{number}.db") else {
             return Err(Unopened::ForNow);
         };
-        match Connection::open(&self.host, file.as_str()) {
+        // (a new file has no sums)
+        match Connection::open_from(&self.host, file.as_str(), false, self.starts.start()) {
             Ok(connection) => Ok(connection),
-            Err(error) => Err(unopened_by(error)),
+            Err((error, _)) => Err(unopened_by(error)),
         }
     }
 }
