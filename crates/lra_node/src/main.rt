@@ -8,8 +8,8 @@ use log::sink::Console;
 use log::{Level, Logged};
 use lra_id::MAX_NODES;
 use lra_script::{arguments, code_of, node_of, play};
-use lra_server::{Folder, Starts, serve};
-use sqlite::Unknown;
+use lra_server::{Folder, serve};
+use sqlite::Start;
 use std::fs::File;
 use std::process::ExitCode;
 
@@ -43,15 +43,22 @@ fn hold(rt: &HostRuntime) -> Option<File> {
     File::open(rt, "/dev/null").ok()
 }
 
-/// Nothing is known of what a file held. It is supposed that a torn write leaves each byte old or new.
-#[derive(Drop)]
+/// Nothing is known of what a file held, and it is supposed that a torn write leaves each byte old or new. The kit's `Unknown` says the
+/// same, but can't be copied.
+#[derive(Clone, Copy, Drop)]
 struct UnknownFiles;
 
-impl Starts for UnknownFiles {
-    type Start = Unknown;
+impl Start for UnknownFiles {
+    ghost use Rattle.std.specs.Prelude.{[], true};
 
-    fn start(&self) -> Unknown {
-        Unknown
+    ghost log = { [] };
+
+    ghost db = { [] };
+
+    ghost is_mixing = { true };
+
+    fn mixes() -> bool {
+        true
     }
 }
 

@@ -12,5 +12,5 @@ mod server;
 mod setbacks;
 mod taken;
 
-pub use opening::{Folder, Starts, Stores, Unopened};
+pub use opening::{Folder, Stores, Unopened};
 pub use server::serve;

@@ -20,25 +20,18 @@ pub trait Stores {
     fn open(&self, number: u8) -> Result<Connection<Self::Store>, Unopened>;
 }
 
-/// The start of each opening: what the kit supposes that a file held, and what a torn write leaves in it. The program names its own.
-pub trait Starts {
-    type Start: Start + Send;
-
-    fn start(&self) -> Self::Start;
-}
-
-/// A folder in which node I has its journal in the file `node-I.db`.
+/// A folder in which node I has its journal in the file `node-I.db`. The program says what it supposes of the files as they are opened.
 #[derive(Drop)]
-pub struct Folder<T: Starts> {
+pub struct Folder<T: Start + Send + Copy> {
     host: HostRuntime,
     path: String,
-    starts: T,
+    start: T,
 }
 
-impl<T: Starts> Folder<T> {
-    /// The folder at this path, whose files are opened from such starts. It has to be there.
-    pub fn new(host: HostRuntime, path: String, starts: T) -> Folder<T> {
-        Folder { host, path, starts }
+impl<T: Start + Send + Copy> Folder<T> {
+    /// The folder at this path, whose files are opened from this start. It has to be there.
+    pub fn new(host: HostRuntime, path: String, start: T) -> Folder<T> {
+        Folder { host, path, start }
     }
 }
 
@@ -52,16 +45,16 @@ fn unopened_by(error: Error) -> Unopened {
     }
 }
 
-impl<T: Starts> Stores for Folder<T> {
-    type Store = FileStore<FileFrom<T::Start>>;
+impl<T: Start + Send + Copy> Stores for Folder<T> {
+    type Store = FileStore<FileFrom<T>>;
 
-    fn open(&self, number: u8) -> Result<Connection<FileStore<FileFrom<T::Start>>>, Unopened> {
+    fn open(&self, number: u8) -> Result<Connection<FileStore<FileFrom<T>>>, Unopened> {
         let folder = self.path.as_str();
         let Ok(file) = format!(in self.host.alloc(); "{folder}/node-{number}.db") else {
             return Err(Unopened::ForNow);
         };
         // (a new file has no sums)
-        match Connection::open_from(&self.host, file.as_str(), false, self.starts.start()) {
+        match Connection::open_from(&self.host, file.as_str(), false, self.start) {
             Ok(connection) => Ok(connection),
             Err((error, _)) => Err(unopened_by(error)),
         }
