@@ -26,6 +26,9 @@ pub mod OneListOfRecords
 pub mod OnlyChanges
 pub mod Overdue
 mod Owed
+mod PageEdits
+mod PageHalves
+mod PageOrder
 mod Paths
 mod Pendings
 pub mod Places

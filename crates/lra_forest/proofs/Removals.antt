@@ -10,7 +10,7 @@ use Rattle.lra_forest.specs.Places.{count_below, with_number}
 use Rattle.lra_forest.proofs.Places.{beyond_all, found_place}
 
 -- each that the test passes stays
-keeps_all : (t : Record → Bool) (qs : List Record) → AllByRecursion (λ r. t r ≡ true) qs → filter t qs ≡ qs
+pub keeps_all : (t : Record → Bool) (qs : List Record) → AllByRecursion (λ r. t r ≡ true) qs → filter t qs ≡ qs
 keeps_all t [] h = refl
 keeps_all t (q ∷ qs) h = let here = h.0 in rw here (ap (λ xs. q ∷ xs) (keeps_all t qs h.1))
 
@@ -18,7 +18,7 @@ other_numbers : (num : ℕ) (qs : List Record) → AllByRecursion (λ r. num < r
 other_numbers num [] h = tt
 other_numbers num (q ∷ qs) h = let more = h.0 in (grind (arith, nat_tests, more), other_numbers num qs h.1)
 
-none_beyond : (num : ℕ) (qs : List Record) → AllByRecursion (λ r. num < r.num) qs → filter (λ r. not (r.num == num)) qs ≡ qs
+pub none_beyond : (num : ℕ) (qs : List Record) → AllByRecursion (λ r. num < r.num) qs → filter (λ r. not (r.num == num)) qs ≡ qs
 none_beyond num qs h = keeps_all (λ r. not (r.num == num)) qs (other_numbers num qs h)
 
 -- where the number stands, the record there is taken away
@@ -104,8 +104,8 @@ pub filter_are_of : (t : Record → Bool) (home : ℕ) (qs : List Record) → Ar
 filter_are_of t home qs h = record { homes = kept_all (λ r. r.home ≡ home) t qs h.homes; ascending = kept_ascends t qs h.ascending }
 
 -- there is room for a record where none is to be replaced
-pub room_for : (home : ℕ) (qs : List Record) (capacity len : ℕ) (h : HomeRecords) (r : Record) → ◌≡◌ {A = HomeRecords} (record { home = home; records = qs; spare = capacity - len }) h → AreOf home qs → r.home ≡ h.home → (find (is_of (id_of r)) h.records ≡ None → 1 ≤ h.spare) → with_number r.num (slice_get qs (count_below r.num qs)) ≡ None → len < capacity
-room_for home qs capacity len h r view order at room none =
+pub room_for : (home : ℕ) (qs : List Record) (spare : ℕ) (h : HomeRecords) (r : Record) → ◌≡◌ {A = HomeRecords} (record { home = home; records = qs; spare = spare }) h → AreOf home qs → r.home ≡ h.home → (find (is_of (id_of r)) h.records ≡ None → 1 ≤ h.spare) → with_number r.num (slice_get qs (count_below r.num qs)) ≡ None → 1 ≤ spare
+room_for home qs spare h r view order at room none =
     let same : r.home ≡ home = at ∙ sym (ap (λ (x : HomeRecords). x.home) view) in
     let found : find (is_of (id_of r)) qs ≡ None = found_place (id_of r) qs (subst (λ (n : ℕ). AreOf n qs) (sym same) order) ∙ none in
     let some : 1 ≤ h.spare = room (ap (λ (x : HomeRecords). find (is_of (id_of r)) x.records) (sym view) ∙ found) in

@@ -5,6 +5,7 @@ pub mod MembersByNumber
 pub mod OnlyChanges
 pub mod Overdue
 pub mod Owings
+pub mod Pages
 pub mod Participants
 pub mod Places
 pub mod RecordDues

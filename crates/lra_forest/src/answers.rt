@@ -75,8 +75,7 @@ impl Forest {
             (found_at self.now.home self.now.records) now self.now.records }
         ensures order { AreOf self.now.home self.now.records }
     {
-        let records = self.records();
-        for kept in records {
+        for kept in self.records() {
             if let Some(id) = self.if_overdue(kept, now) {
                 return Some(id);
             }

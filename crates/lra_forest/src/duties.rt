@@ -222,6 +222,20 @@ impl Forest {
         })
     }
 
+    fn compensations(&self, alloc: Global) -> Result<Vec<Due>, AllocError>
+        ensures due { IfOk result (λ dues. dues.items ≡ due_to_compensate self.now.home
+            (found_at self.now.home self.now.records) self.now.records) }
+        ensures order { AreOf self.now.home self.now.records }
+    {
+        let mut dues = Vec::new(alloc);
+        for kept in self.records() {
+            if let Some(due) = self.compensation_under(kept) {
+                dues.push(due)?;
+            }
+        }
+        Ok(dues)
+    }
+
     /// The compensations that are due: under each LRA that is cancelled, and that is nested in no cancelled one, at most one,
     /// by the number of that LRA. It looks up the records under these LRAs, each at most once.
     pub fn next_compensations(&self, alloc: Global) -> Result<Vec<Due>, AllocError>
@@ -232,14 +246,7 @@ impl Forest {
             Stands nodes self.now.home S self.now.records → IfOk result (λ dues.
             AreAll (IsDueAt self.now.home S is_compensation_due) (is_topmost_before S) dues.items) }
     {
-        let mut dues = Vec::new(alloc);
-        let records = self.records();
-        for kept in records {
-            if let Some(due) = self.compensation_under(kept) {
-                dues.push(due)?;
-            }
-        }
-        Ok(dues)
+        self.compensations(alloc)
     }
 
     /// Whether the LRA with the second number is the one with the first, or nested in it, by its chain of parents.
@@ -369,8 +376,7 @@ impl Forest {
     {
         let mut dues = Vec::new(alloc);
         let mut last = None;
-        let records = self.records();
-        for kept in records {
+        for kept in self.records() {
             let Ok(lra) = LraId::new(self.home(), kept.num) else {
                 continue;
             };
@@ -466,8 +472,7 @@ impl Forest {
             ≡ least_owed_of (found_at self.now.home self.now.records) above.num self.now.records }
     {
         let mut last = None;
-        let records = self.records();
-        for kept in records {
+        for kept in self.records() {
             if let Some(due) = self.first_to_forget(above, kept, &mut last) {
                 return Some(due);
             }

@@ -7,7 +7,7 @@ ghost use Rattle.lra_forest.specs.RecordMerges.{brought, changed_by, held_number
 ghost use Rattle.lra_forest.specs.OnlyChanges.{AreOnlyChanges, IsPut, ids_lost, is_lost};
 ghost use Rattle.lra_forest.specs.Shape.{found_at};
 
-use crate::{Forest, Member, Members, Participant, Record};
+use crate::{Forest, Member, Members, Participant, Record, Records};
 use lra_id::LraId;
 use lra_states::Outcome;
 use std::alloc::{AllocError, Global};
@@ -143,12 +143,12 @@ impl Told {
 
 fn all_gone(
     alloc: Global,
-    own: &[Record],
+    own: Records<'_>,
     told: u64,
     other: &Told,
 ) -> Result<Vec<LraId>, AllocError>
     ensures { IfOk result (λ removed. removed.items ≡ ids_lost other.now.records.home told
-        (held_numbers other.now.held) other.now.records.records own.now) }
+        (held_numbers other.now.held) other.now.records.records own.entry) }
 {
     let mut removed = Vec::new(alloc);
     for record in own {

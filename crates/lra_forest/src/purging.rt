@@ -41,8 +41,7 @@ impl Forest {
             ≡ ids_below (found_at self.now.home self.now.records) above.num self.now.records) }
     {
         let mut ids = Vec::new(alloc);
-        let records = self.records();
-        for kept in records {
+        for kept in self.records() {
             if let Some(id) = self.if_under(above, kept) {
                 ids.push(id)?;
             }

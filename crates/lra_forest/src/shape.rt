@@ -9,7 +9,7 @@ ghost use Rattle.lra_forest.specs.Forests.{is_of};
 ghost use Rattle.lra_forest.specs.RecordMerges.{changed_by, without};
 ghost use Rattle.lra_forest.specs.Shape.{found_at, is_shallow, records_after, AreInShape, IsInPlaceAt, IsInPlace, IsNestedAt};
 
-use crate::{Changes, Forest, MAX_DEPTH, Member, Place, Record};
+use crate::{Changes, Forest, MAX_DEPTH, Member, Place, Record, Records};
 use lra_id::{Front, LraId};
 
 /// The most LRAs of one home that are held.
@@ -147,10 +147,10 @@ impl Forest {
     }
 
     /// Whether of each of these LRAs the record has its place once the records are changed.
-    fn are_in_place(&self, changes: &Changes, front: &Front, records: &[Record]) -> bool
+    fn are_in_place(&self, changes: &Changes, front: &Front, records: Records<'_>) -> bool
         requires { changes.now.records.home ≡ self.now.home }
         ensures { IsTrue result ↔ AllByRecursion (λ r. IsInPlaceAt front.now self.now.home
-            (records_after changes.now self.now) r.num) records.now }
+            (records_after changes.now self.now) r.num) records.entry }
     {
         for record in records {
             if !self.is_in_place_at(changes, front, record.num) {
@@ -163,9 +163,10 @@ impl Forest {
     fn count_kept(&self, removed: &[LraId]) -> usize
         ensures { result ≡ length (without removed.now self.now.records) }
     {
-        let records = self.records();
+        // So many there are at most.
+        let _ = self.len();
         let mut count = 0;
-        for record in records {
+        for record in self.records() {
             if !is_among(removed, record) {
                 count += 1;
             }
@@ -173,12 +174,14 @@ impl Forest {
         count
     }
 
-    fn count_added(&self, removed: &[LraId], added: &[Record]) -> usize
+    fn count_added(&self, removed: &[LraId], added: &Forest) -> usize
         ensures { result ≡ length (filter (λ r. is_none
-            (found_at self.now.home (without removed.now self.now.records) r.num)) added.now) }
+            (found_at self.now.home (without removed.now self.now.records) r.num)) added.now.records) }
     {
+        // So many there are at most.
+        let _ = added.len();
         let mut count = 0;
-        for record in added {
+        for record in added.records() {
             if self.kept_at(removed, record.num).is_none() {
                 count += 1;
             }
@@ -191,15 +194,15 @@ impl Forest {
         requires { changes.now.records.home ≡ self.now.home }
         ensures { IsTrue result ↔ length (records_after changes.now self.now) ≤ 256 }
     {
-        // They are in order.
+        // Both are in order.
         let _ = self.records();
+        let _ = changes.records.records();
         let removed = changes.removed.as_slice();
-        let put = changes.records.records();
         let kept = self.count_kept(removed);
         if kept > MAX_HELD {
             return false;
         }
-        self.count_added(removed, put) <= MAX_HELD - kept
+        self.count_added(removed, &changes.records) <= MAX_HELD - kept
     }
 
     /// Whether these records have their shape once they are changed, under a front: they are at most 256, the parent that a

@@ -1,4 +1,4 @@
-use Rattle.std.proofs.Common.{◌≡◌, ◌++◌, drop}
+use Rattle.std.proofs.Common.{◌≡◌, ◌++◌}
 use Rattle.lra_forest.specs.RecordMerges.{held_numbers}
 use Rattle.lra_forest.specs.OnlyChanges.{ids_lost}
 use Rattle.lra_forest.proofs.merging.all_gone.Given as goal
@@ -7,4 +7,4 @@ use Rattle.lra_forest.proofs.merging.all_gone.Given as goal
 abbrev pub invariant-loop-record : goal.invariant-loop-record
 invariant-loop-record l =
     let those = ids_lost l.other.records.home l.told (held_numbers l.other.held) l.other.records.records in
-    l.removed.items ++ those (drop l.record-index l.own) ≡ those l.own
+    l.removed.items ++ those l.record-iterator ≡ those l.fn.own

@@ -6,5 +6,5 @@ use Rattle.lra_forest.proofs.forest.Forest.all_brought.Given as goal
 abbrev pub invariant-loop-heard : goal.invariant-loop-heard
 invariant-loop-heard l = record {
   home : l.records.home ≡ l.self.home;
-  bringing : IsBringing l.self.home l.mine l.self.records l.fn.other.records l.heard-iterator.rest.items l.records.records;
+  bringing : IsBringing l.self.home l.mine l.self.records l.fn.other.records l.heard-iterator l.records.records;
 }

@@ -1,10 +1,10 @@
-use Rattle.std.proofs.Common.{◌≡◌, ◌≤◌, length, take}
+use Rattle.std.proofs.Common.{◌≡◌, ◌+◌, ◌≤◌, length}
 use Rattle.lra_forest.specs.RecordMerges.{without}
 use Rattle.lra_forest.proofs.forest.Forest.count_kept.Given as goal
 
--- those so far that stay
+-- those so far that stay, and those of the records that are left
 abbrev pub invariant-loop-record : goal.invariant-loop-record
 invariant-loop-record l = record {
-  few : l.count ≤ l.record-index;
-  counted : l.count ≡ length (without l.removed (take l.record-index l.records));
+  few : l.count + length l.record-iterator ≤ length l.self.records;
+  counted : l.count + length (without l.removed l.record-iterator) ≡ length (without l.removed l.self.records);
 }

@@ -1,4 +1,4 @@
-use Rattle.std.proofs.Common.{◌≡◌, ◌++◌, drop, flat_map}
+use Rattle.std.proofs.Common.{◌≡◌, ◌++◌, flat_map}
 use Rattle.lra_forest.specs.Owings.{IsLastRoot, owed_of}
 use Rattle.lra_forest.specs.Shape.{found_at}
 use Rattle.lra_forest.proofs.forest.Forest.duties.Given as goal
@@ -8,6 +8,6 @@ abbrev pub invariant-loop-kept : goal.invariant-loop-kept
 invariant-loop-kept l =
     let owed = owed_of l.errand l.self.home (found_at l.self.home l.self.records) in
     record {
-      owed : l.dues.items ++ flat_map owed (drop l.kept-index l.records) ≡ flat_map owed l.records;
+      owed : l.dues.items ++ flat_map owed l.kept-iterator ≡ flat_map owed l.self.records;
       last : IsLastRoot (found_at l.self.home l.self.records) l.last;
     }

@@ -10,7 +10,7 @@ pub returns-then-kept-gt-MAX_HELD : goal.returns-then-kept-gt-MAX_HELD
 returns-then-kept-gt-MAX_HELD c =
     let own = c.args.self.now in
     let changes = c.args.changes.now in
-    let total = length_after own.home changes.records.home changes.removed.items changes.records.records own.records c.requires c.records-put.ensures.order c.records.ensures.order in
+    let total = length_after own.home changes.records.home changes.removed.items changes.records.records own.records c.requires c.records-2.ensures.order c.records.ensures.order in
     let kept = c.count_kept-kept.ensures ∙ ap (λ (ids : List Id). length (without ids own.records)) c.as_slice-removed.ensures.value in
     (λ yes. absurd cc, λ few. absurd (omega (arith, few, total, kept, c.if-kept-gt-MAX_HELD.true)))
 
@@ -18,12 +18,11 @@ pub returns : goal.returns
 returns c =
     let own = c.args.self.now in
     let changes = c.args.changes.now in
-    let total = length_after own.home changes.records.home changes.removed.items changes.records.records own.records c.requires c.records-put.ensures.order c.records.ensures.order in
+    let total = length_after own.home changes.records.home changes.removed.items changes.records.records own.records c.requires c.records-2.ensures.order c.records.ensures.order in
     let kept = c.count_kept-kept.ensures ∙ ap (λ (ids : List Id). length (without ids own.records)) c.as_slice-removed.ensures.value in
     let added =
     c.count_added.ensures
-    ∙ ap (λ (ids : List Id). length (filter (is_added own.home (without ids own.records)) c.records-put.result.now)) c.as_slice-removed.ensures.value
-    ∙ ap (λ (rs : List Record). length (filter (is_added own.home (without changes.removed.items own.records)) rs)) c.records-put.ensures.records in (
+    ∙ ap (λ (ids : List Id). length (filter (is_added own.home (without ids own.records)) changes.records.records)) c.as_slice-removed.ensures.value in (
       λ yes. grind (arith, nat_tests, total, kept, added, c.if-kept-gt-MAX_HELD.false, yes),
       λ below. grind (arith, nat_tests, total, kept, added, c.if-kept-gt-MAX_HELD.false, below),
     )

@@ -18,12 +18,12 @@ returns-then-are_in_place c =
     let mine = subst fits c.records.ensures.records (c.are_in_place.ensures.0 c.if-are_in_place.true) in (
       λ yes. shape_from c.args.front.now own.home changes.records.home changes.removed.items changes.records.records own.records c.requires c.records-then-are_in_place.ensures.order c.records.ensures.order few mine
           (subst fits c.records-then-are_in_place.ensures.records (c.are_in_place-then-are_in_place.ensures.0 yes)),
-      λ shape. c.are_in_place-then-are_in_place.ensures.1 (each_fits c.args.front.now own.home (records_after changes own) c.records-then-are_in_place.result.now shape),
+      λ shape. c.are_in_place-then-are_in_place.ensures.1 (each_fits c.args.front.now own.home (records_after changes own) c.records-then-are_in_place.result shape),
     )
 
 pub returns-else-are_in_place : goal.returns-else-are_in_place
 returns-else-are_in_place c =
     let own = c.args.self.now in (
       λ yes. absurd (let clash : true ≡ false = sym yes ∙ c.if-are_in_place.false in cc),
-      λ shape. c.are_in_place.ensures.1 (each_fits c.args.front.now own.home (records_after c.args.changes.now own) c.records.result.now shape),
+      λ shape. c.are_in_place.ensures.1 (each_fits c.args.front.now own.home (records_after c.args.changes.now own) c.records.result shape),
     )

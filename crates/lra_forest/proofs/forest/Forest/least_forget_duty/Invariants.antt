@@ -1,4 +1,4 @@
-use Rattle.std.proofs.Common.{◌≡◌, drop}
+use Rattle.std.proofs.Common.{◌≡◌}
 use Rattle.lra_forest.specs.Owings.{IsLastRoot}
 use Rattle.lra_forest.specs.Said.{least_owed_of}
 use Rattle.lra_forest.specs.Shape.{found_at}
@@ -9,6 +9,6 @@ abbrev pub invariant-loop-kept : goal.invariant-loop-kept
 invariant-loop-kept l =
     let at = found_at l.self.home l.self.records in
     record {
-      none : least_owed_of at l.above.num (drop l.kept-index l.records) ≡ least_owed_of at l.above.num l.records;
+      none : least_owed_of at l.above.num l.kept-iterator ≡ least_owed_of at l.above.num l.self.records;
       last : IsLastRoot at l.last;
     }

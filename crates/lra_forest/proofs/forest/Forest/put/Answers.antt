@@ -6,19 +6,17 @@ use Rattle.lra_forest.proofs.Puts.{put_are_of}
 use Rattle.lra_forest.proofs.Removals.{room_for}
 use Rattle.lra_forest.proofs.forest.Forest.put.Goals as goal
 
-pub put_among-requires-clause-room : goal.put_among-requires-clause-room
-put_among-requires-clause-room c =
-    room_for c.self.inside.home c.self.inside.records.items _ _ c.args.self.now c.args.added c.self.view_is c.self.invariant c.requires.home c.requires.room
+pub put-requires-clause-room : goal.put-requires-clause-room
+put-requires-clause-room c =
+    room_for c.self.inside.home c.self.inside.records.items _ c.args.self.now c.args.added c.self.view_is c.self.invariant c.requires.home c.requires.room
 
 pub invariant_of-self : goal.invariant_of-self
 invariant_of-self c =
-    subst (AreOf c.self.inside.home) (sym c.put_among.ensures.items)
+    subst (AreOf c.self.inside.home) (sym c.put.ensures.items)
     (put_are_of c.self.inside.home c.args.added c.self.inside.records.items (c.requires.home ∙ sym (ap (λ (h : HomeRecords). h.home) c.self.view_is)) c.self.invariant)
 
 pub returns-clause-replaced : goal.returns-clause-replaced
 returns-clause-replaced c there =
     let found = found_at c.self.inside.home c.self.inside.records.items _ c.args.self.now c.args.added c.self.view_is c.self.invariant c.requires.home in
     let place : is_some (with_number c.args.added.num (slice_get c.self.inside.records.items (count_below c.args.added.num c.self.inside.records.items))) ≡ true = sym (ap is_some found) ∙ there in
-    let len = c.put_among.ensures.replaced place in
-    let capacity = c.put_among.ensures.capacity in
-    ap (λ n. vec_capacity c.put_among.new.records - n) len ∙ ap (λ n. n - vec_len c.self.inside.records) capacity ∙ ap (λ (h : HomeRecords). h.spare) c.self.view_is
+    c.put.ensures.replaced place ∙ ap (λ (h : HomeRecords). h.spare) c.self.view_is

@@ -7,7 +7,7 @@ use Rattle.lra_forest.proofs.forest.Forest.remove.Goals as goal
 
 pub invariant_of-self : goal.invariant_of-self
 invariant_of-self c =
-    subst (AreOf c.self.inside.home) (sym c.remove_among.ensures.items)
+    subst (AreOf c.self.inside.home) (sym c.remove.ensures.items)
     (filter_are_of _ c.self.inside.home c.self.inside.records.items c.self.invariant)
 
 pub returns-then-eq-clause-records : goal.returns-then-eq-clause-records
@@ -16,7 +16,7 @@ returns-then-eq-clause-records c =
     let value = c.home.ensures.value in
     let number = c.num.ensures.value in
     let at : c.args.id.home ≡ c.self.inside.home = grind (arith, nat_tests, equal, value) in
-    c.remove_among.ensures.items
+    c.remove.ensures.items
     ∙ ap (λ n. filter (λ r. not (r.num == n)) c.self.inside.records.items) number
     ∙ filter_own c.args.id c.self.inside.home c.self.inside.records.items at c.self.invariant.homes
     ∙ ap (λ (h : HomeRecords). filter (λ r. not (is_of c.args.id r)) h.records) c.self.view_is

@@ -1,4 +1,4 @@
-use Rattle.std.proofs.Common.{◌≡◌, ◌++◌, drop}
+use Rattle.std.proofs.Common.{◌≡◌, ◌++◌}
 use Rattle.lra_forest.specs.Said.{ids_below}
 use Rattle.lra_forest.specs.Shape.{found_at}
 use Rattle.lra_forest.proofs.forest.Forest.tree.Given as goal
@@ -7,4 +7,4 @@ use Rattle.lra_forest.proofs.forest.Forest.tree.Given as goal
 abbrev pub invariant-loop-kept : goal.invariant-loop-kept
 invariant-loop-kept l =
     let at = found_at l.self.home l.self.records in
-    l.ids.items ++ ids_below at l.above.num (drop l.kept-index l.records) ≡ ids_below at l.above.num l.records
+    l.ids.items ++ ids_below at l.above.num l.kept-iterator ≡ ids_below at l.above.num l.self.records

@@ -2,7 +2,7 @@ use Rattle.std.proofs.Common.{◌≡◌, ◌+◌, ◌∙◌, ap, arith, true, fa
 use Rattle.lra_forest.specs.Places.{count_below, with_number}
 use Rattle.lra_forest.proofs.Exchanges.{rest_after, rest_beyond}
 use Rattle.lra_forest.proofs.Places.{place_length}
-use Rattle.lra_forest.proofs.forest.count_to.Goals as goal
+use Rattle.lra_forest.proofs.page.count_to.Goals as goal
 
 pub returns-then-stands_at-clause-rest : goal.returns-then-stands_at-clause-rest
 returns-then-stands_at-clause-rest c =

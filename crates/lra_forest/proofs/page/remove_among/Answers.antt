@@ -1,7 +1,7 @@
 use Rattle.std.proofs.Common.{◌≡◌, false, is_some, slice_get}
 use Rattle.lra_forest.specs.Places.{count_below, with_number}
 use Rattle.lra_forest.proofs.Removals.{remove_none}
-use Rattle.lra_forest.proofs.forest.remove_among.Goals as goal
+use Rattle.lra_forest.proofs.page.remove_among.Goals as goal
 
 pub returns-else-stands_at-clause-items : goal.returns-else-stands_at-clause-items
 returns-else-stands_at-clause-items c =

@@ -2,7 +2,7 @@ use Rattle.std.proofs.Common.{nat_lt, rules}
 use Rattle.std.proofs.lemmas.List.Sorted.{IsPartitionPoint-from_clause, IsPartitionedBy-ltb}
 use Rattle.lra_forest.specs.declared.record.Record.{Record}
 use Rattle.lra_forest.proofs.Places.{place_is, rises}
-use Rattle.lra_forest.proofs.forest.place_of.Goals as goal
+use Rattle.lra_forest.proofs.page.place_of.Goals as goal
 
 pub returns : goal.returns
 returns c =

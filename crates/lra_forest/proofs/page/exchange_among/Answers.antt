@@ -2,7 +2,7 @@ use Rattle.std.proofs.Common.{◌≡◌, true, is_some, slice_get, Some}
 use Rattle.lra_forest.specs.Places.{count_below, with_number}
 use Rattle.lra_forest.proofs.Exchanges.{back_is}
 use Rattle.lra_forest.proofs.Puts.{put_set}
-use Rattle.lra_forest.proofs.forest.exchange_among.Goals as goal
+use Rattle.lra_forest.proofs.page.exchange_among.Goals as goal
 
 pub returns-clause-items : goal.returns-clause-items
 returns-clause-items c =

@@ -1,0 +1,59 @@
+-- The pages in which the records of a home are held.
+use Rattle.std.specs.Prelude.{◌≡◌, ◌⊎◌, ◌+◌, ◌-◌, ◌<◌, ◌≤◌, ℕ, zero, suc, List, [], ◌∷◌, ◌++◌, Bool, true, false, get_or, nat_lt, length, set, slice_get}
+use Rattle.std.specs.List.{AllByRecursion}
+use Rattle.std.specs.Option.{option_map_or}
+use Rattle.lra_forest.specs.declared.record.Record.{Record}
+
+-- the records of some pages, and how many of the pages are empty: so many more records fit without asking for memory
+pub record HeldPages : Type 0 where
+  pub items : List Record
+  pub spare : ℕ
+
+-- one page after another
+abbrev pub records_in : List (List Record) → List Record
+records_in [] = []
+records_in (p ∷ ps) = p ++ records_in ps
+
+abbrev pub empty_pages : List (List Record) → ℕ
+empty_pages [] = 0
+empty_pages ([] ∷ ps) = empty_pages ps + 1
+empty_pages ((r ∷ rs) ∷ ps) = empty_pages ps
+
+-- behind an empty page there are no records
+abbrev pub AreEmptyLast : List (List Record) → Type 0
+AreEmptyLast [] = Unit {0}
+AreEmptyLast ([] ∷ ps) = records_in ps ≡ []
+AreEmptyLast ((r ∷ rs) ∷ ps) = AreEmptyLast ps
+
+-- it has records, and the number of its last is lesser
+abbrev pub lies_below : ℕ → List Record → Bool
+lies_below num rs = option_map_or (λ r. nat_lt r.num num) (slice_get rs (length rs - 1)) false
+
+-- the first page that doesn't lie below a number is the one at this place, or there is none
+abbrev pub IsPageOf : ℕ → ℕ → List (List Record) → Type 0
+IsPageOf num zero [] = Unit {0}
+IsPageOf num zero (p ∷ ps) = lies_below num p ≡ false
+IsPageOf num (suc at) [] = ⊥
+IsPageOf num (suc at) (p ∷ ps) = (lies_below num p ≡ true) × IsPageOf num at ps
+
+-- one of them has no lesser number
+abbrev pub Reaches : ℕ → List Record → Type 0
+Reaches num [] = ⊥
+Reaches num (r ∷ rs) = (num ≤ r.num) ⊎ Reaches num rs
+
+-- A record with this number has its place on the page at this place: the pages before it have records, all with lesser numbers,
+-- and the page reaches the number, or nothing follows it
+abbrev pub FitsAt : ℕ → ℕ → List (List Record) → Type 0
+FitsAt num at [] = ⊥
+FitsAt num zero (p ∷ ps) = Reaches num p ⊎ (records_in ps ≡ [])
+FitsAt num (suc at) ([] ∷ ps) = ⊥
+FitsAt num (suc at) ((r ∷ rs) ∷ ps) = AllByRecursion (λ (q : Record). q.num < num) (r ∷ rs) × FitsAt num at ps
+
+-- Pages that hold the same records as before, with room for one more at this place, where a record with this number fits. Whatever
+-- then stands there, at most one more page is filled
+pub record IsSeat (num at : ℕ) (old new : List (List Record)) : Type 0 where
+  pub same : records_in new ≡ records_in old
+  pub last : AreEmptyLast new
+  pub fits : FitsAt num at new
+  pub room : length (get_or new at []) < 32
+  pub spare : (q : List Record) → empty_pages old ≤ empty_pages (set new at q) + 1
