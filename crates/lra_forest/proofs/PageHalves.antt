@@ -1,13 +1,12 @@
 -- a full page whose upper half is moved to an empty one behind it
-use Rattle.std.proofs.Common.{◌≡◌, ◌⊎◌, inl, inr, ◌≤◌, ◌<◌, ◌+◌, ◌++◌, ℕ, zero, suc, List, [], ◌∷◌, refl, sym, ◌∙◌, ap, subst, Bool, true, false, arith, add-one, length, get_or, set}
+use Rattle.std.proofs.Common.{◌≡◌, inl, inr, ◌≤◌, ◌<◌, ◌+◌, ◌++◌, ℕ, zero, suc, List, [], ◌∷◌, refl, sym, ◌∙◌, ap, subst, true, false, arith, add-one, length, get_or, set}
 use Rattle.std.specs.List.{AllByRecursion, insert}
-use Rattle.std.proofs.lemmas.Bool.Decides.{nat_tests}
 use Rattle.std.proofs.lemmas.List.{append_assoc}
 use Rattle.lra_forest.specs.declared.record.Record.{Record}
 use Rattle.lra_forest.specs.Forests.{IsAscending}
 use Rattle.lra_forest.specs.Pages.{AreEmptyLast, FitsAt, IsSeat, Reaches, empty_pages, lies_below, records_in}
 use Rattle.lra_forest.proofs.PageOrder.{all_below, ascends_left, reaches}
-use Rattle.lra_forest.proofs.PageEdits.{empties_near, empties_rise}
+use Rattle.lra_forest.proofs.PageEdits.{behind, empties_near, empties_rise}
 
 -- the pages with two in place of one
 abbrev pub with_halves : List (List Record) → ℕ → List Record → List Record → List (List Record)
@@ -179,6 +178,22 @@ pub seat_here : (num at : ℕ) (ps : List (List Record)) → AreEmptyLast ps →
 seat_here num at ps l fits room = record { same = refl; last = l; fits = fits; room = room; spare = empties_near ps at }
 
 -- What is known where a page was taken off the back
+
+-- the same records, and one empty page fewer
+pub record IsDropped (old ps : List (List Record)) : Type 0 where
+  pub same : records_in ps ≡ records_in old
+  pub last : AreEmptyLast ps
+  pub spare : empty_pages old ≡ empty_pages ps + 1
+
+pub dropped : (old ps : List (List Record)) (p : List Record) → old ≡ ps ++ p ∷ [] → AreEmptyLast old → 1 ≤ empty_pages old → IsDropped old ps
+dropped old ps p is l e =
+    let empty = emptied_last ps p (subst AreEmptyLast is l) (subst (λ (os : List (List Record)). 1 ≤ empty_pages os) is e) in
+    let whole : old ≡ ps ++ [] ∷ [] = is ∙ ap (λ (q : List Record). ps ++ q ∷ []) empty in
+    record {
+      same = sym (ap records_in whole ∙ behind ps);
+      last = left_last ps (subst AreEmptyLast whole l);
+      spare = ap empty_pages whole ∙ one_more ps;
+    }
 
 pub record IsPopped (num at : ℕ) (old ps : List (List Record)) (p : List Record) : Type 0 where
   pub empty : p ≡ []

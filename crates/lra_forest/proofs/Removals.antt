@@ -1,5 +1,5 @@
 -- records with one fewer, and the room that is left
-use Rattle.std.proofs.Common.{◌≡◌, ◌≤◌, ◌<◌, ◌+◌, ◌-◌, ◌==◌, ◌∷◌, ℕ, List, [], refl, sym, ap, subst, ◌∙◌, Bool, true, false, cond, arith, Some, None, find, filter, nat_lt, add-one, slice_get, is_some}
+use Rattle.std.proofs.Common.{◌≡◌, ◌≤◌, ◌<◌, ◌+◌, ◌==◌, ◌∷◌, ℕ, List, [], refl, sym, ap, subst, ◌∙◌, Bool, true, false, cond, arith, Some, None, find, filter, nat_lt, add-one, slice_get, is_some}
 use mathlib.Core.Bool.{not}
 use Rattle.std.specs.List.{AllByRecursion, remove}
 use Rattle.std.proofs.lemmas.Bool.Decides.{nat_tests}

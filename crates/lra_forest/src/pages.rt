@@ -233,6 +233,33 @@ fn add_pages(pages: &mut Vec<Page>, more: usize) -> Result<(), AllocError>
     Ok(())
 }
 
+/// Gives back the last page, which is empty.
+fn drop_last(pages: &mut Vec<Page>)
+    requires last { AreEmptyLast pages.old.items }
+    requires empty { 1 ≤ empty_pages pages.old.items }
+    ensures items { records_in pages.new.items ≡ records_in pages.old.items }
+    ensures last { AreEmptyLast pages.new.items }
+    ensures spare { empty_pages pages.old.items ≡ empty_pages pages.new.items + 1 }
+    ensures len { vec_len pages.new ≤ vec_len pages.old }
+{
+    let Some(_) = pages.pop() else {
+        return;
+    };
+}
+
+/// Gives back all empty pages but one.
+fn keep_one(pages: &mut Vec<Page>)
+    requires last { AreEmptyLast pages.old.items }
+    ensures items { records_in pages.new.items ≡ records_in pages.old.items }
+    ensures last { AreEmptyLast pages.new.items }
+    ensures spare { empty_pages pages.new.items ≤ 1 }
+    ensures len { vec_len pages.new ≤ vec_len pages.old }
+{
+    for dropped in 1..empty_in(pages) {
+        drop_last(pages);
+    }
+}
+
 /// The records that are left of some pages, in order.
 #[derive(Drop)]
 pub struct Records<'a> {
@@ -374,6 +401,14 @@ impl Pages {
             add_pages(&mut self.pages, more - spare)?;
         }
         Ok(())
+    }
+
+    /// Gives back the memory of all room but that for one more record.
+    pub(crate) fn release(&mut self)
+        ensures items { self.new.items ≡ self.old.items }
+        ensures spare { self.new.spare ≤ 1 }
+    {
+        keep_one(&mut self.pages);
     }
 
     /// Puts a record in its place. There is room for it, or one with its number to be replaced.

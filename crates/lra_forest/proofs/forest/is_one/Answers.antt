@@ -1,4 +1,4 @@
-use Rattle.std.proofs.Common.{◌≡◌, ◌∙◌, sym}
+use Rattle.std.proofs.Common.{◌∙◌, sym}
 use Rattle.lra_forest.proofs.EqualRecords.{record_decides}
 use Rattle.lra_forest.proofs.forest.is_one.Goals as goal
 

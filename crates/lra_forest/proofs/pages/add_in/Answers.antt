@@ -1,5 +1,4 @@
-use Rattle.std.proofs.Common.{◌≡◌, ◌<◌, ◌≤◌, [], ◌∙◌, List, sym, ap, subst, arith, rules, length, get_or}
-use Rattle.lra_forest.specs.declared.record.Record.{Record}
+use Rattle.std.proofs.Common.{◌∙◌, sym, ap, subst, arith, length}
 use Rattle.lra_forest.specs.Forests.{IsAscending}
 use Rattle.lra_forest.specs.Places.{put_record}
 use Rattle.lra_forest.proofs.PageEdits.{fits_length, last_put, page_ascends, page_at, page_put, put_some}

@@ -1,4 +1,4 @@
-use Rattle.std.proofs.Common.{◌≡◌, ◌≤◌, ◌<◌, ◌++◌, ◌+◌, ◌∙◌, List, suc, sym, ap, arith, add-one, drop, filter, length, nat_lt, rules}
+use Rattle.std.proofs.Common.{◌++◌, ◌∙◌, List, suc, sym, ap, add-one, drop, filter, nat_lt}
 use Rattle.lra_forest.specs.declared.record.Record.{Record}
 use Rattle.lra_forest.specs.Pages.{records_in}
 use Rattle.lra_forest.proofs.PageEdits.{after_page, none_more, page_ascends}

@@ -1,4 +1,4 @@
-use Rattle.std.proofs.Common.{◌≡◌, ◌<◌, ◌∙◌, sym, ap, subst, arith, rules, is_some, length}
+use Rattle.std.proofs.Common.{◌<◌, ◌∙◌, sym, ap, subst, arith, is_some, length}
 use Rattle.lra_forest.specs.Pages.{IsPageOf}
 use Rattle.lra_forest.proofs.PageEdits.{empties_kept, found_some, last_put, page_ascends, page_found, page_put, put_some, there_within}
 use Rattle.lra_forest.proofs.PageOrder.{page_fits}

@@ -1,4 +1,4 @@
-use Rattle.std.proofs.Common.{◌≡◌, ◌≤◌, ◌<◌, ◌∙◌, sym, arith, length, rules}
+use Rattle.std.proofs.Common.{◌≤◌, ◌<◌, ◌∙◌, sym, arith, length}
 use Rattle.std.proofs.lemmas.Bool.Decides.{nat_tests}
 use Rattle.lra_forest.proofs.PageEdits.{found_none, page_ascends, page_found}
 use Rattle.lra_forest.proofs.PageOrder.{all_lesser, page_fits}

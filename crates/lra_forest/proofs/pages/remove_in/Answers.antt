@@ -1,10 +1,10 @@
-use Rattle.std.proofs.Common.{◌≡◌, ◌<◌, ◌≤◌, ◌==◌, ◌++◌, ◌∷◌, [], ◌∙◌, List, sym, ap, subst, arith, rules, filter, length, get_or, set}
+use Rattle.std.proofs.Common.{◌≡◌, ◌<◌, ◌≤◌, ◌==◌, ◌++◌, ◌∷◌, [], ◌∙◌, List, sym, ap, subst, arith, length, set}
 use mathlib.Core.Bool.{not}
 use Rattle.std.specs.List.{remove}
 use Rattle.std.proofs.lemmas.List.{get_or_default, get_or-set_same}
 use Rattle.lra_forest.specs.declared.record.Record.{Record}
 use Rattle.lra_forest.specs.Pages.{AreEmptyLast, IsPageOf, empty_pages, records_in}
-use Rattle.lra_forest.proofs.PageEdits.{empties_rise, filter_nothing, last_put, moved_is, none_lesser, page_ascends, page_at, page_filter}
+use Rattle.lra_forest.proofs.PageEdits.{empties_rise, filter_nothing, last_put, moved_is, none_lesser, page_ascends, page_filter}
 use Rattle.lra_forest.proofs.PageOrder.{all_lesser, page_fits}
 use Rattle.lra_forest.proofs.pages.remove_in.Goals as goal
 

@@ -1,5 +1,5 @@
-use Rattle.std.proofs.Common.{◌≡◌, ◌<◌, ◌≤◌, ◌-◌, ◌+◌, [], ◌∙◌, List, suc, sym, ap, subst, arith, rules, length, get_or}
-use Rattle.lra_forest.specs.Pages.{FitsAt, IsPageOf, IsSeat, Reaches}
+use Rattle.std.proofs.Common.{◌≡◌, ◌-◌, [], ◌∙◌, suc, sym, ap, subst, arith, length, get_or}
+use Rattle.lra_forest.specs.Pages.{IsPageOf}
 use Rattle.lra_forest.proofs.PageEdits.{page_at, page_reached}
 use Rattle.lra_forest.proofs.PageOrder.{fits_before, page_fits, page_within}
 use Rattle.lra_forest.proofs.PageHalves.{seat_here}

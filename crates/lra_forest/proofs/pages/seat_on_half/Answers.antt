@@ -1,11 +1,8 @@
-use Rattle.std.proofs.Common.{◌≡◌, ◌<◌, ◌≤◌, ◌++◌, ◌+◌, ◌∷◌, [], ◌∙◌, List, true, false, sym, ap, subst, arith, rules, length, get_or, set}
-use Rattle.std.specs.List.{insert}
+use Rattle.std.proofs.Common.{◌≡◌, ◌+◌, [], ◌∙◌, sym, ap, subst, arith, length}
 use Rattle.std.proofs.lemmas.List.{get_or_default, get_or-set_same}
-use Rattle.lra_forest.specs.declared.record.Record.{Record}
-use Rattle.lra_forest.specs.Forests.{IsAscending}
-use Rattle.lra_forest.specs.Pages.{AreEmptyLast, FitsAt, IsSeat, Reaches, empty_pages, lies_below}
+use Rattle.lra_forest.specs.Pages.{IsSeat, Reaches, lies_below}
 use Rattle.lra_forest.proofs.PageEdits.{ascends_on, fits_length}
-use Rattle.lra_forest.proofs.PageHalves.{IsHalved, IsPopped, halved, popped, seat_lower, seat_upper}
+use Rattle.lra_forest.proofs.PageHalves.{halved, popped, seat_lower, seat_upper}
 use Rattle.lra_forest.proofs.pages.seat_on_half.Goals as goal
 use Rattle.lra_forest.proofs.pages.seat_on_half.Goals.{then-lies_below, else-lies_below}
 

@@ -1,6 +1,5 @@
 use Rattle.std.proofs.Common.{◌∙◌, List, ap, arith, length, filter}
 use Rattle.lra_id.specs.Ids.{Id}
-use Rattle.lra_forest.specs.declared.record.Record.{Record}
 use Rattle.lra_forest.specs.RecordMerges.{without}
 use Rattle.std.proofs.lemmas.Bool.Decides.{nat_tests}
 use Rattle.lra_forest.proofs.ChangedCounts.{is_added, length_after}

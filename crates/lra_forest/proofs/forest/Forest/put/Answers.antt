@@ -1,4 +1,4 @@
-use Rattle.std.proofs.Common.{◌≡◌, ◌-◌, sym, ap, subst, ◌∙◌, true, is_some, slice_get, vec_capacity, vec_len}
+use Rattle.std.proofs.Common.{◌≡◌, sym, ap, subst, ◌∙◌, true, is_some, slice_get}
 use Rattle.lra_forest.specs.Forests.{AreOf, HomeRecords}
 use Rattle.lra_forest.specs.Places.{count_below, with_number}
 use Rattle.lra_forest.proofs.Exchanges.{found_at}
