@@ -14,12 +14,21 @@ ghost use Rattle.lra_history.specs.Views.{IsInOrder, StandsFor, View};
 
 use crate::{Patch, Replica, Taken};
 use lra_facts::Refusal;
-use lra_forest::{Changes, Told};
+use lra_forest::{Changes, IntoRecords, Record, Told};
 use lra_id::Front;
 use std::alloc::{AllocError, Global};
 
 fn add_all<X: Drop>(list: &mut Vec<X>, more: Vec<X>) -> Result<(), AllocError>
     ensures { OnOk result (list.new.items ≡ list.old.items ++ more.items) }
+{
+    for next in more {
+        list.push(next)?;
+    }
+    Ok(())
+}
+
+fn add_records(list: &mut Vec<Record>, more: IntoRecords) -> Result<(), AllocError>
+    ensures { OnOk result (list.new.items ≡ list.old.items ++ more) }
 {
     for next in more {
         list.push(next)?;
@@ -35,7 +44,7 @@ fn add_changes(patch: &mut Patch, changes: Changes) -> Result<(), AllocError>
     ensures purges { patch.new.purges ≡ patch.old.purges }
 {
     add_all(&mut patch.removed, changes.removed)?;
-    add_all(&mut patch.records, changes.records.into_records())
+    add_records(&mut patch.records, changes.records.into_records())
 }
 
 impl Replica {

@@ -12,7 +12,7 @@ ghost use Rattle.lra_history.specs.Views.{OfItsSet};
 
 use crate::Replica;
 use lra_facts::Refusal;
-use lra_forest::Record;
+use lra_forest::Records;
 use lra_id::{LraId, NodeId};
 use lra_states::LraStatus;
 use std::alloc::{AllocError, Global};
@@ -72,12 +72,13 @@ impl Clone for Page {
     }
 }
 
-fn first_of(records: &[Record]) -> Option<LraId>
-    ensures none { records.now ≡ [] → result ≡ None }
+fn first_of(records: Records<'_>) -> Option<LraId>
+    ensures none { records.entry ≡ [] → result ≡ None }
     ensures first { (r : Record) (rs : List Record) →
-        records.now ≡ r ∷ rs → result ≡ (if is_fact_number r.num then Some (id_of r) else None) }
+        records.entry ≡ r ∷ rs → result ≡ (if is_fact_number r.num then Some (id_of r) else None) }
 {
-    match records.first() {
+    let mut records = records;
+    match records.next() {
         Some(record) => LraId::new(record.home, record.num).ok(),
         None => None,
     }

@@ -5,7 +5,7 @@ ghost use Rattle.lra_history.specs.Merging.{IsTelling, TellsAll};
 ghost use Rattle.lra_replica.specs.Replicas.{view_of};
 
 use crate::Replica;
-use lra_forest::{Record, Told};
+use lra_forest::{Records, Told};
 use lra_id::Front;
 use std::alloc::{AllocError, Global};
 use std::marker::Model;
@@ -44,8 +44,8 @@ impl Taken {
     }
 }
 
-fn numbers_of(alloc: Global, records: &[Record]) -> Result<Vec<u64>, AllocError>
-    ensures { IfOk result (λ numbers. numbers.items ≡ map (λ (r : Record). r.num) records.now) }
+fn numbers_of(alloc: Global, records: Records<'_>) -> Result<Vec<u64>, AllocError>
+    ensures { IfOk result (λ numbers. numbers.items ≡ map (λ (r : Record). r.num) records.entry) }
 {
     let mut numbers = Vec::new(alloc);
     for record in records {

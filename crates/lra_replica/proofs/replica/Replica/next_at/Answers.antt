@@ -6,7 +6,7 @@ use Rattle.lra_replica.proofs.replica.Replica.next_at.Goals as goal
 
 pub returns-in-Some : goal.returns-in-Some
 returns-in-Some c =
-    next_here (by_view (view_of c.args.self.now)) c.args.home c.args.num c.in-Some.records.now.records c.after.result.now c.first_of.result
+    next_here (by_view (view_of c.args.self.now)) c.args.home c.args.num c.in-Some.records.now.records c.after.result c.first_of.result
     (told_here c.args.self.now c.args.home c.in-Some.records.now c.in-Some.ensures.state c.in-Some.ensures.some (sym c.in-Some.ensures.place))
     c.after.ensures c.first_of.ensures.none c.first_of.ensures.first
 
