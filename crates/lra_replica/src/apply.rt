@@ -1,5 +1,5 @@
 // Making a patch's changes.
-ghost use Rattle.std.specs.Prelude.{◌≡◌, ◌≤◌, ◌+◌, ◌==◌, ℕ, if◌then◌else◌, length};
+ghost use Rattle.std.specs.Prelude.{◌≡◌, ◌≤◌, ◌<◌, ◌+◌, ◌==◌, ℕ, if◌then◌else◌, length};
 ghost use Rattle.std.specs.List.{AllByRecursion};
 ghost use Rattle.lra_replica.specs.Replicas.{Fits, count_of_home, spare_at, view_of};
 ghost use Rattle.lra_history.specs.Changes.{patched, put_at_home, put_each, remove_each, remove_at_home};
@@ -10,7 +10,8 @@ use lra_id::LraId;
 
 impl Replica {
     /// Makes a patch's changes. The patch was prepared on the present view, and the room that was made for it is there: so
-    /// this takes no memory and always succeeds. It costs an insertion for each record.
+    /// this takes no memory and always succeeds. It costs an insertion for each record. Then it gives back the room that is
+    /// left of each home, but for one page.
     pub fn apply(&mut self, patch: Patch)
         requires { Fits patch self.old }
         ensures { view_of self.new ≡ patched patch (view_of self.old) }
@@ -23,6 +24,7 @@ impl Replica {
         } = patch;
         self.remove_all(&removed);
         self.put_all(records);
+        self.release();
         self.front = front;
         self.purges = purges;
     }
@@ -80,5 +82,22 @@ impl Replica {
     {
         let place = usize::from(added.home.number()) - 1;
         self.homes[place].put(added);
+    }
+
+    fn release(&mut self)
+        ensures { view_of self.new ≡ view_of self.old }
+    {
+        for place in 0..self.homes.len() {
+            self.release_at(place);
+        }
+    }
+
+    fn release_at(&mut self, place: usize)
+        requires { place < length self.old.homes }
+        ensures view { view_of self.new ≡ view_of self.old }
+        ensures homes { length self.new.homes ≡ length self.old.homes }
+        ensures room { spare_at self.new.homes (place + 1) ≤ 1 }
+    {
+        self.homes[place].release();
     }
 }
