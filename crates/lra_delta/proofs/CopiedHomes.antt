@@ -1,9 +1,7 @@
 -- Copies of what is told of each home: they tell the same.
-use Rattle.std.proofs.Common.{◌≡◌, ◌+◌, ◌∙◌, ℕ, List, [], ◌∷◌, Option, refl, sym, ap, subst, length, map}
+use Rattle.std.proofs.Common.{◌≡◌, ◌+◌, ◌∙◌, ℕ, List, [], ◌∷◌, refl, sym, ap, length, map}
 use Rattle.std.proofs.lemmas.List.{length-map}
 use Rattle.lra_forest.specs.declared.merging.Told.{Told}
-use Rattle.lra_forest.specs.declared.record.Record.{Record}
-use Rattle.lra_forest.specs.RecordMerges.{held_numbers}
 use Rattle.lra_history.specs.Merging.{AreToldFrom, IsTelling, Telling}
 use Rattle.lra_delta.specs.Sending.{HomePart, frame_told, part_of}
 

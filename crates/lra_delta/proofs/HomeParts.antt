@@ -1,11 +1,12 @@
 -- what is told of each home since a base
-use Rattle.std.proofs.Common.{◌≡◌, ◌≤◌, ◌<◌, ◌+◌, ◌-◌, ℕ, zero, suc, List, [], ◌∷◌, ◌++◌, refl, sym, ap, subst, ◌∙◌, Bool, true, false, cond, not, arith, Some, None, filter, get_or, length, map, take, nat_lt}
-use Rattle.std.proofs.lemmas.List.{length-map, same_lists, take_all, take_more}
+use Rattle.std.proofs.Common.{◌≡◌, ◌<◌, ◌+◌, ◌-◌, ℕ, zero, suc, List, [], ◌∷◌, ◌++◌, refl, sym, ap, subst, ◌∙◌, append_assoc, Bool, true, false, cond, not, arith, Some, None, filter, get_or, length, map, nat_lt}
+use Rattle.std.proofs.lemmas.List.{length-map, same_lists}
+use Rattle.std.specs.List.{AllByRecursion}
 use Rattle.std.specs.Prelude.{◌↔◌, IsTrue}
 use Rattle.lra_id.specs.Fronts.{IsBelow, count}
 use Rattle.lra_forest.specs.declared.merging.Told.{Told}
 use Rattle.lra_forest.specs.declared.record.Record.{Record}
-use Rattle.lra_forest.specs.Forests.{AreOf, HomeRecords}
+use Rattle.lra_forest.specs.Forests.{AreOf, HomeRecords, IsAscending}
 use Rattle.lra_forest.specs.Records.{nodes_to}
 use Rattle.lra_forest.proofs.Removals.{filter_are_of}
 use Rattle.lra_history.specs.Merging.{AreToldFrom, IsTelling}
@@ -13,7 +14,6 @@ use Rattle.lra_replica.specs.Replicas.{AreHomesFrom, IsReplicaState, ReplicaStat
 use Rattle.lra_history.specs.Views.{records_at}
 use Rattle.lra_history.proofs.Basics.{length_nodes}
 use Rattle.lra_history.proofs.MergedRecords.{nth_of}
-use Rattle.lra_history.proofs.ListsWithOneMore.{filter_append}
 use Rattle.lra_replica.proofs.Rooms.{home_numbered}
 use Rattle.lra_delta.specs.Frames.{frame_of, is_beyond}
 use Rattle.lra_delta.specs.Sending.{HomePart, frame_told, part_of, part_since}
@@ -29,28 +29,28 @@ beyond_is base v false is = by (is_beyond base v) refl
     by true e = refl
     by false e = absurd (let clash = is.1 (below_from base v e) in cc)
 
-no_more : (xs : List Record) → xs ++ [] ≡ xs
-no_more [] = refl
-no_more (x ∷ xs) = ap (λ zs. x ∷ zs) (no_more xs)
-
--- the record at the next place is added if it passes
-pub next_passing : (p : Record → Bool) (rs since new : List Record) (i : ℕ) (r : Record) → i < length rs → r ≡ get_or rs i r
-    → since ≡ filter p (take i rs) → new ≡ cond (p r) (since ++ r ∷ []) since → new ≡ filter p (take (i + 1) rs)
-next_passing p rs since new i r within at so_far added =
-    added
-    ∙ ap (λ (qs : List Record). cond (p r) (qs ++ r ∷ []) qs) so_far
-    ∙ by (p r) refl
-    ∙ ap (λ (q : Record). filter p (take i rs ++ q ∷ [])) at
-    ∙ sym (ap (filter p) (take_more rs i r within))
+-- the next one is added if it passes
+pub next_passing : (p : Record → Bool) (since left rest new all : List Record) (r : Record) → left ≡ r ∷ rest → since ++ filter p left ≡ all → new ≡ cond (p r) (since ++ r ∷ []) since → new ++ filter p rest ≡ all
+next_passing p since left rest new all r steps so_far added =
+    ap (λ (qs : List Record). qs ++ filter p rest) added ∙ by (p r) ∙ ap (λ (qs : List Record). since ++ filter p qs) (sym steps) ∙ so_far
   where
-    by : (b : Bool) → p r ≡ b → cond b (filter p (take i rs) ++ r ∷ []) (filter p (take i rs)) ≡ filter p (take i rs ++ r ∷ [])
-    by true pass = sym (filter_append p (take i rs) (r ∷ []) ∙ rw pass refl)
-    by false fail = sym (filter_append p (take i rs) (r ∷ []) ∙ rw fail (no_more (filter p (take i rs))))
+    by : (b : Bool) → cond b (since ++ r ∷ []) since ++ filter p rest ≡ since ++ cond b (r ∷ filter p rest) (filter p rest)
+    by true = append_assoc since (r ∷ []) (filter p rest)
+    by false = refl
 
--- all that pass are of the home, in order
-pub all_passing_are_of : (p : Record → Bool) (home : ℕ) (items rs since : List Record) (i : ℕ) → items ≡ rs → AreOf home rs → length items ≤ i → since ≡ filter p (take i items) → AreOf home since
-all_passing_are_of p home items rs since i is are all so_far =
-    subst (AreOf home) (sym (so_far ∙ ap (filter p) (take_all i items all ∙ is))) (filter_are_of p home rs are)
+behind : (xs ys : List Record) (r : Record) (n : ℕ) → AllByRecursion (λ (q : Record). n < q.num) (xs ++ r ∷ ys) → n < r.num
+behind [] ys r n all = all.0
+behind (x ∷ xs) ys r n all = behind xs ys r n all.1
+
+lesser : (xs ys : List Record) (r : Record) → IsAscending (xs ++ r ∷ ys) → AllByRecursion (λ (q : Record). q.num < r.num) xs
+lesser [] ys r up = tt
+lesser (x ∷ xs) ys r up = (behind xs ys r x.num up.0, lesser xs ys r up.1)
+
+-- those that passed before one that passes have lesser numbers
+pub passed_before : (p : Record → Bool) (home : ℕ) (rs since left rest : List Record) (r : Record) → AreOf home rs → left ≡ r ∷ rest → since ++ filter p left ≡ filter p rs → p r ≡ true → AllByRecursion (λ (q : Record). q.num < r.num) since
+passed_before p home rs since left rest r are steps so_far pass =
+    let here : filter p left ≡ r ∷ filter p rest = ap (filter p) steps ∙ ap (λ (b : Bool). cond b (r ∷ filter p rest) (filter p rest)) pass in
+    lesser since (filter p rest) r (subst IsAscending (sym so_far ∙ ap (λ (qs : List Record). since ++ qs) here) (filter_are_of p home rs are).ascending)
 
 -- Lists
 

@@ -1,5 +1,5 @@
 -- Two lists that are compared from a place on.
-use Rattle.std.proofs.Common.{◌≡◌, ◌<◌, ◌≤◌, ◌+◌, ◌&&◌, ◌∙◌, ℕ, suc, List, [], ◌∷◌, Bool, true, false, refl, sym, ap, length, drop, get_or, map, arith, drop-cons, add-one}
+use Rattle.std.proofs.Common.{◌≡◌, ◌<◌, ◌+◌, ◌&&◌, ◌∙◌, ℕ, suc, List, [], ◌∷◌, Bool, true, false, refl, sym, ap, length, drop, get_or, map, drop-cons, add-one}
 use Rattle.std.specs.Cmp.Lexicographic.{pointwise}
 
 -- from a place on: what is there, and what is behind it

@@ -14,7 +14,7 @@ use crate::buffer::Buffer;
 use crate::count::Count;
 use crate::output::Output;
 use crate::record_encoding::{put_byte, put_front, put_numbers, put_record};
-use lra_forest::{Record, Told};
+use lra_forest::{Records, Told};
 use std::alloc::{AllocError, Global};
 
 /// A count of two bytes.
@@ -67,10 +67,10 @@ fn put_lives<O: Output>(out: &mut O, homes: &[Told])
     put_each_live(out, homes);
 }
 
-fn put_each_record<O: Output>(out: &mut O, records: &[Record])
+fn put_each_record<O: Output>(out: &mut O, records: Records<'_>)
     ensures same { O.start out.new ≡ O.start out.old }
-    ensures text { O.text out.new ≡ O.text out.old ++ flat_map record_text records.now }
-    ensures typed { All IsTypedRecord records.now }
+    ensures text { O.text out.new ≡ O.text out.old ++ flat_map record_text records.entry }
+    ensures typed { All IsTypedRecord records.entry }
 {
     for kept in records {
         put_record(out, kept);

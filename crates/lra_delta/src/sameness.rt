@@ -8,7 +8,7 @@ ghost use Rattle.lra_forest.specs.RecordMerges.{held_numbers};
 ghost use Rattle.lra_delta.specs.SameFrames.{same_frame, same_lives, same_records};
 
 use crate::Delta;
-use lra_forest::Told;
+use lra_forest::{Forest, Told};
 
 fn same_held(a: &Option<Vec<u64>>, b: &Option<Vec<u64>>) -> bool
     ensures { result ≡ option_eq bytes_eq (held_numbers a.now) (held_numbers b.now) }
@@ -33,13 +33,19 @@ fn same_lives(a: &[Told], b: &[Told]) -> bool
     true
 }
 
+fn same_forest(a: &Forest, b: &Forest) -> bool
+    ensures { result ≡ pointwise of_records.ghosts.eq a.now.records b.now.records }
+{
+    a.same_records(b)
+}
+
 fn same_records(a: &[Told], b: &[Told]) -> bool
     requires { length a.now ≡ length b.now }
     ensures { result ≡ same_records
         (map (λ told. told.records.records) a.now) (map (λ told. told.records.records) b.now) }
 {
     for place in 0..a.len() {
-        if !(a[place].records.records() == b[place].records.records()) {
+        if !same_forest(&a[place].records, &b[place].records) {
             return false;
         }
     }

@@ -1,10 +1,10 @@
 // What a replica tells since a base.
-ghost use Rattle.std.specs.Prelude.{◌≡◌, ◌⊎◌, ◌++◌, ◌∷◌, [], ℕ, List, Err, None, Some, IfErr, IfOk, OnOk, filter, if◌then◌else◌, length, map, nat_lt};
+ghost use Rattle.std.specs.Prelude.{◌≡◌, ◌⊎◌, ◌++◌, ◌∷◌, ◌<◌, [], ℕ, List, Err, None, Some, true, IfErr, IfOk, OnOk, filter, if◌then◌else◌, length, map, nat_lt};
+ghost use Rattle.std.specs.List.{AllByRecursion};
 ghost use Rattle.lra_id.specs.Fronts.{IsBelow, count};
 ghost use Rattle.lra_facts.specs.declared.fact.Fact.{Fact};
 ghost use Rattle.lra_facts.specs.declared.refusal.Refusal.TheVariants.{Gap, NoMemory};
 ghost use Rattle.lra_forest.specs.declared.record.Record.{Record};
-ghost use Rattle.lra_forest.specs.Forests.{AreOf};
 ghost use Rattle.lra_forest.specs.RecordMerges.{held_numbers};
 ghost use Rattle.lra_history.specs.Histories.{History, IsClosed, IsLawful, facts};
 ghost use Rattle.lra_replica.specs.Replicas.{view_of};
@@ -15,7 +15,7 @@ ghost use Rattle.lra_delta.specs.Sending.{part_of, part_since};
 
 use crate::Delta;
 use lra_facts::Refusal;
-use lra_forest::{Forest, Record, Told};
+use lra_forest::{Forest, Record, Records, Told};
 use lra_id::Front;
 use lra_replica::Replica;
 use std::alloc::{AllocError, Global};
@@ -26,8 +26,8 @@ fn is_beyond(base: &Front, kept: &Record) -> bool
     !kept.stamps.below(base)
 }
 
-fn numbers_of(alloc: Global, records: &[Record]) -> Result<Vec<u64>, AllocError>
-    ensures { IfOk result (λ numbers. numbers.items ≡ map (λ (r : Record). r.num) records.now) }
+fn numbers_of(alloc: Global, records: Records<'_>) -> Result<Vec<u64>, AllocError>
+    ensures { IfOk result (λ numbers. numbers.items ≡ map (λ (r : Record). r.num) records.entry) }
 {
     let mut numbers = Vec::new(alloc);
     for record in records {
@@ -53,12 +53,16 @@ fn live_since(
     }
 }
 
-fn push_newer(since: &mut Vec<Record>, kept: &Record, base: &Front) -> Result<(), AllocError>
-    ensures { OnOk result (since.new.items ≡ (if is_beyond
-        base.now kept.now.stamps then since.old.items ++ kept.now ∷ [] else since.old.items)) }
+fn push_newer(since: &mut Forest, kept: &Record, base: &Front) -> Result<(), AllocError>
+    requires home { kept.now.home ≡ since.old.home }
+    requires last { is_beyond base.now kept.now.stamps ≡ true →
+        AllByRecursion (λ q. q.num < kept.now.num) since.old.records }
+    ensures home { since.new.home ≡ since.old.home }
+    ensures records { OnOk result (since.new.records ≡ (if is_beyond base.now
+        kept.now.stamps then since.old.records ++ kept.now ∷ [] else since.old.records)) }
 {
     if is_beyond(base, kept) {
-        since.push(kept.clone()?)?;
+        since.push_last(kept.clone()?)?;
     }
     Ok(())
 }
@@ -68,11 +72,11 @@ fn records_since(alloc: Global, home: &Forest, base: &Front) -> Result<Forest, A
     ensures records { IfOk result
         (λ since. since.records ≡ filter (λ r. is_beyond base.now r.stamps) home.now.records) }
 {
-    let mut since = Vec::new(alloc);
+    let mut since = Forest::new(alloc, home.home());
     for record in home.records() {
         push_newer(&mut since, record, base)?;
     }
-    Ok(Forest::from_records(home.home(), since))
+    Ok(since)
 }
 
 /// What is told of a home since a base.

@@ -1,15 +1,32 @@
-use Rattle.std.proofs.Common.{rules}
+use Rattle.std.proofs.Common.{ℕ, ◌++◌, ◌∙◌, List, ap, append_assoc, refl, rules, subst, sym}
+use Rattle.std.specs.List.{AllByRecursion, flat_map}
+use Rattle.std.proofs.lemmas.List.Elements.{All-from_recursion}
+use Rattle.lra_forest.specs.declared.record.Record.{Record}
 use Rattle.lra_delta.specs.Encoding.{record_text}
 use Rattle.lra_delta.specs.Typed.{IsTypedRecord}
-use Rattle.lra_delta.proofs.Put.{all_next, text_next}
 use Rattle.lra_delta.proofs.frame_encoding.put_each_record.Goals as goal
+
+pub loop-kept-init : goal.loop-kept-init
+loop-kept-init g c =
+    let put = g.O.Output.text in
+    let is = c.into_iter-kept-iterator.ensures.into_iter_gives in
+    record {
+      same = refl;
+      text = ap (λ (rs : List Record). put c.args.out.now ++ flat_map record_text rs) is;
+      typed = λ left. All-from_recursion IsTypedRecord c.args.records (subst (AllByRecursion IsTypedRecord) is left);
+    }
 
 pub loop-kept-preserved : goal.loop-kept-preserved
 loop-kept-preserved g c =
     let put = g.O.Output.text in
-    let within = c.loop-kept-test.true in
+    let steps = c.in-Some.ensures.steps in
+    let rest = c.next.new.self in
     record {
       same = search rules;
-      text = text_next record_text c.args.records.now c.loop-kept.kept-index c.kept-item.result (put c.args.out.now) (put c.loop-kept.out) (put c.put_record.new.out) within c.kept-item.is c.loop-kept.invariant.text c.put_record.ensures.text;
-      typed = all_next IsTypedRecord c.args.records.now c.loop-kept.kept-index c.kept-item.result within c.kept-item.is c.loop-kept.invariant.typed c.put_record.ensures.typed;
+      text =
+          ap (λ (t : List ℕ). t ++ flat_map record_text rest) c.put_record.ensures.text
+          ∙ append_assoc (put c.loop-kept.out) (record_text c.in-Some.kept.now) (flat_map record_text rest)
+          ∙ ap (λ (rs : List Record). put c.loop-kept.out ++ flat_map record_text rs) (sym steps)
+          ∙ c.loop-kept.invariant.text;
+      typed = λ left. c.loop-kept.invariant.typed (subst (AllByRecursion IsTypedRecord) (sym steps) (c.put_record.ensures.typed, left));
     }

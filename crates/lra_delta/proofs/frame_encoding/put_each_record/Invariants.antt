@@ -1,12 +1,13 @@
-use Rattle.std.proofs.Common.{◌≡◌, ◌++◌, take}
-use Rattle.std.specs.List.{All, flat_map}
+use Rattle.std.proofs.Common.{◌≡◌, ◌++◌}
+use Rattle.std.specs.List.{All, AllByRecursion, flat_map}
 use Rattle.lra_delta.specs.Encoding.{record_text}
 use Rattle.lra_delta.specs.Typed.{IsTypedRecord}
 use Rattle.lra_delta.proofs.frame_encoding.put_each_record.Given as goal
 
+-- what was put, and the text of what is left; all are typed if those are that are left
 abbrev pub invariant-loop-kept : goal.invariant-loop-kept
 invariant-loop-kept g l = record {
   same : g.O.Output.start l.out ≡ g.O.Output.start l.fn.out;
-  text : g.O.Output.text l.out ≡ g.O.Output.text l.fn.out ++ flat_map record_text (take l.kept-index l.records);
-  typed : All IsTypedRecord (take l.kept-index l.records);
+  text : g.O.Output.text l.out ++ flat_map record_text l.kept-iterator ≡ g.O.Output.text l.fn.out ++ flat_map record_text l.fn.records;
+  typed : AllByRecursion IsTypedRecord l.kept-iterator → All IsTypedRecord l.fn.records;
 }

@@ -1,6 +1,5 @@
 use Rattle.std.proofs.Common.{◌≡◌, drop, map}
 use Rattle.lra_forest.specs.declared.merging.Told.{Told}
-use Rattle.lra_forest.specs.RecordMerges.{held_numbers}
 use Rattle.lra_delta.specs.SameFrames.{same_records}
 use Rattle.lra_delta.proofs.sameness.same_records.Given as goal
 
