@@ -17,7 +17,7 @@ Made by `python3 docs/calls.py` from the code; laws, which do nothing, stand in 
 - **It returns.** Each contract is of total correctness: whatever comes, the call returns, if the calls do that it makes of a reader, a writer, a store or a lock. `serve`, `work` and what waits for a lock may wait (`Wait` is in their bounds).
 - **Clauses** are named as in the code; "its clause" is one without a name. Where the answer is one definition of the state (`next`, `says`, `exact`, `answer`, `told`, a clause without a name), it holds the refusals too, first in their order.
 - **Refusals**: the clauses that say when an error comes, beside those. A dash: no error, or running out of memory alone, of which no contract can say when it comes.
-- **Unchanged**: the clauses that say what stays after an error. A dash: the call takes nothing by `&mut`, or has no error.
+- **Unchanged**: the clauses that say what stays after an error. A dash: the call takes nothing by `&mut`, has no error, or says it in the clause of its refusals (`start_run`, `serve_one`).
 
 """
 IGNORED = {"lra_answers", "lra_calls", "lra_served", "lra_scripts"}
