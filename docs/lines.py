@@ -13,7 +13,7 @@ LAYERS = [("lra_node", "lra_play", "the programs"), ("lra_server", "the server o
           ("lra_trail", "laws of a node in the world"), ("lra_api", "the HTTP interface"), ("lra_book", "calls, trails and the desk"),
           ("lra_journal", "rows"), ("lra_world", "all nodes"), ("lra_peer", "pulls"), ("lra_callback", "duties, calls and answers"),
           ("lra_delta", "frames"), ("lra_replica", "one node"), ("lra_history", "commands, histories, views and their laws"),
-          ("lra_forest", "records of a home"), ("lra_facts", "facts and definitions"), ("lra_http", "HTTP messages"), ("lra_states", "lra_id", "words and ids")]
+          ("lra_forest", "records of a home"), ("lra_index", "stamps, in order"), ("lra_facts", "facts and definitions"), ("lra_http", "HTTP messages"), ("lra_states", "lra_id", "words and ids")]
 
 
 def lines_of(pattern, mark):

@@ -1,0 +1,8 @@
+pub mod Beyond
+mod Moving
+pub mod OneIndex
+mod Orders
+mod Places
+mod Putting
+mod Removing
+mod Rooms

@@ -1,0 +1,96 @@
+-- an index and what is known
+use Rattle.std.proofs.Common.{◌≡◌, ◌↔◌, ◌⊎◌, inl, inr, ◌∷◌, ◌<◌, ◌-◌, ℕ, zero, suc, List, [], refl, sym, ap, ◌∙◌, subst, Bool, true, false, cond, arith, filter, get_or, nat_lt, replicate, Option, None}
+use Rattle.std.proofs.lemmas.Bool.Decides.{nat_tests}
+use Rattle.std.specs.List.{AllByRecursion}
+use Rattle.lra_id.specs.Ids.{Id}
+use Rattle.lra_index.specs.declared.entry.Entry.{Entry}
+use Rattle.lra_index.specs.Entries.{In, id_of, IsRising, is_before}
+use Rattle.lra_index.specs.Indexes.{AreIndexesOf, IsIndexOf, entries_at, stamp_at}
+use Rattle.lra_index.proofs.Orders.{not_itself, one_way}
+
+each_of : (P : Entry → Type 0) (xs : List Entry) (e : Entry) → AllByRecursion P xs → In e xs → P e
+each_of P [] e h i = absurd i
+each_of P (x ∷ xs) e h (inl s) = subst P (sym s) h.0
+each_of P (x ∷ xs) e h (inr i) = each_of P xs e h.1 i
+
+not_both : (x y : Entry) → is_before x y ≡ true → is_before y x ≡ true → ⊥
+not_both x y e f = let one : is_before y x ≡ false = one_way x y e in absurd cc
+
+not_self : (x y : Entry) → is_before x y ≡ true → y ≡ x → ⊥
+not_self x y e s = let itself : is_before x x ≡ false = not_itself x in let here : is_before x y ≡ is_before x x = ap (λ (z : Entry). is_before x z) s in absurd cc
+
+-- of two that are each first, neither comes before the other
+first : (x y : Entry) (xs ys : List Entry) → IsRising (x ∷ xs) → IsRising (y ∷ ys) → (x ≡ y) ⊎ In x ys → (y ≡ x) ⊎ In y xs → x ≡ y
+first x y xs ys g h (inl s) j = s
+first x y xs ys g h (inr i) (inl s) = sym s
+first x y xs ys g h (inr i) (inr j) = absurd (not_both x y (each_of (λ z. is_before x z ≡ true) xs y g.0 j) (each_of (λ z. is_before y z ≡ true) ys x h.0 i))
+
+behind : (x y : Entry) (xs ys : List Entry) → x ≡ y → IsRising (x ∷ xs) → (e : Entry) → In e xs → (e ≡ y) ⊎ In e ys → In e ys
+behind x y xs ys s h e i (inl is) = absurd (not_self x e (each_of (λ z. is_before x z ≡ true) xs e h.0 i) (is ∙ sym s))
+behind x y xs ys s h e i (inr j) = j
+
+pub same_entries : (xs ys : List Entry) → IsRising xs → IsRising ys → ((e : Entry) → In e xs → In e ys) → ((e : Entry) → In e ys → In e xs) → xs ≡ ys
+same_entries [] [] g h there back = refl
+same_entries [] (y ∷ ys) g h there back = absurd (back y (inl refl))
+same_entries (x ∷ xs) [] g h there back = absurd (there x (inl refl))
+same_entries (x ∷ xs) (y ∷ ys) g h there back =
+    let same : x ≡ y = first x y xs ys g h (there x (inl refl)) (back y (inl refl)) in
+    let rest : xs ≡ ys = same_entries xs ys g.1 h.1
+    (λ e i. behind x y xs ys same g e i (there e (inr i)))
+    (λ e i. behind y x ys xs (sym same) h e i (back e (inr i))) in
+    ap (λ (z : Entry). z ∷ xs) same ∙ ap (λ (zs : List Entry). y ∷ zs) rest
+
+pub one_index : (origin : ℕ) (known : Id → Option (List ℕ)) (xs ys : List Entry) → IsIndexOf origin xs known → IsIndexOf origin ys known → xs ≡ ys
+one_index origin known xs ys a b = same_entries xs ys a.rising b.rising (λ e i. (b.held e).1 ((a.held e).0 i)) (λ e i. (a.held e).1 ((b.held e).0 i))
+
+pub by_each : (origins : List (List Entry)) (known other : Id → Option (List ℕ)) → ((l : Id) → known l ≡ other l) → AreIndexesOf origins known → AreIndexesOf origins other
+by_each origins known other same all origin some within =
+    let h = all origin some within in
+    let at = λ (l : Id). ap (λ (v : Option (List ℕ)). stamp_at v origin) (same l) in
+    record {
+      rising = h.rising;
+      held = λ e. ((λ i. let k = (h.held e).0 i in (k.0, sym (at (id_of e)) ∙ k.1)), (λ k. (h.held e).1 (k.0, at (id_of e) ∙ k.1)));
+    }
+
+none_at : (none : List Entry) (nodes k : ℕ) → get_or (replicate nodes none) k none ≡ none
+none_at none zero k = refl
+none_at none (suc nodes) zero = refl
+none_at none (suc nodes) (suc k) = none_at none nodes k
+
+-- where nothing is known, there is no entry
+pub none_known : (nodes : ℕ) (origins : List (List Entry)) → origins ≡ replicate nodes [] → AreIndexesOf origins (λ _. None)
+none_known nodes origins e origin some within =
+    let at : [] ≡ entries_at origins origin = sym (ap (λ os. entries_at os origin) e ∙ none_at [] nodes (origin - 1)) in
+    subst (λ es. IsIndexOf origin es (λ _. None)) at (record { rising = tt; held = λ e. ((λ i. absurd i), (λ h. absurd (omega (arith, h.0, h.1)))) })
+
+in_filter : (t : Entry → Bool) (es : List Entry) (e : Entry) → In e (filter t es) → In e es × (t e ≡ true)
+in_filter t [] e i = absurd i
+in_filter t (q ∷ qs) e i = by (in_filter t qs e) (t q) refl i
+  where
+    by : (In e (filter t qs) → In e qs × (t e ≡ true)) → (b : Bool) → t q ≡ b → In e (cond b (q ∷ filter t qs) (filter t qs)) → ((e ≡ q) ⊎ In e qs) × (t e ≡ true)
+    by rest true s (inl is) = (inl is, ap t is ∙ s)
+    by rest true s (inr i) = let r = rest i in (inr r.0, r.1)
+    by rest false s i = let r = rest i in (inr r.0, r.1)
+
+filter_in : (t : Entry → Bool) (es : List Entry) (e : Entry) → In e es → t e ≡ true → In e (filter t es)
+filter_in t [] e i p = absurd i
+filter_in t (q ∷ qs) e i p = by (filter_in t qs e) (t q) refl i
+  where
+    by : (In e qs → t e ≡ true → In e (filter t qs)) → (b : Bool) → t q ≡ b → (e ≡ q) ⊎ In e qs → In e (cond b (q ∷ filter t qs) (filter t qs))
+    by rest true s (inl is) = inl is
+    by rest true s (inr i) = inr (rest i p)
+    by rest false s (inl is) = absurd (let here : t e ≡ t q = ap t is in cc)
+    by rest false s (inr i) = rest i p
+
+-- the entries beyond a count are those of the greater stamps
+pub beyond_is : (origin count : ℕ) (es : List Entry) (known : Id → Option (List ℕ)) → IsIndexOf origin es known → (e : Entry) → In e (filter (λ (q : Entry). nat_lt count q.stamp) es) ↔ ((count < e.stamp) × (stamp_at (known (id_of e)) origin ≡ e.stamp))
+beyond_is origin count es known h e = (
+  (λ i. let r = in_filter (λ q. nat_lt count q.stamp) es e i in (less e.stamp r.1, ((h.held e).0 r.0).1)),
+  (λ k. filter_in (λ q. nat_lt count q.stamp) es e ((h.held e).1 (omega (arith, k.0), k.1)) (tested e.stamp k.0)),
+)
+  where
+    less : (n : ℕ) → nat_lt count n ≡ true → count < n
+    less n t = grind (arith, nat_tests)
+
+    tested : (n : ℕ) → count < n → nat_lt count n ≡ true
+    tested n l = grind (arith, nat_tests)

@@ -1,0 +1,138 @@
+// The index of what is known, by stamp.
+ghost use Rattle.std.specs.Prelude.{◌≡◌, ◌+◌, ◌≤◌, ◌<◌, ◌↔◌, ℕ, List, [], IfOk, IsSome, None, Option, OnOk, filter, length, nat_lt, replicate};
+ghost use Rattle.lra_id.specs.Ids.{Id};
+ghost use Rattle.lra_index.specs.declared.entry.Entry.{Entry as Fields};
+ghost use Rattle.lra_index.specs.Entries.{In, id_of};
+ghost use Rattle.lra_index.specs.Indexes.{AreIndexesOf, AreRestamped, AreReserved, at_place, entries_at, stamp_at, with_stamps};
+
+use crate::Entry;
+use crate::origin::Origin;
+use lra_id::{Front, NodeId};
+use std::alloc::{AllocError, Global};
+use std::marker::Model;
+
+/// For each node the stamps that the records of LRAs have of it, with their LRAs, in order.
+#[derive(Debug, Drop)]
+pub struct Index {
+    origins: Vec<Origin>,
+}
+
+impl Model for Index {
+    ghost use Rattle.lra_index.specs.Indexes.{HeldIndex, entries_of, least_spare};
+
+    ghost Value = { HeldIndex };
+
+    ghost view = { λ x. record {
+      origins = entries_of x.origins.items;
+      spare = least_spare x.origins.items;
+    } };
+}
+
+impl Clone for Index {
+    ghost is_clone = { λ x y. y.origins ≡ x.origins };
+
+    fn clone(&self) -> Result<Index, AllocError> {
+        Ok(Index {
+            origins: self.origins.clone()?,
+        })
+    }
+}
+
+/// The stamp of the node at a place: 0 where there is none.
+fn stamp_at(stamps: &Option<Front>, place: usize) -> u64
+    ensures { result ≡ stamp_at stamps.now (place + 1) }
+{
+    let Some(front) = stamps else {
+        return 0;
+    };
+    match front.as_slice().get(place) {
+        Some(stamp) => *stamp,
+        None => 0,
+    }
+}
+
+fn reserve_each(origins: &mut Vec<Origin>, more: usize) -> Result<(), AllocError>
+    ensures kept { AreReserved 0 origins.old.items origins.new.items }
+    ensures ok { OnOk result (AreReserved more origins.old.items origins.new.items) }
+{
+    for place in 0..origins.len() {
+        origins[place].reserve(more)?;
+    }
+    Ok(())
+}
+
+fn reindex_each(
+    origins: &mut Vec<Origin>,
+    home: NodeId,
+    num: u64,
+    was: &Option<Front>,
+    now: &Option<Front>,
+)
+    requires { (k : ℕ) → k < length origins.old.items → 0 < stamp_at now.now (k + 1) →
+        1 ≤ (at_place origins.old.items k).spare }
+    ensures { AreRestamped (record { home = home; num = num })
+        was.now now.now origins.old.items origins.new.items }
+{
+    for place in 0..origins.len() {
+        origins[place].reindex(home, num, stamp_at(was, place), stamp_at(now, place));
+    }
+}
+
+impl Index {
+    /// No entry, of so many nodes.
+    pub fn new(alloc: Global, nodes: usize) -> Result<Index, AllocError>
+        ensures origins { IfOk result (λ index. index.origins ≡ replicate nodes []) }
+        ensures empty { IfOk result (λ index. AreIndexesOf index.origins (λ _. None)) }
+    {
+        let mut origins = Vec::new(alloc);
+        for place in 0..nodes {
+            origins.push(Origin::new(alloc))?;
+        }
+        Ok(Index { origins })
+    }
+
+    /// Takes the memory that so many more entries of each node need.
+    pub fn reserve(&mut self, more: usize) -> Result<(), AllocError>
+        ensures origins { self.new.origins ≡ self.old.origins }
+        ensures ok { OnOk result (more ≤ self.new.spare) }
+        ensures kept { self.old.spare ≤ self.new.spare }
+    {
+        reserve_each(&mut self.origins, more)
+    }
+
+    /// Takes out the entries of the stamps that the record of an LRA had, and enters those that it has now, at each node where
+    /// the two differ. There is room for one more entry of each, where stamps are entered. It takes no memory.
+    pub fn reindex(&mut self, home: NodeId, num: u64, was: Option<Front>, now: Option<Front>)
+        requires { IsSome now → 1 ≤ self.old.spare }
+        ensures nodes { length self.new.origins ≡ length self.old.origins }
+        ensures entries { let id : Id = record { home = home; num = num } in
+            (known : Id → Option (List ℕ)) → AreIndexesOf self.old.origins known →
+            known id ≡ was → AreIndexesOf self.new.origins (with_stamps id now known) }
+        ensures spare { self.old.spare ≤ self.new.spare + 1 }
+        ensures kept { now ≡ None → self.old.spare ≤ self.new.spare }
+    {
+        reindex_each(&mut self.origins, home, num, &was, &now);
+    }
+
+    fn after(&self, origin: NodeId, count: u64) -> &[Entry]
+        ensures entries { result.now
+            ≡ filter (λ e. nat_lt count e.stamp) (entries_at self.now.origins origin) }
+        ensures some { 1 ≤ origin }
+    {
+        match self.origins.get(usize::from(origin.number()) - 1) {
+            Some(entries) => entries.beyond(count),
+            None => &[],
+        }
+    }
+
+    /// The entries of a node with greater stamps, in order: none, where there is no such node. It finds the first by halving.
+    pub fn beyond(&self, origin: NodeId, count: u64) -> &[Entry]
+        ensures entries { result.now
+            ≡ filter (λ e. nat_lt count e.stamp) (entries_at self.now.origins origin) }
+        ensures changed { (known : Id → Option (List ℕ)) → AreIndexesOf self.now.origins known →
+            origin ≤ length self.now.origins → (e : Fields) → In e result.now
+            ↔ ((count < e.stamp) × (stamp_at (known (id_of e)) origin ≡ e.stamp)) }
+    {
+        self.after(origin, count)
+    }
+}
