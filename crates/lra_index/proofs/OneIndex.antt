@@ -1,11 +1,11 @@
 -- an index and what is known
-use Rattle.std.proofs.Common.{◌≡◌, ◌↔◌, ◌⊎◌, inl, inr, ◌∷◌, ◌<◌, ◌-◌, ℕ, zero, suc, List, [], refl, sym, ap, ◌∙◌, subst, Bool, true, false, cond, arith, filter, get_or, nat_lt, replicate, Option, None}
+use Rattle.std.proofs.Common.{◌≡◌, ◌↔◌, ◌⊎◌, inl, inr, ◌∷◌, ◌<◌, ℕ, List, [], refl, sym, ap, ◌∙◌, subst, Bool, true, false, cond, arith, filter, nat_lt, Option}
 use Rattle.std.proofs.lemmas.Bool.Decides.{nat_tests}
 use Rattle.std.specs.List.{AllByRecursion}
 use Rattle.lra_id.specs.Ids.{Id}
 use Rattle.lra_index.specs.declared.entry.Entry.{Entry}
 use Rattle.lra_index.specs.Entries.{In, id_of, IsRising, is_before}
-use Rattle.lra_index.specs.Indexes.{AreIndexesOf, IsIndexOf, entries_at, stamp_at}
+use Rattle.lra_index.specs.Indexes.{AreIndexesOf, IsIndexOf, stamp_at}
 use Rattle.lra_index.proofs.Orders.{not_itself, one_way}
 
 each_of : (P : Entry → Type 0) (xs : List Entry) (e : Entry) → AllByRecursion P xs → In e xs → P e
@@ -51,17 +51,6 @@ by_each origins known other same all origin some within =
       rising = h.rising;
       held = λ e. ((λ i. let k = (h.held e).0 i in (k.0, sym (at (id_of e)) ∙ k.1)), (λ k. (h.held e).1 (k.0, at (id_of e) ∙ k.1)));
     }
-
-none_at : (none : List Entry) (nodes k : ℕ) → get_or (replicate nodes none) k none ≡ none
-none_at none zero k = refl
-none_at none (suc nodes) zero = refl
-none_at none (suc nodes) (suc k) = none_at none nodes k
-
--- where nothing is known, there is no entry
-pub none_known : (nodes : ℕ) (origins : List (List Entry)) → origins ≡ replicate nodes [] → AreIndexesOf origins (λ _. None)
-none_known nodes origins e origin some within =
-    let at : [] ≡ entries_at origins origin = sym (ap (λ os. entries_at os origin) e ∙ none_at [] nodes (origin - 1)) in
-    subst (λ es. IsIndexOf origin es (λ _. None)) at (record { rising = tt; held = λ e. ((λ i. absurd i), (λ h. absurd (omega (arith, h.0, h.1)))) })
 
 in_filter : (t : Entry → Bool) (es : List Entry) (e : Entry) → In e (filter t es) → In e es × (t e ≡ true)
 in_filter t [] e i = absurd i
