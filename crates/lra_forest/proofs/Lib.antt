@@ -3,7 +3,7 @@ pub mod Begins
 pub mod Bools
 pub mod Chained
 mod ChangedCounts
-mod ChangedRecords
+pub mod ChangedRecords
 pub mod Climbs
 mod Collected
 pub mod Compensated

@@ -347,13 +347,14 @@ module _ (a : View) (telling : Telling) (homes : List HomeRecords) (change : Cha
       }
 
 -- the patch fits, where the view is that of what is kept
-pub taken_fits : (kept : ReplicaState) (telling : Telling) (change : Change) → IsTakenTo (view_of kept) telling kept.homes change (length kept.front) → length change.front ≡ length kept.front → length change.purges ≡ length kept.front → Fits change kept
-taken_fits kept telling change so front purges =
+pub taken_fits : (kept : ReplicaState) (telling : Telling) (change : Change) → IsTakenTo (view_of kept) telling kept.homes change (length kept.front) → length change.front ≡ length kept.front → length change.purges ≡ length kept.front → length change.records ≤ kept.index.spare → Fits change kept
+taken_fits kept telling change so front purges entries =
     record {
       front = front;
       purges = purges;
       homes = all_weaker (λ (r : Record). (1 ≤ r.home) × (r.home ≤ length kept.front)) (λ (r : Record). r.home ≤ length kept.front) change.records (λ r h. h.1) so.of_records;
       room = so.room;
+      entries = entries;
     }
 
 -- a view that takes what is told has at each home what is taken of it
@@ -454,8 +455,8 @@ module _ (kept after : ReplicaState) (telling : Telling) (change : Change) (is :
   pub patch_shapes : IsBelow change.purges change.front → HasShape (patched change (view_of kept))
   patch_shapes below = taken_shape (view_of kept) telling after.homes change all_homes nodes size front purges below
 
-  pub patch_fits : Fits change after
-  patch_fits =
+  pub patch_fits : length change.records ≤ after.index.spare → Fits change after
+  patch_fits entries =
       let fronts : length after.front ≡ length kept.front = ap (λ (v : View). length v.front) view in
       let low : IsTakenTo (view_of after) telling after.homes change (length after.front) =
       subst (λ (v : View). IsTakenTo v telling after.homes change (length after.front)) (sym view)
@@ -463,4 +464,4 @@ module _ (kept after : ReplicaState) (telling : Telling) (change : Change) (is :
       let purged : length kept.purges ≡ length telling.purges = is.purges ∙ nodes ∙ sym told.purges in
       taken_fits after telling change low
       (ap (λ (v : List ℕ). length v) front ∙ length_join kept.front telling.front nodes ∙ sym fronts)
-      (ap (λ (v : List ℕ). length v) purges ∙ length_join kept.purges telling.purges purged ∙ is.purges ∙ sym fronts)
+      (ap (λ (v : List ℕ). length v) purges ∙ length_join kept.purges telling.purges purged ∙ is.purges ∙ sym fronts) entries

@@ -1,9 +1,14 @@
 -- homes without a record
-use Rattle.std.proofs.Common.{◌≡◌, ◌+◌, ◌++◌, ℕ, zero, suc, List, [], ◌∷◌, refl, sym, ap, subst, ◌∙◌, arith, length, map, replicate, add-one}
+use Rattle.std.proofs.Common.{◌≡◌, ◌+◌, ◌++◌, ℕ, zero, suc, List, [], ◌∷◌, refl, sym, ap, subst, ◌∙◌, arith, length, map, replicate, add-one, ◌-◌, None, find, get_or}
 use Rattle.std.specs.List.{AllByRecursion}
+use Rattle.std.specs.Option.{option_map}
+use Rattle.lra_id.specs.Ids.{Id}
 use Rattle.lra_forest.specs.declared.record.Record.{Record}
-use Rattle.lra_forest.specs.Forests.{AreOf, HomeRecords}
-use Rattle.lra_replica.specs.Replicas.{AreEmptyHomes, AreHomesFrom}
+use Rattle.lra_forest.specs.Forests.{AreOf, HomeRecords, is_of}
+use Rattle.lra_index.specs.declared.entry.Entry.{Entry}
+use Rattle.lra_index.specs.Indexes.{AreIndexesOf}
+use Rattle.lra_index.proofs.OneIndex.{by_each}
+use Rattle.lra_replica.specs.Replicas.{AreEmptyHomes, AreHomesFrom, records_in, stamps_in}
 
 homes_and : (k : ℕ) (homes : List HomeRecords) (home : HomeRecords) → AreHomesFrom k homes → home.home ≡ k + length homes → AreHomesFrom k (homes ++ home ∷ [])
 homes_and k [] home are e = (omega (arith, e), tt)
@@ -30,6 +35,20 @@ empty_ordered (suc n) (h ∷ homes) e =
     let first : h.records ≡ [] = cc in
     let rest : map (λ (x : HomeRecords). x.records) homes ≡ replicate n [] = cc in
     (subst (λ (rs : List Record). AreOf h.home rs) (sym first) (record { homes = tt; ascending = tt }), empty_ordered n homes rest)
+
+none_at : (n k : ℕ) → get_or (replicate {A = List Record} n []) k [] ≡ []
+none_at zero k = refl
+none_at (suc n) zero = refl
+none_at (suc n) (suc k) = none_at n k
+
+-- and have no stamps
+pub empty_indexed : (n : ℕ) (homes : List HomeRecords) (origins : List (List Entry)) → map (λ (h : HomeRecords). h.records) homes ≡ replicate n [] → AreIndexesOf origins (λ (l : Id). None) → AreIndexesOf origins (stamps_in (records_in homes))
+empty_indexed n homes origins e none = by_each origins (λ (l : Id). None) (stamps_in (records_in homes)) (λ l. sym (nothing l)) none
+  where
+    nothing : (l : Id) → stamps_in (records_in homes) l ≡ None
+    nothing l =
+        let records : get_or (records_in homes) (l.home - 1) [] ≡ [] = ap (λ (rs : List (List Record)). get_or rs (l.home - 1) []) e ∙ none_at n (l.home - 1) in
+        ap (λ (rs : List Record). option_map (λ (r : Record). r.stamps) (find (is_of l) rs)) records
 
 -- one more of them
 pub one_more_home : (n : ℕ) (homes : List HomeRecords) (home : HomeRecords) → AreEmptyHomes n homes → home.home ≡ n + 1 → home.records ≡ [] → AreEmptyHomes (n + 1) (homes ++ home ∷ [])

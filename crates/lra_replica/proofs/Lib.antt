@@ -1,6 +1,7 @@
 mod Absorbed
 mod EmptyHomes
 mod Homes
+mod Indexed
 mod KnownReports
 mod Nesting
 pub mod Paging

@@ -7,9 +7,10 @@ use Rattle.std.proofs.Math.Seq.{map-set_same}
 use Rattle.std.specs.List.{AllByRecursion}
 use Rattle.lra_forest.specs.declared.record.Record.{Record}
 use Rattle.lra_forest.specs.Forests.{AreOf, HomeRecords}
-use Rattle.lra_replica.specs.Replicas.{ReplicaState, IsReplicaState, AreHomesFrom, count_of_home, spare_at}
+use Rattle.lra_index.specs.Indexes.{AreIndexesOf, HeldIndex}
+use Rattle.lra_replica.specs.Replicas.{ReplicaState, IsReplicaState, KeepsRoom, AreHomesFrom, count_of_home, records_in, spare_at, stamps_in}
 
-homes_with : (k : ℕ) (homes : List HomeRecords) (i : ℕ) (new d : HomeRecords) → i < length homes → new.home ≡ (get_or homes i d).home → AreHomesFrom k homes → AreHomesFrom k (set homes i new)
+pub homes_with : (k : ℕ) (homes : List HomeRecords) (i : ℕ) (new d : HomeRecords) → i < length homes → new.home ≡ (get_or homes i d).home → AreHomesFrom k homes → AreHomesFrom k (set homes i new)
 homes_with k [] i new d e same are = tt
 homes_with k (h ∷ homes) zero new d e same are = (same ∙ are.0, are.1)
 homes_with k (h ∷ homes) (suc i) new d e same are = (are.0, homes_with (k + 1) homes i new d (omega (arith, e)) same are.1)
@@ -28,20 +29,26 @@ ordered_at (h ∷ homes) (suc i) d e each = ordered_at homes i d (omega (arith, 
 pub ordered_here : (homes : List HomeRecords) (i : ℕ) (h : HomeRecords) → i < length homes → h ≡ get_or homes i h → AllByRecursion (λ (x : HomeRecords). AreOf x.home x.records) homes → AreOf h.home h.records
 ordered_here homes i h e is each = subst IsOrdered (sym is) (ordered_at homes i h e each)
 
-ordered_with : (homes : List HomeRecords) (i : ℕ) (new : HomeRecords) → AreOf new.home new.records → AllByRecursion (λ (h : HomeRecords). AreOf h.home h.records) homes → AllByRecursion (λ (h : HomeRecords). AreOf h.home h.records) (set homes i new)
+pub ordered_with : (homes : List HomeRecords) (i : ℕ) (new : HomeRecords) → AreOf new.home new.records → AllByRecursion (λ (h : HomeRecords). AreOf h.home h.records) homes → AllByRecursion (λ (h : HomeRecords). AreOf h.home h.records) (set homes i new)
 ordered_with [] i new here each = tt
 ordered_with (h ∷ homes) zero new here each = (here, each.1)
 ordered_with (h ∷ homes) (suc i) new here each = (each.0, ordered_with homes i new here each.1)
 
--- they are still one home for each node, with its records in order
-pub kept_with : (front purges : List ℕ) (homes : List HomeRecords) (i : ℕ) (new d : HomeRecords) → i < length homes → new.home ≡ (get_or homes i d).home → AreOf new.home new.records →
-    IsReplicaState (record { front = front; purges = purges; homes = homes }) → IsReplicaState (record { front = front; purges = purges; homes = set homes i new })
-kept_with front purges homes i new d e same order is =
+-- a home of which only the room changed
+pub same_records : (homes : List HomeRecords) (i : ℕ) (new d : HomeRecords) → new.records ≡ (get_or homes i d).records → records_in (set homes i new) ≡ records_in homes
+same_records homes i new d e = map-set_same (λ (h : HomeRecords). h.records) homes i new d e
+
+-- they are still one home for each node, with its records in order, and the index is still theirs
+pub kept_with : (front purges : List ℕ) (homes : List HomeRecords) (index : HeldIndex) (i : ℕ) (new d : HomeRecords) → i < length homes → new.home ≡ (get_or homes i d).home → new.records ≡ (get_or homes i d).records → AreOf new.home new.records →
+    IsReplicaState (record { front = front; purges = purges; homes = homes; index = index }) → IsReplicaState (record { front = front; purges = purges; homes = set homes i new; index = index })
+kept_with front purges homes index i new d e same records order is =
     record {
       purges = is.purges;
       homes = length-set homes i new ∙ is.homes;
       numbered = homes_with 1 homes i new d e same is.numbered;
       ordered = ordered_with homes i new order is.ordered;
+      origins = is.origins;
+      indexed = subst (λ (rs : List (List Record)). AreIndexesOf index.origins (stamps_in rs)) (sym (same_records homes i new d records)) is.indexed;
     }
 
 -- the number of a home
@@ -68,6 +75,12 @@ set_there (h ∷ homes) zero zero new e = absurd (e refl)
 set_there (h ∷ homes) zero (suc j) new e = refl
 set_there (h ∷ homes) (suc i) zero new e = refl
 set_there (h ∷ homes) (suc i) (suc j) new e = set_there homes i j new (λ same. e (ap suc same))
+
+-- two that are named by what stands at one place are one
+pub here_same : (homes : List HomeRecords) (i : ℕ) (h k : HomeRecords) → i < length homes → h ≡ get_or homes i h → k ≡ get_or homes i k → h ≡ k
+here_same [] i h k e is was = absurd (omega (arith, e))
+here_same (x ∷ homes) zero h k e is was = is ∙ sym was
+here_same (x ∷ homes) (suc i) h k e is was = here_same homes i h k (omega (arith, e)) is was
 
 -- what room a home has
 pub spare_is : (homes : List HomeRecords) (home : ℕ) (d : HomeRecords) → home - 1 < length homes → spare_at homes home ≡ (get_or homes (home - 1) d).spare
@@ -117,9 +130,12 @@ at_home n r kept home room = by (r.home == home) refl
     by true t = let same : r.home ≡ home = grind (arith, nat_tests, t) in omega (arith, room, ap (spare_at kept.homes) same)
     by false t = omega arith
 
--- a home of which only the room changed
-pub same_records : (homes : List HomeRecords) (i : ℕ) (new d : HomeRecords) → new.records ≡ (get_or homes i d).records → map (λ (h : HomeRecords). h.records) (set homes i new) ≡ map (λ (h : HomeRecords). h.records) homes
-same_records homes i new d e = map-set_same (λ (h : HomeRecords). h.records) homes i new d e
-
 pub spare_new : (homes : List HomeRecords) (home : ℕ) (new : HomeRecords) → home - 1 < length homes → spare_at (set homes (home - 1) new) home ≡ new.spare
 spare_new homes home new e = let there = set_here homes (home - 1) new e in rw there refl
+
+-- room that is kept twice is kept
+pub keeps_on : (a b c : ReplicaState) → KeepsRoom a b → KeepsRoom b c → KeepsRoom a c
+keeps_on a b c first then = record {
+  homes = λ home some. omega (arith, first.homes home some, then.homes home some);
+  index = omega (arith, first.index, then.index);
+}

@@ -1,18 +1,16 @@
 -- Replicas that hold the same.
-use Rattle.std.proofs.Common.{◌≡◌, ◌≤◌, ◌<◌, ◌+◌, ◌∷◌, ℕ, Bool, true, List, [], map, take, length, get_or, refl, sym, ap, subst, ◌∙◌, arith}
+use Rattle.std.proofs.Common.{◌≡◌, ◌≤◌, ◌<◌, ◌+◌, ◌∷◌, ℕ, Bool, true, List, [], take, length, get_or, refl, sym, ap, subst, ◌∙◌, arith}
 use Rattle.std.specs.List.{AllByRecursion, AllZip}
 use Rattle.std.proofs.lemmas.List.{length-map, take_all, take_more_same}
 use Rattle.lra_id.specs.contracts.front.FrontPartialEq.TheImpl as of_fronts
 use Rattle.lra_forest.specs.declared.record.Record.{Record}
 use Rattle.lra_forest.specs.Forests.{AreOf, HomeRecords}
 use Rattle.lra_forest.proofs.EqualRecords.{front_same, front_own}
-use Rattle.lra_replica.specs.Replicas.{AreHomesFrom, IsReplicaState, ReplicaState, view_of}
+use Rattle.lra_index.specs.declared.entry.Entry.{Entry}
+use Rattle.lra_index.specs.Indexes.{AreIndexesOf, HeldIndex}
+use Rattle.lra_replica.specs.Replicas.{AreHomesFrom, IsReplicaState, ReplicaState, records_in, stamps_in, view_of}
 use Rattle.lra_history.specs.Views.{View}
 use Rattle.lra_replica.proofs.Rooms.{home_numbered, records_of}
-
--- the records of each home
-abbrev pub records_in : List HomeRecords → List (List Record)
-records_in homes = map (λ (h : HomeRecords). h.records) homes
 
 -- the first so many homes have the same records
 abbrev pub AreSameTo : ℕ → List HomeRecords → List HomeRecords → Type 0
@@ -89,11 +87,15 @@ copied_records [] (k ∷ ks) each = absurd each
 copied_records (h ∷ hs) [] each = absurd each
 copied_records (h ∷ hs) (k ∷ ks) each = ap (λ (rs : List Record). rs ∷ records_in ks) each.0.1 ∙ ap (λ (rest : List (List Record)). h.records ∷ rest) (copied_records hs ks each.1)
 
--- and are one for each node, in order
-pub copied_kept : (front purges : List ℕ) (homes copies : List HomeRecords) → AllZip IsCopy homes copies → IsReplicaState (record { front = front; purges = purges; homes = homes }) → IsReplicaState (record { front = front; purges = purges; homes = copies })
-copied_kept front purges homes copies each is = record {
+-- and are one for each node, in order, with the same index
+pub copied_kept : (front purges : List ℕ) (homes copies : List HomeRecords) (index copy : HeldIndex) → AllZip IsCopy homes copies → copy.origins ≡ index.origins → IsReplicaState (record { front = front; purges = purges; homes = homes; index = index }) → IsReplicaState (record { front = front; purges = purges; homes = copies; index = copy })
+copied_kept front purges homes copies index copy each same is = record {
   purges = is.purges;
   homes = copied_length homes copies each ∙ is.homes;
   numbered = copied_numbers 1 homes copies each is.numbered;
   ordered = copied_order homes copies each is.ordered;
+  origins = ap (λ (os : List (List Entry)). length os) same ∙ is.origins;
+  indexed =
+      subst (λ (os : List (List Entry)). AreIndexesOf os (stamps_in (records_in copies))) (sym same)
+      (subst (λ (rs : List (List Record)). AreIndexesOf index.origins (stamps_in rs)) (sym (copied_records homes copies each)) is.indexed);
 }

@@ -1,21 +1,28 @@
 -- A replica as contracts see it: its state, the view that this is, and the room for a patch.
-use Rattle.std.specs.Prelude.{◌≡◌, ◌≤◌, ◌+◌, ◌-◌, ◌==◌, ℕ, List, [], ◌∷◌, length, map, filter, replicate, slice_get}
+use Rattle.std.specs.Prelude.{◌≡◌, ◌≤◌, ◌+◌, ◌-◌, ◌==◌, ℕ, Option, List, [], ◌∷◌, length, map, filter, find, replicate, slice_get}
 use Rattle.std.specs.List.{AllByRecursion}
-use Rattle.std.specs.Option.{option_map_or}
+use Rattle.std.specs.Option.{option_map, option_map_or}
+use Rattle.lra_id.specs.Ids.{Id}
 use Rattle.lra_forest.specs.declared.record.Record.{Record}
-use Rattle.lra_forest.specs.Forests.{AreOf, HomeRecords}
-use Rattle.lra_history.specs.Views.{View}
+use Rattle.lra_forest.specs.Forests.{AreOf, HomeRecords, is_of}
+use Rattle.lra_index.specs.Indexes.{AreIndexesOf, HeldIndex}
+use Rattle.lra_history.specs.Views.{View, records_at}
 use Rattle.lra_history.specs.Changes.{Change}
 
--- a front, the last purge of each home, and each home's records, with the room for more that was made
+-- a front, the last purge of each home, each home's records, and the index of their stamps, with the room for more that was made
 pub record ReplicaState : Type 0 where
   pub front : List ℕ
   pub purges : List ℕ
   pub homes : List HomeRecords
+  pub index : HeldIndex
 
--- room is no part of what it says
+-- the records of each home
+abbrev pub records_in : List HomeRecords → List (List Record)
+records_in homes = map (λ (home : HomeRecords). home.records) homes
+
+-- room and index are no part of what it says
 abbrev pub view_of : ReplicaState → View
-view_of kept = record { front = kept.front; purges = kept.purges; records = map (λ home. home.records) kept.homes }
+view_of kept = record { front = kept.front; purges = kept.purges; records = records_in kept.homes }
 
 -- the homes are numbered from k
 abbrev pub AreHomesFrom : ℕ → List HomeRecords → Type 0
@@ -28,20 +35,32 @@ pub record AreEmptyHomes (nodes : ℕ) (homes : List HomeRecords) : Type 0 where
   pub numbered : AreHomesFrom 1 homes
   pub empty : map (λ home. home.records) homes ≡ replicate nodes []
 
--- one home for each node that the front counts, and each home's records in order
+-- the stamps that the homes' records have of l: none, where it has no record
+abbrev pub stamps_in : List (List Record) → Id → Option (List ℕ)
+stamps_in records l = option_map (λ (r : Record). r.stamps) (find (is_of l) (records_at records l.home))
+
+-- the stamps of the record of l, if it is held
+abbrev pub stamps_of : View → Id → Option (List ℕ)
+stamps_of view l = stamps_in view.records l
+
+-- one home for each node that the front counts, each home's records in order, and of each of eight nodes the stamps of all
+-- records in the index
 pub record IsReplicaState (kept : ReplicaState) : Type 0 where
   pub purges : length kept.purges ≡ length kept.front
   pub homes : length kept.homes ≡ length kept.front
   pub numbered : AreHomesFrom 1 kept.homes
   pub ordered : AllByRecursion (λ (home : HomeRecords). AreOf home.home home.records) kept.homes
+  pub origins : length kept.index.origins ≡ 8
+  pub indexed : AreIndexesOf kept.index.origins (stamps_of (view_of kept))
 
 -- how many records there is room for at a home
 abbrev pub spare_at : List HomeRecords → ℕ → ℕ
 spare_at homes home = option_map_or (λ (h : HomeRecords). h.spare) (slice_get homes (home - 1)) 0
 
--- there is as much room at each home as there was, or more: a patch that fitted fits still
-abbrev pub KeepsRoom : (before after : ReplicaState) → Type 0
-KeepsRoom before after = (home : ℕ) → 1 ≤ home → spare_at before.homes home ≤ spare_at after.homes home
+-- there is as much room at each home and in the index as there was, or more: a patch that fitted fits still
+pub record KeepsRoom (before after : ReplicaState) : Type 0 where
+  pub homes : (home : ℕ) → 1 ≤ home → spare_at before.homes home ≤ spare_at after.homes home
+  pub index : before.index.spare ≤ after.index.spare
 
 abbrev pub count_of_home : ℕ → List Record → ℕ
 count_of_home home records = length (filter (λ r. r.home == home) records)
@@ -52,3 +71,4 @@ pub record Fits (change : Change) (kept : ReplicaState) : Type 0 where
   pub purges : length change.purges ≡ length kept.front
   pub homes : AllByRecursion (λ r. r.home ≤ length kept.front) change.records
   pub room : (home : ℕ) → 1 ≤ home → count_of_home home change.records ≤ spare_at kept.homes home
+  pub entries : length change.records ≤ kept.index.spare

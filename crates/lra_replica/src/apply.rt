@@ -1,17 +1,81 @@
 // Making a patch's changes.
-ghost use Rattle.std.specs.Prelude.{◌≡◌, ◌≤◌, ◌<◌, ◌+◌, ◌==◌, ℕ, if◌then◌else◌, length};
+ghost use Rattle.std.specs.Prelude.{◌≡◌, ◌≤◌, ◌<◌, ◌+◌, ◌==◌, None, Some, ℕ, if◌then◌else◌, length};
 ghost use Rattle.std.specs.List.{AllByRecursion};
-ghost use Rattle.lra_replica.specs.Replicas.{Fits, count_of_home, spare_at, view_of};
+ghost use Rattle.std.specs.Option.{option_map};
+ghost use Rattle.lra_id.specs.Ids.{Id};
+ghost use Rattle.lra_forest.specs.declared.record.Record.{Record as RecordFields};
+ghost use Rattle.lra_forest.specs.Forests.{AreOf, id_of};
+ghost use Rattle.lra_forest.specs.Shape.{found_at};
+ghost use Rattle.lra_index.specs.Indexes.{with_stamps};
+ghost use Rattle.lra_replica.specs.Replicas.{AreHomesFrom, Fits, KeepsRoom, count_of_home, records_in, spare_at, stamps_in, view_of};
 ghost use Rattle.lra_history.specs.Changes.{patched, put_at_home, put_each, remove_each, remove_at_home};
 
 use crate::{Patch, Replica};
-use lra_forest::Record;
-use lra_id::LraId;
+use lra_forest::{Forest, Record};
+use lra_id::{Front, LraId};
+
+/// The stamps of the record with a number, if the home has one.
+fn stamps_at(home: &Forest, num: u64) -> Option<Front>
+    ensures { result ≡ option_map (λ (r : RecordFields). r.stamps)
+        (found_at home.now.home home.now.records num) }
+{
+    match home.numbered(num) {
+        Some(record) => Some(record.stamps),
+        None => None,
+    }
+}
+
+/// Puts a record in its place at its home, and answers with the stamps of the one that it replaces.
+fn put_among(homes: &mut Vec<Forest>, added: Record) -> Option<Front>
+    requires numbered { AreHomesFrom 1 homes.old.items }
+    requires ordered { AllByRecursion (λ h. AreOf h.home h.records) homes.old.items }
+    requires home { added.home ≤ length homes.old.items }
+    requires room { 1 ≤ added.home → 1 ≤ spare_at homes.old.items added.home }
+    ensures count { length homes.new.items ≡ length homes.old.items }
+    ensures numbered { AreHomesFrom 1 homes.new.items }
+    ensures ordered { AllByRecursion (λ h. AreOf h.home h.records) homes.new.items }
+    ensures records { records_in homes.new.items
+        ≡ put_at_home added (records_in homes.old.items) }
+    ensures room { (home : ℕ) → 1 ≤ home → spare_at homes.old.items home
+        ≤ spare_at homes.new.items home + (if added.home == home then 1 else 0) }
+    ensures was { result ≡ stamps_in (records_in homes.old.items) (id_of added) }
+    ensures indexed { (l : Id) → with_stamps (id_of added) (Some added.stamps)
+        (stamps_in (records_in homes.old.items)) l ≡ stamps_in (records_in homes.new.items) l }
+{
+    let place = usize::from(added.home.number()) - 1;
+    let was = stamps_at(&homes[place], added.num);
+    homes[place].put(added);
+    was
+}
+
+/// Removes the record of an LRA, if its home has one, and answers with its stamps.
+fn remove_among(homes: &mut Vec<Forest>, id: LraId) -> Option<Front>
+    requires numbered { AreHomesFrom 1 homes.old.items }
+    requires ordered { AllByRecursion (λ h. AreOf h.home h.records) homes.old.items }
+    ensures count { length homes.new.items ≡ length homes.old.items }
+    ensures numbered { AreHomesFrom 1 homes.new.items }
+    ensures ordered { AllByRecursion (λ h. AreOf h.home h.records) homes.new.items }
+    ensures records { records_in homes.new.items
+        ≡ remove_at_home id (records_in homes.old.items) }
+    ensures room { (home : ℕ) →
+        1 ≤ home → spare_at homes.old.items home ≤ spare_at homes.new.items home }
+    ensures was { result ≡ stamps_in (records_in homes.old.items) id }
+    ensures indexed { (l : Id) → with_stamps id None (stamps_in (records_in homes.old.items)) l
+        ≡ stamps_in (records_in homes.new.items) l }
+{
+    let place = usize::from(id.home().number()) - 1;
+    if place >= homes.len() {
+        return None;
+    }
+    let was = stamps_at(&homes[place], id.num());
+    homes[place].remove(id);
+    was
+}
 
 impl Replica {
     /// Makes a patch's changes. The patch was prepared on the present view, and the room that was made for it is there: so
-    /// this takes no memory and always succeeds. It costs an insertion for each record. Then it gives back the room that is
-    /// left of each home, but for one page.
+    /// this takes no memory and always succeeds. It costs an insertion for each record, and one in the index for each of its
+    /// stamps that changes. Then it gives back the room that is left of each home, but for one page.
     pub fn apply(&mut self, patch: Patch)
         requires { Fits patch self.old }
         ensures { view_of self.new ≡ patched patch (view_of self.old) }
@@ -34,8 +98,7 @@ impl Replica {
         ensures purges { self.new.purges ≡ self.old.purges }
         ensures records { (view_of self.new).records
             ≡ remove_each removed.now (view_of self.old).records }
-        ensures room { (home : ℕ) →
-            1 ≤ home → spare_at self.old.homes home ≤ spare_at self.new.homes home }
+        ensures room { KeepsRoom self.old self.new }
     {
         for id in removed {
             self.remove(*id);
@@ -47,19 +110,17 @@ impl Replica {
         ensures purges { self.new.purges ≡ self.old.purges }
         ensures records { (view_of self.new).records
             ≡ remove_at_home id (view_of self.old).records }
-        ensures room { (home : ℕ) →
-            1 ≤ home → spare_at self.old.homes home ≤ spare_at self.new.homes home }
+        ensures room { KeepsRoom self.old self.new }
     {
-        let place = usize::from(id.home().number()) - 1;
-        if place < self.homes.len() {
-            self.homes[place].remove(id);
-        }
+        let was = remove_among(&mut self.homes, id);
+        self.index.reindex(id.home(), id.num(), was, None);
     }
 
     fn put_all(&mut self, records: Vec<Record>)
         requires homes { AllByRecursion (λ r. r.home ≤ length self.old.front) records.items }
         requires room { (home : ℕ) →
             1 ≤ home → count_of_home home records.items ≤ spare_at self.old.homes home }
+        requires entries { length records.items ≤ self.old.index.spare }
         ensures front { self.new.front ≡ self.old.front }
         ensures purges { self.new.purges ≡ self.old.purges }
         ensures records { (view_of self.new).records
@@ -73,15 +134,20 @@ impl Replica {
     fn put(&mut self, added: Record)
         requires home { added.home ≤ length self.old.front }
         requires room { 1 ≤ added.home → 1 ≤ spare_at self.old.homes added.home }
+        requires entries { 1 ≤ self.old.index.spare }
         ensures front { self.new.front ≡ self.old.front }
         ensures purges { self.new.purges ≡ self.old.purges }
         ensures records { (view_of self.new).records
             ≡ put_at_home added (view_of self.old).records }
         ensures room { (home : ℕ) → 1 ≤ home → spare_at self.old.homes home
             ≤ spare_at self.new.homes home + (if added.home == home then 1 else 0) }
+        ensures entries { self.old.index.spare ≤ self.new.index.spare + 1 }
     {
-        let place = usize::from(added.home.number()) - 1;
-        self.homes[place].put(added);
+        let home = added.home;
+        let num = added.num;
+        let stamps = added.stamps;
+        let was = put_among(&mut self.homes, added);
+        self.index.reindex(home, num, was, Some(stamps));
     }
 
     fn release(&mut self)

@@ -33,6 +33,7 @@ impl Replica {
             front: self.front,
             purges: self.purges,
             homes: self.homes.clone()?,
+            index: self.index.clone()?,
         })
     }
 }

@@ -129,6 +129,25 @@ impl Replica {
         Ok(())
     }
 
+    fn absorb_all(&mut self, alloc: Global, taken: Taken, patch: &mut Patch) -> Result<(), Refusal>
+        requires nodes { length self.old.front ≡ length taken.front }
+        requires none { (patch.old.removed ≡ []) × (patch.old.records ≡ []) }
+        ensures view { view_of self.new ≡ view_of self.old }
+        ensures front { patch.new.front ≡ patch.old.front }
+        ensures purges { patch.new.purges ≡ patch.old.purges }
+        ensures stays { KeepsRoom self.old self.new }
+        ensures entries { OnOk result (length patch.new.records ≤ self.new.index.spare) }
+        ensures taken { OnOk result
+            (IsTakenTo (view_of self.old) taken self.new.homes patch.new (length self.old.front)) }
+        ensures refused { IfErr result (λ refusal. (refusal ≡ NoMemory)
+            ⊎ ((refusal ≡ BadFrame 0) × ((c : View) →
+            IsAbsorbed (view_of self.old) taken c → c.front ≡ patch.old.front → HasShape c → ⊥))) }
+    {
+        self.absorb_homes(alloc, taken, patch)?;
+        self.make_entries(patch.records.len())?;
+        Ok(())
+    }
+
     /// Prepares to take what another replica of as many nodes tells, and makes room for it. Of an LRA of which both have a
     /// record, the two are merged. One that the other alone has is taken, unless the own front counts its begin, since then it
     /// was purged here. One that is held here alone is removed where the other tells all that it holds at that home and its
@@ -157,7 +176,7 @@ impl Replica {
         if !patch.purges.below(&patch.front) {
             return Err(Refusal::BadFrame(0));
         }
-        self.absorb_homes(alloc, taken, &mut patch)?;
+        self.absorb_all(alloc, taken, &mut patch)?;
         Ok(patch)
     }
 

@@ -70,6 +70,28 @@ impl Replica {
         self.homes[place].reserve(more)
     }
 
+    /// Takes the memory that the stamps of so many records need in the index.
+    pub(crate) fn make_entries(&mut self, more: usize) -> Result<(), AllocError>
+        ensures view { view_of self.new ≡ view_of self.old }
+        ensures homes { self.new.homes ≡ self.old.homes }
+        ensures stays { KeepsRoom self.old self.new }
+        ensures ok { OnOk result (more ≤ self.new.index.spare) }
+    {
+        self.index.reserve(more)
+    }
+
+    /// Takes the memory that so many more records of a home need, with their stamps.
+    fn make_place(&mut self, home: NodeId, more: usize) -> Result<(), AllocError>
+        requires { home ≤ length self.old.front }
+        ensures view { view_of self.new ≡ view_of self.old }
+        ensures stays { KeepsRoom self.old self.new }
+        ensures room { OnOk result (more ≤ spare_at self.new.homes home) }
+        ensures entries { OnOk result (more ≤ self.new.index.spare) }
+    {
+        self.make_entries(more)?;
+        self.make_room(home, more)
+    }
+
     /// The patch of a fact that changes one record, and the room that it needs.
     pub(crate) fn patch_of_one(
         &mut self,
@@ -86,7 +108,7 @@ impl Replica {
         ensures stays { KeepsRoom self.old self.new }
         ensures some { IfOk result (λ _. 1 ≤ me) }
     {
-        self.make_room(next.home, 1)?;
+        self.make_place(next.home, 1)?;
         let front = self.raised(me);
         let purges = self.purges();
         let mut records = Vec::new(alloc);
@@ -118,7 +140,7 @@ impl Replica {
         ensures stays { KeepsRoom self.old self.new }
         ensures some { IfOk result (λ _. 1 ≤ me) }
     {
-        self.make_room(first.home, 2)?;
+        self.make_place(first.home, 2)?;
         let front = self.raised(me);
         let purges = self.purges();
         let mut records = Vec::new(alloc);

@@ -4,11 +4,12 @@ use Rattle.lra_forest.specs.declared.merging.Told.{Told}
 use Rattle.lra_history.specs.Merging.{IsTelling, Telling}
 use Rattle.lra_replica.specs.Replicas.{view_of}
 use Rattle.lra_replica.proofs.Absorbed.{IsTakenSo, next_broken, next_taken, next_within, taken_none}
+use Rattle.lra_replica.proofs.Rooms.{keeps_on}
 use Rattle.lra_replica.proofs.replica.Replica.absorb_homes.Goals as goal
 
 pub loop-told-init : goal.loop-told-init
 loop-told-init c =
-    record { so = so; stays = λ home some. omega arith }
+    record { so = so; stays = record { homes = λ home some. omega arith; index = omega arith } }
   where
     so : IsTakenSo (view_of c.args.self.now) c.args.taken c.args.self.now c.args.patch.now c.args.patch.now c.into_iter-told-iterator.result.rest.items
     so = record {
@@ -48,11 +49,11 @@ loop-told-preserved c =
     let far = c.count-reach.ensures ∙ ap (count c.taken.inside.front) c.home.ensures ∙ ap (λ (t : Telling). count t.front c.in-Some.told.records.home) c.taken.view_is in
     let done = c.in_default.ensures in
     let taken = next_taken (view_of c.args.self.now) c.args.taken c.loop-told.self c.loop-told.patch c.args.patch.now c.in-Some.told c.next.new.self.rest.items is c.requires.nodes so
-    c.absorb_home.new.self c.absorb_home.new.patch c.count-reach.result far done.view done.front done.purges done.room done.grown in
-    record { so = taken; stays = λ home some. omega (arith, c.loop-told.invariant.stays home some, done.room home some) }
+    c.absorb_home.new.self c.absorb_home.new.patch c.count-reach.result far done.view done.front done.purges done.room.homes done.grown in
+    record { so = taken; stays = keeps_on c.args.self.now c.loop-told.self c.absorb_home.new.self c.loop-told.invariant.stays done.room }
 
 pub returns-in-Err-clause-stays : goal.returns-in-Err-clause-stays
-returns-in-Err-clause-stays c home some = omega (arith, c.loop-told.invariant.stays home some, c.in-Err.ensures.room home some)
+returns-in-Err-clause-stays c = keeps_on c.args.self.now c.loop-told.self c.absorb_home.new.self c.loop-told.invariant.stays c.in-Err.ensures.room
 
 pub returns-clause-stays : goal.returns-clause-stays
 returns-clause-stays c = c.loop-told.invariant.stays

@@ -30,8 +30,8 @@ order c =
 pub invariant_of-self : goal.invariant_of-self
 invariant_of-self c =
     rw (place_is c)
-    (kept_with c.self.inside.front c.self.inside.purges c.self.inside.homes.items (c.args.home - 1) c.reserve.new.self c.index_mut.result.now (within c)
-    (c.reserve.ensures.home ∙ ap (λ (h : HomeRecords). h.home) (is_home c)) (order c) c.self.invariant)
+    (kept_with c.self.inside.front c.self.inside.purges c.self.inside.homes.items c.self.inside.index (c.args.home - 1) c.reserve.new.self c.index_mut.result.now (within c)
+    (c.reserve.ensures.home ∙ ap (λ (h : HomeRecords). h.home) (is_home c)) (c.reserve.ensures.records ∙ ap (λ (h : HomeRecords). h.records) (is_home c)) (order c) c.self.invariant)
 
 pub returns-clause-view : goal.returns-clause-view
 returns-clause-view c =
@@ -45,12 +45,15 @@ returns-clause-ok c =
     rw (place_is c, room) c.reserve.ensures.ok
 
 pub returns-clause-stays : goal.returns-clause-stays
-returns-clause-stays c home some =
-    let homes : spare_at c.self.inside.homes.items home ≡ spare_at c.args.self.now.homes home = ap (λ (k : ReplicaState). spare_at k.homes home) c.self.view_is in
-    let room = spare_with c.self.inside.homes.items (c.args.home - 1) c.reserve.new.self c.index_mut.result.now 0 (within c)
-    (omega (arith, c.reserve.ensures.kept, ap (λ (h : HomeRecords). h.spare) (is_home c))) home some in
-    rw (place_is c) (omega (arith, homes, room, none ((c.args.home - 1 + 1) == home)))
+returns-clause-stays c = record { homes = homes; index = omega (arith, ap (λ (k : ReplicaState). k.index.spare) c.self.view_is) }
   where
     none : (b : Bool) → cond {A = ℕ} b 0 0 ≡ 0
     none true = refl
     none false = refl
+
+    homes : (home : ℕ) → 1 ≤ home → spare_at c.args.self.now.homes home ≤ spare_at (set c.self.inside.homes.items (c.from-place.result - 1) c.reserve.new.self) home
+    homes home some =
+        let homes : spare_at c.self.inside.homes.items home ≡ spare_at c.args.self.now.homes home = ap (λ (k : ReplicaState). spare_at k.homes home) c.self.view_is in
+        let room = spare_with c.self.inside.homes.items (c.args.home - 1) c.reserve.new.self c.index_mut.result.now 0 (within c)
+        (omega (arith, c.reserve.ensures.kept, ap (λ (h : HomeRecords). h.spare) (is_home c))) home some in
+        rw (place_is c) (omega (arith, homes, room, none ((c.args.home - 1 + 1) == home)))

@@ -1,7 +1,8 @@
-use Rattle.std.proofs.Common.{◌≡◌, ◌∙◌, ℕ, List, length, sym, ap}
+use Rattle.std.proofs.Common.{◌≡◌, ◌∙◌, ℕ, List, [], length, sym, ap}
 use Rattle.std.proofs.lemmas.List.{length-replicate}
 use Rattle.lra_replica.specs.Replicas.{AreEmptyHomes}
-use Rattle.lra_replica.proofs.EmptyHomes.{empty_ordered}
+use Rattle.lra_index.specs.declared.entry.Entry.{Entry}
+use Rattle.lra_replica.proofs.EmptyHomes.{empty_indexed, empty_ordered}
 use Rattle.lra_replica.proofs.replica.Replica.new.Goals as goal
 
 pub invariant_of-result : goal.invariant_of-result
@@ -15,4 +16,6 @@ invariant_of-result c =
       homes = empty.count ∙ sym counts;
       numbered = empty.numbered;
       ordered = empty_ordered c.args.nodes homes empty.empty;
+      origins = ap (λ (os : List (List Entry)). length os) c.in_ok-new.ensures.origins ∙ length-replicate {A = List Entry} 8 [];
+      indexed = empty_indexed c.args.nodes homes c.in_ok-new.field-0.origins empty.empty c.in_ok-new.ensures.empty;
     }

@@ -13,3 +13,4 @@ invariant-loop-added l =
     × (put_each l.added-iterator.rest.items (view_of l.self).records ≡ put_each l.fn.records.items (view_of l.fn.self).records)
     × AllByRecursion (λ (r : Record). r.home ≤ length l.fn.self.front) l.added-iterator.rest.items
     × ((home : ℕ) → 1 ≤ home → count_of_home home l.added-iterator.rest.items ≤ spare_at l.self.homes home)
+    × (length l.added-iterator.rest.items ≤ l.self.index.spare)

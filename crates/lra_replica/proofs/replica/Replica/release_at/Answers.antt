@@ -23,8 +23,8 @@ order c =
 
 pub invariant_of-self : goal.invariant_of-self
 invariant_of-self c =
-    kept_with c.self.inside.front c.self.inside.purges c.self.inside.homes.items c.args.place c.release.new.self c.index_mut.result.now (within c)
-    (c.release.ensures.home ∙ ap (λ (h : HomeRecords). h.home) c.index_mut.ensures.value) (order c) c.self.invariant
+    kept_with c.self.inside.front c.self.inside.purges c.self.inside.homes.items c.self.inside.index c.args.place c.release.new.self c.index_mut.result.now (within c)
+    (c.release.ensures.home ∙ ap (λ (h : HomeRecords). h.home) c.index_mut.ensures.value) (c.release.ensures.records ∙ ap (λ (h : HomeRecords). h.records) c.index_mut.ensures.value) (order c) c.self.invariant
 
 pub returns-clause-view : goal.returns-clause-view
 returns-clause-view c =

@@ -1,5 +1,5 @@
-use Rattle.std.proofs.Common.{◌≡◌, ◌≤◌, ℕ, drop}
-use Rattle.lra_replica.specs.Replicas.{spare_at, view_of}
+use Rattle.std.proofs.Common.{◌≡◌, drop}
+use Rattle.lra_replica.specs.Replicas.{KeepsRoom, view_of}
 use Rattle.lra_history.specs.Changes.{remove_each}
 use Rattle.lra_replica.proofs.replica.Replica.remove_all.Given as goal
 
@@ -9,4 +9,4 @@ invariant-loop-id l =
     (l.self.front ≡ l.fn.self.front)
     × (l.self.purges ≡ l.fn.self.purges)
     × (remove_each (drop l.id-index l.removed) (view_of l.self).records ≡ remove_each l.removed (view_of l.fn.self).records)
-    × ((home : ℕ) → 1 ≤ home → spare_at l.fn.self.homes home ≤ spare_at l.self.homes home)
+    × KeepsRoom l.fn.self l.self

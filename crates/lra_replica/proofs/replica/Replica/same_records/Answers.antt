@@ -1,7 +1,7 @@
 use Rattle.std.proofs.Common.{◌≡◌, ◌<◌, ◌+◌, ◌∙◌, List, length, sym, ap, subst, arith, refl}
 use Rattle.lra_forest.specs.Forests.{HomeRecords}
-use Rattle.lra_replica.specs.Replicas.{ReplicaState}
-use Rattle.lra_replica.proofs.SameHomes.{AreSameTo, records_in, same_more, same_all, same_here}
+use Rattle.lra_replica.specs.Replicas.{ReplicaState, records_in}
+use Rattle.lra_replica.proofs.SameHomes.{AreSameTo, same_more, same_all, same_here}
 use Rattle.lra_replica.proofs.replica.Replica.same_records.Goals as goal
 
 pub loop-place-preserved : goal.loop-place-preserved

@@ -18,13 +18,13 @@ loop-home-preserved c =
 
 pub invariant_of-result : goal.invariant_of-result
 invariant_of-result c =
-    telling_kept (record { front = c.self.inside.front; purges = c.self.inside.purges; homes = c.self.inside.homes.items }) c.loop-home.homes.items
+    telling_kept (record { front = c.self.inside.front; purges = c.self.inside.purges; homes = c.self.inside.homes.items; index = c.self.inside.index }) c.loop-home.homes.items
     (all_told c.self.inside.homes.items c.deref-home-items.result.now c.loop-home.homes.items c.loop-home.home-index c.deref-home-items.ensures.value c.loop-home-test.false c.loop-home.invariant)
     c.self.invariant
 
 pub returns : goal.returns
 returns c =
     subst (λ (kept : ReplicaState). TellsAll (record { front = c.self.inside.front; purges = c.self.inside.purges; homes = c.loop-home.homes.items }) (view_of kept)) c.self.view_is
-    (tells_all (record { front = c.self.inside.front; purges = c.self.inside.purges; homes = c.self.inside.homes.items }) c.loop-home.homes.items
+    (tells_all (record { front = c.self.inside.front; purges = c.self.inside.purges; homes = c.self.inside.homes.items; index = c.self.inside.index }) c.loop-home.homes.items
     (all_told c.self.inside.homes.items c.deref-home-items.result.now c.loop-home.homes.items c.loop-home.home-index c.deref-home-items.ensures.value c.loop-home-test.false c.loop-home.invariant)
     c.self.invariant)

@@ -6,7 +6,8 @@ use Rattle.lra_replica.proofs.SameHomes.{copied_kept, copied_records}
 use Rattle.lra_replica.proofs.replica.Replica.try_clone.Goals as goal
 
 pub invariant_of-result : goal.invariant_of-result
-invariant_of-result c = copied_kept c.self.inside.front c.self.inside.purges c.self.inside.homes.items c.in_ok-clone.field-0.items c.in_ok-clone.ensures.cases.0 c.self.invariant
+invariant_of-result c =
+    copied_kept c.self.inside.front c.self.inside.purges c.self.inside.homes.items c.in_ok-clone.field-0.items c.self.inside.index c.in_ok-clone-2.field-0 c.in_ok-clone.ensures.cases.0 c.in_ok-clone-2.ensures.cases c.self.invariant
 
 pub returns : goal.returns
 returns c =
