@@ -150,7 +150,7 @@ lower_seat num at ps (x ∷ lo) (y ∷ up) h e =
       fits = lower_fits num ps at (x ∷ lo) (y ∷ up) h.within h.fits (reaches num x lo e);
       room = omega (arith, ap length is, h.lower);
       spare = λ q one few. half_room (ps ++ [] ∷ []) (with_halves ps at (x ∷ lo) (y ∷ up)) at q (λ none. absurd (let other = sym is ∙ none in cc)) (halves_spare ps at x y lo up h.within some)
-        (omega (arith, behind_weighs 16 ps, lower_weighs 16 ps at y (x ∷ lo) up q h.within (were_full num at ps (x ∷ lo) (y ∷ up) h) h.upper one (omega (arith, few, ap length is, h.lower))));
+          (omega (arith, behind_weighs 16 ps, lower_weighs 16 ps at y (x ∷ lo) up q h.within (were_full num at ps (x ∷ lo) (y ∷ up) h) h.upper one (omega (arith, few, ap length is, h.lower))));
     }
 
 upper_seat : (num at : ℕ) (ps : List (List Record)) (lo up : List Record) → IsHalved num at ps lo up → Reaches num (get_or ps at []) → lies_below num lo ≡ true → IsSeat num (suc at) (ps ++ [] ∷ []) (with_halves ps at lo up)
@@ -168,7 +168,7 @@ upper_seat num at ps (x ∷ lo) (y ∷ up) h reached e =
       fits = upper_fits num ps at x lo (y ∷ up) h.within h.fits lesser new;
       room = omega (arith, ap length is, h.upper);
       spare = λ q one few. half_room (ps ++ [] ∷ []) (with_halves ps at (x ∷ lo) (y ∷ up)) (suc at) q (λ none. absurd (let other = sym is ∙ none in cc)) (halves_spare ps at x y lo up h.within some)
-        (omega (arith, behind_weighs 16 ps, upper_weighs 16 ps at x lo (y ∷ up) q h.within (were_full num at ps (x ∷ lo) (y ∷ up) h) h.lower one (omega (arith, few, ap length is, h.upper))));
+          (omega (arith, behind_weighs 16 ps, upper_weighs 16 ps at x lo (y ∷ up) q h.within (were_full num at ps (x ∷ lo) (y ∷ up) h) h.lower one (omega (arith, few, ap length is, h.upper))));
     }
 
 pub seat_lower : (num at : ℕ) (old ps : List (List Record)) (lo up : List Record) → old ≡ ps ++ [] ∷ [] → IsHalved num at ps lo up → lies_below num lo ≡ false → IsSeat num at old (insert (set ps at lo) (at + 1) up)

@@ -19,19 +19,19 @@ empty_pages [] = 0
 empty_pages ([] ∷ ps) = empty_pages ps + 1
 empty_pages ((r ∷ rs) ∷ ps) = empty_pages ps
 
--- What a page with so many records and those behind it weigh: of each page what it holds beyond 16 records, and of the last one with
--- records all that it holds
+-- What a page of so many records and those behind it weigh: of each what it has beyond 16 records, but of the last one with records
+-- all that it has
 abbrev pub weight_behind : ℕ → List (List Record) → ℕ
 weight_behind count [] = count
 weight_behind count ([] ∷ ps) = weight_behind count ps
 weight_behind count ((r ∷ rs) ∷ ps) = (count - 16) + weight_behind (length (r ∷ rs)) ps
 
--- what all weigh, and 16 where no page has records
+-- what all of them weigh, and 16 where none has records
 abbrev pub weight_in : List (List Record) → ℕ
 weight_in ps = weight_behind 16 ps
 
--- How many more records fit, whatever their numbers: one for each empty page, or 16 for each but for what all weigh. A record
--- that is put adds at most one to the weight, and a page that is taken for it takes off 15
+-- How many more records fit, whatever their numbers: one for each empty page, or 16 for each less what the pages weigh, whichever
+-- is more. A record adds at most one to the weight, and where an empty page is taken for it the weight falls by 15
 abbrev pub room_in : List (List Record) → ℕ
 room_in ps = max (empty_pages ps) (16 * empty_pages ps - weight_in ps)
 

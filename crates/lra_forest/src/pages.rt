@@ -19,8 +19,8 @@ use std::vec;
 const MAX_PAGES: usize = 1 << 32;
 
 /// Records in order of their numbers, on pages of at most 32. Behind them there are empty pages, each with its room: a record
-/// for which there is no room on its page takes one of those, and no memory. A full page is halved then, and 16 more fit on
-/// each half. So an empty page is room for 16, less what stands beyond 16 on the pages by now.
+/// for which there is no room on its page takes one of those, and no memory. Since a full page is halved for it, each empty
+/// page is room for 16 records, less what stands beyond 16 on the pages by now.
 #[derive(Debug, Drop)]
 pub(crate) struct Pages {
     pages: Vec<Page>,
@@ -210,7 +210,8 @@ fn weight_of(pages: &[Page]) -> usize
 /// How many pages are to be empty, so that so many more records fit beside pages of this weight.
 fn pages_for(more: usize, weight: usize) -> usize
     ensures room { (empty : ℕ) → result ≤ empty → more ≤ max empty (16 * empty - weight) }
-    ensures few { (result ≤ more) × (16 * result ≤ more + weight + 30) }
+    ensures few { 16 * result ≤ more + weight + 30 }
+    ensures at_most { result ≤ more }
 {
     more.min(more.div_ceil(16) + weight.div_ceil(16))
 }

@@ -1,9 +1,6 @@
-use Rattle.std.proofs.Common.{◌≡◌, ◌<◌, ◌≤◌, ◌==◌, ◌++◌, ◌∷◌, [], ◌∙◌, List, sym, ap, subst, arith, length, set}
-use mathlib.Core.Bool.{not}
-use Rattle.std.specs.List.{remove}
-use Rattle.std.proofs.lemmas.List.{get_or_default, get_or-set_same}
-use Rattle.lra_forest.specs.declared.record.Record.{Record}
-use Rattle.lra_forest.specs.Pages.{AreEmptyLast, IsPageOf, empty_pages, records_in}
+use Rattle.std.proofs.Common.{◌≡◌, ◌<◌, ◌≤◌, ◌∙◌, sym, subst, arith, length, set}
+use Rattle.std.proofs.lemmas.List.{get_or-set_same}
+use Rattle.lra_forest.specs.Pages.{IsPageOf}
 use Rattle.lra_forest.proofs.PageEdits.{IsCut, IsWithout, cut_moves, cut_stays, none_lesser, page_ascends}
 use Rattle.lra_forest.proofs.PageOrder.{all_lesser, page_fits}
 use Rattle.lra_forest.proofs.pages.remove_in.Goals as goal
