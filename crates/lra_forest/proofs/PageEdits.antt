@@ -9,7 +9,7 @@ use Rattle.lra_forest.specs.Forests.{IsAscending}
 use Rattle.lra_forest.specs.Pages.{AreEmptyLast, FitsAt, IsPageOf, Reaches, empty_pages, records_in, room_in, weight_behind}
 use Rattle.lra_forest.specs.Places.{count_below, put_record, with_number}
 use Rattle.lra_forest.proofs.Places.{beyond_all}
-use Rattle.lra_forest.proofs.PageOrder.{all_lesser, ascends_left, ascends_right, reaches}
+use Rattle.lra_forest.proofs.PageOrder.{all_lesser, ascends_left, ascends_right, page_fits, reaches}
 use Rattle.lra_forest.proofs.PageWeights.{fewer_weigh, gone_behind, room_rises}
 use Rattle.lra_forest.proofs.Removals.{keeps_all, none_beyond}
 
@@ -268,6 +268,19 @@ moved_is num ((r ∷ rs) ∷ ps) (suc at) l fits =
 
 pub page_at : (ps : List (List Record)) (at : ℕ) (p : List Record) → at < length ps → p ≡ get_or ps at p → get_or ps at [] ≡ p
 page_at ps at p e is = get_or_default ps at [] p e ∙ sym is
+
+-- p: the page at a place, on which a number stands
+pub record IsFound (num at : ℕ) (ps : List (List Record)) (p : List Record) : Type 0 where
+  pub within : at < length ps
+  pub is : p ≡ get_or ps at p
+  pub fits : FitsAt num at ps
+  pub there : is_some (with_number num (slice_get p (count_below num p))) ≡ true
+
+pub found_on : (num at : ℕ) (ps : List (List Record)) (p : List Record) → IsAscending (records_in ps) → AreEmptyLast ps → IsPageOf num at ps → is_some (with_number num (slice_get (records_in ps) (count_below num (records_in ps)))) ≡ true → p ≡ get_or ps at p → IsFound num at ps p
+found_on num at ps p h l e there is =
+    let within = there_within num ps at h l e there in
+    let fits = page_fits num ps at h l within e in
+    record { within = within; is = is; fits = fits; there = ap is_some (sym (page_found num ps at p is fits)) ∙ there }
 
 -- q: the page at a place without a number
 pub record IsCut (num at : ℕ) (ps : List (List Record)) (p q : List Record) : Type 0 where
