@@ -29,6 +29,7 @@ mod Owed
 mod PageEdits
 mod PageHalves
 mod PageOrder
+mod PageWeights
 mod Paths
 mod Pendings
 pub mod Places

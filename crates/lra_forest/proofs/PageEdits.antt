@@ -1,15 +1,16 @@
 -- what changes where one page is changed
-use Rattle.std.proofs.Common.{◌≡◌, inl, inr, ◌≤◌, ◌<◌, ◌+◌, ◌==◌, ◌++◌, ℕ, zero, suc, List, [], ◌∷◌, refl, sym, ◌∙◌, ap, subst, Bool, true, false, cond, arith, Option, None, add-one, drop, filter, length, get_or, nat_lt, set, slice_get, is_some}
+use Rattle.std.proofs.Common.{◌≡◌, inl, inr, ◌≤◌, ◌<◌, ◌+◌, ◌*◌, ◌==◌, ◌++◌, ℕ, zero, suc, List, [], ◌∷◌, refl, sym, ◌∙◌, ap, subst, Bool, true, false, cond, arith, Option, None, add-one, drop, filter, length, get_or, nat_lt, set, slice_get, is_some}
 use mathlib.Core.Bool.{not}
 use Rattle.std.specs.List.{AllByRecursion, remove}
 use Rattle.std.proofs.lemmas.Bool.Decides.{nat_tests}
 use Rattle.std.proofs.lemmas.List.{get_or_default}
 use Rattle.lra_forest.specs.declared.record.Record.{Record}
 use Rattle.lra_forest.specs.Forests.{IsAscending}
-use Rattle.lra_forest.specs.Pages.{AreEmptyLast, FitsAt, IsPageOf, Reaches, empty_pages, records_in}
+use Rattle.lra_forest.specs.Pages.{AreEmptyLast, FitsAt, IsPageOf, Reaches, empty_pages, records_in, room_in, weight_behind}
 use Rattle.lra_forest.specs.Places.{count_below, put_record, with_number}
 use Rattle.lra_forest.proofs.Places.{beyond_all}
-use Rattle.lra_forest.proofs.PageOrder.{all_lesser, ascends_left, ascends_right, reaches}
+use Rattle.lra_forest.proofs.PageOrder.{all_lesser, ascends_left, ascends_right, page_fits, reaches}
+use Rattle.lra_forest.proofs.PageWeights.{fewer_weigh, gone_behind, room_rises}
 use Rattle.lra_forest.proofs.Removals.{keeps_all, none_beyond}
 
 pub nil_right : (xs : List Record) → xs ++ [] ≡ xs
@@ -52,6 +53,10 @@ put_some r (q ∷ qs) e = by (nat_lt q.num r.num) (q.num == r.num) e
     by true c e = absurd cc
     by false true e = absurd cc
     by false false e = absurd cc
+
+pub some_length : (qs : List Record) → (qs ≡ [] → ⊥) → 1 ≤ length qs
+some_length [] some = absurd (some refl)
+some_length (q ∷ qs) some = omega arith
 
 -- Finding
 
@@ -235,23 +240,85 @@ pub record IsMoved (ps : List (List Record)) (at : ℕ) (new : List (List Record
   pub same : records_in new ≡ records_in (set ps at [])
   pub last : AreEmptyLast new
   pub spare : empty_pages ps ≤ empty_pages new
+  pub weight : (k : ℕ) → 16 * empty_pages ps + weight_behind k new ≤ 16 * empty_pages new + weight_behind k ps
 
 pub moved_is : (num : ℕ) (ps : List (List Record)) (at : ℕ) → AreEmptyLast ps → FitsAt num at ps → IsMoved ps at (remove (set ps at []) at ++ [] ∷ [])
 moved_is num [] at l fits = absurd fits
-moved_is num ([] ∷ ps) zero l fits = record { same = behind ps; last = emptied_behind ps (nothing_last ps l); spare = omega (arith, more_behind ps) }
-moved_is num ((r ∷ rs) ∷ ps) zero l fits = record { same = behind ps; last = emptied_behind ps l; spare = omega (arith, more_behind ps) }
+moved_is num ([] ∷ ps) zero l fits = record {
+  same = behind ps;
+  last = emptied_behind ps (nothing_last ps l);
+  spare = omega (arith, more_behind ps);
+  weight = λ k. omega (arith, more_behind ps, gone_behind k [] ps);
+}
+moved_is num ((r ∷ rs) ∷ ps) zero l fits = record {
+  same = behind ps;
+  last = emptied_behind ps l;
+  spare = omega (arith, more_behind ps);
+  weight = λ k. omega (arith, more_behind ps, gone_behind k (r ∷ rs) ps);
+}
 moved_is num ([] ∷ ps) (suc at) l fits = absurd fits
 moved_is num ((r ∷ rs) ∷ ps) (suc at) l fits =
     let rest = moved_is num ps at l fits.1 in
-    record { same = ap (λ xs. (r ∷ rs) ++ xs) rest.same; last = rest.last; spare = rest.spare }
-
--- nothing comes of nothing
-pub filter_nothing : (t : Record → Bool) (p : List Record) → (filter t p ≡ [] → ⊥) → p ≡ [] → ⊥
-filter_nothing t [] some none = some refl
-filter_nothing t (q ∷ p) some none = absurd cc
+    record {
+      same = ap (λ xs. (r ∷ rs) ++ xs) rest.same;
+      last = rest.last;
+      spare = rest.spare;
+      weight = λ k. omega (arith, rest.weight (length (r ∷ rs)));
+    }
 
 pub page_at : (ps : List (List Record)) (at : ℕ) (p : List Record) → at < length ps → p ≡ get_or ps at p → get_or ps at [] ≡ p
 page_at ps at p e is = get_or_default ps at [] p e ∙ sym is
+
+-- p: the page at a place, on which a number stands
+pub record IsFound (num at : ℕ) (ps : List (List Record)) (p : List Record) : Type 0 where
+  pub within : at < length ps
+  pub is : p ≡ get_or ps at p
+  pub fits : FitsAt num at ps
+  pub there : is_some (with_number num (slice_get p (count_below num p))) ≡ true
+
+pub found_on : (num at : ℕ) (ps : List (List Record)) (p : List Record) → IsAscending (records_in ps) → AreEmptyLast ps → IsPageOf num at ps → is_some (with_number num (slice_get (records_in ps) (count_below num (records_in ps)))) ≡ true → p ≡ get_or ps at p → IsFound num at ps p
+found_on num at ps p h l e there is =
+    let within = there_within num ps at h l e there in
+    let fits = page_fits num ps at h l within e in
+    record { within = within; is = is; fits = fits; there = ap is_some (sym (page_found num ps at p is fits)) ∙ there }
+
+-- q: the page at a place without a number
+pub record IsCut (num at : ℕ) (ps : List (List Record)) (p q : List Record) : Type 0 where
+  pub within : at < length ps
+  pub is : p ≡ get_or ps at p
+  pub fits : FitsAt num at ps
+  pub last : AreEmptyLast ps
+  pub order : IsAscending (records_in ps)
+  pub cut : q ≡ filter (λ r. not (r.num == num)) p
+  pub fewer : length q ≤ length p
+
+pub record IsWithout (num : ℕ) (old new : List (List Record)) : Type 0 where
+  pub items : records_in new ≡ filter (λ r. not (r.num == num)) (records_in old)
+  pub last : AreEmptyLast new
+  pub room : room_in old ≤ room_in new
+
+-- where records are left there, the page stays
+pub cut_stays : (num at : ℕ) (ps : List (List Record)) (p q : List Record) → IsCut num at ps p q → (q ≡ [] → ⊥) → IsWithout num ps (set ps at q)
+cut_stays num at ps p q h some =
+    let one = some_length q some in
+    let few : length q ≤ length (get_or ps at []) = omega (arith, h.fewer, ap length (page_at ps at p h.within h.is)) in
+    let rise = empties_rise ps at q (λ none. absurd (omega (arith, one, few, ap length none))) in
+    record {
+      items = ap (λ xs. records_in (set ps at xs)) h.cut ∙ page_filter num ps at p h.is h.order h.fits;
+      last = last_put num ps at q h.fits h.last some;
+      room = room_rises ps (set ps at q) rise (omega (arith, rise, fewer_weigh 16 ps at q one few));
+    }
+
+-- else it is moved behind all others
+pub cut_moves : (num at : ℕ) (ps : List (List Record)) (p q : List Record) (new : List (List Record)) → IsCut num at ps p q → q ≡ [] → new ≡ remove (set ps at q) at ++ [] ∷ [] → IsWithout num ps new
+cut_moves num at ps p q new h none is =
+    let whole : new ≡ remove (set ps at []) at ++ [] ∷ [] = is ∙ ap (λ (xs : List Record). remove (set ps at xs) at ++ [] ∷ []) none in
+    let now = moved_is num ps at h.last h.fits in
+    record {
+      items = ap records_in whole ∙ now.same ∙ ap (λ xs. records_in (set ps at xs)) (sym none ∙ h.cut) ∙ page_filter num ps at p h.is h.order h.fits;
+      last = subst AreEmptyLast (sym whole) now.last;
+      room = subst (λ (ns : List (List Record)). room_in ps ≤ room_in ns) (sym whole) (room_rises ps (remove (set ps at []) at ++ [] ∷ []) now.spare (now.weight 16));
+    }
 
 -- a page with records reaches the numbers that it is the page of
 pub page_reached : (num : ℕ) (ps : List (List Record)) (at : ℕ) → IsPageOf num at ps → (get_or ps at [] ≡ [] → ⊥) → Reaches num (get_or ps at [])
@@ -259,6 +326,13 @@ page_reached num [] at e some = absurd (some refl)
 page_reached num ([] ∷ ps) zero e some = absurd (some refl)
 page_reached num ((r ∷ rs) ∷ ps) zero e some = reaches num r rs e
 page_reached num (p ∷ ps) (suc at) e some = page_reached num ps at e.1 some
+
+-- what lies before the page of a number are pages with records
+pub page_some : (num : ℕ) (ps : List (List Record)) (k : ℕ) → IsPageOf num (suc k) ps → get_or ps k [] ≡ [] → ⊥
+page_some num [] k at e = at
+page_some num ([] ∷ ps) zero at e = let none = at.0 in cc
+page_some num ((r ∷ rs) ∷ ps) zero at e = cc
+page_some num (p ∷ ps) (suc k) at e = page_some num ps k at.1 e
 
 -- Those with greater numbers
 

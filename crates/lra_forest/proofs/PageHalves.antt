@@ -1,12 +1,13 @@
 -- a full page whose upper half is moved to an empty one behind it
-use Rattle.std.proofs.Common.{◌≡◌, inl, inr, ◌≤◌, ◌<◌, ◌+◌, ◌++◌, ℕ, zero, suc, List, [], ◌∷◌, refl, sym, ◌∙◌, ap, subst, true, false, arith, add-one, length, get_or, set}
+use Rattle.std.proofs.Common.{◌≡◌, inl, inr, ◌≤◌, ◌<◌, ◌+◌, ◌++◌, ℕ, zero, suc, List, [], ◌∷◌, refl, sym, ◌∙◌, ap, subst, true, false, arith, add-one, length, length-append, get_or, set}
 use Rattle.std.specs.List.{AllByRecursion, insert}
 use Rattle.std.proofs.lemmas.List.{append_assoc}
 use Rattle.lra_forest.specs.declared.record.Record.{Record}
 use Rattle.lra_forest.specs.Forests.{IsAscending}
-use Rattle.lra_forest.specs.Pages.{AreEmptyLast, FitsAt, IsSeat, Reaches, empty_pages, lies_below, records_in}
+use Rattle.lra_forest.specs.Pages.{AreEmptyLast, FitsAt, IsSeat, Reaches, empty_pages, lies_below, records_in, room_in, weight_behind, weight_in}
 use Rattle.lra_forest.proofs.PageOrder.{all_below, ascends_left, reaches}
-use Rattle.lra_forest.proofs.PageEdits.{behind, empties_near, empties_rise}
+use Rattle.lra_forest.proofs.PageEdits.{behind, empties_near, empties_rise, more_behind}
+use Rattle.lra_forest.proofs.PageWeights.{before, behind_weighs, one_weighs, room_falls, weighs_as_much, weighs_less}
 
 -- the pages with two in place of one
 abbrev pub with_halves : List (List Record) → ℕ → List Record → List Record → List (List Record)
@@ -39,11 +40,7 @@ emptied_last ((r ∷ rs) ∷ ps) p l e = emptied_last ps p l e
 
 halves_hold : (ps : List (List Record)) (at : ℕ) (d lo up : List Record) → at < length ps → lo ++ up ≡ get_or ps at d → records_in (with_halves ps at lo up) ≡ records_in (ps ++ [] ∷ [])
 halves_hold [] at d lo up e both = absurd (omega (arith, e))
-halves_hold (p ∷ ps) zero d lo up e both = sym (append_assoc lo up (records_in ps)) ∙ ap (λ xs. xs ++ records_in ps) both ∙ ap (λ xs. p ++ xs) (more ps)
-  where
-    more : (ps : List (List Record)) → records_in ps ≡ records_in (ps ++ [] ∷ [])
-    more [] = refl
-    more (q ∷ ps) = ap (λ xs. q ++ xs) (more ps)
+halves_hold (p ∷ ps) zero d lo up e both = sym (append_assoc lo up (records_in ps)) ∙ ap (λ xs. xs ++ records_in ps) both ∙ ap (λ xs. p ++ xs) (sym (behind ps))
 halves_hold (p ∷ ps) (suc at) d lo up e both = ap (λ xs. p ++ xs) (halves_hold ps at d lo up (omega (arith, e)) both)
 
 left_last : (ps : List (List Record)) → AreEmptyLast (ps ++ [] ∷ []) → AreEmptyLast ps
@@ -85,18 +82,30 @@ upper_is [] at lo up d e = absurd (omega (arith, e))
 upper_is (p ∷ ps) zero lo up d e = refl
 upper_is (p ∷ ps) (suc at) lo up d e = upper_is ps at lo up d (omega (arith, e))
 
-one_more : (ps : List (List Record)) → empty_pages (ps ++ [] ∷ []) ≡ empty_pages ps + 1
-one_more [] = refl
-one_more ([] ∷ ps) = ap (λ n. n + 1) (one_more ps)
-one_more ((r ∷ rs) ∷ ps) = one_more ps
-
 -- one empty page fewer
 halves_spare : (ps : List (List Record)) (at : ℕ) (x y : Record) (lo up : List Record) → at < length ps → (get_or ps at [] ≡ [] → ⊥) → empty_pages (with_halves ps at (x ∷ lo) (y ∷ up)) + 1 ≡ empty_pages (ps ++ [] ∷ [])
 halves_spare [] at x y lo up e some = absurd (omega (arith, e))
 halves_spare ([] ∷ ps) zero x y lo up e some = absurd (some refl)
-halves_spare ((r ∷ rs) ∷ ps) zero x y lo up e some = sym (one_more ps)
+halves_spare ((r ∷ rs) ∷ ps) zero x y lo up e some = sym (more_behind ps)
 halves_spare ([] ∷ ps) (suc at) x y lo up e some = ap (λ n. n + 1) (halves_spare ps at x y lo up (omega (arith, e)) some)
 halves_spare ((r ∷ rs) ∷ ps) (suc at) x y lo up e some = halves_spare ps at x y lo up (omega (arith, e)) some
+
+-- with one record more on the lower half, and on the upper, there are at least 15 fewer to weigh
+lower_weighs : (k : ℕ) (ps : List (List Record)) (at : ℕ) (y : Record) (lo up q : List Record) → at < length ps → length (get_or ps at []) ≡ 32 → length (y ∷ up) ≡ 16 → 1 ≤ length q → length q ≤ 17 → weight_behind k (set (with_halves ps at lo (y ∷ up)) at q) + 15 ≤ weight_behind k ps
+lower_weighs k [] at y lo up q e full upper some few = absurd (omega (arith, e))
+lower_weighs k (p ∷ ps) zero y lo up [] e full upper some few = absurd (omega (arith, some))
+lower_weighs k ([] ∷ ps) zero y lo up (x ∷ q) e full upper some few = absurd (omega (arith, full))
+lower_weighs k ((r ∷ rs) ∷ ps) zero y lo up (x ∷ q) e full upper some few = omega (arith, full, upper, few, weighs_as_much (length (y ∷ up)) (length (r ∷ rs)) ps (omega (arith, upper)) (omega (arith, full, upper)))
+lower_weighs k ([] ∷ ps) (suc at) y lo up q e full upper some few = lower_weighs k ps at y lo up q (omega (arith, e)) full upper some few
+lower_weighs k ((r ∷ rs) ∷ ps) (suc at) y lo up q e full upper some few = omega (arith, lower_weighs (length (r ∷ rs)) ps at y lo up q (omega (arith, e)) full upper some few)
+
+upper_weighs : (k : ℕ) (ps : List (List Record)) (at : ℕ) (x : Record) (lo up q : List Record) → at < length ps → length (get_or ps at []) ≡ 32 → length (x ∷ lo) ≡ 16 → 1 ≤ length q → length q ≤ 17 → weight_behind k (set (with_halves ps at (x ∷ lo) up) (suc at) q) + 15 ≤ weight_behind k ps
+upper_weighs k [] at x lo up q e full lower some few = absurd (omega (arith, e))
+upper_weighs k (p ∷ ps) zero x lo up [] e full lower some few = absurd (omega (arith, some))
+upper_weighs k ([] ∷ ps) zero x lo up (y ∷ q) e full lower some few = absurd (omega (arith, full))
+upper_weighs k ((r ∷ rs) ∷ ps) zero x lo up (y ∷ q) e full lower some few = omega (arith, full, lower, weighs_less (length (y ∷ q)) 17 ps few, weighs_as_much 17 (length (r ∷ rs)) ps (omega arith) (omega (arith, full)))
+upper_weighs k ([] ∷ ps) (suc at) x lo up q e full lower some few = upper_weighs k ps at x lo up q (omega (arith, e)) full lower some few
+upper_weighs k ((r ∷ rs) ∷ ps) (suc at) x lo up q e full lower some few = omega (arith, upper_weighs (length (r ∷ rs)) ps at x lo up q (omega (arith, e)) full lower some few)
 
 -- Which half it is
 
@@ -119,9 +128,15 @@ still_some : (xs ys zs : List Record) → xs ++ ys ≡ zs → (xs ≡ [] → ⊥
 still_some [] ys zs e some none = some refl
 still_some (x ∷ xs) ys zs e some none = absurd cc
 
-not_none : (n : ℕ) (xs : List Record) → length xs ≡ suc n → xs ≡ [] → ⊥
-not_none n [] e none = absurd (omega (arith, e))
-not_none n (x ∷ xs) e none = absurd cc
+-- 32 records stood there
+were_full : (num at : ℕ) (ps : List (List Record)) (lo up : List Record) → IsHalved num at ps lo up → length (get_or ps at []) ≡ 32
+were_full num at ps lo up h = omega (arith, sym (ap length h.both), length-append lo up, h.lower, h.upper)
+
+-- one empty page fewer, and 15 less to weigh
+half_room : (old halves : List (List Record)) (at : ℕ) (q : List Record) → (get_or halves at [] ≡ [] → ⊥) → empty_pages halves + 1 ≡ empty_pages old → weight_in (set halves at q) + 15 ≤ weight_in old → room_in old ≤ room_in (set halves at q) + 1
+half_room old halves at q some one weight =
+    let rise = empties_rise halves at q some in
+    room_falls old (set halves at q) (omega (arith, one, rise)) (omega (arith, one, rise, weight))
 
 lower_seat : (num at : ℕ) (ps : List (List Record)) (lo up : List Record) → IsHalved num at ps lo up → lies_below num lo ≡ false → IsSeat num at (ps ++ [] ∷ []) (with_halves ps at lo up)
 lower_seat num at ps [] up h e = absurd (omega (arith, h.lower))
@@ -134,7 +149,8 @@ lower_seat num at ps (x ∷ lo) (y ∷ up) h e =
       last = halves_last num ps at x y lo up h.within h.fits h.last some;
       fits = lower_fits num ps at (x ∷ lo) (y ∷ up) h.within h.fits (reaches num x lo e);
       room = omega (arith, ap length is, h.lower);
-      spare = λ q. omega (arith, halves_spare ps at x y lo up h.within some, empties_rise (with_halves ps at (x ∷ lo) (y ∷ up)) at q (λ none. absurd (let other = sym is ∙ none in cc)));
+      spare = λ q one few. half_room (ps ++ [] ∷ []) (with_halves ps at (x ∷ lo) (y ∷ up)) at q (λ none. absurd (let other = sym is ∙ none in cc)) (halves_spare ps at x y lo up h.within some)
+          (omega (arith, behind_weighs 16 ps, lower_weighs 16 ps at y (x ∷ lo) up q h.within (were_full num at ps (x ∷ lo) (y ∷ up) h) h.upper one (omega (arith, few, ap length is, h.lower))));
     }
 
 upper_seat : (num at : ℕ) (ps : List (List Record)) (lo up : List Record) → IsHalved num at ps lo up → Reaches num (get_or ps at []) → lies_below num lo ≡ true → IsSeat num (suc at) (ps ++ [] ∷ []) (with_halves ps at lo up)
@@ -151,7 +167,8 @@ upper_seat num at ps (x ∷ lo) (y ∷ up) h reached e =
       last = halves_last num ps at x y lo up h.within h.fits h.last some;
       fits = upper_fits num ps at x lo (y ∷ up) h.within h.fits lesser new;
       room = omega (arith, ap length is, h.upper);
-      spare = λ q. omega (arith, halves_spare ps at x y lo up h.within some, empties_rise (with_halves ps at (x ∷ lo) (y ∷ up)) (suc at) q (λ none. absurd (let other = sym is ∙ none in cc)));
+      spare = λ q one few. half_room (ps ++ [] ∷ []) (with_halves ps at (x ∷ lo) (y ∷ up)) (suc at) q (λ none. absurd (let other = sym is ∙ none in cc)) (halves_spare ps at x y lo up h.within some)
+          (omega (arith, behind_weighs 16 ps, upper_weighs 16 ps at x lo (y ∷ up) q h.within (were_full num at ps (x ∷ lo) (y ∷ up) h) h.lower one (omega (arith, few, ap length is, h.upper))));
     }
 
 pub seat_lower : (num at : ℕ) (old ps : List (List Record)) (lo up : List Record) → old ≡ ps ++ [] ∷ [] → IsHalved num at ps lo up → lies_below num lo ≡ false → IsSeat num at old (insert (set ps at lo) (at + 1) up)
@@ -174,8 +191,14 @@ get_before (p ∷ ps) (suc at) d e less = get_before ps at d e (omega (arith, le
 
 -- Other seats
 
-pub seat_here : (num at : ℕ) (ps : List (List Record)) → AreEmptyLast ps → FitsAt num at ps → length (get_or ps at []) < 32 → IsSeat num at ps ps
-seat_here num at ps l fits room = record { same = refl; last = l; fits = fits; room = room; spare = empties_near ps at }
+pub seat_here : (num at : ℕ) (ps : List (List Record)) → AreEmptyLast ps → FitsAt num at ps → length (get_or ps at []) < 32 → (get_or ps at [] ≡ [] → 16 ≤ before 16 at ps) → IsSeat num at ps ps
+seat_here num at ps l fits room full = record {
+  same = refl;
+  last = l;
+  fits = fits;
+  room = room;
+  spare = λ q one few. room_falls ps (set ps at q) (empties_near ps at q) (one_weighs num 16 ps at q l fits full one few);
+}
 
 -- What is known where a page was taken off the back
 
@@ -192,7 +215,7 @@ dropped old ps p is l e =
     record {
       same = sym (ap records_in whole ∙ behind ps);
       last = left_last ps (subst AreEmptyLast whole l);
-      spare = ap empty_pages whole ∙ one_more ps;
+      spare = ap empty_pages whole ∙ more_behind ps;
     }
 
 pub record IsPopped (num at : ℕ) (old ps : List (List Record)) (p : List Record) : Type 0 where

@@ -1,10 +1,10 @@
 -- The pages in which the records of a home are held.
-use Rattle.std.specs.Prelude.{◌≡◌, ◌⊎◌, ◌+◌, ◌-◌, ◌<◌, ◌≤◌, ℕ, zero, suc, List, [], ◌∷◌, ◌++◌, Bool, true, false, get_or, nat_lt, length, set, slice_get}
+use Rattle.std.specs.Prelude.{◌≡◌, ◌⊎◌, ◌+◌, ◌-◌, ◌*◌, ◌<◌, ◌≤◌, ℕ, max, zero, suc, List, [], ◌∷◌, ◌++◌, Bool, true, false, get_or, nat_lt, length, set, slice_get}
 use Rattle.std.specs.List.{AllByRecursion}
 use Rattle.std.specs.Option.{option_map_or}
 use Rattle.lra_forest.specs.declared.record.Record.{Record}
 
--- the records of some pages, and how many of the pages are empty: so many more records fit without asking for memory
+-- the records of some pages, and their room: so many more fit without asking for memory
 pub record HeldPages : Type 0 where
   pub items : List Record
   pub spare : ℕ
@@ -18,6 +18,22 @@ abbrev pub empty_pages : List (List Record) → ℕ
 empty_pages [] = 0
 empty_pages ([] ∷ ps) = empty_pages ps + 1
 empty_pages ((r ∷ rs) ∷ ps) = empty_pages ps
+
+-- What a page of so many records and those behind it weigh: of each what it has beyond 16 records, but of the last one with records
+-- all that it has
+abbrev pub weight_behind : ℕ → List (List Record) → ℕ
+weight_behind count [] = count
+weight_behind count ([] ∷ ps) = weight_behind count ps
+weight_behind count ((r ∷ rs) ∷ ps) = (count - 16) + weight_behind (length (r ∷ rs)) ps
+
+-- what all of them weigh, and 16 where none has records
+abbrev pub weight_in : List (List Record) → ℕ
+weight_in ps = weight_behind 16 ps
+
+-- How many more records fit, whatever their numbers: one for each empty page, or 16 for each less what the pages weigh, whichever
+-- is more. A record adds at most one to the weight, and where an empty page is taken for it the weight falls by 15
+abbrev pub room_in : List (List Record) → ℕ
+room_in ps = max (empty_pages ps) (16 * empty_pages ps - weight_in ps)
 
 -- behind an empty page there are no records
 abbrev pub AreEmptyLast : List (List Record) → Type 0
@@ -49,11 +65,11 @@ FitsAt num zero (p ∷ ps) = Reaches num p ⊎ (records_in ps ≡ [])
 FitsAt num (suc at) ([] ∷ ps) = ⊥
 FitsAt num (suc at) ((r ∷ rs) ∷ ps) = AllByRecursion (λ (q : Record). q.num < num) (r ∷ rs) × FitsAt num at ps
 
--- Pages that hold the same records as before, with room for one more at this place, where a record with this number fits. Whatever
--- then stands there, at most one more page is filled
+-- Pages that hold the same records as before, with room for one more at this place, where a record with this number fits. With one
+-- record more there, the room is at most one less
 pub record IsSeat (num at : ℕ) (old new : List (List Record)) : Type 0 where
   pub same : records_in new ≡ records_in old
   pub last : AreEmptyLast new
   pub fits : FitsAt num at new
   pub room : length (get_or new at []) < 32
-  pub spare : (q : List Record) → empty_pages old ≤ empty_pages (set new at q) + 1
+  pub spare : (q : List Record) → 1 ≤ length q → length q ≤ length (get_or new at []) + 1 → room_in old ≤ room_in (set new at q) + 1

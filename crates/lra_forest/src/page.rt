@@ -203,7 +203,8 @@ impl Page {
     pub(crate) fn put(&mut self, added: Record)
         requires order { IsAscending self.old }
         requires room { length self.old < 32 }
-        ensures { self.new ≡ put_record added self.old }
+        ensures records { self.new ≡ put_record added self.old }
+        ensures len { length self.new ≤ length self.old + 1 }
     {
         put_among(&mut self.records, added);
     }
@@ -214,6 +215,7 @@ impl Page {
         requires there { let place = count_below next.num self.old in
             is_some (with_number next.num (slice_get self.old place)) ≡ true }
         ensures records { self.new ≡ put_record next self.old }
+        ensures len { length self.new ≡ length self.old }
         ensures back { with_number next.num
             (slice_get self.old (count_below next.num self.old)) ≡ Some result }
     {
@@ -223,7 +225,8 @@ impl Page {
     /// Takes away the record with a number.
     pub(crate) fn remove(&mut self, num: u64)
         requires { IsAscending self.old }
-        ensures { self.new ≡ filter (λ r. not (r.num == num)) self.old }
+        ensures records { self.new ≡ filter (λ r. not (r.num == num)) self.old }
+        ensures len { length self.new ≤ length self.old }
     {
         remove_among(&mut self.records, num);
     }

@@ -1,12 +1,12 @@
 // The records of a home on pages of at most 32.
-ghost use Rattle.std.specs.Prelude.{◌≡◌, ◌↔◌, ◌+◌, ◌≤◌, ◌<◌, ◌==◌, ◌++◌, ◌∷◌, ◌^◌, ℕ, List, [], None, Some, true, false, IfOk, IsTrue, MatchOption, OnErr, OnOk, drop, filter, get_or, is_some, length, nat_lt, slice_get, vec_capacity, vec_len};
+ghost use Rattle.std.specs.Prelude.{◌≡◌, ◌↔◌, ◌+◌, ◌-◌, ◌*◌, ◌≤◌, ◌<◌, ◌==◌, ◌++◌, ◌∷◌, ◌^◌, ℕ, max, List, [], None, Some, true, false, IfOk, IsTrue, MatchOption, OnErr, OnOk, drop, filter, get_or, is_some, length, nat_lt, slice_get, vec_capacity, vec_len};
 ghost use mathlib.Core.Bool.{not};
 ghost use Rattle.std.specs.List.{insert, remove};
 ghost use Rattle.std.specs.Iterator.{YieldsFirst, YieldsFirstRef, item_count};
 ghost use Rattle.std.specs.Option.{option_copied};
 ghost use Rattle.lra_forest.specs.declared.record.Record.{Record as RecordFields};
 ghost use Rattle.lra_forest.specs.Forests.{IsAscending};
-ghost use Rattle.lra_forest.specs.Pages.{AreEmptyLast, FitsAt, IsPageOf, IsSeat, Reaches, empty_pages, lies_below, records_in};
+ghost use Rattle.lra_forest.specs.Pages.{AreEmptyLast, FitsAt, IsPageOf, IsSeat, Reaches, empty_pages, lies_below, records_in, room_in, weight_in};
 ghost use Rattle.lra_forest.specs.Places.{count_below, put_record, with_number};
 
 use crate::Record;
@@ -19,7 +19,8 @@ use std::vec;
 const MAX_PAGES: usize = 1 << 32;
 
 /// Records in order of their numbers, on pages of at most 32. Behind them there are empty pages, each with its room: a record
-/// for which there is no room on its page takes one of those, and no memory.
+/// for which there is no room on its page takes one of those, and no memory. Since a full page is halved for it, each empty
+/// page is room for 16 records, less what stands beyond 16 on the pages by now.
 #[derive(Debug, Drop)]
 pub(crate) struct Pages {
     pages: Vec<Page>,
@@ -27,13 +28,13 @@ pub(crate) struct Pages {
 
 impl Model for Pages {
     ghost use Rattle.std.specs.Prelude.{◌^◌, ◌≤◌, vec_len};
-    ghost use Rattle.lra_forest.specs.Pages.{AreEmptyLast, HeldPages, empty_pages, records_in};
+    ghost use Rattle.lra_forest.specs.Pages.{AreEmptyLast, HeldPages, records_in, room_in};
 
     ghost Value = { HeldPages };
 
     ghost view = { λ p. record {
       items = records_in p.pages.items;
-      spare = empty_pages p.pages.items;
+      spare = room_in p.pages.items;
     } };
 
     ghost invariant = { λ p. AreEmptyLast p.pages.items × (vec_len p.pages ≤ 2 ^ 32) };
@@ -67,7 +68,7 @@ fn exchange_in(pages: &mut Vec<Page>, next: Record) -> Record
         is_some (with_number next.num (slice_get all (count_below next.num all))) ≡ true }
     ensures items { records_in pages.new.items ≡ put_record next (records_in pages.old.items) }
     ensures last { AreEmptyLast pages.new.items }
-    ensures spare { empty_pages pages.new.items ≡ empty_pages pages.old.items }
+    ensures room { room_in pages.new.items ≡ room_in pages.old.items }
     ensures len { vec_len pages.new ≡ vec_len pages.old }
     ensures back { let all = records_in pages.old.items in
         with_number next.num (slice_get all (count_below next.num all)) ≡ Some result }
@@ -140,7 +141,7 @@ fn add_in(pages: &mut Vec<Page>, added: Record)
     requires spare { 1 ≤ empty_pages pages.old.items }
     ensures items { records_in pages.new.items ≡ put_record added (records_in pages.old.items) }
     ensures last { AreEmptyLast pages.new.items }
-    ensures spare { empty_pages pages.old.items ≤ empty_pages pages.new.items + 1 }
+    ensures room { room_in pages.old.items ≤ room_in pages.new.items + 1 }
     ensures len { vec_len pages.new ≡ vec_len pages.old }
 {
     let at = seat(pages, added.num);
@@ -164,7 +165,7 @@ fn remove_in(pages: &mut Vec<Page>, num: u64)
     ensures items { records_in pages.new.items
         ≡ filter (λ r. not (r.num == num)) (records_in pages.old.items) }
     ensures last { AreEmptyLast pages.new.items }
-    ensures spare { empty_pages pages.old.items ≤ empty_pages pages.new.items }
+    ensures room { room_in pages.old.items ≤ room_in pages.new.items }
     ensures len { vec_len pages.new ≡ vec_len pages.old }
 {
     let at = page_of(pages, num);
@@ -188,6 +189,31 @@ fn empty_in(pages: &[Page]) -> usize
         }
     }
     count
+}
+
+/// What the pages weigh: so many fewer records fit than 16 for each empty page.
+fn weight_of(pages: &[Page]) -> usize
+    requires { length pages.now ≤ 2 ^ 32 }
+    ensures { result ≡ weight_in pages.now }
+{
+    let mut weight: usize = 0;
+    let mut count: usize = 16;
+    for page in pages {
+        if !page.is_empty() {
+            weight += count.saturating_sub(16);
+            count = page.as_slice().len();
+        }
+    }
+    weight + count
+}
+
+/// How many pages are to be empty, so that so many more records fit beside pages of this weight.
+fn pages_for(more: usize, weight: usize) -> usize
+    ensures room { (empty : ℕ) → result ≤ empty → more ≤ max empty (16 * empty - weight) }
+    ensures few { 16 * result ≤ more + weight + 30 }
+    ensures at_most { result ≤ more }
+{
+    more.min(more.div_ceil(16) + weight.div_ceil(16))
 }
 
 /// How many records there are.
@@ -216,7 +242,7 @@ fn add_page(alloc: Global, pages: &mut Vec<Page>) -> Result<(), AllocError>
 }
 
 /// Adds empty pages, until there are so many more.
-#[tactic(auto, using(crate::proofs::PageEdits::behind, crate::proofs::PageEdits::emptied_behind, crate::proofs::PageEdits::more_behind))]
+#[tactic(auto, using(crate::proofs::PageEdits::behind, crate::proofs::PageEdits::emptied_behind, crate::proofs::PageEdits::more_behind, crate::proofs::PageWeights::behind_weighs))]
 fn add_pages(pages: &mut Vec<Page>, more: usize) -> Result<(), AllocError>
     requires last { AreEmptyLast pages.old.items }
     requires few { vec_len pages.old ≤ 2 ^ 32 }
@@ -225,6 +251,7 @@ fn add_pages(pages: &mut Vec<Page>, more: usize) -> Result<(), AllocError>
     ensures few { vec_len pages.new ≤ 2 ^ 32 }
     ensures ok { OnOk result (empty_pages pages.new.items ≡ empty_pages pages.old.items + more) }
     ensures kept { empty_pages pages.old.items ≤ empty_pages pages.new.items }
+    ensures weight { weight_in pages.new.items ≡ weight_in pages.old.items }
 {
     let alloc = *pages.allocator();
     for added in 0..more {
@@ -396,17 +423,18 @@ impl Pages {
         ensures ok { OnOk result (more ≤ self.new.spare) }
         ensures kept { self.old.spare ≤ self.new.spare }
     {
-        let spare = empty_in(&self.pages);
-        if spare < more {
-            add_pages(&mut self.pages, more - spare)?;
+        let empty = empty_in(&self.pages);
+        if empty < more {
+            let wanted = pages_for(more, weight_of(&self.pages));
+            add_pages(&mut self.pages, wanted.saturating_sub(empty))?;
         }
         Ok(())
     }
 
-    /// Gives back the memory of all room but that for one more record.
+    /// Gives back all empty pages but one.
     pub(crate) fn release(&mut self)
         ensures items { self.new.items ≡ self.old.items }
-        ensures spare { self.new.spare ≤ 1 }
+        ensures spare { self.new.spare ≤ 16 }
     {
         keep_one(&mut self.pages);
     }

@@ -162,7 +162,7 @@ impl Replica {
         requires { place < length self.old.homes }
         ensures view { view_of self.new ≡ view_of self.old }
         ensures homes { length self.new.homes ≡ length self.old.homes }
-        ensures room { spare_at self.new.homes (place + 1) ≤ 1 }
+        ensures room { spare_at self.new.homes (place + 1) ≤ 16 }
     {
         self.homes[place].release();
     }

@@ -1,5 +1,5 @@
 use Rattle.std.proofs.Common.{◌≡◌, ◌+◌, ◌≤◌, ◌^◌, vec_len}
-use Rattle.lra_forest.specs.Pages.{AreEmptyLast, empty_pages, records_in}
+use Rattle.lra_forest.specs.Pages.{AreEmptyLast, empty_pages, records_in, weight_in}
 use Rattle.lra_forest.proofs.pages.add_pages.Given as goal
 
 -- so many were added
@@ -8,5 +8,6 @@ invariant-loop-added l = record {
   same : records_in l.pages.items ≡ records_in l.initial.pages.items;
   last : AreEmptyLast l.pages.items;
   few : vec_len l.pages ≤ 2 ^ 32;
+  weight : weight_in l.pages.items ≡ weight_in l.initial.pages.items;
   more : empty_pages l.pages.items ≡ empty_pages l.initial.pages.items + l.added;
 }
