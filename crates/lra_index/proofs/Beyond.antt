@@ -31,7 +31,7 @@ at_most origins known l v base all is few none k = by (nat_lt (get_or base k 0) 
         let place : k + 1 ≤ length origins = omega (arith, within, few) in
         let own : stamp_at (known l) (k + 1) ≡ get_or v k 0 = ap (λ (o : Option (List ℕ)). stamp_at o (k + 1)) is ∙ ap (λ n. get_or v n 0) back in
         let above : count base (k + 1) < get_or v k 0 = omega (arith, more, ap (λ n. get_or base n 0) back) in
-        (beyond_is (k + 1) (count base (k + 1)) (entries_at origins (k + 1)) known (all (k + 1) (omega arith) place) (entry_of (get_or v k 0) l)).1 (above, own)
+        (beyond_is (k + 1) (count base (k + 1)) (entries_at origins (k + 1)) known (all.each (k + 1) (omega arith) place) (entry_of (get_or v k 0) l)).1 (above, own)
 
     by : (b : Bool) → nat_lt (get_or base k 0) (get_or v k 0) ≡ b → (c : Bool) → nat_lt k (length v) ≡ c → get_or v k 0 ≤ get_or base k 0
     by false t c u = not_less (get_or base k 0) (get_or v k 0) t
@@ -42,7 +42,7 @@ at_most origins known l v base all is few none k = by (nat_lt (get_or base k 0) 
 
 none_there : (origins : List (List Entry)) (known : Id → Option (List ℕ)) (l : Id) (v base : List ℕ) → AreIndexesOf origins known → known l ≡ Some v → IsBelow v base → HasNoneBeyond base l origins
 none_there origins known l v base all is below origin stamp some within i =
-    let h = (beyond_is origin (count base origin) (entries_at origins origin) known (all origin some within) (entry_of stamp l)).0 i in
+    let h = (beyond_is origin (count base origin) (entries_at origins origin) known (all.each origin some within) (entry_of stamp l)).0 i in
     let own : stamp_at (known l) origin ≡ count v origin = ap (λ (o : Option (List ℕ)). stamp_at o origin) is in
     omega (arith, h.0, h.1, own, below origin)
 
