@@ -1,5 +1,5 @@
 -- what is told of each home, once each entry beyond a base is looked at
-use Rattle.std.proofs.Common.{◌≡◌, ◌↔◌, ◌⊎◌, inl, inr, ◌≤◌, ◌<◌, ◌+◌, ◌-◌, ◌||◌, ℕ, zero, suc, List, [], ◌∷◌, ◌++◌, refl, sym, ap, subst, ◌∙◌, Bool, true, false, cond, arith, Option, Some, None, filter, find, get_or, length, map, nat_lt}
+use Rattle.std.proofs.Common.{◌≡◌, ◌↔◌, inl, inr, ◌≤◌, ◌<◌, ◌+◌, ◌-◌, ◌||◌, ℕ, zero, suc, List, [], ◌∷◌, ◌++◌, refl, sym, ap, subst, ◌∙◌, Bool, true, false, cond, arith, Option, Some, None, filter, find, get_or, length, map, nat_lt}
 use Rattle.std.specs.Prelude.{IfSome, slice_get}
 use Rattle.std.specs.Option.{option_map}
 use Rattle.std.specs.List.{AllByRecursion, list_any}
@@ -22,7 +22,6 @@ use Rattle.lra_index.specs.Entries.{In, entry_of, id_of}
 use Rattle.lra_index.specs.Indexes.{stamp_at}
 use Rattle.lra_replica.specs.Replicas.{AreHomesFrom}
 use Rattle.lra_delta.specs.Frames.{is_beyond}
-use Rattle.lra_delta.specs.Order.{lists}
 use Rattle.lra_delta.specs.Sending.{HomePart, part_of, part_since, part_without}
 use Rattle.lra_delta.specs.Telling.{AreHomes, AreTold, homes_told, is_listed, is_newer, is_newer_to, record_in, told_too}
 use Rattle.lra_delta.proofs.Beyond.{in_nodes, less_from, nodes_in}

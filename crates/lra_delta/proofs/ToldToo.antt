@@ -1,7 +1,7 @@
 -- what is told once one LRA more is
-use Rattle.std.proofs.Common.{◌≡◌, ◌≤◌, ◌<◌, ◌+◌, ◌-◌, ◌==◌, ◌&&◌, ◌||◌, ℕ, zero, suc, List, [], ◌∷◌, refl, sym, ap, subst, ◌∙◌, Bool, true, false, cond, arith, Option, Some, None, find, get_or, is_some, length, map, take}
+use Rattle.std.proofs.Common.{◌≡◌, ◌≤◌, ◌+◌, ◌-◌, ◌==◌, ◌||◌, ℕ, zero, suc, List, [], ◌∷◌, refl, sym, ap, subst, ◌∙◌, Bool, true, false, cond, arith, Option, Some, None, find, get_or, is_some, length, map}
 use Rattle.std.specs.Prelude.{slice_get, slice_set}
-use Rattle.std.specs.List.{AllByRecursion, list_any}
+use Rattle.std.specs.List.{AllByRecursion}
 use Rattle.std.proofs.lemmas.Bool.Decides.{nat_tests}
 use Rattle.lra_id.specs.Ids.{Id, same_id}
 use Rattle.lra_forest.specs.declared.merging.Told.{Told}
@@ -11,7 +11,6 @@ use Rattle.lra_forest.specs.Places.{put_record}
 use Rattle.lra_forest.proofs.NumberedMembers.{same_is}
 use Rattle.lra_forest.proofs.Puts.{put_find}
 use Rattle.lra_replica.specs.Replicas.{AreHomesFrom}
-use Rattle.lra_delta.specs.Order.{lists}
 use Rattle.lra_delta.specs.Telling.{AreHomes, AreTold, homes_told, record_in, told_too}
 use Rattle.lra_delta.proofs.ToldLists.{lists_set}
 

@@ -1,5 +1,4 @@
-use Rattle.std.proofs.Common.{◌≡◌, List, ap, map, subst}
-use Rattle.lra_forest.specs.declared.merging.Told.{Told}
+use Rattle.std.proofs.Common.{◌≡◌, List, map, subst}
 use Rattle.lra_forest.specs.Forests.{HomeRecords}
 use Rattle.lra_delta.specs.Sending.{part_of, part_without}
 use Rattle.lra_delta.proofs.ToldSince.{told_parts, without_homes}
