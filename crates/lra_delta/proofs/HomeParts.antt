@@ -63,10 +63,6 @@ get_map f [] i d e within = absurd (omega (arith, within))
 get_map f (x ∷ xs) zero d e within = refl
 get_map f (x ∷ xs) (suc i) d e within = get_map f xs i d e (omega (arith, within))
 
-map_last : {X Y : Type 0} (f : X → Y) (xs : List X) (x : X) → map f (xs ++ x ∷ []) ≡ map f xs ++ f x ∷ []
-map_last f [] x = refl
-map_last f (y ∷ xs) x = ap (λ zs. f y ∷ zs) (map_last f xs x)
-
 -- The frame
 
 -- of each home of a replica what is made of it, in order
@@ -122,7 +118,3 @@ parts_telling kept base told is parts = record {
   homes = sym (length-map told part_of) ∙ ap (λ (ps : List HomePart). length ps) parts ∙ length-map kept.homes (part_since base kept.purges) ∙ is.homes;
   numbered = told_from base kept.purges 1 told kept.homes parts is.numbered;
 }
-
--- with the homes and purges of a replica
-pub parts_of : (base own purges : List ℕ) (told : List Told) (homes mine : List HomeRecords) → map part_of told ≡ map (part_since base own) homes → own ≡ purges → homes ≡ mine → map part_of told ≡ map (part_since base purges) mine
-parts_of base own purges told homes mine parts same here = parts ∙ ap (λ (v : List ℕ). map (part_since base v) homes) same ∙ ap (map (part_since base purges)) here

@@ -26,9 +26,10 @@ mod OneFrameOfASet
 mod Ordered
 mod Put
 pub mod RecordCodes
-mod SamePlaces
 mod Slices
 mod TakenIsUnion
 mod ToldByFrames
 mod ToldLists
+mod ToldSince
+mod ToldToo
 mod Widths

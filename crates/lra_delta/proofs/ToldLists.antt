@@ -86,6 +86,10 @@ pub on_both : {T E : Type 0} (r : Result T E) (P Q R : Type 0) → (P → Q → 
 on_both (Ok x) P Q R f h g = f h g
 on_both (Err e) P Q R f h g = tt
 
+pub on_three : {T E : Type 0} (r : Result T E) (P Q R X : Type 0) → (P → Q → R → X) → OnOk r P → OnOk r Q → OnOk r R → OnOk r X
+on_three (Ok x) P Q R X f h g k = f h g k
+on_three (Err e) P Q R X f h g k = tt
+
 -- as many homes as there are nodes
 pub as_many : (n : ℕ) (ts : List Told) (front : List Record) → records_told ts ≡ by_home n front → length ts ≡ n
 as_many n ts front e =

@@ -13,5 +13,6 @@ pub mod Seen
 pub mod Sending
 pub mod Encoding
 pub mod TakenFrames
+pub mod Telling
 pub mod Typed
 pub mod WrittenSoFar

@@ -1,4 +1,4 @@
-// Laws of frames: each function does nothing, and its contract is the law.
+// Laws of frames: each function but one does nothing, and its contract is the law.
 ghost use Rattle.std.specs.Prelude.{◌++◌, ◌≡◌, ◌≤◌, ℕ, List, Ok, true, false, length, nat_lt};
 ghost use Rattle.lra_id.specs.Ids.{Id};
 ghost use Rattle.lra_id.specs.Fronts.{IsBelow, count, join_fronts};
@@ -20,6 +20,8 @@ ghost use Rattle.lra_delta.specs.Encoding.{record_text, encoding};
 ghost use Rattle.lra_delta.specs.FrameSizes.{IsShort, frame_size};
 ghost use Rattle.lra_delta.specs.TakenFrames.{IsTaken};
 ghost use Rattle.lra_delta.specs.Typed.{IsTyped, IsTypedRecord};
+
+pub use crate::scan::since_by_scan;
 
 /// The frame of a view that stands for a set is the frame of the set.
 pub fn the_frame_of_a_view_is_that_of_its_set()

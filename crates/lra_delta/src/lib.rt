@@ -20,6 +20,7 @@ mod preparing;
 mod record_encoding;
 mod record_fields;
 mod sameness;
+mod scan;
 mod since;
 
 pub use buffer::Buffer;

@@ -1,30 +1,29 @@
-// What a replica tells since a base.
-ghost use Rattle.std.specs.Prelude.{◌≡◌, ◌⊎◌, ◌++◌, ◌∷◌, ◌<◌, [], ℕ, List, Err, None, Some, true, IfErr, IfOk, OnOk, filter, if◌then◌else◌, length, map, nat_lt};
-ghost use Rattle.std.specs.List.{AllByRecursion};
+// What a replica tells since a base, out of its index by stamp.
+ghost use Rattle.std.specs.Prelude.{◌≡◌, ◌⊎◌, ◌<◌, ℕ, List, Err, None, Some, IfErr, IfOk, OnOk, find, if◌then◌else◌, length, map, nat_lt};
 ghost use Rattle.lra_id.specs.Fronts.{IsBelow, count};
+ghost use Rattle.lra_id.specs.Ids.{Id, same_id};
 ghost use Rattle.lra_facts.specs.declared.fact.Fact.{Fact};
 ghost use Rattle.lra_facts.specs.declared.refusal.Refusal.TheVariants.{Gap, NoMemory};
 ghost use Rattle.lra_forest.specs.declared.record.Record.{Record};
+ghost use Rattle.lra_forest.specs.Forests.{AreOf, is_of};
+ghost use Rattle.lra_forest.specs.Places.{put_record};
 ghost use Rattle.lra_forest.specs.RecordMerges.{held_numbers};
 ghost use Rattle.lra_history.specs.Histories.{History, IsClosed, IsLawful, facts};
-ghost use Rattle.lra_replica.specs.Replicas.{view_of};
 ghost use Rattle.lra_history.specs.Views.{StandsFor};
-ghost use Rattle.lra_delta.specs.Frames.{IsFrame, frame_of, is_beyond};
+ghost use Rattle.lra_index.specs.Entries.{id_of};
+ghost use Rattle.lra_replica.specs.Replicas.{IsReplicaState, stamps_of, view_of};
+ghost use Rattle.lra_delta.specs.Frames.{IsFrame, frame_of};
 ghost use Rattle.lra_delta.specs.Grammar.{IsOfGrammar};
-ghost use Rattle.lra_delta.specs.Sending.{part_of, part_since};
+ghost use Rattle.lra_delta.specs.Sending.{part_of, part_since, part_without};
+ghost use Rattle.lra_delta.specs.Telling.{AreHomes, AreTold, homes_told, is_listed, is_newer, is_newer_to, told_too};
 
 use crate::Delta;
 use lra_facts::Refusal;
 use lra_forest::{Forest, Record, Records, Told};
-use lra_id::Front;
+use lra_id::{Front, MAX_NODES, NodeId};
+use lra_index::Entry;
 use lra_replica::Replica;
 use std::alloc::{AllocError, Global};
-
-fn is_beyond(base: &Front, kept: &Record) -> bool
-    ensures { result ≡ is_beyond base.now kept.now.stamps }
-{
-    !kept.stamps.below(base)
-}
 
 fn numbers_of(alloc: Global, records: Records<'_>) -> Result<Vec<u64>, AllocError>
     ensures { IfOk result (λ numbers. numbers.items ≡ map (λ (r : Record). r.num) records.entry) }
@@ -36,7 +35,8 @@ fn numbers_of(alloc: Global, records: Records<'_>) -> Result<Vec<u64>, AllocErro
     Ok(numbers)
 }
 
-fn live_since(
+/// The numbers of all LRAs that are held at a home, where it purged after the base.
+pub(crate) fn live_since(
     alloc: Global,
     home: &Forest,
     base: &Front,
@@ -53,68 +53,165 @@ fn live_since(
     }
 }
 
-fn push_newer(since: &mut Forest, kept: &Record, base: &Front) -> Result<(), AllocError>
-    requires home { kept.now.home ≡ since.old.home }
-    requires last { is_beyond base.now kept.now.stamps ≡ true →
-        AllByRecursion (λ q. q.num < kept.now.num) since.old.records }
-    ensures home { since.new.home ≡ since.old.home }
-    ensures records { OnOk result (since.new.records ≡ (if is_beyond base.now
-        kept.now.stamps then since.old.records ++ kept.now ∷ [] else since.old.records)) }
-{
-    if is_beyond(base, kept) {
-        since.push_last(kept.clone()?)?;
-    }
-    Ok(())
-}
-
-fn records_since(alloc: Global, home: &Forest, base: &Front) -> Result<Forest, AllocError>
-    ensures home { IfOk result (λ since. since.home ≡ home.now.home) }
-    ensures records { IfOk result
-        (λ since. since.records ≡ filter (λ r. is_beyond base.now r.stamps) home.now.records) }
-{
-    let mut since = Forest::new(alloc, home.home());
-    for record in home.records() {
-        push_newer(&mut since, record, base)?;
-    }
-    Ok(since)
-}
-
-/// What is told of a home since a base.
-fn told_since(
+/// What is told of a home, but for its records.
+fn told_without(
     alloc: Global,
     home: &Forest,
     base: &Front,
     purges: &Front,
 ) -> Result<Told, AllocError>
-    ensures { IfOk result (λ told. part_of told ≡ part_since base.now purges.now home.now) }
+    ensures { IfOk result (λ told. part_of told ≡ part_without base.now purges.now home.now) }
 {
     let held = live_since(alloc, home, base, purges)?;
-    let records = records_since(alloc, home, base)?;
-    Ok(Told { records, held })
+    Ok(Told {
+        records: Forest::new(alloc, home.home()),
+        held,
+    })
 }
 
-/// What is told of each home since a base.
-fn homes_since(
+fn homes_without(
     alloc: Global,
     homes: &[Forest],
     base: &Front,
     purges: &Front,
 ) -> Result<Vec<Told>, AllocError>
     ensures { IfOk result
-        (λ told. map part_of told.items ≡ map (part_since base.now purges.now) homes.now) }
+        (λ told. map part_of told.items ≡ map (part_without base.now purges.now) homes.now) }
 {
     let mut told = Vec::new(alloc);
     for home in homes {
-        told.push(told_since(alloc, home, base, purges)?)?;
+        told.push(told_without(alloc, home, base, purges)?)?;
     }
     Ok(told)
 }
 
+fn put_copy(told: &mut Forest, kept: &Record) -> Result<(), AllocError>
+    requires { kept.now.home ≡ told.old.home }
+    ensures home { OnOk result (told.new.home ≡ told.old.home) }
+    ensures records { OnOk result (told.new.records ≡ put_record kept.now told.old.records) }
+{
+    told.reserve(1)?;
+    told.put(kept.clone()?);
+    Ok(())
+}
+
+/// Tells of the LRA with a number, too, where the home has its record.
+fn tell_number(told: &mut Forest, home: &Forest, num: u64) -> Result<(), AllocError>
+    requires home { told.old.home ≡ home.now.home }
+    requires order { AreOf told.old.home told.old.records }
+    ensures home { OnOk result (told.new.home ≡ told.old.home) }
+    ensures order { OnOk result (AreOf told.new.home told.new.records) }
+    ensures found { let id : Id = record { home = home.now.home; num = num }
+        in OnOk result ((l : Id) → find (is_of l) told.new.records ≡ told_too (same_id id l)
+        (find (is_of l) home.now.records) (find (is_of l) told.old.records)) }
+{
+    if let Some(_) = told.numbered(num) {
+        return Ok(());
+    }
+    let Some(kept) = home.numbered(num) else {
+        return Ok(());
+    };
+    put_copy(told, kept)
+}
+
+/// Tells of the LRA of an entry, too.
+fn tell(told: &mut Vec<Told>, homes: &[Forest], entry: &Entry) -> Result<(), AllocError>
+    requires told { AreHomes (length homes.now) (homes_told told.old.items) }
+    requires homes { AreHomes (length homes.now) homes.now }
+    ensures { OnOk result
+        (AreTold (same_id (id_of entry.now)) homes.now told.old.items told.new.items) }
+{
+    let place = usize::from(entry.home.number()) - 1;
+    if place >= homes.len() {
+        return Ok(());
+    }
+    tell_number(&mut told[place].records, &homes[place], entry.num)
+}
+
+fn tell_each(told: &mut Vec<Told>, homes: &[Forest], entries: &[Entry]) -> Result<(), AllocError>
+    requires told { AreHomes (length homes.now) (homes_told told.old.items) }
+    requires homes { AreHomes (length homes.now) homes.now }
+    ensures { OnOk result
+        (AreTold (is_listed entries.now) homes.now told.old.items told.new.items) }
+{
+    for entry in entries {
+        tell(told, homes, entry)?;
+    }
+    Ok(())
+}
+
+/// Tells of the LRAs whose records have a stamp of a node beyond the base, too.
+fn tell_beyond(
+    told: &mut Vec<Told>,
+    replica: &Replica,
+    origin: NodeId,
+    base: &Front,
+) -> Result<(), AllocError>
+    requires { AreHomes (length replica.now.homes) (homes_told told.old.items) }
+    ensures { OnOk result (AreTold
+        (λ l. is_newer base.now (stamps_of (view_of replica.now) l) origin)
+        replica.now.homes told.old.items told.new.items) }
+{
+    let entries = replica.beyond(origin, base.count(origin));
+    tell_each(told, replica.homes(), entries)
+}
+
+/// Tells of the LRAs whose records have a stamp beyond the base.
+fn tell_all(told: &mut Vec<Told>, replica: &Replica, base: &Front) -> Result<(), AllocError>
+    requires { AreHomes (length replica.now.homes) (homes_told told.old.items) }
+    ensures { OnOk result (AreTold
+        (λ l. is_newer_to 8 base.now (stamps_of (view_of replica.now) l))
+        replica.now.homes told.old.items told.new.items) }
+{
+    for place in 0..MAX_NODES {
+        let Ok(origin) = NodeId::new(place + 1) else {
+            unreachable!();
+        };
+        tell_beyond(told, replica, origin, base)?;
+    }
+    Ok(())
+}
+
+/// What is told of each home since a base.
+fn homes_since(
+    alloc: Global,
+    replica: &Replica,
+    base: &Front,
+    purges: &Front,
+) -> Result<Vec<Told>, AllocError>
+    ensures parts { IfOk result (λ told.
+        map part_of told.items ≡ map (part_since base.now purges.now) replica.now.homes) }
+    ensures state { IsReplicaState replica.now }
+{
+    let mut told = homes_without(alloc, replica.homes(), base, purges)?;
+    tell_all(&mut told, replica, base)?;
+    Ok(told)
+}
+
 impl Delta {
+    /// What a replica tells where this is told of each home.
+    pub(crate) fn telling(replica: &Replica, base: &Front, homes: Vec<Told>) -> Delta
+        requires nodes { length base.now ≡ length replica.now.front }
+        requires below { IsBelow base.now replica.now.front }
+        requires state { IsReplicaState replica.now }
+        requires parts { map part_of homes.items
+            ≡ map (part_since base.now replica.now.purges) replica.now.homes }
+        ensures frame { result ≡ frame_of (view_of replica.now) base.now }
+        ensures set { (S : List Fact) →
+            StandsFor S (view_of replica.now) → IsFrame S base.now result }
+        ensures grammar { (h : History) (w : List ℕ) → IsLawful h → IsClosed h w →
+            StandsFor (facts h w) (view_of replica.now) → IsOfGrammar result }
+    {
+        let front = replica.front();
+        let purges = replica.purges();
+        Delta::new(*base, front, purges, homes)
+    }
+
     /// What a replica tells another that has the facts which a base of as many nodes counts: its front and last purges, the
     /// records that have a stamp beyond the base, and of each home that purged after the base the numbers of all LRAs that it
-    /// holds there. E15 with the replica's front where the base is not below that. It looks at each record once, and copies
-    /// those that are told.
+    /// holds there. E15 with the replica's front where the base is not below that. It finds each node's stamps beyond the base
+    /// by halving, looks up the record of each such stamp, and copies it once. It looks at no other record, but that it goes
+    /// over those of a home whose numbers it tells.
     pub fn since(alloc: Global, replica: &Replica, base: &Front) -> Result<Delta, Refusal>
         requires { length base.now ≡ length replica.now.front }
         ensures frame { IfOk result (λ delta. (delta ≡ frame_of (view_of replica.now) base.now)
@@ -133,8 +230,7 @@ impl Delta {
         if !base.below(&front) {
             return Err(Refusal::Gap(front));
         }
-        let purges = replica.purges();
-        let homes = homes_since(alloc, replica.homes(), base, &purges)?;
-        Ok(Delta::new(*base, front, purges, homes))
+        let homes = homes_since(alloc, replica, base, &replica.purges())?;
+        Ok(Delta::telling(replica, base, homes))
     }
 }

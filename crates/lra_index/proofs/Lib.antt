@@ -1,4 +1,3 @@
-pub mod Beyond
 mod Moving
 pub mod OneIndex
 mod Orders

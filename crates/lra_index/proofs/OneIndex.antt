@@ -1,11 +1,11 @@
 -- an index and what is known
-use Rattle.std.proofs.Common.{◌≡◌, ◌↔◌, ◌⊎◌, inl, inr, ◌∷◌, ◌<◌, ℕ, List, [], refl, sym, ap, ◌∙◌, subst, Bool, true, false, cond, arith, filter, nat_lt, Option}
+use Rattle.std.proofs.Common.{◌≡◌, ◌↔◌, ◌⊎◌, inl, inr, ◌∷◌, ◌≤◌, ◌<◌, ℕ, List, [], refl, sym, ap, ◌∙◌, subst, Bool, true, false, cond, arith, filter, length, nat_lt, IfSome, Option}
 use Rattle.std.proofs.lemmas.Bool.Decides.{nat_tests}
 use Rattle.std.specs.List.{AllByRecursion}
 use Rattle.lra_id.specs.Ids.{Id}
 use Rattle.lra_index.specs.declared.entry.Entry.{Entry}
 use Rattle.lra_index.specs.Entries.{In, id_of, IsRising, is_before}
-use Rattle.lra_index.specs.Indexes.{AreIndexesOf, IsIndexOf, stamp_at}
+use Rattle.lra_index.specs.Indexes.{AreIndexesOf, IsIndexOf, entries_at, stamp_at}
 use Rattle.lra_index.proofs.Orders.{not_itself, one_way}
 
 each_of : (P : Entry → Type 0) (xs : List Entry) (e : Entry) → AllByRecursion P xs → In e xs → P e
@@ -44,13 +44,16 @@ pub one_index : (origin : ℕ) (known : Id → Option (List ℕ)) (xs ys : List 
 one_index origin known xs ys a b = same_entries xs ys a.rising b.rising (λ e i. (b.held e).1 ((a.held e).0 i)) (λ e i. (a.held e).1 ((b.held e).0 i))
 
 pub by_each : (origins : List (List Entry)) (known other : Id → Option (List ℕ)) → ((l : Id) → known l ≡ other l) → AreIndexesOf origins known → AreIndexesOf origins other
-by_each origins known other same all origin some within =
-    let h = all origin some within in
-    let at = λ (l : Id). ap (λ (v : Option (List ℕ)). stamp_at v origin) (same l) in
-    record {
-      rising = h.rising;
-      held = λ e. ((λ i. let k = (h.held e).0 i in (k.0, sym (at (id_of e)) ∙ k.1)), (λ k. (h.held e).1 (k.0, at (id_of e) ∙ k.1)));
-    }
+by_each origins known other same all = record { each = each; few = λ l. subst (λ (v : Option (List ℕ)). IfSome v (λ ns. length ns ≤ 8)) (same l) (all.few l) }
+  where
+    each : (origin : ℕ) → 1 ≤ origin → origin ≤ length origins → IsIndexOf origin (entries_at origins origin) other
+    each origin some within =
+        let h = all.each origin some within in
+        let at = λ (l : Id). ap (λ (v : Option (List ℕ)). stamp_at v origin) (same l) in
+        record {
+          rising = h.rising;
+          held = λ e. ((λ i. let k = (h.held e).0 i in (k.0, sym (at (id_of e)) ∙ k.1)), (λ k. (h.held e).1 (k.0, at (id_of e) ∙ k.1)));
+        }
 
 in_filter : (t : Entry → Bool) (es : List Entry) (e : Entry) → In e (filter t es) → In e es × (t e ≡ true)
 in_filter t [] e i = absurd i

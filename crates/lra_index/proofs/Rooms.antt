@@ -1,9 +1,9 @@
 -- the origins of an index, one by one
-use Rattle.std.proofs.Common.{◌≡◌, ◌≤◌, ◌<◌, ◌+◌, ◌-◌, ◌^◌, ℕ, zero, suc, List, [], ◌∷◌, refl, sym, ap, ◌∙◌, subst, arith, Option, None, get_or, length}
+use Rattle.std.proofs.Common.{◌≡◌, ◌≤◌, ◌<◌, ◌+◌, ◌-◌, ◌^◌, ℕ, zero, suc, List, [], ◌∷◌, refl, sym, ap, ◌∙◌, subst, arith, Bool, true, false, cond, IfSome, Option, None, get_or, length}
 use Rattle.std.specs.List.{AllZip}
-use Rattle.lra_id.specs.Ids.{Id}
+use Rattle.lra_id.specs.Ids.{Id, same_id}
 use Rattle.lra_index.specs.declared.entry.Entry.{Entry}
-use Rattle.lra_index.specs.Indexes.{AreIndexesOf, AreRestamped, AreReserved, HeldEntries, IsIndexOf, at_place, entries_of, least_spare, with_exchange, stamp_at, with_stamps}
+use Rattle.lra_index.specs.Indexes.{AreIndexesOf, AreRestamped, AreReserved, HeldEntries, IsIndexOf, at_place, entries_at, entries_of, least_spare, with_exchange, stamp_at, with_stamps}
 use Rattle.lra_index.proofs.Moving.{moved_index}
 
 pub entries_place : (os : List HeldEntries) (k : ℕ) → get_or (entries_of os) k [] ≡ (at_place os k).entries
@@ -52,15 +52,25 @@ reserved_room n xs ys most h = least_all n ys most (λ k l. (h.each k (omega (ar
 pub moved_room : (l : Id) (was now : Option (List ℕ)) (xs ys : List HeldEntries) → AreRestamped l was now xs ys → least_spare xs ≤ least_spare ys + 1
 moved_room l was now xs ys h = least_falls 1 xs ys h.same (λ k e. (h.each k e).spare)
 
-pub moved_indexes : (l : Id) (was now : Option (List ℕ)) (xs ys : List HeldEntries) → AreRestamped l was now xs ys → (known : Id → Option (List ℕ)) → AreIndexesOf (entries_of xs) known → known l ≡ was → AreIndexesOf (entries_of ys) (with_stamps l now known)
-moved_indexes l was now xs ys h known all known_is origin some within =
-    let place : origin - 1 < length xs = omega (arith, some, within, entries_length ys, h.same) in
-    let back : (origin - 1) + 1 ≡ origin = omega (arith, some) in
-    let there : origin ≤ length (entries_of xs) = omega (arith, some, place, entries_length xs) in
-    let old : IsIndexOf origin (at_place xs (origin - 1)).entries known = subst (λ es. IsIndexOf origin es known) (entries_place xs (origin - 1)) (all origin some there) in
-    let step : (at_place ys (origin - 1)).entries ≡ with_exchange l (stamp_at was origin) (stamp_at now origin) (at_place xs (origin - 1)).entries =
-    subst (λ n. (at_place ys (origin - 1)).entries ≡ with_exchange l (stamp_at was n) (stamp_at now n) (at_place xs (origin - 1)).entries) back (h.each (origin - 1) place).entries in
-    subst (λ es. IsIndexOf origin es (with_stamps l now known)) (sym (entries_place ys (origin - 1) ∙ step)) (moved_index origin l was now known (at_place xs (origin - 1)).entries known_is old)
+few_with : (l : Id) (now : Option (List ℕ)) (known : Id → Option (List ℕ)) → IfSome now (λ v. length v ≤ 8) → ((m : Id) → IfSome (known m) (λ v. length v ≤ 8)) → (m : Id) → IfSome (with_stamps l now known m) (λ v. length v ≤ 8)
+few_with l now known here all m = by (same_id m l)
+  where
+    by : (b : Bool) → IfSome (cond b now (known m)) (λ v. length v ≤ 8)
+    by true = here
+    by false = all m
+
+pub moved_indexes : (l : Id) (was now : Option (List ℕ)) (xs ys : List HeldEntries) → AreRestamped l was now xs ys → IfSome now (λ v. length v ≤ 8) → (known : Id → Option (List ℕ)) → AreIndexesOf (entries_of xs) known → known l ≡ was → AreIndexesOf (entries_of ys) (with_stamps l now known)
+moved_indexes l was now xs ys h here known all known_is = record { each = each; few = few_with l now known here all.few }
+  where
+    each : (origin : ℕ) → 1 ≤ origin → origin ≤ length (entries_of ys) → IsIndexOf origin (entries_at (entries_of ys) origin) (with_stamps l now known)
+    each origin some within =
+        let place : origin - 1 < length xs = omega (arith, some, within, entries_length ys, h.same) in
+        let back : (origin - 1) + 1 ≡ origin = omega (arith, some) in
+        let there : origin ≤ length (entries_of xs) = omega (arith, some, place, entries_length xs) in
+        let old : IsIndexOf origin (at_place xs (origin - 1)).entries known = subst (λ es. IsIndexOf origin es known) (entries_place xs (origin - 1)) (all.each origin some there) in
+        let step : (at_place ys (origin - 1)).entries ≡ with_exchange l (stamp_at was origin) (stamp_at now origin) (at_place xs (origin - 1)).entries =
+        subst (λ n. (at_place ys (origin - 1)).entries ≡ with_exchange l (stamp_at was n) (stamp_at now n) (at_place xs (origin - 1)).entries) back (h.each (origin - 1) place).entries in
+        subst (λ es. IsIndexOf origin es (with_stamps l now known)) (sym (entries_place ys (origin - 1) ∙ step)) (moved_index origin l was now known (at_place xs (origin - 1)).entries known_is old)
 
 pub kept_room : (l : Id) (was : Option (List ℕ)) (xs ys : List HeldEntries) → AreRestamped l was None xs ys → least_spare xs ≤ least_spare ys
 kept_room l was xs ys h = omega (arith, least_falls 0 xs ys h.same (λ k e. omega (arith, (h.each k e).kept refl)))

@@ -1,5 +1,5 @@
 -- What an index holds.
-use Rattle.std.specs.Prelude.{◌≡◌, ◌↔◌, ◌≤◌, ◌<◌, ◌+◌, ◌-◌, ◌^◌, ◌==◌, ℕ, Option, Some, None, List, [], ◌∷◌, filter, length, map, min, nat_lt, slice_index_or, if◌then◌else◌}
+use Rattle.std.specs.Prelude.{◌≡◌, ◌↔◌, ◌≤◌, ◌<◌, ◌+◌, ◌-◌, ◌^◌, ◌==◌, ℕ, IfSome, Option, Some, None, List, [], ◌∷◌, length, map, min, nat_lt, slice_index_or, if◌then◌else◌}
 use Rattle.lra_id.specs.Ids.{Id, same_id}
 use Rattle.lra_id.specs.Fronts.{count}
 use Rattle.lra_index.specs.declared.entry.Entry.{Entry}
@@ -39,10 +39,10 @@ pub record IsIndexOf (origin : ℕ) (entries : List Entry) (stamps : Id → Opti
 abbrev pub entries_at : List (List Entry) → ℕ → List Entry
 entries_at origins origin = slice_index_or origins (origin - 1) []
 
--- at each origin that there is
-abbrev pub AreIndexesOf : List (List Entry) → (Id → Option (List ℕ)) → Type 0
-AreIndexesOf origins stamps =
-    (origin : ℕ) → 1 ≤ origin → origin ≤ length origins → IsIndexOf origin (entries_at origins origin) stamps
+-- at each origin that there is, and the stamps are of at most eight nodes
+pub record AreIndexesOf (origins : List (List Entry)) (stamps : Id → Option (List ℕ)) : Type 0 where
+  pub each : (origin : ℕ) → 1 ≤ origin → origin ≤ length origins → IsIndexOf origin (entries_at origins origin) stamps
+  pub few : (l : Id) → IfSome (stamps l) (λ v. length v ≤ 8)
 
 -- what is known, with these stamps of one LRA
 abbrev pub with_stamps : Id → Option (List ℕ) → (Id → Option (List ℕ)) → Id → Option (List ℕ)
@@ -85,9 +85,3 @@ pub record IsReserved (more : ℕ) (old new : HeldEntries) : Type 0 where
 pub record AreReserved (more : ℕ) (old new : List HeldEntries) : Type 0 where
   pub same : length new ≡ length old
   pub each : (k : ℕ) → k < length old → IsReserved more (at_place old k) (at_place new k)
-
--- no entry of an LRA has a stamp that a base doesn't count
-abbrev pub HasNoneBeyond : List ℕ → Id → List (List Entry) → Type 0
-HasNoneBeyond base l origins =
-    (origin stamp : ℕ) → 1 ≤ origin → origin ≤ length origins
-    → In (entry_of stamp l) (filter (λ (e : Entry). nat_lt (count base origin) e.stamp) (entries_at origins origin)) → ⊥

@@ -1,5 +1,5 @@
 // The index of what is known, by stamp.
-ghost use Rattle.std.specs.Prelude.{◌≡◌, ◌+◌, ◌≤◌, ◌<◌, ◌↔◌, ℕ, List, [], IfOk, IsSome, None, Option, OnOk, filter, length, nat_lt, replicate};
+ghost use Rattle.std.specs.Prelude.{◌≡◌, ◌+◌, ◌≤◌, ◌<◌, ◌↔◌, ℕ, List, [], IfOk, IfSome, IsSome, None, Option, OnOk, filter, length, nat_lt, replicate};
 ghost use Rattle.lra_id.specs.Ids.{Id};
 ghost use Rattle.lra_index.specs.declared.entry.Entry.{Entry as Fields};
 ghost use Rattle.lra_index.specs.Entries.{In, id_of};
@@ -48,6 +48,15 @@ fn stamp_at(stamps: &Option<Front>, place: usize) -> u64
     match front.as_slice().get(place) {
         Some(stamp) => *stamp,
         None => 0,
+    }
+}
+
+/// A front counts at most eight nodes.
+fn are_few(stamps: &Option<Front>)
+    ensures { IfSome stamps.now (λ v. length v ≤ 8) }
+{
+    if let Some(front) = stamps {
+        let _ = front.nodes();
     }
 }
 
@@ -111,6 +120,7 @@ impl Index {
         ensures spare { self.old.spare ≤ self.new.spare + 1 }
         ensures kept { now ≡ None → self.old.spare ≤ self.new.spare }
     {
+        are_few(&now);
         reindex_each(&mut self.origins, home, num, &was, &now);
     }
 

@@ -8,4 +8,4 @@ use Rattle.lra_index.proofs.index.Index.beyond.Goals as goal
 pub returns-clause-changed : goal.returns-clause-changed
 returns-clause-changed c = λ known all within e.
     subst (λ (es : List Entry). In e es ↔ ((c.args.count < e.stamp) × (stamp_at (known (id_of e)) c.args.origin ≡ e.stamp))) (sym c.after.ensures.entries)
-    (beyond_is c.args.origin c.args.count (entries_at c.args.self.now.origins c.args.origin) known (all c.args.origin c.after.ensures.some within) e)
+    (beyond_is c.args.origin c.args.count (entries_at c.args.self.now.origins c.args.origin) known (all.each c.args.origin c.after.ensures.some within) e)

@@ -14,7 +14,7 @@ reindex_each-requires c = λ k within some. each_least 1 c.self.inside.origins.i
 pub returns-clause-entries : goal.returns-clause-entries
 returns-clause-entries c = λ known all known_is.
     let old = subst (λ (os : List (List Entry)). AreIndexesOf os known) (sym (ap (λ (x : HeldIndex). x.origins) c.self.view_is)) all in
-    moved_indexes (record { home = c.args.home; num = c.args.num }) c.args.was c.args.now c.self.inside.origins.items c.reindex_each.new.origins.items c.reindex_each.ensures known old known_is
+    moved_indexes (record { home = c.args.home; num = c.args.num }) c.args.was c.args.now c.self.inside.origins.items c.reindex_each.new.origins.items c.reindex_each.ensures c.are_few.ensures known old known_is
 
 pub returns-clause-spare : goal.returns-clause-spare
 returns-clause-spare c =
