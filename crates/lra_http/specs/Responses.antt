@@ -75,6 +75,10 @@ IsResponse room limit input h body rest =
 abbrev pub HasNoFinal : Room → List ℕ → Type 0
 HasNoFinal room input = (h : ResponseHead) (rest : List ℕ) → ¬ (HasFinal room input h rest)
 
+-- none of the bytes stands behind a final head
+abbrev pub IsOfHeads : Room → List ℕ → Type 0
+IsOfHeads room bytes = (h : ResponseHead) (rest : List ℕ) → HasFinal room bytes h rest → rest ≡ []
+
 abbrev pub HasNoResponse : Room → ℕ → List ℕ → Type 0
 HasNoResponse room limit input =
     (h : ResponseHead) (body rest : List ℕ) → ¬ (IsResponse room limit input h body rest)
@@ -191,7 +195,11 @@ pub record IsHeadRead (limit : ℕ) (given : List ℕ) (code size : ℕ) : Type 
   pub status : code ≡ status_code head
   pub short : length given ≤ max_head_bytes
 
--- the bytes show why no final head with a body stands there; at a cut no final head does
+-- the bytes, which are of heads alone, show why no final head that states a body stands there; where they ended or a read failed,
+-- no final head had come
 pub record ShowsNoHead (limit : ℕ) (bytes : List ℕ) (fault : Fault) : Type 0 where
   pub shows : Shows limit bytes fault
+  pub short : length bytes ≤ max_head_bytes + 1
+  pub heads : IsOfHeads head_room bytes
   pub unfinished : fault ≡ Cut → HasNoFinal head_room bytes
+  pub unread : fault ≡ ReadFault → HasNoFinal head_room bytes

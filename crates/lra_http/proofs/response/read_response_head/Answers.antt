@@ -6,7 +6,7 @@ use Rattle.lra_http.proofs.response.read_response_head.Goals as goal
 pub returns-in_err-head-clause-fault : goal.returns-in_err-head-clause-fault
 returns-in_err-head-clause-fault g c =
     let p = err_from_is_err_and c.from_residual.result c.from_residual.ensures.1 in
-    rw (p.1, p.2) (exit_no_head _ _ _ _ c.in_err-head.ensures.fault)
+    rw (p.1, p.2) (exit_no_head _ _ _ _ c.in_err-head.ensures.fault c.in_err-head.ensures.unread c.in_err-head.ensures.memory)
 
 pub parts_of-spans-requires : goal.parts_of-spans-requires
 parts_of-spans-requires g c =
