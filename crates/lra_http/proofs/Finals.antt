@@ -12,11 +12,11 @@ use Rattle.httparse.proofs.GrammarLemmas.{response_unique}
 use Rattle.lra_http.specs.declared.fault.Fault.{Fault}
 use Rattle.lra_http.specs.declared.fault.Fault.TheVariants.{BadHead}
 use Rattle.lra_http.specs.declared.head.Kind.TheVariants.{Response}
-use Rattle.lra_http.specs.Heads.{IsHead, IsHeadWithin, RefusesHead}
-use Rattle.lra_http.specs.Responses.{Room, head_room, is_interim, is_switch, Begins, HasFinal, IsSwitched, RefusesHeads, ArePartsOf, IsFinalRead}
+use Rattle.lra_http.specs.Heads.{HasNoHead, HasNoShorterHead, IsHead, IsHeadWithin, RefusesHead}
+use Rattle.lra_http.specs.Responses.{Room, head_room, is_interim, is_switch, Begins, HasFinal, HasNoFinal, IsOfHeads, IsSwitched, RefusesHeads, ArePartsOf, IsFinalRead}
 use Rattle.std.proofs.lemmas.Bool.Decides.{nat_tests}
 use Rattle.lra_http.proofs.Heads.{some_head}
-use Rattle.lra_http.proofs.Interims.{Continues, Reaches, continues_more, behind_none, refuses_front}
+use Rattle.lra_http.proofs.Interims.{Continues, Reaches, continues_more, behind_none, ends_front, none_front, refuses_front}
 
 -- the parser's spans of bytes that are a head
 pub parts_are : (bytes : List ℕ) (headers : List HeaderSpan) (spans : ResponseSpans) (lines : ℕ) → IsHead Response bytes lines
@@ -148,6 +148,24 @@ head_refused old mid new room fault (given, gives, known) s = record {
   };
   ended = s.ended;
 }
+
+-- a read failed before a head had come
+pub head_unread : (old mid new : GivenBytes) (room : Room) → GivesWhat old mid (Reaches room) → GivesWhat mid new (HasNoHead Response)
+    → GivesWhat old new (HasNoFinal head_room)
+head_unread old mid new room (given, gives, known) (bytes, next, none) = (
+  given ++ bytes,
+  gives_more old mid new given bytes gives next,
+  λ h rest has. none_front room bytes none h rest ((known.continues bytes).less h rest has),
+)
+
+-- memory ran out before anything behind a head had come
+pub head_lost : (old mid new : GivenBytes) (room : Room) → GivesWhat old mid (Reaches room) → GivesWhat mid new (HasNoShorterHead Response)
+    → GivesWhat old new (IsOfHeads head_room)
+head_lost old mid new room (given, gives, known) (bytes, next, none) = (
+  given ++ bytes,
+  gives_more old mid new given bytes gives next,
+  λ h rest has. ends_front room bytes none h rest ((known.continues bytes).less h rest has),
+)
 
 -- ---- with a slice of the headers for the lines that are left
 

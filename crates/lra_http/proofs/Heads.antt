@@ -15,9 +15,9 @@ use Rattle.lra_http.specs.declared.head.Kind.{Kind}
 use Rattle.lra_http.specs.declared.head.Kind.TheVariants.{Request, Response}
 use Rattle.lra_http.specs.declared.head.Step.{Step}
 use Rattle.lra_http.specs.declared.head.Step.TheVariants.{Whole, Long}
-use Rattle.lra_http.specs.Heads.{IsStep, IsHead, HasNoHead, NeverHasHead, MayBecomeHead, Exceeds, Overflows, HasHead, HasNoHeadWithin, IsHeadWithin, IsHeadTooLong, IsOpen, RefusesHead}
+use Rattle.lra_http.specs.Heads.{IsStep, IsHead, HasNoHead, HasNoShorterHead, NeverHasHead, MayBecomeHead, Exceeds, Overflows, HasHead, HasNoHeadWithin, IsHeadWithin, IsHeadTooLong, IsOpen, RefusesHead}
 use Rattle.lra_http.specs.Faults.{Shows, Stops}
-use Rattle.lra_http.specs.Streams.{FoundEnd, GivenBytes, Gives}
+use Rattle.lra_http.specs.Streams.{FoundEnd, GivenBytes, Gives, GivesWhat}
 use Rattle.lra_http.specs.declared.fault.Fault.{Fault}
 use Rattle.lra_http.specs.declared.fault.Fault.TheVariants.{Cut, BadHead, HeadTooLong}
 use Rattle.lra_http.proofs.Known.{gives_more}
@@ -106,16 +106,21 @@ same_last [] (z ∷ b) x y e = absurd (let n : 1 ≡ length (z ∷ b ++ y ∷ []
 same_last (z ∷ a) [] x y e = absurd (let n : length (z ∷ a ++ x ∷ []) ≡ 1 = ap length e in omega (arith, n, length-append a (x ∷ [])))
 same_last (z ∷ a) (w ∷ b) x y e = same_last a b x y (cc)
 
+-- with one byte more nothing stands behind a head
+none_shorter : (kind : Kind) (head : List ℕ) (byte : ℕ) → HasNoHead kind head → HasNoShorterHead kind (head ++ byte ∷ [])
+none_shorter kind head byte none = λ text rest lines is same.
+    let sizes : length head + 1 ≡ length text + length rest =
+    sym (length-append head (byte ∷ [])) ∙ ap length same ∙ length-append text rest in
+    let long : length text ≤ length head → ⊥ = λ le. short_head kind head (byte ∷ []) text rest lines none is same le in
+    no_element rest (grind (arith, long, sizes))
+
 -- a byte that is no line feed ends no head
 pub none_more : (kind : Kind) (head items : List ℕ) (byte : ℕ) → items ≡ head ++ byte ∷ [] → HasNoHead kind head → byte ≢ line_feed → HasNoHead kind items
 none_more kind head items byte e none other = none_from kind items (λ text rest lines is same.
     let ends = ends_head kind text lines is in
-    let sizes : length head + 1 ≡ length text + length rest =
-    sym (length-append head (byte ∷ [])) ∙ ap length (sym e ∙ same) ∙ length-append text rest in
-    let long : length text ≤ length head → ⊥ = λ le. short_head kind head (byte ∷ []) text rest lines none is (sym e ∙ same) le in
-    let all : length rest ≡ 0 = grind (arith, long, sizes) in
+    let whole : head ++ byte ∷ [] ≡ text ++ rest = sym e ∙ same in
     let exact : head ++ byte ∷ [] ≡ ends.0 ++ line_feed ∷ [] =
-    sym e ∙ same ∙ ap (λ (r : List ℕ). text ++ r) (no_element rest all) ∙ append-nil text ∙ ends.1 in
+    whole ∙ ap (λ (r : List ℕ). text ++ r) (none_shorter kind head byte none text rest lines is whole) ∙ append-nil text ∙ ends.1 in
     other (same_last head ends.0 byte line_feed exact))
 
 -- ---- a head has a space
@@ -321,3 +326,9 @@ pub takes_byte : (old mid new : GivenBytes) (head items : List ℕ) (found : Opt
 takes_byte old mid new head items found byte taken next is e =
     let last : Gives mid new (byte ∷ []) = subst (λ (o : Option ℕ). IfSome o (λ b. Gives mid new (b ∷ []))) is next in
     rw e (gives_more old mid new head (byte ∷ []) taken last)
+
+-- memory ran out for a byte that was given
+pub byte_lost : (kind : Kind) (old mid new : GivenBytes) (head : List ℕ) (found : Option ℕ) (byte : ℕ) → Gives old mid head
+    → IfSome found (λ b. Gives mid new (b ∷ [])) → found ≡ Some byte → HasNoHead kind head → GivesWhat old new (HasNoShorterHead kind)
+byte_lost kind old mid new head found byte taken next is none =
+    (head ++ byte ∷ [], takes_byte old mid new head (head ++ byte ∷ []) found byte taken next is refl, none_shorter kind head byte none)

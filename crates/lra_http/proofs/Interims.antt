@@ -5,8 +5,9 @@ use Rattle.httparse.proofs.GrammarLemmas.{response_unique}
 use Rattle.lra_http.specs.declared.fault.Fault.{Fault}
 use Rattle.lra_http.specs.declared.fault.Fault.TheVariants.{Cut, ReadFault, WriteFault, HeadTooLong, BodyTooLong, BadHead, LengthNeeded, NotOffered, NoMemory}
 use Rattle.lra_http.specs.declared.head.Kind.TheVariants.{Response}
-use Rattle.lra_http.specs.Heads.{RefusesHead}
-use Rattle.lra_http.specs.Responses.{Room, head_room, is_interim, is_switch, Skips, bytes_of, lines_of, Behind, Begins, HasFinal, HasNoFinal, IsUnfinished, IsHopeless, IsSwitched, IsOver, RefusesHeads}
+use Rattle.lra_http.specs.Heads.{HasNoHead, HasNoShorterHead, RefusesHead}
+use Rattle.lra_http.specs.Responses.{Room, head_room, is_interim, is_switch, Skips, bytes_of, lines_of, Behind, Begins, HasFinal, HasNoFinal, IsOfHeads, IsUnfinished, IsHopeless, IsSwitched, IsOver, RefusesHeads}
+use Rattle.lra_http.proofs.Heads.{nothing}
 
 -- no test holds and fails
 pub not_both : (b : Bool) → IsTrue b → IsFalse b → ⊥
@@ -116,10 +117,27 @@ prefix room input h rest (j ∷ skipped) end q (next, reads, interim, plain, ski
 pub front_of : (room : Room) (input : List ℕ) (h : ResponseHead) (rest : List ℕ) → HasFinal room input h rest → Front room input
 front_of room input h rest (b, final) = prefix room input h rest b.skipped b.middle b.left b.skips b.bytes b.lines b.holds
 
+-- where no head stands at the start, no final one does
+pub none_front : (room : Room) (input : List ℕ) → HasNoHead Response input → HasNoFinal room input
+none_front room input none = λ h rest has. let f = front_of room input h rest has in none f.head f.rest f.begins.reads
+
+-- where nothing stands behind a head at the start, nothing does behind the final one
+ends_list : (input : List ℕ) (h : ResponseHead) (rest : List ℕ) → HasNoShorterHead Response input
+    → (heads : List ResponseHead) (end : List ℕ) (q : Room) → Skips heads input end → Begins h rest q end → rest ≡ []
+ends_list input h rest none [] end q skips begins =
+    none (print_response h) rest (length h.fields) (h, begins.reads.0, refl, refl) (skips ∙ begins.reads.1)
+ends_list input h rest none (j ∷ heads) end q (next, reads, interim, plain, skips) begins =
+    let gone : next ≡ [] = none (print_response j) next (length j.fields) (j, reads.0, refl, refl) reads.1 in
+    let room : Room = record { bytes = bytes_of heads + q.bytes; lines = lines_of heads + q.lines } in
+    let f = prefix room next h rest heads end q skips refl refl begins in
+    absurd (nothing Response f.head f.rest (subst (λ (t : List ℕ). ReadsResponse t f.head f.rest) gone f.begins.reads))
+
+pub ends_front : (room : Room) (input : List ℕ) → HasNoShorterHead Response input → IsOfHeads room input
+ends_front room input none = λ h rest has. ends_list input h rest none has.0.skipped has.0.middle has.0.left has.0.skips has.0.holds
+
 -- a fault of the head at the start is one of the heads
 pub refuses_front : (room : Room) (input : List ℕ) (fault : Fault) → RefusesHead Response room.bytes room.lines input fault → RefusesHeads room input fault
-refuses_front room input Cut (none, may, short) =
-    (λ h rest has. let f = front_of room input h rest has in none f.head f.rest f.begins.reads, behind_none room input IsUnfinished (none, may, short))
+refuses_front room input Cut (none, may, short) = (none_front room input none, behind_none room input IsUnfinished (none, may, short))
 refuses_front room input BadHead h = inl (behind_none room input IsHopeless h)
 refuses_front room input HeadTooLong (over, none) = (
   λ h rest has.
@@ -140,6 +158,7 @@ refuses_front room input WriteFault h = absurd h
 pub record Continues (left : Room) (input middle : List ℕ) : Type 0 where
   pub refuses : (fault : Fault) → RefusesHeads left middle fault → RefusesHeads head_room input fault
   pub begins : (h : ResponseHead) (rest : List ℕ) → HasFinal left middle h rest → HasFinal head_room input h rest
+  pub less : (h : ResponseHead) (rest : List ℕ) → HasFinal head_room input h rest → HasFinal left middle h rest
 
 -- the heads that were given leave this room, and what follows goes on from there
 pub record Reaches (left : Room) (given : List ℕ) : Type 0 where
@@ -150,8 +169,12 @@ pub continues_more : (room left : Room) (input middle next : List ℕ) → Conti
 continues_more room left input middle next known i = record {
   refuses = λ fault h. known.refuses fault (refuses_more room left middle next i fault h);
   begins = λ h rest has. known.begins h rest (behind_more room left middle next (Begins h rest) i has.0, has.1);
+  less = λ h rest has. final_less room left middle next h rest i (known.less h rest has);
 }
 
 -- nothing was given yet
 pub reaches_none : Reaches head_room []
-reaches_none = record { continues = λ more. record { refuses = λ fault h. h; begins = λ h rest has. has }; size = refl }
+reaches_none = record {
+  continues = λ more. record { refuses = λ fault h. h; begins = λ h rest has. has; less = λ h rest has. has };
+  size = refl;
+}

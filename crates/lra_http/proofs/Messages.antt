@@ -1,6 +1,7 @@
 -- Whole responses at the start of the input.
 use Rattle.std.proofs.Common.{◌≡◌, ℕ, ◌+◌, ◌<◌, ◌≤◌, ◌⊎◌, inl, inr, append_assoc, Bool, true, false, cond, List, [], ◌∷◌, ◌++◌, length, take, drop, map, sym, ◌∙◌, ap, refl, append-nil, arith, length-append, IfErr, subst, Result, Ok, Err, codes, IsTrue, IsFalse}
 use Rattle.std.proofs.lemmas.Bool.Decides.{nat_tests}
+use Rattle.std.proofs.lemmas.List.{append_cancel_left}
 use Rattle.httparse.specs.Grammar.{ResponseHead, ReadsResponse, print_response, status_code}
 use Rattle.httparse.specs.Spans.{header_bytes, name_and_value}
 use Rattle.httparse.specs.declared.spans.HeaderSpan.{HeaderSpan}
@@ -8,13 +9,13 @@ use Rattle.httparse.specs.declared.spans.ResponseSpans.{ResponseSpans}
 use Rattle.httparse.proofs.GrammarLemmas.{response_unique}
 use Rattle.lra_http.specs.declared.fault.Fault.{Fault}
 use Rattle.lra_http.specs.declared.fault.Fault.TheVariants.{Cut, ReadFault, WriteFault, HeadTooLong, BodyTooLong, BadHead, LengthNeeded, NotOffered, NoMemory}
-use Rattle.lra_http.specs.declared.message.Response.{Response as Answer}
+use Rattle.lra_http.specs.ByteResponses.{Response as Answer}
 use Rattle.lra_http.specs.Bodies.{RefusesBody}
 use Rattle.lra_http.specs.Faults.{Stops, Shows as ShowsPart}
 use Rattle.lra_http.specs.Streams.{GivenBytes, Gives, GivesWhat}
 use Rattle.lra_http.proofs.Known.{gives_more}
 use Rattle.lra_http.specs.HeadFields.{field_bytes, values, is_number, is_bare, without_body, stated_length, response_length}
-use Rattle.lra_http.specs.Responses.{Room, head_room, is_interim, is_switch, Skips, bytes_of, lines_of, Behind, Begins, HasFinal, stated, IsResponse, HasNoResponse, IsHopeless, IsSwitched, RefusesHeads, HasFault, Refuses, IsMessage, IsFaultyHead, Shows, Spends, ArePartsOf, IsFinalRead}
+use Rattle.lra_http.specs.Responses.{Room, head_room, is_interim, is_switch, Skips, bytes_of, lines_of, Behind, Begins, HasFinal, HasNoFinal, stated, IsResponse, HasNoResponse, IsHopeless, IsSwitched, RefusesHeads, HasFault, Refuses, IsHeadRead, IsMessage, IsOfHeads, IsFaultyHead, Shows, ShowsNoHead, Spends, ArePartsOf, IsFinalRead}
 use Rattle.lra_http.proofs.Interims.{not_both, Interim, final_less, front_of}
 
 -- ---- an input has one final head
@@ -341,6 +342,91 @@ exit_taken limit old mid new bytes looked headers spans size answer items (given
         fields = fields ∙ final.fields;
       },
     )
+
+-- the heads alone
+pub exit_head : (limit : ℕ) (old new : GivenBytes) (bytes looked : List ℕ) (headers : List HeaderSpan) (spans : ResponseSpans) (size code : ℕ)
+    → GivesWhat old new (λ given. IsFinalRead given bytes) → looked ≡ bytes → ArePartsOf looked headers spans
+    → response_length limit spans.code (map (header_bytes bytes) (take spans.headers headers)) ≡ Ok size → code ≡ spans.code
+    → GivesWhat old new (λ given. IsHeadRead limit given code size)
+exit_head limit old new bytes looked headers spans size code (given, gives, f) same p e is =
+    let final = final_parts limit given bytes headers spans f (subst (λ (b : List ℕ). ArePartsOf b headers spans) same p) in (
+      given,
+      gives,
+      record { head = final.head; first = final.has; states = final.stated_is ∙ e; status = is ∙ final.code; short = f.short },
+    )
+
+heads_show : (limit : ℕ) (bytes : List ℕ) (fault : Fault) → ShowsPart 16385 (RefusesHeads head_room) bytes fault → Shows limit bytes fault
+heads_show limit bytes fault is = record {
+  shown = λ more nothing. refuses_heads limit (bytes ++ more) fault (is.shown more nothing);
+  spent = heads_spent limit bytes fault (is.shown [] (λ e. refl)) is.short;
+}
+
+cut_unfinished : (bytes : List ℕ) (fault : Fault) → RefusesHeads head_room bytes fault → fault ≡ Cut → HasNoFinal head_room bytes
+cut_unfinished bytes fault refuses e = let cut : RefusesHeads head_room bytes Cut = subst (RefusesHeads head_room bytes) e refuses in cut.0
+
+-- where the heads are refused, nothing stands behind a final one
+of_heads : (bytes : List ℕ) (fault : Fault) → RefusesHeads head_room bytes fault → (fault ≡ ReadFault → HasNoFinal head_room bytes)
+    → (fault ≡ NoMemory → IsOfHeads head_room bytes) → IsOfHeads head_room bytes
+of_heads bytes Cut (none, b) lost memory = λ h rest has. absurd (none h rest has)
+of_heads bytes BadHead (inl b) lost memory = λ h rest has. absurd (not_hopeless head_room bytes h rest b has)
+of_heads bytes BadHead (inr b) lost memory = λ h rest has. absurd (not_switched head_room bytes h rest b has)
+of_heads bytes HeadTooLong (none, b) lost memory = λ h rest has. absurd (none h rest has)
+of_heads bytes ReadFault r lost memory = λ h rest has. absurd (lost refl h rest has)
+of_heads bytes NoMemory r lost memory = memory refl
+of_heads bytes BodyTooLong r lost memory = absurd r
+of_heads bytes LengthNeeded r lost memory = absurd r
+of_heads bytes NotOffered r lost memory = absurd r
+of_heads bytes WriteFault r lost memory = absurd r
+
+-- what is so of the bytes that were given is so of these
+of_given : (old new : GivenBytes) (bytes : List ℕ) (Is : List ℕ → Type 0) → Gives old new bytes → GivesWhat old new Is → Is bytes
+of_given old new bytes Is p (given, q, is) = subst Is (append_cancel_left old.given given bytes (sym q.given ∙ p.given)) is
+
+pub exit_no_head : (limit : ℕ) (old new : GivenBytes) (fault : Fault) → Stops old new (ShowsPart 16385 (RefusesHeads head_room)) fault
+    → (fault ≡ ReadFault → GivesWhat old new (HasNoFinal head_room)) → (fault ≡ NoMemory → GivesWhat old new (IsOfHeads head_room))
+    → Stops old new (ShowsNoHead limit) fault
+exit_no_head limit old new fault s lost memory =
+    let refuses : RefusesHeads head_room s.bytes fault =
+    subst (λ (l : List ℕ). RefusesHeads head_room l fault) (append-nil s.bytes) (s.is.shown [] (λ e. refl)) in
+    let unread : fault ≡ ReadFault → HasNoFinal head_room s.bytes = λ e. of_given old new s.bytes (HasNoFinal head_room) s.gives (lost e) in
+    record {
+      bytes = s.bytes;
+      gives = s.gives;
+      is = record {
+        shows = heads_show limit s.bytes fault s.is;
+        short = s.is.short;
+        heads = of_heads s.bytes fault refuses unread (λ e. of_given old new s.bytes (IsOfHeads head_room) s.gives (memory e));
+        unfinished = cut_unfinished s.bytes fault refuses;
+        unread = unread;
+      };
+      ended = s.ended;
+    }
+
+-- nothing behind the final head was read
+just_heads : (given bytes : List ℕ) → IsFinalRead given bytes → IsOfHeads head_room given
+just_heads given bytes f = λ h rest has.
+    let whole : HasFinal head_room given f.head [] = subst (λ (l : List ℕ). HasFinal head_room l f.head []) (append-nil given) (f.first []) in
+    sym (unique_final head_room given f.head [] h rest whole has).1
+
+pub exit_bad_fields : (limit : ℕ) (old new : GivenBytes) (bytes looked : List ℕ) (headers : List HeaderSpan) (spans : ResponseSpans) (fault : Fault)
+    → GivesWhat old new (λ given. IsFinalRead given bytes) → looked ≡ bytes → ArePartsOf looked headers spans
+    → response_length limit spans.code (map (header_bytes bytes) (take spans.headers headers)) ≡ Err fault → Stops old new (ShowsNoHead limit) fault
+exit_bad_fields limit old new bytes looked headers spans fault read same p e =
+    let is = field_fault limit spans.code (map (header_bytes bytes) (take spans.headers headers)) fault e in
+    let s = exit_fields limit old new bytes looked headers spans fault read same p e in
+    let final : IsFinalRead s.bytes bytes = of_given old new s.bytes (λ given. IsFinalRead given bytes) s.gives read in
+    record {
+      bytes = s.bytes;
+      gives = s.gives;
+      is = record {
+        shows = s.is;
+        short = let short = final.short in omega (arith, short);
+        heads = just_heads s.bytes bytes final;
+        unfinished = λ cut. absurd (no_cut fault is cut);
+        unread = λ lost. absurd (subst IsFieldFault lost is);
+      };
+      ended = s.ended;
+    }
 
 -- ---- a whole response is never refused
 

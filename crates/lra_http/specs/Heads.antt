@@ -1,5 +1,5 @@
 -- Heads of messages of either kind, as texts at the start of some bytes.
-use Rattle.std.specs.Prelude.{◌≡◌, ℕ, ◌+◌, ◌<◌, ◌≤◌, ◌⊎◌, ◌≢◌, IsTrue, Bool, true, false, List, ◌++◌, length}
+use Rattle.std.specs.Prelude.{◌≡◌, ℕ, ◌+◌, ◌<◌, ◌≤◌, ◌⊎◌, ◌≢◌, IsTrue, Bool, true, false, List, [], ◌++◌, length}
 use Rattle.httparse.specs.Ascii.{line_feed}
 use Rattle.httparse.specs.Grammar.{RequestHead, ResponseHead, IsRequestHead, IsResponseHead, print_request, print_response, HasNoRequest, HasNoResponse, NeverHasRequest, NeverHasResponse, MayBecomeRequest, MayBecomeResponse}
 use Rattle.httparse.specs.Spans.{RequestExceeds, RequestOverflows, ResponseExceeds, ResponseOverflows}
@@ -26,6 +26,11 @@ IsHead Response text lines = (h : ResponseHead) × IsResponseHead h × (text ≡
 abbrev pub HasNoHead : Kind → List ℕ → Type 0
 HasNoHead Request bytes = HasNoRequest bytes
 HasNoHead Response bytes = HasNoResponse bytes
+
+-- no prefix of the bytes is a head, save all of them
+abbrev pub HasNoShorterHead : Kind → List ℕ → Type 0
+HasNoShorterHead kind bytes =
+    (text rest : List ℕ) (lines : ℕ) → IsHead kind text lines → bytes ≡ text ++ rest → rest ≡ []
 
 -- no bytes can follow that make a prefix a head
 abbrev pub NeverHasHead : Kind → List ℕ → Type 0

@@ -7,7 +7,7 @@ use Rattle.httparse.specs.declared.spans.ResponseSpans.{ResponseSpans}
 use Rattle.lra_http.specs.declared.fault.Fault.{Fault}
 use Rattle.lra_http.specs.declared.fault.Fault.TheVariants.{Cut, ReadFault, WriteFault, HeadTooLong, BodyTooLong, BadHead, LengthNeeded, NotOffered, NoMemory}
 use Rattle.lra_http.specs.declared.head.Kind.TheVariants.{Response}
-use Rattle.lra_http.specs.declared.message.Response.{Response as Answer}
+use Rattle.lra_http.specs.ByteResponses.{Response as Answer}
 use Rattle.lra_http.specs.Heads.{HasNoHead, IsNoHead, IsLong, Exceeds, max_head_bytes, max_head_lines}
 use Rattle.lra_http.specs.HeadFields.{field_bytes, response_length}
 
@@ -74,6 +74,10 @@ IsResponse room limit input h body rest =
 
 abbrev pub HasNoFinal : Room → List ℕ → Type 0
 HasNoFinal room input = (h : ResponseHead) (rest : List ℕ) → ¬ (HasFinal room input h rest)
+
+-- none of the bytes stands behind a final head
+abbrev pub IsOfHeads : Room → List ℕ → Type 0
+IsOfHeads room bytes = (h : ResponseHead) (rest : List ℕ) → HasFinal room bytes h rest → rest ≡ []
 
 abbrev pub HasNoResponse : Room → ℕ → List ℕ → Type 0
 HasNoResponse room limit input =
@@ -182,3 +186,20 @@ pub record IsFinalRead (given bytes : List ℕ) : Type 0 where
   pub few : length head.fields ≤ max_head_lines
   pub first : (rest : List ℕ) → HasFinal head_room (given ++ rest) head rest
   pub short : length given ≤ max_head_bytes
+
+-- the bytes are skipped heads and then a final one, of this code, which states a body of so many bytes
+pub record IsHeadRead (limit : ℕ) (given : List ℕ) (code size : ℕ) : Type 0 where
+  pub head : ResponseHead
+  pub first : (rest : List ℕ) → HasFinal head_room (given ++ rest) head rest
+  pub states : stated limit head ≡ Ok size
+  pub status : code ≡ status_code head
+  pub short : length given ≤ max_head_bytes
+
+-- the bytes, which are of heads alone, show why no final head that states a body stands there; where they ended or a read failed,
+-- no final head had come
+pub record ShowsNoHead (limit : ℕ) (bytes : List ℕ) (fault : Fault) : Type 0 where
+  pub shows : Shows limit bytes fault
+  pub short : length bytes ≤ max_head_bytes + 1
+  pub heads : IsOfHeads head_room bytes
+  pub unfinished : fault ≡ Cut → HasNoFinal head_room bytes
+  pub unread : fault ≡ ReadFault → HasNoFinal head_room bytes

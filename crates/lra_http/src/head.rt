@@ -1,10 +1,10 @@
 // The head of a message of either kind, read one byte at a time.
 ghost use Rattle.std.specs.Prelude.{◌≡◌, ◌≢◌, ◌+◌, ◌<◌, ◌≤◌, length, IfOk, IfErr, OnOk, ◌==◌, ◌||◌, if◌then◌else◌};
 ghost use Rattle.httparse.specs.Ascii.{space};
-ghost use Rattle.lra_http.specs.Streams.{AllWell, Gives, Reads, too_many_interrupted};
+ghost use Rattle.lra_http.specs.Streams.{AllWell, Gives, GivesWhat, Reads, too_many_interrupted};
 ghost use Rattle.lra_http.specs.Faults.{Shows, Stops};
-ghost use Rattle.lra_http.specs.Heads.{IsStep, HasNoHead, MayLack, IsHeadWithin, RefusesHead, max_head_bytes};
-ghost use Rattle.lra_http.specs.declared.fault.Fault.TheVariants.{ReadFault, WriteFault};
+ghost use Rattle.lra_http.specs.Heads.{IsStep, HasNoHead, HasNoShorterHead, MayLack, IsHeadWithin, RefusesHead, max_head_bytes};
+ghost use Rattle.lra_http.specs.declared.fault.Fault.TheVariants.{NoMemory, ReadFault, WriteFault};
 
 use crate::{Fault, Source, read_byte};
 use httparse::spans::{HeaderSpan, parse_request, parse_response};
@@ -97,6 +97,7 @@ fn fault_at_end(kind: Kind, bytes: &[u8], headers: &mut [HeaderSpan], most: usiz
     ensures shown { Shows (most + 1) (RefusesHead kind most (length headers.old)) bytes.now result }
     ensures read { result ≢ ReadFault }
     ensures write { result ≢ WriteFault }
+    ensures memory { result ≢ NoMemory }
 {
     match look(kind, bytes, headers, most) {
         Step::Bad => Fault::BadHead,
@@ -121,6 +122,11 @@ pub fn read_head<S: Source>(
         × IsHeadWithin kind most (length headers.old) head.items) }
     ensures fault { IfErr result (Stops (S.stream source.old)
         (S.stream source.new) (Shows (most + 1) (RefusesHead kind most (length headers.old)))) }
+    // Where a read failed no head had come, and where memory ran out nothing behind one.
+    ensures unread { IfErr result (λ fault. fault ≡ ReadFault
+        → GivesWhat (S.stream source.old) (S.stream source.new) (HasNoHead kind)) }
+    ensures memory { IfErr result (λ fault. fault ≡ NoMemory
+        → GivesWhat (S.stream source.old) (S.stream source.new) (HasNoShorterHead kind)) }
     ensures streams { Reads
         (most + 1) interrupted.old (S.calls source.old) (S.calls source.new) result }
     // A call for each byte.

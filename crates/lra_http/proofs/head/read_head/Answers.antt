@@ -1,8 +1,9 @@
 use Rattle.std.proofs.Common.{rules, arith, refl}
 use Rattle.std.proofs.lemmas.Grind.{common_steps}
+use Rattle.std.proofs.lemmas.Result.{err_from_is_err_and}
 use Rattle.lra_http.proofs.Calling.{well_none}
 use Rattle.lra_http.proofs.Known.{gives_none}
-use Rattle.lra_http.proofs.Heads.{nothing, none_lacked, unspaced_more, bad_head, long_head, whole_head, takes_byte, stops}
+use Rattle.lra_http.proofs.Heads.{byte_lost, nothing, none_lacked, unspaced_more, bad_head, long_head, whole_head, takes_byte, stops}
 use Rattle.lra_http.proofs.head.read_head.Goals as goal
 
 pub loop-head-init : goal.loop-head-init
@@ -27,6 +28,11 @@ loop-head-preserved g c = record {
   counted = grind (arith, common_steps);
   well = search rules;
 }
+
+pub returns-in_err-push-clause-memory : goal.returns-in_err-push-clause-memory
+returns-in_err-push-clause-memory g c =
+    let p = err_from_is_err_and c.from_residual-in_err-push.result c.from_residual-in_err-push.ensures.1 in
+    rw (p.1, p.2) (λ memory. byte_lost _ _ _ _ _ _ _ c.loop-head.invariant.taken c.in_ok-byte.ensures.some c.in-Some.is c.loop-head.invariant.none)
 
 pub returns-in-Whole-clause-head : goal.returns-in-Whole-clause-head
 returns-in-Whole-clause-head g c = (

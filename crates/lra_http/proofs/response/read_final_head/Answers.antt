@@ -4,7 +4,7 @@ use Rattle.std.proofs.lemmas.Result.{err_from_is_err_and}
 use Rattle.lra_http.proofs.Calling.{well_none, well_then}
 use Rattle.lra_http.proofs.Interims.{reaches_none}
 use Rattle.lra_http.proofs.Known.{gives_none}
-use Rattle.lra_http.proofs.Finals.{read_here, refused_here, is_switched, not_switched, some_read, reaches_more, final_is, switch_refused}
+use Rattle.lra_http.proofs.Finals.{head_lost, head_unread, read_here, refused_here, is_switched, not_switched, some_read, reaches_more, final_is, switch_refused}
 use Rattle.lra_http.proofs.response.read_final_head.Goals as goal
 
 pub returns-in_err-head-clause-fault : goal.returns-in_err-head-clause-fault
@@ -12,6 +12,16 @@ returns-in_err-head-clause-fault g c =
     let p = err_from_is_err_and c.from_residual.result c.from_residual.ensures.1 in
     rw (p.1, p.2) (
     refused_here _ _ _ _ _ c.loop-head.headers _ c.loop-head.invariant.reached c.loop-head.invariant.lines c.loop-head.invariant.room c.in_err-head.ensures.fault)
+
+pub returns-in_err-head-clause-unread : goal.returns-in_err-head-clause-unread
+returns-in_err-head-clause-unread g c =
+    let p = err_from_is_err_and c.from_residual.result c.from_residual.ensures.1 in
+    rw (p.1, p.2) (λ lost. head_unread _ _ _ _ c.loop-head.invariant.reached (c.in_err-head.ensures.unread lost))
+
+pub returns-in_err-head-clause-memory : goal.returns-in_err-head-clause-memory
+returns-in_err-head-clause-memory g c =
+    let p = err_from_is_err_and c.from_residual.result c.from_residual.ensures.1 in
+    rw (p.1, p.2) (λ memory. head_lost _ _ _ _ c.loop-head.invariant.reached (c.in_err-head.ensures.memory memory))
 
 pub returns-then-spans-eq101-clause-fault : goal.returns-then-spans-eq101-clause-fault
 returns-then-spans-eq101-clause-fault g c =
