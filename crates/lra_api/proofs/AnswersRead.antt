@@ -9,7 +9,7 @@ use Rattle.std.proofs.lemmas.List.Sums.{AllPass-from_list_all}
 use Rattle.httparse.specs.Grammar.{AllPass, is_token_byte, is_value_byte, trim_ows}
 use Rattle.lra_id.specs.Ids.{Id, text_of}
 use Rattle.lra_http.specs.declared.fault.Fault.{Fault}
-use Rattle.lra_http.specs.declared.message.Response.{Response}
+use Rattle.lra_http.specs.ByteResponses.{Response}
 use Rattle.lra_http.specs.HeadFields.{field_bytes, is_bare, response_length}
 use Rattle.lra_http.specs.MessageTexts.{field_lines, line_end, phrase, response_head, status_line}
 use Rattle.lra_http.specs.WholeMessages.{IsPlain, IsSound}

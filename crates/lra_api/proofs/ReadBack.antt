@@ -16,7 +16,7 @@ use Rattle.lra_states.specs.declared.status.LraStatus.TheVariants as lra
 use Rattle.lra_states.specs.declared.status.MemberStatus.{MemberStatus}
 use Rattle.lra_states.specs.declared.status.MemberStatus.TheVariants as member
 use Rattle.lra_http.specs.declared.message.Field.{Field}
-use Rattle.lra_http.specs.declared.message.Response.{Response}
+use Rattle.lra_http.specs.ByteResponses.{Response}
 use Rattle.lra_api.specs.Answers.{begun, found, joined, shown}
 use Rattle.lra_api.specs.Texts.{member_body, of_lra, of_status, recovery_path, status_body, urn}
 use Rattle.lra_api.proofs.Ids.{id_at_layout}

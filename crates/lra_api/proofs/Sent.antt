@@ -8,7 +8,7 @@ use Rattle.lra_http.specs.declared.Sink.{Ghosts as OfSink}
 use Rattle.lra_http.specs.Streams.{IsFlushed, Takes, TakesPart, Writes}
 use Rattle.lra_http.specs.declared.fault.Fault.{Fault}
 use Rattle.lra_http.specs.declared.fault.Fault.TheVariants as fault
-use Rattle.lra_http.specs.declared.message.Response.{Response}
+use Rattle.lra_http.specs.ByteResponses.{Response}
 use Rattle.lra_api.specs.Answers.{answer_of, refusal_answer}
 use Rattle.lra_api.specs.Serving.{Ends, EndsNoMemory, ServesCall, ServesRequest, WritesNoMemory}
 use Rattle.lra_api.specs.Streams.{Sends, SendsPart}

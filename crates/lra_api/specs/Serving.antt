@@ -7,7 +7,7 @@ use Rattle.lra_http.specs.declared.Sink.{Ghosts as OfSink}
 use Rattle.lra_http.specs.declared.fault.Fault.{Fault}
 use Rattle.lra_http.specs.declared.fault.Fault.TheVariants as fault
 use Rattle.lra_http.specs.declared.message.Request.{Request}
-use Rattle.lra_http.specs.declared.message.Response.{Response}
+use Rattle.lra_http.specs.ByteResponses.{Response}
 use Rattle.lra_book.specs.Clerks.{IsOutcome}
 use Rattle.lra_book.specs.declared.calls.Call.{Call}
 use Rattle.lra_book.specs.declared.clerk.Clerk.{Ghosts as OfClerk}

@@ -3,7 +3,7 @@ ghost use Rattle.std.specs.Prelude.{◌≡◌, ◌≢◌, Result, None, Some, If
 ghost use Rattle.lra_http.specs.declared.fault.Fault.{Fault as TheFault};
 ghost use Rattle.lra_http.specs.declared.fault.Fault.TheVariants.{WriteFault as OnWrite};
 ghost use Rattle.lra_http.specs.declared.message.Request.{Request as TheRequest};
-ghost use Rattle.lra_http.specs.declared.message.Response.{Response as TheResponse};
+ghost use Rattle.lra_http.specs.ByteResponses.{Response as TheResponse};
 ghost use Rattle.lra_api.specs.Answers.{answer_of, fault_answer, refusal_answer, unrouted_answer};
 ghost use Rattle.lra_api.specs.Routes.{routed};
 ghost use Rattle.lra_api.specs.Serving.{Ends, EndsNoMemory, Makes, Serves, ServesCall, ServesFault, ServesRequest, WritesNoMemory, told, told_if_lost, told_if_starved};

@@ -2,7 +2,7 @@
 use Rattle.std.proofs.Common.{◌≡◌, ◌∙◌, ◌<◌, ◌++◌, ℕ, List, [], Some, length, refl, subst, sym}
 use Rattle.std.proofs.lemmas.List.{append_cancel_left}
 use Rattle.lra_states.specs.declared.outcome.Act.{Act}
-use Rattle.lra_http.specs.declared.message.Response.{Response}
+use Rattle.lra_http.specs.ByteResponses.{Response}
 use Rattle.lra_http.specs.Responses.{HasNoResponse, IsResponse, IsMessage, head_room}
 use Rattle.lra_http.specs.Streams.{GivenBytes, Gives}
 use Rattle.lra_http.proofs.Cuts.{cut_is_none}

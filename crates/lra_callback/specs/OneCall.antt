@@ -3,7 +3,7 @@ use Rattle.std.specs.Prelude.{◌≡◌, ◌≢◌, ℕ, ◌+◌, List, length}
 use Rattle.http.specs.StatusCode.{IsStatusCode}
 use Rattle.lra_http.specs.declared.fault.Fault.{Fault}
 use Rattle.lra_http.specs.declared.fault.Fault.TheVariants.{NoMemory}
-use Rattle.lra_http.specs.declared.message.Response.{Response}
+use Rattle.lra_http.specs.ByteResponses.{Response}
 use Rattle.lra_http.specs.Faults.{Stops}
 use Rattle.lra_http.specs.Heads.{max_head_bytes}
 use Rattle.lra_http.specs.Responses.{IsMessage, Shows}

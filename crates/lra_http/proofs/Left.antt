@@ -5,7 +5,7 @@ use Rattle.httparse.specs.Grammar.{RequestHead, ResponseHead, print_request}
 use Rattle.lra_http.specs.declared.fault.Fault.{Fault}
 use Rattle.lra_http.specs.declared.fault.Fault.TheVariants.{Cut, ReadFault, NoMemory}
 use Rattle.lra_http.specs.declared.message.Request.{Request as Question}
-use Rattle.lra_http.specs.declared.message.Response.{Response as Answer}
+use Rattle.lra_http.specs.ByteResponses.{Response as Answer}
 use Rattle.lra_http.specs.Faults.{Stops}
 use Rattle.lra_http.specs.Streams.{GivenBytes, GivesWhat}
 use Rattle.lra_http.specs.Requests.{HasHead, IsRequest, IsMessage as IsQuestion, Refuses as RefusesRequest, Shows as ShowsRequest}

@@ -8,13 +8,13 @@ use Rattle.httparse.specs.declared.spans.ResponseSpans.{ResponseSpans}
 use Rattle.httparse.proofs.GrammarLemmas.{response_unique}
 use Rattle.lra_http.specs.declared.fault.Fault.{Fault}
 use Rattle.lra_http.specs.declared.fault.Fault.TheVariants.{Cut, ReadFault, WriteFault, HeadTooLong, BodyTooLong, BadHead, LengthNeeded, NotOffered, NoMemory}
-use Rattle.lra_http.specs.declared.message.Response.{Response as Answer}
+use Rattle.lra_http.specs.ByteResponses.{Response as Answer}
 use Rattle.lra_http.specs.Bodies.{RefusesBody}
 use Rattle.lra_http.specs.Faults.{Stops, Shows as ShowsPart}
 use Rattle.lra_http.specs.Streams.{GivenBytes, Gives, GivesWhat}
 use Rattle.lra_http.proofs.Known.{gives_more}
 use Rattle.lra_http.specs.HeadFields.{field_bytes, values, is_number, is_bare, without_body, stated_length, response_length}
-use Rattle.lra_http.specs.Responses.{Room, head_room, is_interim, is_switch, Skips, bytes_of, lines_of, Behind, Begins, HasFinal, stated, IsResponse, HasNoResponse, IsHopeless, IsSwitched, RefusesHeads, HasFault, Refuses, IsMessage, IsFaultyHead, Shows, Spends, ArePartsOf, IsFinalRead}
+use Rattle.lra_http.specs.Responses.{Room, head_room, is_interim, is_switch, Skips, bytes_of, lines_of, Behind, Begins, HasFinal, HasNoFinal, stated, IsResponse, HasNoResponse, IsHopeless, IsSwitched, RefusesHeads, HasFault, Refuses, IsHeadRead, IsMessage, IsFaultyHead, Shows, ShowsNoHead, Spends, ArePartsOf, IsFinalRead}
 use Rattle.lra_http.proofs.Interims.{not_both, Interim, final_less, front_of}
 
 -- ---- an input has one final head
@@ -341,6 +341,51 @@ exit_taken limit old mid new bytes looked headers spans size answer items (given
         fields = fields ∙ final.fields;
       },
     )
+
+-- the heads alone
+pub exit_head : (limit : ℕ) (old new : GivenBytes) (bytes looked : List ℕ) (headers : List HeaderSpan) (spans : ResponseSpans) (size code : ℕ)
+    → GivesWhat old new (λ given. IsFinalRead given bytes) → looked ≡ bytes → ArePartsOf looked headers spans
+    → response_length limit spans.code (map (header_bytes bytes) (take spans.headers headers)) ≡ Ok size → code ≡ spans.code
+    → GivesWhat old new (λ given. IsHeadRead limit given code size)
+exit_head limit old new bytes looked headers spans size code (given, gives, f) same p e is =
+    let final = final_parts limit given bytes headers spans f (subst (λ (b : List ℕ). ArePartsOf b headers spans) same p) in (
+      given,
+      gives,
+      record { head = final.head; first = final.has; states = final.stated_is ∙ e; status = is ∙ final.code; short = f.short },
+    )
+
+heads_show : (limit : ℕ) (bytes : List ℕ) (fault : Fault) → ShowsPart 16385 (RefusesHeads head_room) bytes fault → Shows limit bytes fault
+heads_show limit bytes fault is = record {
+  shown = λ more nothing. refuses_heads limit (bytes ++ more) fault (is.shown more nothing);
+  spent = heads_spent limit bytes fault (is.shown [] (λ e. refl)) is.short;
+}
+
+cut_unfinished : (bytes : List ℕ) (fault : Fault) → RefusesHeads head_room (bytes ++ []) fault → fault ≡ Cut → HasNoFinal head_room bytes
+cut_unfinished bytes fault refuses e =
+    let cut : RefusesHeads head_room (bytes ++ []) Cut = subst (RefusesHeads head_room (bytes ++ [])) e refuses in
+    subst (HasNoFinal head_room) (append-nil bytes) cut.0
+
+pub exit_no_head : (limit : ℕ) (old new : GivenBytes) (fault : Fault)
+    → Stops old new (ShowsPart 16385 (RefusesHeads head_room)) fault → Stops old new (ShowsNoHead limit) fault
+exit_no_head limit old new fault s = record {
+  bytes = s.bytes;
+  gives = s.gives;
+  is = record { shows = heads_show limit s.bytes fault s.is; unfinished = cut_unfinished s.bytes fault (s.is.shown [] (λ e. refl)) };
+  ended = s.ended;
+}
+
+pub exit_bad_fields : (limit : ℕ) (old new : GivenBytes) (bytes looked : List ℕ) (headers : List HeaderSpan) (spans : ResponseSpans) (fault : Fault)
+    → GivesWhat old new (λ given. IsFinalRead given bytes) → looked ≡ bytes → ArePartsOf looked headers spans
+    → response_length limit spans.code (map (header_bytes bytes) (take spans.headers headers)) ≡ Err fault → Stops old new (ShowsNoHead limit) fault
+exit_bad_fields limit old new bytes looked headers spans fault read same p e =
+    let is = field_fault limit spans.code (map (header_bytes bytes) (take spans.headers headers)) fault e in
+    let s = exit_fields limit old new bytes looked headers spans fault read same p e in
+    record {
+      bytes = s.bytes;
+      gives = s.gives;
+      is = record { shows = s.is; unfinished = λ cut. absurd (no_cut fault is cut) };
+      ended = s.ended;
+    }
 
 -- ---- a whole response is never refused
 

@@ -13,7 +13,7 @@ use Rattle.httparse.specs.Grammar.{Field as ReadField}
 use Rattle.httparse.specs.Spans.{name_and_value}
 use Rattle.lra_http.specs.declared.message.CallRequest.{CallRequest}
 use Rattle.lra_http.specs.declared.message.Field.{Field}
-use Rattle.lra_http.specs.declared.message.Response.{Response as Answer}
+use Rattle.lra_http.specs.ByteResponses.{Response as Answer}
 use Rattle.lra_http.specs.HeadFields.{field_bytes, request_length, response_length}
 use Rattle.lra_http.specs.Requests.{IsRequest}
 use Rattle.lra_http.specs.Responses.{head_room, is_interim, Begins, IsResponse}

@@ -3,7 +3,8 @@ use Rattle.std.specs.Prelude.{ℕ, List, [], ◌∷◌, ◌++◌, codes, unwrap_
 use Rattle.http.specs.StatusCode.{code_digits, reason_phrase}
 use Rattle.lra_http.specs.declared.message.CallRequest.{CallRequest}
 use Rattle.lra_http.specs.declared.message.Field.{Field}
-use Rattle.lra_http.specs.declared.message.Response.{Response}
+use Rattle.lra_http.specs.ByteResponses.{Response}
+use Rattle.lra_http.specs.declared.message.Response.{Response as WithBody}
 
 -- CR and LF
 abbrev pub line_end : List ℕ
@@ -24,11 +25,15 @@ abbrev pub status_line : ℕ → List ℕ
 status_line code = codes "HTTP/1.1 " ++ (code_digits code ++ (codes " " ++ (phrase code ++ line_end)))
 
 -- the status line, the fields in order, and an empty line
-abbrev pub response_head : Response → List ℕ
+abbrev pub response_head : {B : Type 0} → WithBody B → List ℕ
 response_head r = status_line r.status ++ (field_lines r.fields ++ line_end)
 
 abbrev pub response_text : Response → List ℕ
 response_text r = response_head r ++ r.body
+
+-- the text of a response whose body has its bytes so
+abbrev pub text_with : {B : Type 0} → (B → List ℕ) → WithBody B → List ℕ
+text_with bytes r = response_head r ++ bytes r.body
 
 abbrev pub request_line : (method target : List ℕ) → List ℕ
 request_line method target = method ++ (codes " " ++ (target ++ (codes " HTTP/1.1" ++ line_end)))

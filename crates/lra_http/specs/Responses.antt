@@ -7,7 +7,7 @@ use Rattle.httparse.specs.declared.spans.ResponseSpans.{ResponseSpans}
 use Rattle.lra_http.specs.declared.fault.Fault.{Fault}
 use Rattle.lra_http.specs.declared.fault.Fault.TheVariants.{Cut, ReadFault, WriteFault, HeadTooLong, BodyTooLong, BadHead, LengthNeeded, NotOffered, NoMemory}
 use Rattle.lra_http.specs.declared.head.Kind.TheVariants.{Response}
-use Rattle.lra_http.specs.declared.message.Response.{Response as Answer}
+use Rattle.lra_http.specs.ByteResponses.{Response as Answer}
 use Rattle.lra_http.specs.Heads.{HasNoHead, IsNoHead, IsLong, Exceeds, max_head_bytes, max_head_lines}
 use Rattle.lra_http.specs.HeadFields.{field_bytes, response_length}
 
@@ -182,3 +182,16 @@ pub record IsFinalRead (given bytes : List ℕ) : Type 0 where
   pub few : length head.fields ≤ max_head_lines
   pub first : (rest : List ℕ) → HasFinal head_room (given ++ rest) head rest
   pub short : length given ≤ max_head_bytes
+
+-- the bytes are skipped heads and then a final one, of this code, which states a body of so many bytes
+pub record IsHeadRead (limit : ℕ) (given : List ℕ) (code size : ℕ) : Type 0 where
+  pub head : ResponseHead
+  pub first : (rest : List ℕ) → HasFinal head_room (given ++ rest) head rest
+  pub states : stated limit head ≡ Ok size
+  pub status : code ≡ status_code head
+  pub short : length given ≤ max_head_bytes
+
+-- the bytes show why no final head with a body stands there; at a cut no final head does
+pub record ShowsNoHead (limit : ℕ) (bytes : List ℕ) (fault : Fault) : Type 0 where
+  pub shows : Shows limit bytes fault
+  pub unfinished : fault ≡ Cut → HasNoFinal head_room bytes

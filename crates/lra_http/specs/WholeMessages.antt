@@ -3,7 +3,7 @@ use Rattle.std.specs.Prelude.{◌≡◌, ℕ, ◌<◌, ◌≤◌, List, ◌∷�
 use Rattle.httparse.specs.Grammar.{IsToken, AllPass, is_value_byte, is_uri_byte, trim_ows}
 use Rattle.lra_http.specs.declared.message.CallRequest.{CallRequest}
 use Rattle.lra_http.specs.declared.message.Field.{Field}
-use Rattle.lra_http.specs.declared.message.Response.{Response}
+use Rattle.lra_http.specs.ByteResponses.{Response}
 use Rattle.lra_http.specs.HeadFields.{field_bytes, request_length, response_length}
 use Rattle.lra_http.specs.Heads.{max_head_bytes, max_head_lines}
 use Rattle.lra_http.specs.MessageTexts.{request_head, response_head}

@@ -12,7 +12,7 @@ pub const MAX_BODY_BYTES: usize = 65_536;
 
 /// Reads at most as many bytes as fit, and none only at the end or where none fits. `interrupted` counts the interrupted
 /// calls of the message.
-fn read_piece<S: Source>(
+pub fn read_piece<S: Source>(
     source: &mut S,
     buffer: &mut [u8],
     interrupted: &mut u16,

@@ -15,7 +15,7 @@ ghost use Rattle.lra_http.specs.declared.fault.Fault.TheVariants.{NoMemory, Read
 ghost use Rattle.lra_http.specs.declared.head.Kind.TheVariants.{Request as OfRequest};
 ghost use Rattle.lra_http.specs.declared.message.CallRequest.{CallRequest as TheCall};
 ghost use Rattle.lra_http.specs.declared.message.Request.{Request as TheRequest};
-ghost use Rattle.lra_http.specs.declared.message.Response.{Response as TheResponse};
+ghost use Rattle.lra_http.specs.ByteResponses.{Response as TheResponse};
 
 /// An input of a request has one fault that lies in its bytes, save where more than 64 field lines came, or where what came
 /// of a target can no longer be a text: there the parser may tell either of two.

@@ -11,6 +11,7 @@ pub mod laws;
 mod log;
 mod message;
 mod over;
+mod part;
 mod request;
 mod response;
 mod text;
@@ -18,15 +19,16 @@ mod text;
 ghost use Rattle.std.specs.Prelude.{◌≡◌, ◌≤◌, [], length, IfOk, OnOk};
 ghost use Rattle.lra_http.specs.Streams.{CallGives, Calls, CallTakes, FoundNoEnd, GivenBytes, IsFlushed, OneMore, TakenBytes, Takes};
 
-pub use body::MAX_BODY_BYTES;
+pub use body::{MAX_BODY_BYTES, read_piece};
 pub use bytes::{ReadFault, TOO_MANY_INTERRUPTED, WriteFault, flush, read_byte, write_all};
 pub use count::Count;
 pub use fault::Fault;
 pub use head::{MAX_HEAD_BYTES, MAX_HEAD_LINES};
 pub use message::{Bytes, CallRequest, Field, Fields, Request, Response, Text};
 pub use over::{OverRead, OverWrite};
+pub use part::Part;
 pub use request::read_request;
-pub use response::read_response;
+pub use response::{FinalHead, read_response, read_response_head};
 pub use text::{write_request, write_response};
 
 /// Why a call moved no byte.

@@ -119,12 +119,12 @@ pub struct Request {
     pub body: Bytes,
 }
 
-/// A response.
+/// A response. The body of one that was read is bytes, and of one that is written any `Part`.
 #[derive(Debug, Drop)]
-pub struct Response {
+pub struct Response<B = Bytes> {
     pub status: StatusCode,
     pub fields: Fields,
-    pub body: Bytes,
+    pub body: B,
 }
 
 /// A request that is to be written. The host stands apart from the other fields.

@@ -4,7 +4,7 @@ ghost use Rattle.http.specs.StatusCode.{IsStatusCode};
 ghost use Rattle.lra_http.specs.Streams.{GivesWhat, Reads, too_many_interrupted};
 ghost use Rattle.lra_http.specs.Faults.{Stops, Shows as ShowsPart};
 ghost use Rattle.lra_http.specs.Heads.{IsHead, max_head_bytes};
-ghost use Rattle.lra_http.specs.Responses.{head_room, is_interim, IsMessage, RefusesHeads, Shows, ArePartsOf, IsFinalRead};
+ghost use Rattle.lra_http.specs.Responses.{head_room, is_interim, IsHeadRead, IsMessage, RefusesHeads, Shows, ShowsNoHead, ArePartsOf, IsFinalRead};
 ghost use Rattle.lra_http.specs.declared.head.Kind.TheVariants.{Response as OfResponse};
 
 use crate::body::read_body;
@@ -81,6 +81,49 @@ fn read_final_head<S: Source>(
         most -= head.len();
         lines -= spans.headers;
     }
+}
+
+/// What the heads of a response tell.
+#[derive(Clone, Copy, Debug, PartialEq, Eq)]
+pub struct FinalHead {
+    pub status: StatusCode,
+    /// How many bytes the body has.
+    pub size: usize,
+    /// How many calls were interrupted so far, fewer than 1,024. The count is handed on to those that read the body.
+    pub interrupted: u16,
+}
+
+/// Reads the heads of the next response (RFC 9112): interim ones, which are skipped, and the final one. The body, of at most
+/// `limit` bytes, is left unread. Errors: each `Fault` but `WriteFault`.
+pub fn read_response_head<S: Source>(
+    alloc: Global,
+    source: &mut S,
+    limit: usize,
+) -> Result<FinalHead, Fault>
+    requires limit { limit < 2 ^ 31 }
+    // What is given is the heads of a response, and no byte more.
+    ensures head { IfOk result (λ head. GivesWhat (S.stream source.old) (S.stream source.new)
+        (λ given. IsHeadRead limit given head.status head.size)) }
+    ensures bound { IfOk result (λ head. head.size ≤ limit) }
+    // What is given before each fault shows it, whatever follows.
+    ensures fault { IfErr result
+        (Stops (S.stream source.old) (S.stream source.new) (ShowsNoHead limit)) }
+    // A read fault has its cause, no call follows one that failed, and there are at most so many.
+    ensures streams { Reads (max_head_bytes + 1) 0 (S.calls source.old) (S.calls source.new) result }
+    ensures counted { IfOk result (λ head. (S.calls source.new).interrupted
+        ≡ (S.calls source.old).interrupted + head.interrupted) }
+    ensures below { IfOk result (λ head. head.interrupted < too_many_interrupted) }
+{
+    let mut interrupted = 0u16;
+    let head = read_final_head(alloc, source, &mut interrupted)?;
+    let mut headers = [EMPTY_HEADER_SPAN; MAX_HEAD_LINES];
+    let spans = parts_of(&head, &mut headers);
+    let size = response_size(&head, &headers[..spans.headers], spans.code, limit)?;
+    Ok(FinalHead {
+        status: status_of(spans.code),
+        size,
+        interrupted,
+    })
 }
 
 /// Reads the next response (RFC 9112): interim heads, which are skipped, the final head, and the body that its Content-Length

@@ -1,9 +1,9 @@
 // The texts of messages, and writing them.
 ghost use Rattle.std.specs.Prelude.{◌≡◌, ◌+◌, ◌++◌, length, IfOk, OnOk, OnErr};
 ghost use Rattle.lra_http.specs.Streams.{IsFlushed, Streams, Takes, TakesPart, Writes};
-ghost use Rattle.lra_http.specs.MessageTexts.{field_line, field_lines, host_line, phrase, request_head, request_line, request_text, response_head, response_text, status_line};
+ghost use Rattle.lra_http.specs.MessageTexts.{field_line, field_lines, host_line, phrase, request_head, request_line, request_text, response_head, status_line, text_with};
 
-use crate::{CallRequest, Fault, Field, Response, Sink, Text, WriteFault, flush, write_all};
+use crate::{CallRequest, Fault, Field, Part, Response, Sink, Text, WriteFault, flush, write_all};
 use http::StatusCode;
 use std::alloc::{AllocError, Global};
 
@@ -42,7 +42,7 @@ fn push_status(text: &mut Vec<u8>, status: StatusCode) -> Result<(), AllocError>
     text.extend_from_slice(b"\r\n")
 }
 
-fn head_of_response(alloc: Global, response: &Response) -> Result<Vec<u8>, AllocError>
+fn head_of_response<B>(alloc: Global, response: &Response<B>) -> Result<Vec<u8>, AllocError>
     ensures { IfOk result (λ text. text.items ≡ response_head response.now) }
 {
     let mut text = Vec::new(alloc);
@@ -82,38 +82,38 @@ fn head_of_request(alloc: Global, request: &CallRequest) -> Result<Vec<u8>, Allo
     Ok(text)
 }
 
-fn write_parts<W: Sink>(sink: &mut W, head: &[u8], body: &[u8]) -> Result<(), WriteFault>
-    ensures ok { OnOk result (Takes (W.stream sink.old) (W.stream sink.new) (head.now ++ body.now)
-        × IsFlushed (W.stream sink.new)) }
+fn write_parts<W: Sink, B: Part>(sink: &mut W, head: &[u8], body: &B) -> Result<(), WriteFault>
+    ensures ok { OnOk result (Takes (W.stream sink.old)
+        (W.stream sink.new) (head.now ++ B.text body.now) × IsFlushed (W.stream sink.new)) }
     ensures part { OnErr result
-        (TakesPart (W.stream sink.old) (W.stream sink.new) (head.now ++ body.now)) }
+        (TakesPart (W.stream sink.old) (W.stream sink.new) (head.now ++ B.text body.now)) }
     ensures streams { Streams
-        (length (head.now ++ body.now) + 1) 0 (W.calls sink.old) (W.calls sink.new) result }
+        (length (head.now ++ B.text body.now) + 1) 0 (W.calls sink.old) (W.calls sink.new) result }
 {
     let mut interrupted = 0;
     write_all(sink, head, &mut interrupted)?;
-    write_all(sink, body, &mut interrupted)?;
+    body.write(sink, &mut interrupted)?;
     flush(sink, &mut interrupted)
 }
 
 /// Writes a response: its text, or a prefix of it before a fault. The length of the body stands in the text
 /// only if it is among the fields. Errors: `WriteFault`, and `NoMemory` before anything is written.
-pub fn write_response<W: Sink>(
+pub fn write_response<W: Sink, B: Part>(
     alloc: Global,
     sink: &mut W,
-    response: &Response,
+    response: &Response<B>,
 ) -> Result<(), Fault>
     // All of the text was taken and passed on, or before a fault a prefix of it was taken.
     ensures ok { OnOk result (Takes (W.stream sink.old)
-        (W.stream sink.new) (response_text response.now) × IsFlushed (W.stream sink.new)) }
+        (W.stream sink.new) (text_with B.text response.now) × IsFlushed (W.stream sink.new)) }
     ensures part { OnErr result
-        (TakesPart (W.stream sink.old) (W.stream sink.new) (response_text response.now)) }
+        (TakesPart (W.stream sink.old) (W.stream sink.new) (text_with B.text response.now)) }
     // A write fault has its cause, and where the memory is refused no call was made.
-    ensures streams { Writes (length (response_text response.now) + 1)
+    ensures streams { Writes (length (text_with B.text response.now) + 1)
         (W.calls sink.old) (W.calls sink.new) (sink.new ≡ sink.old) result }
 {
     let head = head_of_response(alloc, response)?;
-    write_parts(sink, &head, response.body.as_slice())?;
+    write_parts(sink, &head, &response.body)?;
     Ok(())
 }
 
@@ -134,6 +134,6 @@ pub fn write_request<W: Sink>(
         (W.calls sink.old) (W.calls sink.new) (sink.new ≡ sink.old) result }
 {
     let head = head_of_request(alloc, request)?;
-    write_parts(sink, &head, request.body.as_slice())?;
+    write_parts(sink, &head, &request.body)?;
     Ok(())
 }

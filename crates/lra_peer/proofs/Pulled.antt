@@ -13,7 +13,7 @@ use Rattle.lra_http.specs.Responses.{HasFinal, IsMessage, IsResponse, Shows, hea
 use Rattle.lra_http.specs.Streams.{AllWell, Calls, GivenBytes, Gives, GivesWhat, IsFlushed, TakenBytes, Takes}
 use Rattle.lra_http.specs.declared.fault.Fault.{Fault as HttpFault}
 use Rattle.lra_http.specs.declared.fault.Fault.TheVariants.{ReadFault, NotOffered, NoMemory}
-use Rattle.lra_http.specs.declared.message.Response.{Response}
+use Rattle.lra_http.specs.ByteResponses.{Response}
 use Rattle.lra_http.proofs.Cuts.{final_more}
 use Rattle.lra_http.proofs.Left.{response_found}
 use Rattle.lra_http.proofs.Messages.{unique_final}

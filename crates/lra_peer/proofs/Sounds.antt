@@ -1,6 +1,6 @@
 -- A written response whose body is a frame.
 use Rattle.std.proofs.Common.{◌≡◌, ◌∙◌, ℕ, List, [], ◌++◌, append-nil, subst}
-use Rattle.lra_http.specs.declared.message.Response.{Response}
+use Rattle.lra_http.specs.ByteResponses.{Response}
 use Rattle.lra_http.specs.Responses.{IsResponse, head_room}
 use Rattle.lra_http.specs.MessageTexts.{response_text}
 use Rattle.lra_http.specs.WholeMessages.{IsSound}

@@ -11,7 +11,7 @@ ghost use Rattle.lra_delta.specs.TakenFrames.{IsTaken};
 ghost use Rattle.lra_http.specs.Requests.{IsRequest};
 ghost use Rattle.lra_http.specs.MessageTexts.{response_text};
 ghost use Rattle.lra_http.specs.WholeMessages.{IsSound};
-ghost use Rattle.lra_http.specs.declared.message.Response.{Response as TheResponse};
+ghost use Rattle.lra_http.specs.ByteResponses.{Response as TheResponse};
 ghost use Rattle.lra_peer.specs.PullAnswers.{IsAnswer, max_frame_bytes};
 ghost use Rattle.lra_peer.specs.PullBodies.{IsAsked, asked, pull_body};
 ghost use Rattle.lra_peer.specs.Serving.{Serves};

@@ -1,6 +1,6 @@
 use Rattle.std.proofs.Common.{subst}
 use Rattle.std.specs.Prelude.{◌≡◌, IfOk}
-use Rattle.lra_http.specs.declared.message.Response.{Response}
+use Rattle.lra_http.specs.ByteResponses.{Response}
 use Rattle.lra_api.specs.Serving.{Ends}
 use Rattle.lra_api.proofs.serving.end.Goals as goal
 

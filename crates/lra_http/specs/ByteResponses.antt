@@ -1,0 +1,6 @@
+-- Responses whose body is a list of bytes, as all are that were read.
+use Rattle.std.specs.Prelude.{ℕ, List}
+use Rattle.lra_http.specs.declared.message.Response.{Response as WithBody}
+
+abbrev pub Response : Type 0
+Response = WithBody (List ℕ)
