@@ -1,17 +1,17 @@
 -- what a whole reading says of the bytes that come
-use Rattle.std.proofs.Common.{◌≡◌, ℕ, ◌+◌, ◌-◌, ◌≤◌, ◌<◌, List, [], ◌++◌, length, get_or, take, drop, Option, None, Some, Result, Ok, Err, refl, sym, ap, subst, ◌∙◌, arith, inl, inr}
+use Rattle.std.proofs.Common.{◌≡◌, ℕ, ◌+◌, ◌-◌, ◌≤◌, ◌<◌, List, [], ◌++◌, length, take, Option, None, Some, Result, Ok, Err, refl, sym, ap, subst, ◌∙◌, arith}
 use Rattle.std.specs.Prelude.{IfErr, IfOk, IfSome}
 use Rattle.std.specs.Io.KnownBytes.{Consumes, IsAtEnd}
-use Rattle.std.proofs.lemmas.List.{append-nil, take_all, take-append-drop}
+use Rattle.std.proofs.lemmas.List.{append-nil, take_all}
 use Rattle.std.proofs.Math.Seq.{take-append-add}
-use Rattle.lra_http.specs.Streams.{AllWell, Calls, FoundEnd, GivenBytes, Gives as GivesBytes, HasCause, IsLost, too_many_interrupted}
+use Rattle.lra_http.specs.Streams.{AllWell, FoundEnd, Gives as GivesBytes, HasCause, IsLost, too_many_interrupted}
 use Rattle.lra_delta.specs.declared.input.Stop.{Stop}
 use Rattle.lra_delta.specs.declared.input.Stop.TheVariants.{Fault, Cut, ReadFault, Memory}
 use Rattle.lra_delta.specs.Encoding.{encoding}
 use Rattle.lra_delta.specs.FrameFields.{Gives, value_of}
 use Rattle.lra_delta.specs.Frames.{Frame}
 use Rattle.lra_delta.specs.Rules.{IsDelta}
-use Rattle.lra_delta.specs.Seen.{Seen, Standing, Start, Answers, Whole, MayBe, HasReason, Begins, GoesWell, IsWell, StaysWell, StopsWell, rest_in}
+use Rattle.lra_delta.specs.Seen.{Seen, Standing, Start, Answers, Whole, MayBe, HasReason, Begins, GoesWell, IsWell, StopsWell, rest_in}
 use Rattle.lra_delta.specs.Sources.{IsSound, OnReadFault, ReadsCalls, Refuses, Says, StopsReading}
 use Rattle.lra_delta.specs.Reading.{frame_at, read_of, frame_in}
 use Rattle.lra_delta.proofs.FrameCodes.{frame_takes}

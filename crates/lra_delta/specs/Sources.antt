@@ -3,14 +3,13 @@ use Rattle.std.specs.Prelude.{◌≡◌, ◌+◌, ◌<◌, ◌≤◌, ℕ, List,
 use Rattle.std.specs.Borrow.{MutBor}
 use Rattle.std.specs.Io.KnownBytes.{Consumes, IsAtEnd}
 use Rattle.std.proofs.Props.{props}
-use Rattle.lra_http.specs.Streams.{AllWell, Calls, FoundEnd, GivenBytes, Gives, GivesWhat, IsLost, too_many_interrupted}
+use Rattle.lra_http.specs.Streams.{AllWell, Calls, FoundEnd, GivenBytes, Gives, IsLost, too_many_interrupted}
 use Rattle.lra_delta.specs.declared.input.Stop.{Stop}
 use Rattle.lra_delta.specs.declared.input.Stop.TheVariants.{Fault, Cut, ReadFault, Memory}
 use Rattle.lra_delta.specs.declared.stream.Progress.{Progress}
 use Rattle.lra_delta.specs.declared.stream.Progress.TheVariants.{Going, Ended, Failed}
-use Rattle.lra_delta.specs.Frames.{Frame}
 use Rattle.lra_delta.specs.Reading.{read_of}
-use Rattle.lra_delta.specs.Seen.{HasReason, Seen, Standing, StaysWell, IsWell, Begins, widest}
+use Rattle.lra_delta.specs.Seen.{HasReason, Seen, Standing, StaysWell, IsWell, widest}
 
 -- how a source stands, by what is known of sources
 abbrev pub standing : {S : Type 0} → (S → GivenBytes) → (S → Calls) → S → ℕ → Standing
