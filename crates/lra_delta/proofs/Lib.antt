@@ -24,9 +24,12 @@ mod Loop
 pub mod OfSets
 mod OneFrameOfASet
 mod Ordered
+mod PartsPut
+mod Pieces
 mod Put
 pub mod RecordCodes
 mod Slices
+mod StreamReads
 mod TakenIsUnion
 mod ToldByFrames
 mod ToldLists

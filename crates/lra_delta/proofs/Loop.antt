@@ -4,9 +4,8 @@ use Rattle.std.specs.Prelude.{IfOk}
 use Rattle.std.proofs.lemmas.List.{append-nil}
 use Rattle.lra_delta.specs.declared.input.Stop.{Stop}
 use Rattle.lra_delta.specs.declared.input.Stop.TheVariants.{Fault, Cut, ReadFault, Memory}
-use Rattle.lra_http.specs.Streams.{too_many_interrupted}
 use Rattle.lra_delta.specs.FrameFields.{Rest, Read, ◌>>=◌, Stops, each_at}
-use Rattle.lra_delta.specs.Seen.{Seen, Reads, Begins, rest_in}
+use Rattle.lra_delta.specs.Seen.{Seen, Reads, Begins, IsWell, rest_in}
 
 -- the value of a step that did not fail
 pub bind_ok : {A B : Type 0} (r : Result A Stop) (f : A → Result B Stop) (y : B) → (r >>= f) ≡ Ok y → (x : A) × (r ≡ Ok x) × (f x ≡ Ok y)
@@ -53,10 +52,10 @@ abbrev pub SoFar : {S A : Type 0} → (S → Rest → Read A) → (S → A → S
 SoFar item next count start old prefix left s now =
     (now.first ≡ old.first)
     × ((whole : List ℕ) → Begins now.taken whole → Begins old.taken whole × (with_prefix prefix (each_at item next left s (rest_in whole now)) ≡ each_at item next count start (rest_in whole old)))
-    × (old.now.counted < too_many_interrupted → now.now.counted < too_many_interrupted)
+    × (IsWell old → IsWell now)
 
 pub begins : {S A : Type 0} (item : S → Rest → Read A) (next : S → A → S) (count : ℕ) (start : S) (old : Seen) → SoFar item next count start old [] count start old
-begins item next count start old = (refl, (λ whole f. (f, same (each_at item next count start (rest_in whole old)))), λ few. few)
+begins item next count start old = (refl, (λ whole f. (f, same (each_at item next count start (rest_in whole old)))), λ well. well)
   where
     same : {A : Type 0} (read : Read (List A)) → with_prefix [] read ≡ read
     same (Ok x) = refl
@@ -71,7 +70,7 @@ goes_on item next count start old prefix i s now after view x lt so_far read = (
       let r = read.2 whole f in
       let p = so_far.1 whole r.0 in
       (p.0, one_more item next prefix (count - i) (count - (i + 1)) s (rest_in whole now) (view x) (rest_in whole after) _ (omega (arith, lt)) r.1 p.1)),
-  λ few. read.3 (so_far.2 few),
+  λ well. read.3 (so_far.2 well),
 )
 
 pub ends : {S A : Type 0} (item : S → Rest → Read A) (next : S → A → S) (count : ℕ) (start : S) (old : Seen) (prefix : List A) (i : ℕ) (s : S) (now after : Seen) (e : Stop)
@@ -85,7 +84,7 @@ ends item next count start old prefix i s now after e lt so_far read =
           let q = r.2 whole f in
           let p = so_far.1 whole q.0 in
           (p.0, stops item next e prefix (count - i) (count - (i + 1)) s (rest_in whole now) _ (omega (arith, lt)) q.1 p.1)),
-      λ few. tt,
+      λ well. r.3 (so_far.2 well),
     )
 
 pub is_done : {S A Y : Type 0} (item : S → Rest → Read A) (next : S → A → S) (count : ℕ) (start : S) (old : Seen) (i : ℕ) (s : S) (now : Seen) (views : Y → List A) (y : Y)

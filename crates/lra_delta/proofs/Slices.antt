@@ -2,10 +2,11 @@
 use Rattle.std.proofs.Common.{◌≡◌, ℕ, ◌≤◌, List, [], length, take, drop, Option, Some, Result, Ok, Err, sym, ap, ◌∙◌, arith, inl, inr}
 use Rattle.std.specs.Prelude.{IfErr}
 use Rattle.std.proofs.lemmas.List.{take-append-drop}
+use Rattle.lra_http.specs.Streams.{HasCause, no_calls}
 use Rattle.lra_delta.specs.declared.input.Stop.{Stop}
 use Rattle.lra_delta.specs.declared.input.Stop.TheVariants.{Fault, Cut, ReadFault, Memory}
 use Rattle.lra_delta.specs.FrameFields.{Gives, Read, Rest, value_of}
-use Rattle.lra_delta.specs.Seen.{Seen, Start, Answers, Whole, HasCause, HasReason, Begins, Standing, of_slice, telling}
+use Rattle.lra_delta.specs.Seen.{Seen, Start, Answers, Whole, HasReason, Begins, Standing, of_slice, telling}
 
 abbrev some : List ℕ → Option (List ℕ)
 some xs = Some xs
@@ -17,12 +18,15 @@ slice_begins bytes place = (drop place bytes, sym (take-append-drop place bytes)
 slice_whole : {X : Type 0} (result : Result X Stop) (bytes : List ℕ) (place limit : ℕ) → limit ≤ length bytes → place ≤ limit → IfErr result (λ e. HasReason e (of_slice bytes place limit)) → Whole result (of_slice bytes place limit) bytes
 slice_whole (Ok x) bytes place limit le within reason = slice_begins bytes place
 slice_whole (Err (Fault n)) bytes place limit le within reason = slice_begins bytes place
-slice_whole (Err Cut) bytes place limit le within reason = reason.1
+slice_whole (Err Cut) bytes place limit le within reason = absurd (no_end reason.1.0)
+  where
+    no_end : ◌≡◌ {A = ℕ} 0 1 → ⊥
+    no_end e = omega (arith, e)
 slice_whole (Err ReadFault) bytes place limit le within reason = absurd (no_fault reason)
   where
-    no_fault : HasCause 0 0 0 → ⊥
-    no_fault (inl lt) = omega (arith, lt)
-    no_fault (inr e) = omega (arith, e)
+    no_fault : HasCause 0 no_calls no_calls → ⊥
+    no_fault (inl f) = omega (arith, f.0)
+    no_fault (inr f) = omega (arith, f.1)
 slice_whole (Err Memory) bytes place limit le within reason = slice_begins bytes place
 
 -- What was read of a slice is what reading all of it gives.
@@ -30,7 +34,7 @@ pub slice_read : {X : Type 0} (scan : Rest → Read X) (bytes all : List ℕ) (p
     → Answers (of_slice before place limit) (of_slice all place' limit') (λ (x : X). x) result scan → limit' ≤ length all → place' ≤ limit' → Gives (λ (x : X). x) result (value_of (scan (record { place = 0; limit = length bytes; ahead = bytes })))
 slice_read {X} scan bytes all place limit place' limit' before result e a le within =
     let known : telling all ≡ telling bytes = ap (λ (s : Start). s.standing) a.0 ∙ ap (λ (s : Seen). s.first.standing) e in
-    let same : all ≡ bytes = some_is all bytes (ap (λ (s : Standing). s.left) known) in
+    let same : all ≡ bytes = some_is all bytes (ap (λ (s : Standing). s.stream.left) known) in
     let limits : limit ≡ length bytes = ap (λ (s : Seen). s.limit) e in
     let start : take place before ≡ [] = ap (λ (s : Seen). s.taken) e in
     let w : Whole result (of_slice all place' limit') bytes = rw (← same) (slice_whole result all place' limit' le within a.1) in

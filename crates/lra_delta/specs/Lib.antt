@@ -11,6 +11,7 @@ pub mod Rules
 pub mod SameFrames
 pub mod Seen
 pub mod Sending
+pub mod Sources
 pub mod Encoding
 pub mod TakenFrames
 pub mod Telling

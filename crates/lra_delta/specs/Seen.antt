@@ -1,16 +1,15 @@
 -- what is known of an input, and what a reading of it says
-use Rattle.std.specs.Prelude.{◌≡◌, ◌⊎◌, ◌+◌, ◌<◌, ◌≤◌, ℕ, min, List, ◌++◌, length, take, drop, Option, None, Some, Result, Ok, Err, IfOk, IfErr}
+use Rattle.std.specs.Prelude.{◌≡◌, ◌+◌, ◌<◌, ◌≤◌, ℕ, min, List, [], ◌++◌, length, take, drop, Some, Result, Ok, Err, IfErr}
 use Rattle.std.specs.Borrow.{GName}
-use Rattle.lra_http.specs.Streams.{too_many_interrupted}
+use Rattle.lra_http.specs.Streams.{Calls, FoundEnd, GivenBytes, HasCause, no_calls, too_many_interrupted}
 use Rattle.lra_delta.specs.declared.input.Stop.{Stop}
 use Rattle.lra_delta.specs.declared.input.Stop.TheVariants.{Fault, Cut, ReadFault, Memory}
 use Rattle.lra_delta.specs.FrameFields.{Rest, Read, Gives, value_of}
 
--- how a source stands: the bytes that are left, where they are known, its failed and interrupted calls, and the count of interrupted calls of the message
+-- how a source stands: what it has given, how its calls came out, and the count of interrupted calls of the message
 pub record Standing : Type 0 where
-  pub left : Option (List ℕ)
-  pub failed : ℕ
-  pub interrupted : ℕ
+  pub stream : GivenBytes
+  pub calls : Calls
   pub counted : ℕ
 
 -- how the source stood, how many bytes the frame may take of it, and which source it is
@@ -46,32 +45,41 @@ abbrev pub Whole : {X : Type 0} → Result X Stop → Seen → List ℕ → Type
 Whole (Ok x) s whole = Begins s.taken whole
 Whole (Err e) s whole = MayBe e s whole
 
--- the known bytes are these, all of them
-abbrev pub IsAll : Option (List ℕ) → List ℕ → Type 0
-IsAll None bytes = Unit {0}
-IsAll (Some xs) bytes = xs ≡ bytes
-
 -- no field has more bytes
 abbrev pub widest : ℕ
 widest = 128
 
--- a call failed, or the message has met its most interrupted ones
-abbrev pub HasCause : (failed_before failed_after interrupted : ℕ) → Type 0
-HasCause failed_before failed_after interrupted = (failed_before < failed_after) ⊎ (interrupted ≡ too_many_interrupted)
-
 -- What a stop has as its cause. A fault comes before any byte behind its field is taken.
 abbrev pub HasReason : Stop → Seen → Type 0
 HasReason (Fault place) s = (place ≤ length s.taken) × (length s.taken ≤ place + widest)
-HasReason Cut s = (length s.taken < s.limit) × IsAll s.first.standing.left s.taken
-HasReason ReadFault s = HasCause s.first.standing.failed s.now.failed s.now.counted
+HasReason Cut s = (length s.taken < s.limit) × FoundEnd s.now.stream
+HasReason ReadFault s = HasCause s.first.standing.counted s.first.standing.calls s.now.calls
 HasReason Memory s = Unit {0}
+
+-- no call has failed since, and fewer than the most were interrupted
+unfoldable pub GoesWell : Standing → Standing → Type 0
+GoesWell first now = (now.calls.failed ≡ first.calls.failed) × (now.counted < too_many_interrupted)
+
+abbrev pub IsWell : Seen → Type 0
+IsWell s = GoesWell s.first.standing s.now
+
+-- so it is behind each stop but a read fault
+abbrev pub StopsWell : Stop → Seen → Type 0
+StopsWell (Fault place) s = IsWell s
+StopsWell Cut s = IsWell s
+StopsWell ReadFault s = Unit {0}
+StopsWell Memory s = IsWell s
+
+abbrev pub StaysWell : {X : Type 0} → Result X Stop → Seen → Type 0
+StaysWell (Ok x) s = IsWell s
+StaysWell (Err e) s = StopsWell e s
 
 abbrev pub Reads : {X Y : Type 0} → Seen → Seen → (X → Y) → Result X Stop → (Rest → Read Y) → Type 0
 Reads old new view result scan =
     (new.first ≡ old.first)
     × IfErr result (λ e. HasReason e new)
     × ((whole : List ℕ) → Whole result new whole → Begins old.taken whole × Gives (λ x. (view x, rest_in whole new)) result (scan (rest_in whole old)))
-    × (old.now.counted < too_many_interrupted → IfOk result (λ _. new.now.counted < too_many_interrupted))
+    × (IsWell old → StaysWell result new)
 
 -- the same without what is left
 abbrev pub Answers : {X Y : Type 0} → Seen → Seen → (X → Y) → Result X Stop → (Rest → Read Y) → Type 0
@@ -79,15 +87,15 @@ Answers old new view result scan =
     (new.first ≡ old.first)
     × IfErr result (λ e. HasReason e new)
     × ((whole : List ℕ) → Whole result new whole → Begins old.taken whole × Gives view result (value_of (scan (rest_in whole old))))
-    × (old.now.counted < too_many_interrupted → IfOk result (λ _. new.now.counted < too_many_interrupted))
+    × (IsWell old → StaysWell result new)
 
 -- the frame ends after so many bytes more at the latest
 abbrev pub within : ℕ → Seen → Seen
 within len s = record { first = s.first; now = s.now; taken = s.taken; limit = min s.limit (length s.taken + len) }
 
--- a source that tells its bytes
+-- a source of which these bytes are left, and no call was made
 abbrev pub telling : List ℕ → Standing
-telling bytes = record { left = Some bytes; failed = 0; interrupted = 0; counted = 0 }
+telling bytes = record { stream = record { given = []; ended = 0; left = Some bytes }; calls = no_calls; counted = 0 }
 
 -- a slice, read up to a place
 abbrev pub of_slice : List ℕ → ℕ → ℕ → Seen

@@ -119,7 +119,7 @@ fn put_records<O: Output>(out: &mut O, homes: &[Told])
 }
 
 #[tactic(auto, unfolding(crate::specs::Encoding::body))]
-fn put_body<O: Output>(out: &mut O, delta: &Delta)
+pub(crate) fn put_body<O: Output>(out: &mut O, delta: &Delta)
     ensures same { O.start out.new ≡ O.start out.old }
     ensures text { O.text out.new ≡ O.text out.old ++ body delta.now }
     ensures typed { IsTyped delta.now }

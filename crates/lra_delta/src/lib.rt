@@ -17,11 +17,15 @@ mod one_record;
 mod order;
 mod output;
 mod preparing;
+mod reading;
 mod record_encoding;
 mod record_fields;
 mod sameness;
 mod scan;
 mod since;
+mod size;
+mod stream;
+mod writing;
 
 pub use buffer::Buffer;
 pub use bytes::Bytes;

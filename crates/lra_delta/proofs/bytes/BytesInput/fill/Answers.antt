@@ -1,6 +1,6 @@
 use Rattle.std.proofs.Common.{◌≡◌, ◌+◌, ◌++◌, ◌≤◌, ℕ, List, length, take, drop, Ok, refl, arith, length-take, length-drop, take-add}
 use Rattle.lra_delta.specs.FrameFields.{cells_at}
-use Rattle.lra_delta.specs.Seen.{Begins, rest_in, of_slice}
+use Rattle.lra_delta.specs.Seen.{Begins, GoesWell, rest_in, of_slice}
 use Rattle.lra_delta.proofs.Grown.{begins_before, taking}
 use Rattle.lra_delta.proofs.bytes.BytesInput.fill.Goals as goal
 
@@ -14,4 +14,5 @@ filled all got whole first place limit width is fits there f =
     (begins_before (take place all) got whole g, rw text (taking (take place all) got whole first limit width len (omega (arith, here)) g))
 
 pub returns-clause-gives : goal.returns-clause-gives
-returns-clause-gives c = (refl, tt, (λ whole f. filled c.args.self.now.all.now c.copy_from_slice.new.self whole c.args.first c.args.self.now.place c.args.self.now.limit (length c.args.buffer.now) (search (c.copy_from_slice.ensures, arith)) (omega (arith, c.if-self-width.false, c.args.self.now.within)) c.args.self.now.there f), λ few. few)
+unfolding GoesWell
+returns-clause-gives c = (refl, tt, (λ whole f. filled c.args.self.now.all.now c.copy_from_slice.new.self whole c.args.first c.args.self.now.place c.args.self.now.limit (length c.args.buffer.now) (search (c.copy_from_slice.ensures, arith)) (omega (arith, c.if-self-width.false, c.args.self.now.within)) c.args.self.now.there f), λ well. well)
