@@ -3,7 +3,7 @@ use Rattle.std.proofs.Common.{◌≡◌, ◌≤◌, ◌<◌, ◌-◌, ◌==◌, 
 use mathlib.Core.Bool.{not}
 use Rattle.std.specs.Option.{option_map}
 use Rattle.std.proofs.lemmas.Bool.Decides.{nat_tests}
-use Rattle.std.proofs.lemmas.List.{get_or-set_other, get_or_past}
+use Rattle.std.proofs.lemmas.List.{get_or-set_other}
 use Rattle.std.proofs.lemmas.Grind.{get_or-set_at}
 use Rattle.lra_id.specs.Ids.{Id, same_id}
 use Rattle.lra_forest.specs.declared.record.Record.{Record}
@@ -80,17 +80,3 @@ remove_stamps records i qs id home some at within is order = changed records i (
     each l =
         ap (λ (rs : List Record). cond (same_id l id) None (st (find (is_of l) rs))) is
         ∙ kept l (find (is_of l) qs) refl ∙ ap st (sym (find_filter (λ (r : Record). not (is_of id r)) l qs order.ascending))
-
--- none of a home that isn't there
-pub no_stamps : (records : List (List Record)) (id : Id) → length records ≤ id.home - 1 → stamps_in records id ≡ None
-no_stamps records id past = let none : get_or records (id.home - 1) [] ≡ [] = get_or_past records (id.home - 1) [] past in ap (λ (rs : List Record). st (find (is_of id) rs)) none
-
--- so nothing is taken away there
-pub none_removed : (records : List (List Record)) (id : Id) → length records ≤ id.home - 1 → (l : Id) → with_stamps id None (stamps_in records) l ≡ stamps_in records l
-none_removed records id past l = by (same_id l id) refl
-  where
-    by : (b : Bool) → same_id l id ≡ b → cond b None (stamps_in records l) ≡ stamps_in records l
-    by true e =
-        let same : l.home ≡ id.home = grind (arith, nat_tests, e) in
-        sym (no_stamps records l (omega (arith, past, same)))
-    by false e = refl
