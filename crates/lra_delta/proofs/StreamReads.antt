@@ -1,6 +1,7 @@
 -- what a whole reading says of the bytes that come
 use Rattle.std.proofs.Common.{◌≡◌, ℕ, ◌+◌, ◌-◌, ◌≤◌, ◌<◌, List, [], ◌++◌, length, take, Option, None, Some, Result, Ok, Err, refl, sym, ap, subst, ◌∙◌, arith}
 use Rattle.std.specs.Prelude.{IfErr, IfOk, IfSome}
+use Rattle.std.specs.Borrow.{GName}
 use Rattle.std.specs.Io.KnownBytes.{Consumes, IsAtEnd}
 use Rattle.std.proofs.lemmas.List.{append-nil, take_all}
 use Rattle.std.proofs.Math.Seq.{take-append-add}
@@ -24,6 +25,16 @@ pub record IsFresh (stands : Standing) (size : ℕ) (s : Seen) : Type 0 where
   pub bytes : s.first.bytes ≡ size
   pub limit : s.limit ≡ size
   pub taken : s.taken ≡ []
+
+-- so it is where a source stands at its start
+pub fresh_source : (stands : Standing) (bytes : ℕ) (source : GName) (s : Seen) → s ≡ record { first = record { standing = stands; bytes = bytes; source = source }; now = stands; taken = []; limit = bytes } → IsFresh stands bytes s
+fresh_source stands bytes source s e = record {
+  standing = ap (λ (o : Seen). o.first.standing) e;
+  now = ap (λ (o : Seen). o.now) e;
+  bytes = ap (λ (o : Seen). o.first.bytes) e;
+  limit = ap (λ (o : Seen). o.limit) e;
+  taken = ap (λ (o : Seen). o.taken) e;
+}
 
 may_be_itself : (e : Stop) (s : Seen) → MayBe e s s.taken
 may_be_itself (Fault place) s = begins_itself s.taken
@@ -170,13 +181,3 @@ reads_calls stands bytes old new (Ok d) few f a sound =
     all_well stands new.now bytes (counts stands bytes old new f a.0 sound) (well_now stands bytes old new f a.0 (a.3 (well_begins stands bytes old f few)))
 reads_calls stands bytes old new (Err e) few f a sound =
     on_stop stands bytes old new e f a.0 a.1 (a.3 (well_begins stands bytes old f few)) (counts stands bytes old new f a.0 sound)
-
-pub reads_counted : (stands : Standing) (bytes : ℕ) (old new : Seen) (result : Result Frame Stop) → IsFresh stands bytes old → Answers old new (λ (x : Frame). x) result frame_at → IsSound new
-    → new.now.calls.interrupted + stands.counted ≡ stands.calls.interrupted + new.now.counted
-reads_counted stands bytes old new result f a sound = (counts stands bytes old new f a.0 sound).counted
-
-pub reads_below : (stands : Standing) (bytes : ℕ) (old new : Seen) (result : Result Frame Stop) → stands.counted < too_many_interrupted → IsFresh stands bytes old → Answers old new (λ (x : Frame). x) result frame_at
-    → IfOk result (λ _. new.now.counted < too_many_interrupted)
-unfolding GoesWell
-reads_below stands bytes old new (Ok d) few f a = (a.3 (well_begins stands bytes old f few)).1
-reads_below stands bytes old new (Err e) few f a = tt

@@ -1,5 +1,5 @@
 -- what is told once one LRA more is
-use Rattle.std.proofs.Common.{◌≡◌, ◌≤◌, ◌+◌, ◌-◌, ◌==◌, ◌||◌, ℕ, zero, suc, List, [], ◌∷◌, refl, sym, ap, subst, ◌∙◌, Bool, true, false, cond, arith, Option, Some, None, find, get_or, is_some, length, map}
+use Rattle.std.proofs.Common.{◌≡◌, ◌≤◌, ◌+◌, ◌-◌, ◌==◌, ◌||◌, ℕ, zero, suc, List, [], ◌∷◌, refl, sym, ap, subst, ◌∙◌, Bool, true, false, cond, arith, Option, Some, None, find, get_or, length, map}
 use Rattle.std.specs.Prelude.{slice_get, slice_set}
 use Rattle.std.specs.List.{AllByRecursion}
 use Rattle.std.proofs.lemmas.Bool.Decides.{nat_tests}
@@ -21,14 +21,6 @@ pub as_before : (kept told : Option Record) → told_too false kept told ≡ tol
 as_before kept None = refl
 as_before kept (Some r) = refl
 
-told_already : (kept told : Option Record) → is_some told ≡ true → told_too true kept told ≡ told
-told_already kept None e = absurd cc
-told_already kept (Some r) e = refl
-
-not_kept : (kept told : Option Record) → kept ≡ None → told_too true kept told ≡ told
-not_kept kept None e = e
-not_kept kept (Some r) e = refl
-
 -- who asks twice is told once
 pub asked_twice : (a b : Bool) (kept told : Option Record) → told_too b kept (told_too a kept told) ≡ told_too (a || b) kept told
 asked_twice a b kept (Some r) = refl
@@ -44,22 +36,6 @@ asked_twice true b kept None = by kept
 asked_twice false b kept None = refl
 
 -- Records of one home
-
-same_after : (id l : Id) (kept told : List Record) → (told_too true (find (is_of id) kept) (find (is_of id) told) ≡ find (is_of id) told)
-    → find (is_of l) told ≡ told_too (same_id id l) (find (is_of l) kept) (find (is_of l) told)
-same_after id l kept told at = by (same_id id l) refl
-  where
-    by : (b : Bool) → same_id id l ≡ b → find (is_of l) told ≡ told_too b (find (is_of l) kept) (find (is_of l) told)
-    by true t = subst (λ (m : Id). find (is_of m) told ≡ told_too true (find (is_of m) kept) (find (is_of m) told)) (same_is id l t) (sym at)
-    by false t = sym (as_before (find (is_of l) kept) (find (is_of l) told))
-
--- nothing changes where it was told
-pub stays_told : (id : Id) (kept told : List Record) → is_some (find (is_of id) told) ≡ true → (l : Id) → find (is_of l) told ≡ told_too (same_id id l) (find (is_of l) kept) (find (is_of l) told)
-stays_told id kept told e l = same_after id l kept told (told_already (find (is_of id) kept) (find (is_of id) told) e)
-
--- or there is nothing to tell
-pub stays_untold : (id : Id) (kept told : List Record) → find (is_of id) kept ≡ None → (l : Id) → find (is_of l) told ≡ told_too (same_id id l) (find (is_of l) kept) (find (is_of l) told)
-stays_untold id kept told e l = same_after id l kept told (not_kept (find (is_of id) kept) (find (is_of id) told) e)
 
 -- what is found has the name
 pub found_is : (l : Id) (rs : List Record) (r : Record) → find (is_of l) rs ≡ Some r → is_of l r ≡ true
@@ -176,26 +152,7 @@ told_at kept ts i h t t' id are there own place some held home order found = rec
         other_place : (i == (l.home - 1)) ≡ false → i ≡ l.home - 1 → ⊥
         other_place t s = grind (arith, nat_tests)
 
--- there is no such home
-pub told_nowhere : (kept : List HomeRecords) (ts : List Told) (id : Id) → AreHomes (length kept) (homes_told ts) → length kept ≤ id.home - 1 → AreTold (same_id id) kept ts ts
-told_nowhere kept ts id are past = record { homes = are; lists = refl; found = λ l. by l (same_id id l) refl }
-  where
-    nothing : (hs : List HomeRecords) (j : ℕ) → length hs ≤ j → get_or (records_of hs) j [] ≡ []
-    nothing [] j e = refl
-    nothing (h ∷ hs) zero e = absurd (omega (arith, e))
-    nothing (h ∷ hs) (suc j) e = nothing hs j (omega (arith, e))
-
-    by : (l : Id) (b : Bool) → same_id id l ≡ b → record_in (homes_told ts) l ≡ told_too b (record_in kept l) (record_in (homes_told ts) l)
-    by l true t =
-        let none : record_in kept l ≡ None = ap (find (is_of l)) (nothing kept (l.home - 1) (omega (arith, past, ap (λ (m : Id). m.home - 1) (same_is id l t)))) in
-        sym (not_kept (record_in kept l) (record_in (homes_told ts) l) none)
-    by l false t = sym (as_before (record_in kept l) (record_in (homes_told ts) l))
-
 -- One after another
-
--- nobody is asked for yet
-pub none_asked : (kept : List HomeRecords) (ts : List Told) → AreHomes (length kept) (homes_told ts) → AreTold (λ l. false) kept ts ts
-none_asked kept ts are = record { homes = are; lists = refl; found = λ l. sym (as_before (record_in kept l) (record_in (homes_told ts) l)) }
 
 -- some are asked for, and then others
 pub both_asked : (p q r : Id → Bool) (kept : List HomeRecords) (old now new : List Told) → ((l : Id) → r l ≡ (p l || q l)) → AreTold p kept old now → AreTold q kept now new → AreTold r kept old new

@@ -1,5 +1,5 @@
 // The length of what is put.
-ghost use Rattle.std.specs.Prelude.{◌≡◌, ◌%◌, ◌^◌, length, []};
+ghost use Rattle.std.specs.Prelude.{◌≡◌, ◌≤◌, ◌<◌, ◌%◌, ◌^◌, length, [], true, false, IfNone, IfSome};
 ghost use Rattle.lra_delta.specs.WrittenSoFar.{no_sink};
 
 use crate::log::Log;
@@ -10,7 +10,10 @@ use crate::output::Output;
 pub struct Count {
     text: Log,
     total: u64,
+    over: bool,
     ghost counted: { total ≡ length text % 2 ^ 64 },
+    ghost fits: { over ≡ false → length text < 2 ^ 64 },
+    ghost beyond: { over ≡ true → 2 ^ 64 ≤ length text },
 }
 
 impl Count {
@@ -21,6 +24,7 @@ impl Count {
         Count {
             text: Log::new(),
             total: 0,
+            over: false,
         }
     }
 
@@ -29,6 +33,14 @@ impl Count {
         ensures { result ≡ length (⟦<Count as Output>⟧.text self.now) % 2 ^ 64 }
     {
         self.total
+    }
+
+    /// How many bytes were put, or `None` where no number of 64 bits counts them.
+    pub fn exact(&self) -> Option<u64>
+        ensures some { IfSome result (λ n. n ≡ length (⟦<Count as Output>⟧.text self.now)) }
+        ensures none { IfNone result (2 ^ 64 ≤ length (⟦<Count as Output>⟧.text self.now)) }
+    {
+        if self.over { None } else { Some(self.total) }
     }
 }
 
@@ -39,6 +51,8 @@ impl Output for Count {
 
     fn put(&mut self, bytes: &[u8]) {
         self.text.extend(bytes);
-        self.total = self.total.wrapping_add(bytes.len() as u64);
+        let more = bytes.len() as u64;
+        self.over = self.over || u64::MAX - self.total < more;
+        self.total = self.total.wrapping_add(more);
     }
 }
