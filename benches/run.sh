@@ -1,11 +1,13 @@
 #!/bin/sh
-# Runs a benchmark: `benches/run.sh status`, `prepare`, `duties`, `merge`, `frame`, `world`, `http`, `api` or `journal`. It copies the
+# Runs a benchmark: `benches/run.sh status`, `pages`, `prepare`, `duties`, `merge`, `frame`, `news`, `world`, `http`, `api` or `journal`. It copies the
 # repository to a folder of its own, adds the program of that name there, proves it and runs it.
 #   status   what an LRA shows, by the records of its home and by the slow evaluators over the same facts
+#   pages    a look-up in a home, and a record that is put before or behind all others
 #   prepare  a join that is prepared and applied, at homes of 16, 64 and 256 LRAs
 #   duties   the list of duties of a home of 16, 64 and 256 LRAs, as roots and as one tree of depth 8, by participants
 #   merge    the merge of two replicas of a home, each with news of the other, and the union of the lists of their facts
 #   frame    frames of 16, 64 and 256 records that are spelled and read, and one of a changed record that is taken
+#   news     the frame of one changed record, by the index and by a look at each record
 #   world    runs of a world of 2 and 8 nodes, at homes of 16 and 256 LRAs
 #   http     requests of 200 bytes, 1 KiB and 64 KiB that are read, from memory and through a buffer, and their parser alone
 #   api      requests that a clerk serves from memory to memory, with a journal in memory, and their parser alone
