@@ -1,3 +1,4 @@
+pub mod AnswerBodies
 pub mod Answers
 pub mod Bodies
 pub mod Names

@@ -2,6 +2,7 @@
 #![tactic(auto)]
 
 mod answers;
+mod body;
 mod json;
 pub mod laws;
 mod names;
@@ -11,7 +12,8 @@ mod serving;
 mod table;
 mod text;
 
-pub use answers::answer;
+pub use answers::{Answer, answer};
+pub use body::Body;
 pub use path::Paths;
 pub use routing::{Unrouted, route};
 pub use serving::{ServeError, serve_one};

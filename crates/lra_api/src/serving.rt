@@ -10,13 +10,11 @@ ghost use Rattle.lra_api.specs.Serving.{Ends, EndsNoMemory, Makes, Serves, Serve
 ghost use Rattle.lra_api.specs.Streams.{IsReading};
 
 use crate::Paths;
-use crate::answers::{answer, fault_answer, refusal_answer, unrouted_answer};
+use crate::answers::{Answer, answer, fault_answer, refusal_answer, unrouted_answer};
 use crate::routing::{Unrouted, route_by};
 use lra_book::{Call, Clerk, Reply};
 use lra_facts::Refusal;
-use lra_http::{
-    Fault, MAX_BODY_BYTES, Request, Response, Sink, Source, read_request, write_response,
-};
+use lra_http::{Fault, MAX_BODY_BYTES, Request, Sink, Source, read_request, write_response};
 use std::alloc::{AllocError, Global};
 
 /// Why a request was not served as it was asked.
@@ -84,7 +82,7 @@ fn told_if_lost(refusal: Option<Refusal>) -> Result<(), ServeError>
 fn end_with<W: Sink>(
     alloc: Global,
     writer: &mut W,
-    response: &Response,
+    response: &Answer<'_>,
     refusal: Option<Refusal>,
 ) -> Result<(), ServeError>
     ensures { Ends W.Sink writer.old writer.new response.now refusal result }
@@ -104,10 +102,10 @@ fn end_with<W: Sink>(
 fn end<W: Sink>(
     alloc: Global,
     writer: &mut W,
-    made: Result<Response, AllocError>,
+    made: Result<Answer<'_>, AllocError>,
     refusal: Option<Refusal>,
 ) -> Result<(), ServeError>
-    ensures { (right : TheResponse) → IfOk made (λ response. response ≡ right) →
+    ensures { (right : TheResponse) → IfOk made.entry (λ response. response ≡ right) →
         Ends W.Sink writer.old writer.new right refusal result }
 {
     match made {

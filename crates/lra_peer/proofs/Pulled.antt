@@ -1,23 +1,29 @@
 -- What was given has to do with what comes of a pull.
-use Rattle.std.proofs.Common.{◌≡◌, ◌≢◌, ◌∙◌, ◌⊎◌, ℕ, ◌+◌, List, [], ◌++◌, Option, None, Some, Result, Ok, Err, IfErr, IfOk, IfSome, MatchResult, ap, append-nil, inl, inr, length, refl, subst, sym, take}
+use Rattle.std.proofs.Common.{◌≡◌, ◌≢◌, ◌∙◌, ◌⊎◌, ℕ, ◌+◌, List, [], ◌++◌, Option, None, Some, Result, Ok, Err, IfErr, IfOk, IfSome, MatchResult, OnErr, OnOk, ◌<◌, ◌≤◌, ap, append-nil, arith, inl, inr, length, refl, subst, sym, take}
+use Rattle.std.specs.Prelude.{⊤}
 use Rattle.std.specs.Io.KnownBytes.{Consumes}
 use Rattle.std.proofs.lemmas.Bool.{cases_eq}
 use Rattle.std.proofs.lemmas.List.{take_at}
 use Rattle.httparse.specs.Grammar.{ResponseHead, status_code}
 use Rattle.lra_delta.specs.Frames.{Frame}
-use Rattle.lra_delta.specs.Reading.{frame_in}
+use Rattle.lra_delta.specs.Reading.{frame_in, read_of}
+use Rattle.lra_delta.specs.Sources.{OnReadFault as OnReadStop, ReadsCalls, Says, StopsReading}
+use Rattle.lra_delta.specs.declared.input.Stop.{Stop}
+use Rattle.lra_delta.specs.declared.input.Stop.TheVariants.{Fault as FaultAt, Cut as CutShort, ReadFault as ReadFailed, Memory}
+use Rattle.lra_delta.proofs.FrameCodes.{frame_again}
 use Rattle.lra_delta.specs.Rules.{IsDelta}
 use Rattle.lra_delta.specs.Encoding.{encoding}
 use Rattle.lra_http.specs.Faults.{Stops}
-use Rattle.lra_http.specs.Responses.{HasFinal, IsMessage, IsResponse, Shows, head_room, stated}
-use Rattle.lra_http.specs.Streams.{AllWell, Calls, GivenBytes, Gives, GivesWhat, IsFlushed, TakenBytes, Takes}
+use Rattle.lra_http.specs.Responses.{HasFinal, IsHeadRead, IsResponse, Shows, ShowsNoHead, head_room, stated}
+use Rattle.lra_http.specs.Streams.{AllWell, Calls, GivenBytes, Gives, GivesWhat, IsFlushed, IsLost, OnReadFault, OnWriteFault, TakenBytes, Takes, TakesPart, Writes}
 use Rattle.lra_http.specs.declared.fault.Fault.{Fault as HttpFault}
-use Rattle.lra_http.specs.declared.fault.Fault.TheVariants.{ReadFault, NotOffered, NoMemory}
-use Rattle.lra_http.specs.ByteResponses.{Response}
+use Rattle.lra_http.specs.declared.fault.Fault.TheVariants.{Cut, ReadFault, WriteFault, HeadTooLong, BodyTooLong, BadHead, LengthNeeded, NotOffered, NoMemory}
+use Rattle.lra_http.proofs.Calling.{fault_then, lost_then, well_none, well_then}
 use Rattle.lra_http.proofs.Cuts.{final_more}
+use Rattle.lra_http.proofs.Known.{gives_more}
 use Rattle.lra_http.proofs.Left.{response_found}
 use Rattle.lra_http.proofs.Messages.{unique_final}
-use Rattle.lra_peer.specs.PullAnswers.{IsAnswer, IsOfStreams, IsSent, IsUnsent, StopsPull, Tells, max_frame_bytes, pull_reads}
+use Rattle.lra_peer.specs.PullAnswers.{IsAnswer, IsBodyRead, IsFound, IsOfStreams, IsSent, IsUnsent, Reads, StopsPull, TellsDelta, error_of, max_frame_bytes, pull_reads, told_by}
 use Rattle.lra_peer.specs.declared.error.PullError.{PullError}
 use Rattle.lra_peer.specs.declared.error.PullError.TheVariants.{Fault, BadFrame}
 
@@ -31,39 +37,43 @@ sent old new before after whole text is taken well = (
   subst (λ (t : List ℕ). AllWell (length t + 1) 0 before after) is well,
 )
 
--- ---- what was read behind it
+-- ---- what was written, by how the write came out
 
-pub told_message : (Sent Well : Type 0) (Q : HttpFault → Type 0) (Is : Response → Type 0) (result : Result Response HttpFault) → Sent → IfOk result Is
-    → MatchResult result (λ _. Well) Q → IfOk result (λ response. Sent × Is response × Well)
-told_message Sent Well Q Is (Ok response) sent is calls = (sent, is, calls)
-told_message Sent Well Q Is (Err fault) sent is calls = tt
+pub sent_of : (old new : TakenBytes) (before after : Calls) (whole text : List ℕ) (Unchanged : Type 0) (result : Result ⊤ HttpFault) → whole ≡ text
+    → OnOk result (Takes old new whole × IsFlushed new) → Writes (length whole + 1) before after Unchanged result → OnOk result (IsSent old new before after text)
+sent_of old new before after whole text Unchanged (Ok done) is taken calls = sent old new before after whole text is taken calls
+sent_of old new before after whole text Unchanged (Err fault) is taken calls = tt
 
-pub told_fault : (Sent Well : Type 0) (U S Q : HttpFault → Type 0) (result : Result Response HttpFault) → Sent → IfErr result S
-    → MatchResult result (λ _. Well) Q → IfErr result (λ fault. U fault ⊎ (Sent × S fault × Q fault))
-told_fault Sent Well U S Q (Ok response) sent is calls = tt
-told_fault Sent Well U S Q (Err fault) sent is calls = inr (sent, is, calls)
+unsent_by : (old new : TakenBytes) (before after : Calls) (text : List ℕ) (Unchanged : Type 0) (fault : HttpFault) → TakesPart old new text
+    → OnWriteFault (IsLost (length text + 1) 0 before after) Unchanged fault → IsUnsent old new before after text ⊤ Unchanged fault
+unsent_by old new before after text Unchanged WriteFault part lost = inl (refl, part, lost, tt)
+unsent_by old new before after text Unchanged NoMemory part same = inr (refl, same)
+unsent_by old new before after text Unchanged ReadFault part never = absurd never
+unsent_by old new before after text Unchanged Cut part never = absurd never
+unsent_by old new before after text Unchanged BadHead part never = absurd never
+unsent_by old new before after text Unchanged HeadTooLong part never = absurd never
+unsent_by old new before after text Unchanged BodyTooLong part never = absurd never
+unsent_by old new before after text Unchanged LengthNeeded part never = absurd never
+unsent_by old new before after text Unchanged NotOffered part never = absurd never
 
--- ---- an answer
+pub unsent_of : (old new : TakenBytes) (before after : Calls) (whole text : List ℕ) (Unchanged : Type 0) (result : Result ⊤ HttpFault) → whole ≡ text
+    → OnErr result (TakesPart old new whole) → Writes (length whole + 1) before after Unchanged result
+    → IfErr result (λ fault. IsUnsent old new before after text ⊤ Unchanged fault)
+unsent_of old new before after whole text Unchanged (Ok done) is part calls = tt
+unsent_of old new before after whole text Unchanged (Err fault) is part calls =
+    subst (λ (t : List ℕ). IsUnsent old new before after t ⊤ Unchanged fault) is (unsent_by old new before after whole Unchanged fault part calls)
 
-is_answer : (bytes : List ℕ) (answer : Response) → IsMessage max_frame_bytes bytes answer → IsAnswer bytes answer.status answer.body
-is_answer bytes answer is = record { head = is.head; whole = is.whole; status_is = sym is.status }
+-- nothing else was touched either
+pub unsent_all : (old new : TakenBytes) (before after : Calls) (text : List ℕ) (T U : Type 0) (fault : HttpFault) → U → IsUnsent old new before after text ⊤ T fault
+    → IsUnsent old new before after text U (T × U) fault
+unsent_all old new before after text T U fault u (inl (is, part, lost, done)) = inl (is, part, lost, u)
+unsent_all old new before after text T U fault u (inr (is, same)) = inr (is, (same, u))
 
 abbrev sized : ℕ → Result ℕ HttpFault
 sized n = Ok n
 
 ok_size : (a b : ℕ) → sized a ≡ sized b → a ≡ b
 ok_size a b e = cc
-
-same_front : (a b x y : List ℕ) → a ++ x ≡ b ++ y → length a ≡ length b → a ≡ b
-same_front a b x y e len = sym (take_at a x (length b) len) ∙ ap (take (length b)) e ∙ take_at b y (length b) refl
-
--- an input begins with one response
-one_body : (input : List ℕ) (h k : ResponseHead) (a b x y : List ℕ) → IsResponse head_room max_frame_bytes input h a x → IsResponse head_room max_frame_bytes input k b y
-    → (h ≡ k) × (a ≡ b)
-one_body input h k a b x y one other =
-    let same = unique_final head_room input h (a ++ x) k (b ++ y) one.0 other.0 in
-    let sizes : length a ≡ length b = ok_size (length a) (length b) (sym one.1 ∙ ap (stated max_frame_bytes) same.0 ∙ other.1) in
-    (same.0, same_front a b x y same.1 sizes)
 
 -- a whole response stands at the start of an input
 stands_in : (input bytes rest body : List ℕ) (h : ResponseHead) → input ≡ bytes ++ rest → IsResponse head_room max_frame_bytes bytes h body []
@@ -74,76 +84,159 @@ stands_in input bytes rest body h split whole =
       whole.1,
     )
 
--- ---- errors behind an answer
+-- ---- an answer whose heads were read, and then its body
+
+whole_answer : (heads body : List ℕ) (size : ℕ) → IsHeadRead max_frame_bytes heads 200 size → length body ≡ size → IsAnswer (heads ++ body) 200 body
+whole_answer heads body size h len = record {
+  head = h.head;
+  whole = (
+    subst (λ (l : List ℕ). HasFinal head_room (heads ++ body) h.head l) (sym (append-nil body)) (h.first body),
+    h.states ∙ ap sized (sym len),
+  );
+  status_is = sym h.status;
+}
 
 abbrev stopped : PullError → Result Frame PullError
 stopped error = Err error
 
-refused_answer : (old new : GivenBytes) (before after : Calls) (bytes : List ℕ) (answer : Response) (error : PullError) → Gives old new bytes
-    → IsMessage max_frame_bytes bytes answer → AllWell pull_reads 0 before after
-    → (answer.status ≢ 200 → stopped error ≡ stopped (Fault NotOffered)) → (answer.status ≡ 200 → Tells (stopped error) (frame_in answer.body))
-    → (answer.status ≡ 200) ⊎ (answer.status ≢ 200) → StopsPull old new before after error
-refused_answer old new before after bytes answer (Fault fault) gives is well other told (inl ok) =
-    subst (λ (f : HttpFault). StopsPull old new before after (Fault f)) (sym (told ok)) (record {
-      bytes = bytes;
-      gives = gives;
-      refuses = inr (inr (refl, (answer.body, subst (λ (status : ℕ). IsAnswer bytes status answer.body) ok (is_answer bytes answer is))));
-      ended = λ e. absurd (cc);
-      reads = well;
-    })
-refused_answer old new before after bytes answer (Fault fault) gives is well other told (inr not) =
-    subst (λ (f : HttpFault). StopsPull old new before after (Fault f)) (let e = other not in cc) (record {
-      bytes = bytes;
-      gives = gives;
-      refuses = inr (inl (refl, (answer.status, answer.body, is_answer bytes answer is, not)));
-      ended = λ e. absurd (cc);
-      reads = well;
-    })
-refused_answer old new before after bytes answer (BadFrame place) gives is well other told (inl ok) = record {
-  bytes = bytes;
-  gives = gives;
-  refuses = (answer.body, subst (λ (status : ℕ). IsAnswer bytes status answer.body) ok (is_answer bytes answer is), told ok);
-  ended = λ e. absurd (cc);
-  reads = well;
-}
-refused_answer old new before after bytes answer (BadFrame place) gives is well other told (inr not) = absurd (let e = other not in cc)
+is_cut : (stop : Stop) → error_of stop ≡ Fault Cut → stop ≡ CutShort
+is_cut (FaultAt place) e = absurd cc
+is_cut CutShort e = refl
+is_cut ReadFailed e = absurd cc
+is_cut Memory e = absurd cc
 
-pub refused_told : (Sent : Type 0) (U : PullError → Type 0) (old new : GivenBytes) (before after : Calls) (answer : Response) (result : Result Frame PullError)
-    → Sent × GivesWhat old new (λ bytes. IsMessage max_frame_bytes bytes answer) × AllWell pull_reads 0 before after
-    → (answer.status ≢ 200 → result ≡ Err (Fault NotOffered)) → (answer.status ≡ 200 → Tells result (frame_in answer.body))
-    → IfErr result (λ error. U error ⊎ (Sent × StopsPull old new before after error))
-refused_told Sent U old new before after answer (Ok delta) (sent, (bytes, gives, is), well) other told = tt
-refused_told Sent U old new before after answer (Err error) (sent, (bytes, gives, is), well) other told =
-    inr (sent, refused_answer old new before after bytes answer error gives is well other told (cases_eq answer.status 200))
+fault_is : (a b : HttpFault) → Fault a ≡ Fault b → a ≡ b
+fault_is a b e = cc
 
--- ---- a frame that is there
+abbrev given_frame : Frame → Result Frame Stop
+given_frame frame = Ok frame
 
-streams_of : (frame : Frame) (result : Result Frame PullError) → MatchResult result (λ d. d ≡ frame) (λ error. error ≡ Fault NoMemory)
-    → MatchResult result (λ d. d ≡ frame) IsOfStreams
-streams_of frame (Ok d) is = is
-streams_of frame (Err error) is = inr (inr is)
+same_frame : (x y : Frame) → given_frame x ≡ given_frame y → x ≡ y
+same_frame x y e = cc
 
--- where a frame stands at the start of the input, it is the result
-abbrev IsFound : List ℕ → Result Frame PullError → Type 0
-IsFound input result =
-    (bytes rest : List ℕ) (frame : Frame) → input ≡ bytes ++ rest → IsDelta frame → IsAnswer bytes 200 (encoding frame) → MatchResult result (λ delta. delta ≡ frame) IsOfStreams
+says_found : (frame : Frame) (read : Result Frame Stop) → Says read (Ok frame) → MatchResult (told_by read) (λ delta. delta ≡ frame) IsOfStreams
+says_found frame (Ok x) says = same_frame x frame (sym says)
+says_found frame (Err (FaultAt place)) says = absurd cc
+says_found frame (Err CutShort) says = absurd cc
+says_found frame (Err ReadFailed) says = inr (inl refl)
+says_found frame (Err Memory) says = inr (inr refl)
 
-found_in : (left after : Option (List ℕ)) (given : List ℕ) (answer : Response) (result : Result Frame PullError) → Consumes left after given → IsMessage max_frame_bytes given answer
-    → ((frame : Frame) → answer.status ≡ 200 → IsDelta frame → answer.body ≡ encoding frame → MatchResult result (λ delta. delta ≡ frame) (λ error. error ≡ Fault NoMemory))
+-- the calls of the heads, and then those of the body
+module _ (old mid new : Calls) (size count : ℕ) (fits : size ≤ max_frame_bytes) (counted : mid.interrupted ≡ old.interrupted + count) (well : AllWell 16385 0 old mid) where
+  all_calls : AllWell size count mid new → AllWell pull_reads 0 old new
+  all_calls = well_then 16385 size pull_reads 0 count old mid new (omega (arith, fits)) (omega (arith, counted)) well
+
+  lost_calls : IsLost size count mid new → IsLost pull_reads 0 old new
+  lost_calls = lost_then 16385 size pull_reads 0 count old mid new (omega (arith, fits)) (omega (arith, counted)) well
+
+  stop_calls : (stop : Stop) → OnReadStop (IsLost size count mid new) (AllWell size count mid new) stop → Reads old new (error_of stop)
+  stop_calls (FaultAt place) h = all_calls h
+  stop_calls CutShort h = all_calls h
+  stop_calls ReadFailed h = lost_calls h
+  stop_calls Memory h = all_calls h
+
+head_calls : (old new : Calls) (fault : HttpFault) → OnReadFault (IsLost 16385 0 old new) (AllWell 16385 0 old new) fault → Reads old new (Fault fault)
+head_calls old new fault h = fault_then 0 16385 pull_reads 0 0 old old new (omega arith) (omega arith) (well_none 0 old (omega arith)) fault h
+
+head_well : (old new : Calls) → AllWell 16385 0 old new → AllWell pull_reads 0 old new
+head_well old new h = well_then 0 16385 pull_reads 0 0 old old new (omega arith) (omega arith) (well_none 0 old (omega arith)) h
+
+-- where an answer with a frame stands at the start of the input
+found_body : (left after : Option (List ℕ)) (given : List ℕ) (status size : ℕ) (result : Result Frame PullError) → Consumes left after given → IsHeadRead max_frame_bytes given status size
+    → (status ≡ 200 → (read : Result Frame Stop) × (result ≡ told_by read) × IfSome after (λ ahead. Says read (read_of size (take size ahead))))
     → IfSome left (λ input. IsFound input result)
-found_in None after given answer result took is only = tt
-found_in (Some input) None given answer result took is only = absurd took
-found_in (Some input) (Some more) given answer result took is only = λ bytes rest frame split rules stands.
-    let same = one_body input is.head stands.head answer.body (encoding frame) more rest (stands_in input given more answer.body is.head took is.whole)
-    (stands_in input bytes rest (encoding frame) stands.head split stands.whole) in
-    let status : answer.status ≡ 200 = is.status ∙ ap status_code same.0 ∙ stands.status_is in
-    streams_of frame result (only frame status rules same.1)
+found_body None after given status size result took h body = tt
+found_body (Some input) None given status size result took h body = absurd took
+found_body (Some input) (Some more) given status size result took h body = λ bytes rest frame split rules stands.
+    let whole = stands_in input bytes rest (encoding frame) stands.head split stands.whole in
+    let mine : HasFinal head_room input h.head more = subst (λ (l : List ℕ). HasFinal head_room l h.head more) (sym took) (h.first more) in
+    let same = unique_final head_room input h.head more stands.head (encoding frame ++ rest) mine whole.0 in
+    let size_is : size ≡ length (encoding frame) = ok_size size (length (encoding frame)) (sym h.states ∙ ap (stated max_frame_bytes) same.0 ∙ whole.1) in
+    let told = body (h.status ∙ ap status_code same.0 ∙ stands.status_is) in
+    let ahead : take size more ≡ encoding frame = ap (take size) same.1 ∙ take_at (encoding frame) rest size (sym size_is) in
+    let read : read_of size (take size more) ≡ Ok frame =
+    ap (read_of size) ahead ∙ ap (λ (n : ℕ). read_of n (encoding frame)) size_is ∙ frame_again frame rules in
+    subst (λ (r : Result Frame PullError). MatchResult r (λ delta. delta ≡ frame) IsOfStreams) (sym told.1)
+    (says_found frame told.0 (subst (Says told.0) read told.2))
 
-pub found_told : (Sent Well : Type 0) (old new : GivenBytes) (answer : Response) (result : Result Frame PullError)
-    → Sent × GivesWhat old new (λ bytes. IsMessage max_frame_bytes bytes answer) × Well
-    → ((frame : Frame) → answer.status ≡ 200 → IsDelta frame → answer.body ≡ encoding frame → MatchResult result (λ delta. delta ≡ frame) (λ error. error ≡ Fault NoMemory))
-    → IfSome old.left (λ input. IsFound input result)
-found_told Sent Well old new answer result (sent, (given, gives, is), well) only = found_in old.left new.left given answer result gives.left is only
+module _ {R : Type 0} (stream : R → GivenBytes) (calls : R → Calls) (r0 r1 r2 : R) (status size count : ℕ) (result : Result Frame PullError)
+    (head : GivesWhat (stream r0) (stream r1) (λ given. IsHeadRead max_frame_bytes given status size)) (fits : size ≤ max_frame_bytes)
+    (well : AllWell 16385 0 (calls r0) (calls r1)) (counted : (calls r1).interrupted ≡ (calls r0).interrupted + count)
+    (other : status ≢ 200 → (result ≡ Err (Fault NotOffered)) × (r2 ≡ r1))
+    (body : status ≡ 200 → (read : Result Frame Stop) × (result ≡ told_by read) × IsBodyRead size count (stream r1) (stream r2) (calls r1) (calls r2) read) where
+  offered : status ≡ 200 → IsHeadRead max_frame_bytes head.0 200 size
+  offered ok = subst (λ (s : ℕ). IsHeadRead max_frame_bytes head.0 s size) ok head.2
+
+  told_message : status ≡ 200 → (read : Result Frame Stop) → IsBodyRead size count (stream r1) (stream r2) (calls r1) (calls r2) read → IfOk (told_by read) (TellsDelta (stream r0) (stream r2) (calls r0) (calls r2))
+  told_message ok (Err stop) is = tt
+  told_message ok (Ok delta) is = (
+    is.frame.0,
+    (
+      head.0 ++ encoding delta,
+      gives_more (stream r0) (stream r1) (stream r2) head.0 (encoding delta) head.1 is.frame.2,
+      whole_answer head.0 (encoding delta) size (offered ok) is.frame.1,
+    ),
+    all_calls (calls r0) (calls r1) (calls r2) size count fits counted well is.calls,
+  )
+
+  told_error : status ≡ 200 → (read : Result Frame Stop) → IsBodyRead size count (stream r1) (stream r2) (calls r1) (calls r2) read → IfErr (told_by read) (StopsPull (stream r0) (stream r2) (calls r0) (calls r2))
+  told_error ok (Ok delta) is = tt
+  told_error ok (Err stop) is =
+      let s = is.stop in
+      record {
+        bytes = head.0 ++ s.given;
+        gives = gives_more (stream r0) (stream r1) (stream r2) head.0 s.given head.1 s.gives;
+        refuses = inr (inr (size, s.given, stop, record { heads = head.0; split = refl; head = offered ok }, s.refuses, refl));
+        ended = λ e. s.ended (is_cut stop e);
+        reads = stop_calls (calls r0) (calls r1) (calls r2) size count fits counted well stop is.calls;
+      }
+
+  other_error : status ≢ 200 → (r : R) → r ≡ r1 → StopsPull (stream r0) (stream r) (calls r0) (calls r) (Fault NotOffered)
+  other_error not r same = subst (λ (x : R). StopsPull (stream r0) (stream x) (calls r0) (calls x) (Fault NotOffered)) (sym same) (record {
+    bytes = head.0;
+    gives = head.1;
+    refuses = inr (inl (refl, (status, size, head.2, not)));
+    ended = λ e. absurd (cc);
+    reads = head_well (calls r0) (calls r1) well;
+  })
+
+  pub answer_message : IfOk result (TellsDelta (stream r0) (stream r2) (calls r0) (calls r2))
+  answer_message = settle (cases_eq status 200)
+    where
+      settle : (status ≡ 200) ⊎ (status ≢ 200) → IfOk result (TellsDelta (stream r0) (stream r2) (calls r0) (calls r2))
+      settle (inl ok) =
+          let b = body ok in
+          subst (λ (r : Result Frame PullError). IfOk r (TellsDelta (stream r0) (stream r2) (calls r0) (calls r2))) (sym b.1) (told_message ok b.0 b.2)
+      settle (inr not) = subst (λ (r : Result Frame PullError). IfOk r (TellsDelta (stream r0) (stream r2) (calls r0) (calls r2))) (sym (other not).0) tt
+
+  pub answer_error : IfErr result (StopsPull (stream r0) (stream r2) (calls r0) (calls r2))
+  answer_error = settle (cases_eq status 200)
+    where
+      settle : (status ≡ 200) ⊎ (status ≢ 200) → IfErr result (StopsPull (stream r0) (stream r2) (calls r0) (calls r2))
+      settle (inl ok) =
+          let b = body ok in
+          subst (λ (r : Result Frame PullError). IfErr r (StopsPull (stream r0) (stream r2) (calls r0) (calls r2))) (sym b.1) (told_error ok b.0 b.2)
+      settle (inr not) =
+          subst (λ (r : Result Frame PullError). IfErr r (StopsPull (stream r0) (stream r2) (calls r0) (calls r2))) (sym (other not).0)
+          (other_error not r2 (other not).1)
+
+  pub answer_found : IfSome (stream r0).left (λ input. IsFound input result)
+  answer_found = found_body (stream r0).left (stream r1).left head.0 status size result head.1.left head.2 (λ ok. let b = body ok in (b.0, b.1, b.2.known))
+
+-- ---- where the heads tell why there is no delta
+
+shown : (old new : GivenBytes) (fault : HttpFault) → Stops old new (ShowsNoHead max_frame_bytes) fault → Stops old new (Shows max_frame_bytes) fault
+shown old new fault s = record { bytes = s.bytes; gives = s.gives; is = s.is.shows; ended = s.ended }
+
+pub head_error : (old new : GivenBytes) (before after : Calls) (fault : HttpFault) → Stops old new (ShowsNoHead max_frame_bytes) fault
+    → OnReadFault (IsLost 16385 0 before after) (AllWell 16385 0 before after) fault → StopsPull old new before after (Fault fault)
+head_error old new before after fault s calls = record {
+  bytes = s.bytes;
+  gives = s.gives;
+  refuses = inl (fault, s.is, refl);
+  ended = λ e. s.ended (fault_is fault Cut e);
+  reads = head_calls before after fault calls;
+}
 
 of_unsent : (old new : TakenBytes) (before after : Calls) (text : List ℕ) (unread untouched : Type 0) (fault : HttpFault)
     → IsUnsent old new before after text unread untouched fault → IsOfStreams (Fault fault)
@@ -165,10 +258,10 @@ found_stopped (Some input) fault found = λ bytes rest frame split rules stands.
     settle (inl read) = inr (inl (ap (λ (f : HttpFault). Fault f) read))
     settle (inr memory) = inr (inr (ap (λ (f : HttpFault). Fault f) memory))
 
-pub found_before : (Sent Came : Type 0) (taken after_taken : TakenBytes) (writes after_writes : Calls) (text : List ℕ) (unread untouched : Type 0) (old new : GivenBytes) (fault : HttpFault)
-    → IsUnsent taken after_taken writes after_writes text unread untouched fault ⊎ (Sent × Stops old new (Shows max_frame_bytes) fault × Came)
-    → IfSome old.left (λ input. IsFound input (stopped (Fault fault)))
-found_before Sent Came taken after_taken writes after_writes text unread untouched old new fault (inl u) =
-    anywhere old.left _ (λ input bytes rest frame split rules stands. of_unsent taken after_taken writes after_writes text unread untouched fault u)
-found_before Sent Came taken after_taken writes after_writes text unread untouched old new fault (inr (sent, stops, calls)) =
-    found_stopped old.left fault (response_found max_frame_bytes old new fault stops)
+pub found_head : (old new : GivenBytes) (fault : HttpFault) → Stops old new (ShowsNoHead max_frame_bytes) fault → IfSome old.left (λ input. IsFound input (stopped (Fault fault)))
+found_head old new fault s = found_stopped old.left fault (response_found max_frame_bytes old new fault (shown old new fault s))
+
+pub found_unsent : (left : Option (List ℕ)) (old new : TakenBytes) (before after : Calls) (text : List ℕ) (unread untouched : Type 0) (fault : HttpFault)
+    → IsUnsent old new before after text unread untouched fault → IfSome left (λ input. IsFound input (stopped (Fault fault)))
+found_unsent left old new before after text unread untouched fault u =
+    anywhere left _ (λ input bytes rest frame split rules stands. of_unsent old new before after text unread untouched fault u)

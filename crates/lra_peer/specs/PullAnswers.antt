@@ -1,14 +1,15 @@
 -- What comes of a pull.
-use Rattle.std.specs.Prelude.{◌≡◌, ◌≢◌, ◌⊎◌, ℕ, ◌+◌, List, [], length, Result, Ok, Err}
+use Rattle.std.specs.Prelude.{◌≡◌, ◌≢◌, ◌⊎◌, ℕ, ◌+◌, List, [], ◌++◌, length, take, Result, Ok, Err, IfErr, IfOk, IfSome, MatchResult}
 use Rattle.httparse.specs.Grammar.{ResponseHead, status_code}
 use Rattle.lra_delta.specs.Frames.{Frame}
-use Rattle.lra_delta.specs.Reading.{frame_in}
+use Rattle.lra_delta.specs.Reading.{read_of}
+use Rattle.lra_delta.specs.Sources.{ReadsCalls, Refuses, Says, StopsReading}
 use Rattle.lra_delta.specs.Rules.{IsDelta}
 use Rattle.lra_delta.specs.Encoding.{encoding}
 use Rattle.lra_delta.specs.declared.input.Stop.{Stop}
-use Rattle.lra_delta.specs.declared.input.Stop.TheVariants.{Fault as FaultAt}
+use Rattle.lra_delta.specs.declared.input.Stop.TheVariants.{Fault as FaultAt, Cut as CutShort, ReadFault as ReadFailed, Memory}
 use Rattle.lra_http.specs.Heads.{max_head_bytes}
-use Rattle.lra_http.specs.Responses.{IsResponse, Shows, head_room}
+use Rattle.lra_http.specs.Responses.{IsHeadRead, IsResponse, ShowsNoHead, head_room}
 use Rattle.lra_http.specs.Streams.{AllWell, Calls, FoundEnd, GivenBytes, Gives, GivesWhat, IsFlushed, IsLost, OnReadFault, TakenBytes, Takes, TakesPart}
 use Rattle.lra_http.specs.declared.fault.Fault.{Fault as HttpFault}
 use Rattle.lra_http.specs.declared.fault.Fault.TheVariants.{Cut, NoMemory, NotOffered, ReadFault, WriteFault}
@@ -47,24 +48,35 @@ pub record IsAnswer (bytes : List ℕ) (status : ℕ) (body : List ℕ) : Type 0
   pub whole : IsResponse head_room max_frame_bytes bytes head body []
   pub status_is : status_code head ≡ status
 
--- the answer has another status than 200
+-- the heads state another status than 200, and no byte of the body was given
 abbrev pub IsOther : List ℕ → Type 0
-IsOther bytes = (status : ℕ) × (body : List ℕ) × IsAnswer bytes status body × (status ≢ 200)
+IsOther bytes = (status : ℕ) × (size : ℕ) × IsHeadRead max_frame_bytes bytes status size × (status ≢ 200)
 
--- the answer has status 200
-abbrev pub IsOffered : List ℕ → Type 0
-IsOffered bytes = (body : List ℕ) × IsAnswer bytes 200 body
+-- the heads state status 200 and a body of so many bytes, of which these were given
+pub record IsOffered (bytes : List ℕ) (size : ℕ) (body : List ℕ) : Type 0 where
+  pub heads : List ℕ
+  pub split : bytes ≡ heads ++ body
+  pub head : IsHeadRead max_frame_bytes heads 200 size
 
--- the answer has status 200, and a body that is no frame, with its first fault at this place
-abbrev pub IsNoFrame : List ℕ → ℕ → Type 0
-IsNoFrame bytes place = (body : List ℕ) × IsAnswer bytes 200 body × (frame_in body ≡ Err (FaultAt place))
+-- what stops the reading of a frame, as an error
+abbrev pub error_of : Stop → PullError
+error_of (FaultAt place) = BadFrame place
+error_of CutShort = Fault Cut
+error_of ReadFailed = Fault ReadFault
+error_of Memory = Fault NoMemory
 
--- why bytes tell no delta: they show why no whole response stands there, it has another status, memory ran out for its frame, or
--- its body is no frame
+-- the body shows why it is no frame, whatever follows
+abbrev pub RefusesBody : List ℕ → PullError → Type 0
+RefusesBody bytes error =
+    (size : ℕ) × (body : List ℕ) × (stop : Stop) × IsOffered bytes size body × Refuses size stop body × (error ≡ error_of stop)
+
+-- the bytes show why no head with a body of at most the limit stands there
+abbrev pub RefusesHead : List ℕ → PullError → Type 0
+RefusesHead bytes error = (fault : HttpFault) × ShowsNoHead max_frame_bytes bytes fault × (error ≡ Fault fault)
+
+-- why bytes tell no delta: by their heads, which come first, by another status, or by the body
 abbrev pub RefusesPull : List ℕ → PullError → Type 0
-RefusesPull bytes (Fault fault) =
-    Shows max_frame_bytes bytes fault ⊎ (((fault ≡ NotOffered) × IsOther bytes) ⊎ ((fault ≡ NoMemory) × IsOffered bytes))
-RefusesPull bytes (BadFrame place) = IsNoFrame bytes place
+RefusesPull bytes error = RefusesHead bytes error ⊎ (((error ≡ Fault NotOffered) × IsOther bytes) ⊎ RefusesBody bytes error)
 
 -- how the reads came out before an error
 abbrev pub Reads : Calls → Calls → PullError → Type 0
@@ -88,8 +100,19 @@ TellsDelta old new before after delta =
 abbrev pub IsOfStreams : PullError → Type 0
 IsOfStreams error = (error ≡ Fault WriteFault) ⊎ ((error ≡ Fault ReadFault) ⊎ (error ≡ Fault NoMemory))
 
--- what a body tells, by what reading it as a frame gives, unless memory ran out
-abbrev pub Tells : Result Frame PullError → Result Frame Stop → Type 0
-Tells (Ok delta) read = read ≡ Ok delta
-Tells (Err (BadFrame place)) read = read ≡ Err (FaultAt place)
-Tells (Err (Fault fault)) read = fault ≡ NoMemory
+-- what comes of the reading of a body
+abbrev pub told_by : Result Frame Stop → Result Frame PullError
+told_by (Ok delta) = Ok delta
+told_by (Err stop) = Err (error_of stop)
+
+-- what reading a body of so many bytes gave
+pub record IsBodyRead (size before : ℕ) (old new : GivenBytes) (calls_before calls_after : Calls) (read : Result Frame Stop) : Type 0 where
+  pub frame : IfOk read (λ delta. IsDelta delta × (length (encoding delta) ≡ size) × Gives old new (encoding delta))
+  pub stop : IfErr read (StopsReading size old new)
+  pub known : IfSome old.left (λ ahead. Says read (read_of size (take size ahead)))
+  pub calls : ReadsCalls size before calls_before calls_after read
+
+-- a frame that stands whole at the start of the input is the result, unless a call fails or memory runs out
+abbrev pub IsFound : List ℕ → Result Frame PullError → Type 0
+IsFound input result =
+    (bytes rest : List ℕ) (frame : Frame) → input ≡ bytes ++ rest → IsDelta frame → IsAnswer bytes 200 (encoding frame) → MatchResult result (λ delta. delta ≡ frame) IsOfStreams

@@ -1,38 +1,70 @@
-// What a response to a pull tells.
-ghost use Rattle.std.specs.Prelude.{◌≡◌, ◌≢◌, Err, IfOk, MatchResult};
+// What the answer to a pull tells.
+ghost use Rattle.std.specs.Prelude.{◌≡◌, ◌≢◌, ◌<◌, Result, Err, IfErr, IfOk, IfSome};
 ghost use Rattle.lra_delta.specs.Frames.{Frame};
-ghost use Rattle.lra_delta.specs.Reading.{frame_in};
-ghost use Rattle.lra_delta.specs.Rules.{IsDelta};
-ghost use Rattle.lra_delta.specs.Encoding.{encoding};
-ghost use Rattle.lra_http.specs.declared.fault.Fault.TheVariants.{NoMemory, NotOffered};
-ghost use Rattle.lra_peer.specs.PullAnswers.{Tells};
+ghost use Rattle.lra_delta.specs.declared.input.Stop.{Stop as TheStop};
+ghost use Rattle.lra_http.specs.Streams.{too_many_interrupted};
+ghost use Rattle.lra_http.specs.declared.fault.Fault.TheVariants.{NotOffered};
+ghost use Rattle.lra_peer.specs.PullAnswers.{IsBodyRead, IsFound, StopsPull, TellsDelta, error_of, told_by};
 ghost use Rattle.lra_peer.specs.declared.error.PullError.TheVariants.{Fault as OfHttp};
 
 use crate::PullError;
-use lra_delta::Delta;
-use lra_facts::Refusal;
-use lra_http::{Fault, Response};
+use lra_delta::{Delta, Stop};
+use lra_http::{Fault, FinalHead, Source, read_response_head};
 use std::alloc::Global;
 
 /// The most bytes of a frame, and so of an answer's body.
 pub const MAX_FRAME_BYTES: usize = 67_108_864;
 
-/// The delta that a response tells, whose status is to be 200.
-pub fn delta_of(alloc: Global, response: &Response) -> Result<Delta, PullError>
-    ensures other { response.now.status ≢ 200 → result ≡ Err (OfHttp NotOffered) }
-    ensures exact { response.now.status ≡ 200 → Tells result (frame_in response.now.body) }
-    ensures found { IfOk result (λ delta. (response.now.status ≡ 200)
-        × IsDelta delta × (response.now.body ≡ encoding delta)) }
-    ensures only { (frame : Frame) →
-        response.now.status ≡ 200 → IsDelta frame → response.now.body ≡ encoding frame →
-        MatchResult result (λ delta. delta ≡ frame) (λ error. error ≡ OfHttp NoMemory) }
+fn error_of(stop: Stop) -> PullError
+    ensures { result ≡ error_of stop }
 {
-    if response.status.as_u16() != 200 {
+    match stop {
+        Stop::Fault(place) => PullError::BadFrame(place),
+        Stop::Cut => PullError::Fault(Fault::Cut),
+        Stop::ReadFault => PullError::Fault(Fault::ReadFault),
+        Stop::Memory => PullError::Fault(Fault::NoMemory),
+    }
+}
+
+/// The delta that a body tells, of so many bytes.
+fn body_of<R: Source>(alloc: Global, reader: &mut R, head: FinalHead) -> Result<Delta, PullError>
+    requires { head.interrupted < too_many_interrupted }
+    ensures { (read : Result Frame TheStop) × (result ≡ told_by read)
+        × IsBodyRead head.size head.interrupted (R.stream reader.old)
+        (R.stream reader.new) (R.calls reader.old) (R.calls reader.new) read }
+{
+    let mut interrupted = head.interrupted;
+    match Delta::read(alloc, reader, head.size as u64, &mut interrupted) {
+        Ok(delta) => Ok(delta),
+        Err(stop) => Err(error_of(stop)),
+    }
+}
+
+/// The delta that an answer tells whose heads were read: its status is to be 200.
+fn delta_of<R: Source>(alloc: Global, reader: &mut R, head: FinalHead) -> Result<Delta, PullError>
+    requires { head.interrupted < too_many_interrupted }
+    ensures other { head.status ≢ 200 →
+        (result ≡ Err (OfHttp NotOffered)) × (reader.new ≡ reader.old) }
+    ensures body { head.status ≡ 200 → (read : Result Frame TheStop) × (result ≡ told_by read)
+        × IsBodyRead head.size head.interrupted (R.stream reader.old)
+        (R.stream reader.new) (R.calls reader.old) (R.calls reader.new) read }
+{
+    if head.status.as_u16() != 200 {
         return Err(PullError::Fault(Fault::NotOffered));
     }
-    match Delta::decode(alloc, response.body.as_slice()) {
-        Ok(delta) => Ok(delta),
-        Err(Refusal::BadFrame(place)) => Err(PullError::BadFrame(place)),
-        Err(_) => Err(PullError::Fault(Fault::NoMemory)),
+    body_of(alloc, reader, head)
+}
+
+/// The delta that the next response tells.
+pub fn answered<R: Source>(alloc: Global, reader: &mut R) -> Result<Delta, PullError>
+    ensures message { IfOk result (TellsDelta (R.stream reader.old)
+        (R.stream reader.new) (R.calls reader.old) (R.calls reader.new)) }
+    ensures error { IfErr result (StopsPull (R.stream reader.old)
+        (R.stream reader.new) (R.calls reader.old) (R.calls reader.new)) }
+    ensures found { IfSome (R.stream reader.old).left (λ input. IsFound input result) }
+{
+    match read_response_head(alloc, reader, MAX_FRAME_BYTES) {
+        Ok(head) => delta_of(alloc, reader, head),
+        Err(fault) => Err(PullError::Fault(fault)),
     }
 }

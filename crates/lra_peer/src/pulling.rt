@@ -1,52 +1,36 @@
 // Asking another node for what is lacked here.
-ghost use Rattle.std.specs.Prelude.{◌≡◌, ◌⊎◌, ◌++◌, List, ℕ, IfErr, IfOk, IfSome, MatchResult};
+ghost use Rattle.std.specs.Prelude.{◌≡◌, ◌⊎◌, ◌++◌, ⊤, List, ℕ, IfErr, IfOk, IfSome, MatchResult, OnOk};
 ghost use Rattle.lra_delta.specs.Frames.{Frame};
 ghost use Rattle.lra_delta.specs.Rules.{IsDelta};
 ghost use Rattle.lra_delta.specs.Encoding.{encoding};
-ghost use Rattle.lra_http.specs.Faults.{Stops};
-ghost use Rattle.lra_http.specs.Responses.{IsMessage, Shows};
-ghost use Rattle.lra_http.specs.Streams.{AllWell, GivesWhat, IsLost, OnReadFault};
-ghost use Rattle.lra_peer.specs.PullAnswers.{IsAnswer, IsOfStreams, IsSent, IsUnsent, IsUnsentBy, StopsPull, TellsDelta, max_frame_bytes, pull_reads};
+ghost use Rattle.lra_peer.specs.PullAnswers.{IsAnswer, IsOfStreams, IsSent, IsUnsent, IsUnsentBy, StopsPull, TellsDelta};
 ghost use Rattle.lra_peer.specs.Texts.{pull_text};
 
 use crate::PullError;
-use crate::answer::{MAX_FRAME_BYTES, delta_of};
+use crate::answer::answered;
 use crate::asking::pull_request;
 use lra_delta::Delta;
-use lra_http::{Fault, Response, Sink, Source, read_response, write_request};
+use lra_http::{Fault, Sink, Source, write_request};
 use lra_id::Front;
 use std::alloc::Global;
 
-fn exchange<R: Source, W: Sink>(
-    alloc: Global,
-    reader: &mut R,
-    writer: &mut W,
-    front: &Front,
-) -> Result<Response, Fault>
-    ensures message { IfOk result (λ response. IsSent (W.stream writer.old)
-        (W.stream writer.new) (W.calls writer.old) (W.calls writer.new) (pull_text front.now)
-        × GivesWhat (R.stream reader.old) (R.stream reader.new)
-        (λ bytes. IsMessage max_frame_bytes bytes response)
-        × AllWell pull_reads 0 (R.calls reader.old) (R.calls reader.new)) }
-    ensures fault { IfErr result (λ fault. IsUnsent (W.stream writer.old)
-        (W.stream writer.new) (W.calls writer.old) (W.calls writer.new) (pull_text front.now)
-        (reader.new ≡ reader.old) ((writer.new ≡ writer.old) × (reader.new ≡ reader.old)) fault
-        ⊎ (IsSent (W.stream writer.old)
-        (W.stream writer.new) (W.calls writer.old) (W.calls writer.new) (pull_text front.now)
-        × Stops (R.stream reader.old) (R.stream reader.new) (Shows max_frame_bytes) fault
-        × OnReadFault (IsLost pull_reads 0 (R.calls reader.old) (R.calls reader.new))
-        (AllWell pull_reads 0 (R.calls reader.old) (R.calls reader.new)) fault)) }
+/// Writes the request.
+fn ask<W: Sink>(alloc: Global, writer: &mut W, front: &Front) -> Result<(), Fault>
+    ensures sent { OnOk result (IsSent (W.stream writer.old)
+        (W.stream writer.new) (W.calls writer.old) (W.calls writer.new) (pull_text front.now)) }
+    ensures unsent { IfErr result (IsUnsent (W.stream writer.old) (W.stream writer.new)
+        (W.calls writer.old) (W.calls writer.new) (pull_text front.now) ⊤ (writer.new ≡ writer.old)) }
 {
     let request = pull_request(alloc, front)?;
-    write_request(alloc, writer, &request)?;
-    read_response(alloc, reader, MAX_FRAME_BYTES)
+    write_request(alloc, writer, &request)
 }
 
 /// Asks another node for what is lacked by one that has the facts which a front counts: writes the request of a pull, and reads
-/// the delta out of one response with status 200, whose body has at most 67,108,864 bytes. What is behind the response is left
-/// unread, for which its head is read one byte a call: over a socket a buffered reader goes below. It asks once, and applies
-/// nothing: what comes is for `lra_delta::prepare`, which also looks whether it is of as many nodes. Errors: each `Fault`, with
-/// NotOffered for another status, and E16 with its place where the body is no frame.
+/// the delta out of one response with status 200, whose body has at most 67,108,864 bytes, field by field as it comes. What is
+/// behind the response is left unread, for which its head is read one byte a call: over a socket a buffered reader goes below. It
+/// asks once, and applies nothing: what comes is for `lra_delta::prepare`, which also looks whether it is of as many nodes. Errors:
+/// each `Fault`, with NotOffered for another status, whose body is left unread, and E16 with its place where the body is no frame,
+/// behind whose first bad field nothing is read.
 pub fn pull<R: Source, W: Sink>(
     alloc: Global,
     reader: &mut R,
@@ -74,8 +58,8 @@ pub fn pull<R: Source, W: Sink>(
         input ≡ bytes ++ rest → IsDelta frame → IsAnswer bytes 200 (encoding frame) →
         MatchResult result (λ delta. delta ≡ frame) IsOfStreams) }
 {
-    match exchange(alloc, reader, writer, front) {
-        Ok(response) => delta_of(alloc, &response),
+    match ask(alloc, writer, front) {
+        Ok(()) => answered(alloc, reader),
         Err(fault) => Err(PullError::Fault(fault)),
     }
 }

@@ -12,8 +12,8 @@ use std::rc::Rc;
 use std::sync::Wait;
 use std::time::{Clock, Duration};
 
-/// How many bytes are read or written at once.
-const BUFFER: usize = 4096;
+/// How many bytes are read or written at once: a frame of many fields makes no more calls of the system than that.
+const BUFFER: usize = 8192;
 
 /// A buffered reader over a socket.
 pub type LineReader<'a, R> = OverRead<BufReader<Patient<'a, R>>>;

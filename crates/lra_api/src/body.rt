@@ -1,0 +1,67 @@
+// The body of an answer.
+ghost use Rattle.std.specs.Prelude.{◌≡◌};
+ghost use Rattle.lra_delta.specs.Encoding.{encoding};
+
+use lra_delta::Delta;
+use lra_http::{Bytes, Part, Sink, WriteFault};
+use std::marker::Model;
+
+/// What the body of an answer is written from.
+#[derive(Drop)]
+pub(crate) enum Kind<'a> {
+    Bytes(Bytes),
+    Frame(&'a Delta),
+}
+
+/// The body of an answer: bytes, or the encoding of a delta that is lent, which is made as it is written.
+#[derive(Drop)]
+pub struct Body<'a> {
+    kind: Kind<'a>,
+}
+
+impl<'a> Model for Body<'a> {
+    ghost use Rattle.std.specs.Prelude.{List, ℕ};
+    ghost use Rattle.lra_api.specs.AnswerBodies.{bytes_of};
+
+    ghost Value = { List ℕ };
+
+    ghost view = { λ b. bytes_of b.kind };
+}
+
+impl<'a> Body<'a> {
+    /// These bytes.
+    pub fn of_bytes(bytes: Vec<u8>) -> Body<'a>
+        ensures { result ≡ bytes.items }
+    {
+        Body {
+            kind: Kind::Bytes(Bytes::new(bytes)),
+        }
+    }
+
+    /// The bytes that encode this delta.
+    pub fn of_frame(delta: &'a Delta) -> Body<'a>
+        ensures { result ≡ encoding delta.now }
+    {
+        Body {
+            kind: Kind::Frame(delta),
+        }
+    }
+}
+
+impl<'a> Part for Body<'a> {
+    ghost text = { λ b. b };
+
+    fn length(&self) -> Option<u64> {
+        match &self.kind {
+            Kind::Bytes(bytes) => bytes.length(),
+            Kind::Frame(delta) => delta.length(),
+        }
+    }
+
+    fn write<W: Sink>(&self, sink: &mut W, interrupted: &mut u16) -> Result<(), WriteFault> {
+        match &self.kind {
+            Kind::Bytes(bytes) => bytes.write(sink, interrupted),
+            Kind::Frame(delta) => delta.write(sink, interrupted),
+        }
+    }
+}

@@ -1,0 +1,10 @@
+use Rattle.lra_peer.proofs.Pulled.{sent_of, unsent_of}
+use Rattle.lra_peer.proofs.pulling.ask.Goals as goal
+
+pub returns-clause-sent : goal.returns-clause-sent
+returns-clause-sent g c =
+    sent_of _ _ _ _ _ _ _ c.write_request.result c.in_ok-request.ensures c.write_request.ensures.ok c.write_request.ensures.streams
+
+pub returns-clause-unsent : goal.returns-clause-unsent
+returns-clause-unsent g c =
+    unsent_of _ _ _ _ _ _ _ c.write_request.result c.in_ok-request.ensures c.write_request.ensures.part c.write_request.ensures.streams
