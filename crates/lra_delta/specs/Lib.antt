@@ -3,7 +3,6 @@ pub mod FrameFields
 pub mod FrameSizes
 pub mod Frames
 pub mod Grammar
-pub mod Logs
 pub mod OneRecord
 pub mod Order
 pub mod Reading

@@ -49,7 +49,7 @@ Whole (Err e) s whole = MayBe e s whole
 abbrev pub widest : ℕ
 widest = 128
 
--- What a stop has as its cause. A fault comes before any byte behind its field is taken.
+-- What a stop has as its cause. From the place of a fault on no more are taken than the widest field has.
 abbrev pub HasReason : Stop → Seen → Type 0
 HasReason (Fault place) s = (place ≤ length s.taken) × (length s.taken ≤ place + widest)
 HasReason Cut s = (length s.taken < s.limit) × FoundEnd s.now.stream

@@ -87,8 +87,8 @@ pub record IsSound (s : Seen) : Type 0 where
 
 -- ---- what reading a frame says
 
--- Bytes show why no frame of so many stands there, whatever follows them; behind the end nothing does. A fault comes before any
--- byte behind its field is taken.
+-- Bytes show why no frame of so many stands there, whatever follows them; behind the end nothing does. From the place of a fault
+-- on no more are taken than the widest field has.
 abbrev pub Refuses : ℕ → Stop → List ℕ → Type 0
 Refuses bytes (Fault place) given =
     ((more : List ℕ) → read_of bytes (given ++ more) ≡ Err (Fault place)) × (place ≤ length given) × (length given ≤ place + widest)

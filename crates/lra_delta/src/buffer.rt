@@ -2,8 +2,8 @@
 ghost use Rattle.std.specs.Prelude.{◌≡◌, [], false, IfOk};
 ghost use Rattle.lra_delta.specs.WrittenSoFar.{no_sink};
 
-use crate::log::Log;
 use crate::output::Output;
+use lra_http::Log;
 use std::alloc::{AllocError, Global};
 
 /// A byte vector, until memory runs out.

@@ -2,8 +2,8 @@
 ghost use Rattle.std.specs.Prelude.{◌≡◌, ◌≤◌, ◌<◌, ◌%◌, ◌^◌, length, [], true, false, IfNone, IfSome};
 ghost use Rattle.lra_delta.specs.WrittenSoFar.{no_sink};
 
-use crate::log::Log;
 use crate::output::Output;
+use lra_http::Log;
 
 /// Counts the bytes that are put, and keeps none.
 #[derive(Drop)]

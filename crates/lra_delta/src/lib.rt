@@ -12,7 +12,6 @@ mod frame_encoding;
 mod frame_fields;
 mod input;
 pub mod laws;
-mod log;
 mod one_record;
 mod order;
 mod output;

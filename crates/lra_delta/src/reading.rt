@@ -14,10 +14,11 @@ use lra_http::Source;
 use std::alloc::Global;
 
 impl Delta {
-    /// A frame of exactly so many bytes, read from a source field by field, each in one call where the bytes are there: over a
-    /// socket a buffered reader goes below. What is behind them is left unread. `interrupted` counts the interrupted calls of the
-    /// message that they belong to. E16 at the place of the first field that isn't whole within the frame or breaks its rule, and
-    /// nothing is read behind that field; `Cut` or `ReadFault` where the source ends or fails before a field is whole.
+    /// A frame of exactly so many bytes, read from a source number by number and text by text: over a socket a buffered reader
+    /// goes below. What is behind them is left unread. `interrupted` counts the interrupted calls of the message that they belong
+    /// to. E16 at the place of the first field that isn't whole within the frame or breaks its rule; from there on at most 128
+    /// bytes were read, which the widest field has. `Cut` or `ReadFault` where the source ends or fails before such a field is
+    /// whole.
     pub fn read<S: Source>(
         alloc: Global,
         reader: &mut S,

@@ -5,8 +5,7 @@ ghost use Rattle.lra_http.specs.Streams.{too_many_interrupted};
 ghost use Rattle.lra_delta.specs.Sources.{IsSound, Stands, Takes, consumes_is_fact, most_calls, of_source, of_stream, stands_is_fact};
 
 use crate::input::{Input, Stop};
-use crate::log::Log;
-use lra_http::{Source, read_piece};
+use lra_http::{Log, Source, read_piece};
 use std::snapshot::Snapshot;
 
 /// How far a stream is.

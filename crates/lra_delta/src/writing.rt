@@ -9,9 +9,8 @@ ghost use Rattle.lra_delta.specs.WrittenSoFar.{Blames, appends_is_fact, blames_i
 
 use crate::Delta;
 use crate::frame_encoding::put_frame;
-use crate::log::Log;
 use crate::output::Output;
-use lra_http::{Sink, WriteFault, write_all};
+use lra_http::{Log, Sink, WriteFault, write_all};
 use std::snapshot::Snapshot;
 
 /// What clauses read of a sink: how it was at the start, and what was put since. It stands outside of `Writing`, since a struct
@@ -87,7 +86,7 @@ impl<'a, W: Sink> Output for Writing<'a, W> {
 }
 
 impl Delta {
-    /// Writes the bytes that encode it, field by field and each in one call, or a prefix of them before a fault: over a socket a
+    /// Writes the bytes that encode it, number by number and text by text, or a prefix of them before a fault: over a socket a
     /// buffered writer goes below. It takes no memory. `interrupted` counts the interrupted calls of the message that they
     /// belong to.
     #[tactic(auto, using(crate::proofs::PartsPut::part_put))]

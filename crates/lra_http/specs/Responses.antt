@@ -195,8 +195,8 @@ pub record IsHeadRead (limit : ℕ) (given : List ℕ) (code size : ℕ) : Type 
   pub status : code ≡ status_code head
   pub short : length given ≤ max_head_bytes
 
--- the bytes, which are of heads alone, show why no final head that states a body stands there; where they ended or a read failed,
--- no final head had come
+-- the bytes, none of which stands behind a final head, show why no final head that states a body stands there; where they ended or
+-- a read failed, no final head had come
 pub record ShowsNoHead (limit : ℕ) (bytes : List ℕ) (fault : Fault) : Type 0 where
   pub shows : Shows limit bytes fault
   pub short : length bytes ≤ max_head_bytes + 1

@@ -24,6 +24,7 @@ pub use bytes::{ReadFault, TOO_MANY_INTERRUPTED, WriteFault, flush, read_byte, w
 pub use count::Count;
 pub use fault::Fault;
 pub use head::{MAX_HEAD_BYTES, MAX_HEAD_LINES};
+pub use log::Log;
 pub use message::{Bytes, CallRequest, Field, Fields, Request, Response, Text};
 pub use over::{OverRead, OverWrite};
 pub use part::Part;

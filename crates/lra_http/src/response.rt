@@ -111,7 +111,7 @@ pub fn read_response_head<S: Source>(
     ensures head { IfOk result (λ head. GivesWhat (S.stream source.old) (S.stream source.new)
         (λ given. IsHeadRead limit given head.status head.size)) }
     ensures bound { IfOk result (λ head. head.size ≤ limit) }
-    // What is given before each fault shows it, whatever follows, and is of heads alone.
+    // What is given before each fault shows it, and none of it stands behind a final head.
     ensures fault { IfErr result
         (Stops (S.stream source.old) (S.stream source.new) (ShowsNoHead limit)) }
     // A read fault has its cause, no call follows one that failed, and there are at most so many.

@@ -186,7 +186,7 @@ module _ {R : Type 0} (stream : R → GivenBytes) (calls : R → Calls) (r0 r1 r
       record {
         bytes = head.0 ++ s.given;
         gives = gives_more (stream r0) (stream r1) (stream r2) head.0 s.given head.1 s.gives;
-        refuses = inr (inr (size, s.given, stop, record { heads = head.0; split = refl; head = offered ok }, s.refuses, refl));
+        refuses = inr (inr (size, s.given, stop, record { heads = head.0; split = refl; short = s.short; head = offered ok }, s.refuses, refl));
         ended = λ e. s.ended (is_cut stop e);
         reads = stop_calls (calls r0) (calls r1) (calls r2) size count fits counted well stop is.calls;
       }

@@ -1,5 +1,5 @@
 -- What comes of a pull.
-use Rattle.std.specs.Prelude.{◌≡◌, ◌≢◌, ◌⊎◌, ℕ, ◌+◌, List, [], ◌++◌, length, take, Result, Ok, Err, IfErr, IfOk, IfSome, MatchResult}
+use Rattle.std.specs.Prelude.{◌≡◌, ◌≢◌, ◌⊎◌, ℕ, ◌+◌, ◌≤◌, List, [], ◌++◌, length, take, Result, Ok, Err, IfErr, IfOk, IfSome, MatchResult}
 use Rattle.httparse.specs.Grammar.{ResponseHead, status_code}
 use Rattle.lra_delta.specs.Frames.{Frame}
 use Rattle.lra_delta.specs.Reading.{read_of}
@@ -52,10 +52,11 @@ pub record IsAnswer (bytes : List ℕ) (status : ℕ) (body : List ℕ) : Type 0
 abbrev pub IsOther : List ℕ → Type 0
 IsOther bytes = (status : ℕ) × (size : ℕ) × IsHeadRead max_frame_bytes bytes status size × (status ≢ 200)
 
--- the heads state status 200 and a body of so many bytes, of which these were given
+-- the heads state status 200 and a body of so many bytes, of which these were given, and no byte behind it
 pub record IsOffered (bytes : List ℕ) (size : ℕ) (body : List ℕ) : Type 0 where
   pub heads : List ℕ
   pub split : bytes ≡ heads ++ body
+  pub short : length body ≤ size
   pub head : IsHeadRead max_frame_bytes heads 200 size
 
 -- what stops the reading of a frame, as an error
@@ -65,7 +66,7 @@ error_of CutShort = Fault Cut
 error_of ReadFailed = Fault ReadFault
 error_of Memory = Fault NoMemory
 
--- the body shows why it is no frame, whatever follows
+-- what was given of the body shows why it is no frame, whatever follows; before a cut or a failed read no field had broken its rule
 abbrev pub RefusesBody : List ℕ → PullError → Type 0
 RefusesBody bytes error =
     (size : ℕ) × (body : List ℕ) × (stop : Stop) × IsOffered bytes size body × Refuses size stop body × (error ≡ error_of stop)

@@ -11,7 +11,8 @@ pub enum PullError {
     /// The request was not written, or no whole response was read: `NotOffered` also where its status is not 200, and
     /// `NoMemory` also where memory ran out elsewhere in the call.
     Fault(Fault),
-    /// E16: the body of the response is no frame. The place of its first field that isn't whole or breaks its rule.
+    /// E16: the body of the response is no frame, whatever follows of it. The place of its first field that isn't whole within the
+    /// stated length or breaks its rule.
     BadFrame(u64),
 }
 

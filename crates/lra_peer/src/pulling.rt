@@ -29,8 +29,8 @@ fn ask<W: Sink>(alloc: Global, writer: &mut W, front: &Front) -> Result<(), Faul
 /// the delta out of one response with status 200, whose body has at most 67,108,864 bytes, field by field as it comes. What is
 /// behind the response is left unread, for which its head is read one byte a call: over a socket a buffered reader goes below. It
 /// asks once, and applies nothing: what comes is for `lra_delta::prepare`, which also looks whether it is of as many nodes. Errors:
-/// each `Fault`, with NotOffered for another status, whose body is left unread, and E16 with its place where the body is no frame,
-/// behind whose first bad field nothing is read.
+/// each `Fault`, with NotOffered for another status, whose body is left unread; and E16 with its place where the body is no frame,
+/// as soon as its first bad field has come.
 pub fn pull<R: Source, W: Sink>(
     alloc: Global,
     reader: &mut R,
