@@ -20,7 +20,7 @@ Made by `python3 docs/calls.py` from the code; laws, which do nothing, stand in 
 - **Unchanged**: the clauses that say what stays after an error. A dash: the call takes nothing by `&mut`, has no error, or says it in the clause of its refusals (`start_run`, `serve_one`).
 
 """
-IGNORED = {"lra_answers", "lra_calls", "lra_served", "lra_scripts"}
+IGNORED = {"test_answers", "test_calls", "test_server", "test_script"}
 
 
 def calls_of(path):

@@ -1,21 +1,20 @@
 -- What was given has to do with what comes of a pull.
-use Rattle.std.proofs.Common.{◌≡◌, ◌≢◌, ◌∙◌, ◌⊎◌, ℕ, ◌+◌, List, [], ◌++◌, Option, None, Some, Result, Ok, Err, IfErr, IfOk, IfSome, MatchResult, OnErr, OnOk, ◌<◌, ◌≤◌, ap, append-nil, arith, inl, inr, length, refl, subst, sym, take}
+use Rattle.std.proofs.Common.{◌≡◌, ◌≢◌, ◌∙◌, ◌⊎◌, ℕ, ◌+◌, List, [], ◌++◌, Option, None, Some, Result, Ok, Err, IfErr, IfOk, IfSome, MatchResult, OnErr, OnOk, ◌≤◌, ap, append-nil, arith, inl, inr, length, refl, subst, sym, take}
 use Rattle.std.specs.Prelude.{⊤}
 use Rattle.std.specs.Io.KnownBytes.{Consumes}
 use Rattle.std.proofs.lemmas.Bool.{cases_eq}
 use Rattle.std.proofs.lemmas.List.{take_at}
 use Rattle.httparse.specs.Grammar.{ResponseHead, status_code}
 use Rattle.lra_delta.specs.Frames.{Frame}
-use Rattle.lra_delta.specs.Reading.{frame_in, read_of}
-use Rattle.lra_delta.specs.Sources.{OnReadFault as OnReadStop, ReadsCalls, Says, StopsReading}
+use Rattle.lra_delta.specs.Reading.{read_of}
+use Rattle.lra_delta.specs.Sources.{OnReadFault as OnReadStop, Says}
 use Rattle.lra_delta.specs.declared.input.Stop.{Stop}
 use Rattle.lra_delta.specs.declared.input.Stop.TheVariants.{Fault as FaultAt, Cut as CutShort, ReadFault as ReadFailed, Memory}
 use Rattle.lra_delta.proofs.FrameCodes.{frame_again}
-use Rattle.lra_delta.specs.Rules.{IsDelta}
 use Rattle.lra_delta.specs.Encoding.{encoding}
 use Rattle.lra_http.specs.Faults.{Stops}
 use Rattle.lra_http.specs.Responses.{HasFinal, IsHeadRead, IsResponse, Shows, ShowsNoHead, head_room, stated}
-use Rattle.lra_http.specs.Streams.{AllWell, Calls, GivenBytes, Gives, GivesWhat, IsFlushed, IsLost, OnReadFault, OnWriteFault, TakenBytes, Takes, TakesPart, Writes}
+use Rattle.lra_http.specs.Streams.{AllWell, Calls, GivenBytes, GivesWhat, IsFlushed, IsLost, OnReadFault, OnWriteFault, TakenBytes, Takes, TakesPart, Writes}
 use Rattle.lra_http.specs.declared.fault.Fault.{Fault as HttpFault}
 use Rattle.lra_http.specs.declared.fault.Fault.TheVariants.{Cut, ReadFault, WriteFault, HeadTooLong, BodyTooLong, BadHead, LengthNeeded, NotOffered, NoMemory}
 use Rattle.lra_http.proofs.Calling.{fault_then, lost_then, well_none, well_then}
@@ -25,7 +24,7 @@ use Rattle.lra_http.proofs.Left.{response_found}
 use Rattle.lra_http.proofs.Messages.{unique_final}
 use Rattle.lra_peer.specs.PullAnswers.{IsAnswer, IsBodyRead, IsFound, IsOfStreams, IsSent, IsUnsent, Reads, StopsPull, TellsDelta, error_of, max_frame_bytes, pull_reads, told_by}
 use Rattle.lra_peer.specs.declared.error.PullError.{PullError}
-use Rattle.lra_peer.specs.declared.error.PullError.TheVariants.{Fault, BadFrame}
+use Rattle.lra_peer.specs.declared.error.PullError.TheVariants.{Fault}
 
 -- ---- what was written
 

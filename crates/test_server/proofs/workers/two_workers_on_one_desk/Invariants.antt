@@ -1,6 +1,6 @@
 -- The ledger and the opening of the run.
 use Rattle.std.specs.Prelude.{false}
-use Rattle.lra_served.proofs.workers.two_workers_on_one_desk.Given as goal
+use Rattle.test_server.proofs.workers.two_workers_on_one_desk.Given as goal
 
 abbrev pub ghosts-by_two-J-Ledger : goal.ghosts-by_two-J-Ledger
 ghosts-by_two-J-Ledger g a = record { name = a.blank.name; parts = a.blank.parts }
