@@ -1,6 +1,7 @@
 #!/usr/bin/env python3
 """Proves some functions of a crate over whatever is built below it: `python3 tests/only.py CRATE FUNCTION..`, each FUNCTION a path as a
-check prints it, or its end, as `pulling::pull`. Words that begin with -- go to `rattle check`, as --allow-holes or --fix-imports.
+check prints it, or its end, as `pulling::pull`. The first word that begins with -- and all behind it go to `rattle check`, as
+--allow-holes, --fix-imports or --jobs 1.
 
 A library below the crate is taken as it stands built in crates/NAME/out/rlib here, or in the folders that BUILT names (as a clone in
 which `rt ci` runs), if it and all below it are built; else its sources are read, and of it only what the functions call is proved. So
@@ -53,9 +54,10 @@ def words(kit, name, libraries):
 def main():
     name, rest = sys.argv[1], sys.argv[2:]
     kit = os.path.dirname(subprocess.run(["rt", "doc"], capture_output=True, text=True, check=True).stdout.strip())
-    flags = [it for it in rest if it.startswith("--")]
-    for it in rest:
-        flags += [] if it.startswith("--") else ["--only", it]
+    end = next((i for i, it in enumerate(rest) if it.startswith("--")), len(rest))
+    flags = rest[end:]
+    for it in rest[:end]:
+        flags += ["--only", it]
     return subprocess.run([f"{kit}/bin/rattle", "check", *words(kit, name, crates()), *flags], cwd=f"{TOP}/crates/{name}").returncode
 
 
