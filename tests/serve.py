@@ -4,6 +4,7 @@
 PROGRAM is crates/lra_node/out/lra_node, which ./coordinator builds, or --unproved (demo/unproved.py). Each check prints a line; the
 status is 1 where one fails."""
 import http.server
+import json
 import os
 import shutil
 import socket
@@ -110,6 +111,23 @@ def restart(folder, lra, trip):
             check(f"the journal of node {i} is whole", database.execute("PRAGMA integrity_check").fetchone() == ("ok",))
 
 
+def written_earlier(folder):
+    """Journals that an earlier program wrote (tests/data/journal-1) are opened, and show what that program showed."""
+    data = f"{os.path.dirname(os.path.abspath(__file__))}/data/journal-1"
+    for node in (1, 2):
+        shutil.copy(f"{data}/node-{node}.db", folder)
+    with open(f"{data}/shown.json", encoding="utf-8") as file:
+        rows = json.load(file)
+    server = Server(2, folder).wait_until_up()
+    for row in rows:
+        lra, node = row["lra"], row["node"]
+        seen = {"status": status(lra, node), "members": {m: ask("GET", f"/lra/{lra}/member/{m}", node=node)[1].get("status") for m in row.get("members", {})}}
+        right = {"status": row.get("status", row.get("refused")), "members": row.get("members", {})}
+        check(f"a journal of earlier: node {node}, {row['what']}", seen == right, seen)
+    ended = server.end()
+    check("and it ends", ended == (0, ""), ended)
+
+
 def hanging(folder):
     """One that takes connections and never answers, in eight LRAs, beside one that answers."""
     server, part = Server(1, folder).wait_until_up(), Participant()
@@ -188,6 +206,8 @@ def main():
         Server.program = unproved.program_of(sys.argv[1])
     with tempfile.TemporaryDirectory() as folder:
         restart(folder, *three_nodes(folder))
+    with tempfile.TemporaryDirectory() as folder:
+        written_earlier(folder)
     with tempfile.TemporaryDirectory() as folder:
         hanging(folder)
     with tempfile.TemporaryDirectory() as folder:
