@@ -1,28 +1,35 @@
-"""What `benches/run.sh pull` runs behind its program: a pull of the largest frame that full homes give, from the server to that program,
-with the resident memory of both before, during and after, by Linux's /proc. pull.py SERVER PROGRAM"""
+"""What `benches/run.sh pull` runs behind its program: pulls of the largest frame that full homes give, from the server, with its resident
+memory before, at most and after, by Linux's /proc. pull.py SERVER"""
 import http.client
 import json
 import os
 import re
+import socket
 import subprocess
 import sys
 import tempfile
 import threading
 import time
 
-SERVER, PROGRAM = map(os.path.abspath, sys.argv[1:3])
+SERVER = os.path.abspath(sys.argv[1])
 PORT, NODES, LRAS, PARTICIPANTS = 18650, 8, 256, 32
 LINK = "http://p/" + "a" * 118
+BODY = bytes([NODES]) + bytes(8 * NODES)
+PULL = f"POST /peer/pull HTTP/1.1\r\nHost: peer\r\nContent-Length: {len(BODY)}\r\n\r\n".encode() + BODY
 
 
 def ask(port, method, path, body=None):
-    """One request over a connection of its own. A 503 between two runs is asked again."""
+    """One request over a connection of its own. One that meets the end of a run is made again."""
     while True:
         connection = http.client.HTTPConnection("127.0.0.1", port, timeout=30)
-        connection.request(method, path, None if body is None else json.dumps(body))
-        answer = connection.getresponse()
-        text = answer.read()
-        connection.close()
+        try:
+            connection.request(method, path, None if body is None else json.dumps(body))
+            answer = connection.getresponse()
+            text = answer.read()
+        except (http.client.HTTPException, ConnectionError):
+            continue
+        finally:
+            connection.close()
         if answer.status != 503:
             return json.loads(text) if text else None
 
@@ -56,9 +63,20 @@ def shown(port):
     return count
 
 
+def pull(port):
+    """How many bytes a pull of all is answered with, and in how many seconds."""
+    began, count = time.time(), 0
+    with socket.create_connection(("127.0.0.1", port)) as connection:
+        connection.sendall(PULL)
+        while some := connection.recv(1 << 16):
+            count += len(some)
+    return count, time.time() - began
+
+
 def main():
     with tempfile.TemporaryDirectory(dir=".") as folder:
-        server = subprocess.Popen([SERVER, "serve", str(NODES), str(PORT), folder], stdin=subprocess.PIPE)
+        words = [SERVER, "serve", str(NODES), str(PORT), folder]
+        server = subprocess.Popen(words, stdin=subprocess.PIPE)
         time.sleep(2)
         began = time.time()
         threads = [threading.Thread(target=fill, args=(PORT + i,)) for i in range(NODES)]
@@ -66,33 +84,25 @@ def main():
             it.start()
         for it in threads:
             it.join()
-        print(f"{NODES} homes filled in {time.time() - began:.0f} s")
+        print(f"{NODES} homes filled in {time.time() - began:.0f} s", flush=True)
         while shown(PORT) < NODES * LRAS:
             time.sleep(1)
         # what the nodes still tell one another, and the runs that keep it
         time.sleep(20)
         for _ in range(3):
-            pull(server)
+            before = memory(server, "VmRSS")
+            forget(server)
+            count, spent = pull(PORT)
+            most, after = memory(server, "VmHWM"), memory(server, "VmRSS")
+            print(f"{count} bytes in {spent * 1000:.0f} ms; MiB before {before:.1f}, at most {most:.1f}, after {after:.1f}", flush=True)
+            time.sleep(2)
         server.stdin.close()
         server.wait(60)
-
-
-def pull(server):
-    asker = subprocess.Popen([PROGRAM, "ask", str(PORT)], stdin=subprocess.PIPE, stdout=subprocess.PIPE, text=True)
-    asker.stdout.readline()
-    before = memory(server, "VmRSS"), memory(asker, "VmRSS")
-    forget(server)
-    forget(asker)
-    asker.stdin.write("\n")
-    asker.stdin.flush()
-    print(asker.stdout.readline().strip())
-    asker.stdout.readline()
-    print("MiB          before    most   after")
-    for name, process, was in (("the server", server, before[0]), ("the asker", asker, before[1])):
-        print(f"{name:11} {was:7.1f} {memory(process, 'VmHWM'):7.1f} {memory(process, 'VmRSS'):7.1f}")
-    asker.stdin.write("\n")
-    asker.stdin.close()
-    asker.wait(60)
+        server = subprocess.Popen(words, stdin=subprocess.PIPE)
+        time.sleep(45)
+        print(f"behind a start over such journals: MiB {memory(server, 'VmRSS'):.1f}, at most {memory(server, 'VmHWM'):.1f}")
+        server.stdin.close()
+        server.wait(60)
 
 
 main()

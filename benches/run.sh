@@ -8,7 +8,7 @@
 #   merge    the merge of two replicas of a home, each with news of the other, and the union of the lists of their facts
 #   frame    frames of 16, 64 and 256 records that are spelled and read, and one of a changed record that is taken
 #   news     the frame of one changed record, by the index and by a look at each record
-#   pull     a frame of 256 records over readers and writers, beside bytes; and a pull of 33 MB from the server (python3, and ./coordinator first)
+#   pull     a frame of 256 records over readers and writers, beside bytes; and a pull of 33 MB from the server (python3, and ./coordinator before)
 #   world    runs of a world of 2 and 8 nodes, at homes of 16 and 256 LRAs
 #   http     requests of 200 bytes, 1 KiB and 64 KiB that are read, from memory and through a buffer, and their parser alone
 #   api      requests that a clerk serves from memory to memory, with a journal in memory, and their parser alone
@@ -24,9 +24,9 @@ cp "$top/benches/$name/main.rt.txt" "$copy/crates/bench_$name/src/main.rt"
 uses="lra_id lra_states lra_facts lra_forest lra_history lra_replica lra_delta lra_world lra_http lra_callback anyhow"
 if [ "$name" = http ]; then uses="lra_http httparse anyhow"; fi
 if [ "$name" = api ]; then uses="lra_id lra_http lra_book lra_api httparse sqlite anyhow"; fi
-if [ "$name" = pull ]; then uses="lra_id lra_facts lra_replica lra_delta lra_http lra_peer anyhow"; fi
+if [ "$name" = pull ]; then uses="lra_id lra_facts lra_replica lra_delta lra_http anyhow"; fi
 if [ "$name" = journal ]; then uses="lra_id lra_facts lra_history lra_replica lra_delta lra_journal sqlite anyhow"; fi
 echo "bench_$name: $uses" >> "$copy/crates.txt"
 cd "$copy" && git init -q . && cd "crates/bench_$name" && rt run
 if [ "$name" = journal ]; then python3 "$top/benches/journal.py" out/bench_journal; fi
-if [ "$name" = pull ]; then python3 "$top/benches/pull.py" "$top/crates/lra_node/out/lra_node" out/bench_pull; fi
+if [ "$name" = pull ]; then python3 "$top/benches/pull.py" "$top/crates/lra_node/out/lra_node"; fi
