@@ -6,9 +6,7 @@ use Rattle.std.proofs.lemmas.List.{take_at, drop_at, take-append-drop, length-ap
 use Rattle.std.specs.List.{flat_map}
 use Rattle.std.proofs.lemmas.List.Concat.{flat_map-cons}
 use Rattle.std.proofs.lemmas.Nat.{be_bytes_2, be_bytes_4, be_bytes_8, from_be_bytes-to_be_bytes_2, from_be_bytes-to_be_bytes_4, from_be_bytes-to_be_bytes_8}
-use Rattle.lra_delta.specs.declared.input.Stop.{Stop}
-use Rattle.lra_delta.specs.declared.input.Stop.TheVariants.{Fault, Cut, ReadFault, Memory}
-use Rattle.lra_delta.specs.FrameFields.{Rest, Read, ◌>>=◌, past, cells_at, whole_at, number_at, each_at, Along}
+use Rattle.lra_delta.specs.FrameFields.{Rest, Read, Halt, Short, Broken, ◌>>=◌, past, cells_at, whole_at, number_at, each_at, Along}
 
 abbrev pub IsBytes : List ℕ → Type 0
 IsBytes bytes = (i : ℕ) → get_or bytes i 0 < 256
@@ -65,10 +63,8 @@ IsThere r = r.limit ≤ r.place + length r.ahead
 -- the input's end wasn't met
 abbrev pub Uncut : {A : Type 0} → Read A → Type 0
 Uncut (Ok x) = IsThere x.1
-Uncut (Err Cut) = ⊥
-Uncut (Err (Fault place)) = Unit {0}
-Uncut (Err ReadFault) = ⊥
-Uncut (Err Memory) = ⊥
+Uncut (Err Short) = ⊥
+Uncut (Err (Broken place reach)) = Unit {0}
 
 -- What is read keeps the rules and is encoded so; what is encoded so is read.
 pub record IsCode {A : Type 0} (scan : Rest → Read A) (encode : A → List ℕ) (Fits : A → Type 0) : Type 0 where
@@ -78,25 +74,23 @@ pub record IsCode {A : Type 0} (scan : Rest → Read A) (encode : A → List ℕ
 
 pub uncut_bind : {A B : Type 0} (m : Read A) (k : A × Rest → Read B) → Uncut m → ((x : A × Rest) → m ≡ Ok x → IsThere x.1 → Uncut (k x)) → Uncut (m >>= k)
 uncut_bind (Ok x) k u h = h x refl u
-uncut_bind (Err (Fault place)) k u h = tt
-uncut_bind (Err Cut) k u h = absurd u
-uncut_bind (Err ReadFault) k u h = absurd u
-uncut_bind (Err Memory) k u h = absurd u
+uncut_bind (Err (Broken place reach)) k u h = tt
+uncut_bind (Err Short) k u h = absurd u
 
-pub uncut_if : {A : Type 0} (b : Bool) (place : ℕ) (m : Read A) → Uncut m → Uncut (cond b m (Err (Fault place)))
-uncut_if true place m u = u
-uncut_if false place m u = tt
+pub uncut_if : {A : Type 0} (b : Bool) (place reach : ℕ) (m : Read A) → Uncut m → Uncut (cond b m (Err (Broken place reach)))
+uncut_if true place reach m u = u
+uncut_if false place reach m u = tt
 
-pub uncut_unless : {A : Type 0} (b : Bool) (place : ℕ) (m : Read A) → (b ≡ false → Uncut m) → Uncut (cond b (Err (Fault place)) m)
-uncut_unless true place m u = tt
-uncut_unless false place m u = u refl
+pub uncut_unless : {A : Type 0} (b : Bool) (place reach : ℕ) (m : Read A) → (b ≡ false → Uncut m) → Uncut (cond b (Err (Broken place reach)) m)
+uncut_unless true place reach m u = tt
+uncut_unless false place reach m u = u refl
 
 -- the value of a step that did not fail
-pub bind_ok : {A B : Type 0} (r : Result A Stop) (f : A → Result B Stop) (y : B) → (r >>= f) ≡ Ok y → (x : A) × (r ≡ Ok x) × (f x ≡ Ok y)
+pub bind_ok : {A B : Type 0} (r : Result A Halt) (f : A → Result B Halt) (y : B) → (r >>= f) ≡ Ok y → (x : A) × (r ≡ Ok x) × (f x ≡ Ok y)
 bind_ok (Ok x) f y e = (x, refl, e)
 bind_ok (Err d) f y e = absurd cc
 
-abbrev done : {A : Type 0} → A → Result A Stop
+abbrev done : {A : Type 0} → A → Result A Halt
 done x = Ok x
 
 pub ok_is : {A : Type 0} (x y : A) → done x ≡ done y → x ≡ y
@@ -233,32 +227,32 @@ wide64 = record {
 }
 
 -- two tests passed
-tests_ok : {A : Type 0} (b c : Bool) (d e : Stop) (x y : A) → cond b (Err d) (cond c (Err e) (Ok x)) ≡ Ok y → (b ≡ false) × (c ≡ false) × (x ≡ y)
+tests_ok : {A : Type 0} (b c : Bool) (d e : Halt) (x y : A) → cond b (Err d) (cond c (Err e) (Ok x)) ≡ Ok y → (b ≡ false) × (c ≡ false) × (x ≡ y)
 tests_ok true c d e x y h = absurd cc
 tests_ok false true d e x y h = absurd cc
 tests_ok false false d e x y h = (refl, refl, cc)
 
-unless_ok : {A : Type 0} (b : Bool) (e : Stop) (m : Result A Stop) (y : A) → cond b (Err e) m ≡ Ok y → (b ≡ false) × (m ≡ Ok y)
+unless_ok : {A : Type 0} (b : Bool) (e : Halt) (m : Result A Halt) (y : A) → cond b (Err e) m ≡ Ok y → (b ≡ false) × (m ≡ Ok y)
 unless_ok true e m y h = absurd cc
 unless_ok false e m y h = (refl, h)
 
-pub rule_ok : {A : Type 0} (b : Bool) (e : Stop) (x y : A) → cond b (Ok x) (Err e) ≡ Ok y → (b ≡ true) × (x ≡ y)
+pub rule_ok : {A : Type 0} (b : Bool) (e : Halt) (x y : A) → cond b (Ok x) (Err e) ≡ Ok y → (b ≡ true) × (x ≡ y)
 rule_ok true e x y h = (refl, cc)
 rule_ok false e x y h = absurd cc
 
 -- a rule on what is read
 pub ruled : {A : Type 0} {scan : Rest → Read A} {encode : A → List ℕ} {Fits : A → Type 0} → IsCode scan encode Fits → (rule : A → Bool)
-    → IsCode (λ r. scan r >>= λ x. cond (rule x.0) (Ok x) (Err (Fault r.place))) encode (λ a. Fits a × (rule a ≡ true))
+    → IsCode (λ r. scan r >>= λ x. cond (rule x.0) (Ok x) (Err (Broken r.place x.1.place))) encode (λ a. Fits a × (rule a ≡ true))
 ruled {A} {scan} {encode} {Fits} code rule = record {
   takes = λ r bytes well a r' e.
-      let k : A × Rest → Read A = λ x. cond (rule x.0) (Ok x) (Err (Fault r.place)) in
+      let k : A × Rest → Read A = λ x. cond (rule x.0) (Ok x) (Err (Broken r.place x.1.place)) in
       let b = bind_ok (scan r) k (a, r') e in
-      let g = rule_ok (rule b.0.0) (Fault r.place) b.0 (a, r') b.2 in
+      let g = rule_ok (rule b.0.0) (Broken r.place b.0.1.place) b.0 (a, r') b.2 in
       let t = code.takes r bytes well b.0.0 b.0.1 b.1 in
       let P : A × Rest → Type 0 = λ y. (Fits y.0 × (rule y.0 ≡ true)) × Takes r (encode y.0) y.1 × IsBytes y.1.ahead in
       subst P g.1 ((t.0, g.0), t.1, t.2);
   again = λ a f r r' t. rw (code.again a f.0 r r' t, f.1) refl;
-  uncut = λ r bytes well there. uncut_bind (scan r) _ (code.uncut r bytes well there) (λ x e here. uncut_if (rule x.0) r.place (Ok x) here);
+  uncut = λ r bytes well there. uncut_bind (scan r) _ (code.uncut r bytes well there) (λ x e here. uncut_if (rule x.0) r.place x.1.place (Ok x) here);
 }
 
 -- the last part, or the one part of a case
@@ -292,15 +286,15 @@ refit code to from = record {
 
 -- a fault at the field's first byte where it isn't whole
 pub guarded : {A : Type 0} {scan : Rest → Read A} {encode : A → List ℕ} {Fits : A → Type 0} (size : ℕ) → IsCode scan encode Fits → ((a : A) → Fits a → length (encode a) ≡ size)
-    → IsCode (λ r. cond (ltb r.limit (r.place + size)) (Err (Fault r.place)) (scan r)) encode Fits
+    → IsCode (λ r. cond (ltb r.limit (r.place + size)) (Err (Broken r.place r.place)) (scan r)) encode Fits
 guarded {A} {scan} {encode} {Fits} size code is_size = record {
   takes = λ r bytes well a r' e.
-      let g = unless_ok (ltb r.limit (r.place + size)) (Fault r.place) (scan r) (a, r') e in
+      let g = unless_ok (ltb r.limit (r.place + size)) (Broken r.place r.place) (scan r) (a, r') e in
       code.takes r bytes well a r' g.1;
   again = λ a f r r' t.
       let one : ltb r.limit (r.place + size) ≡ false = le-ltb _ _ (omega (arith, t.place, t.limit, t.within, is_size a f)) in
       rw one (code.again a f r r' t);
-  uncut = λ r bytes well there. uncut_unless (ltb r.limit (r.place + size)) r.place (scan r) (λ _. code.uncut r bytes well there);
+  uncut = λ r bytes well there. uncut_unless (ltb r.limit (r.place + size)) r.place r.place (scan r) (λ _. code.uncut r bytes well there);
 }
 
 -- ---- one after the other
@@ -342,23 +336,23 @@ each_code {S} {A} {item} {next} {encode} {Fits} code (suc n) s = record {
 
 -- a rule whose fault is at a place before
 pub ruled_at : {A : Type 0} {scan : Rest → Read A} {encode : A → List ℕ} {Fits : A → Type 0} (first : ℕ) → IsCode scan encode Fits → (rule : A → Bool)
-    → IsCode (λ r. scan r >>= λ x. cond (rule x.0) (Ok x) (Err (Fault first))) encode (λ a. Fits a × (rule a ≡ true))
+    → IsCode (λ r. scan r >>= λ x. cond (rule x.0) (Ok x) (Err (Broken first x.1.place))) encode (λ a. Fits a × (rule a ≡ true))
 ruled_at {A} {scan} {encode} {Fits} first code rule = record {
   takes = λ r bytes well a r' e.
-      let k : A × Rest → Read A = λ x. cond (rule x.0) (Ok x) (Err (Fault first)) in
+      let k : A × Rest → Read A = λ x. cond (rule x.0) (Ok x) (Err (Broken first x.1.place)) in
       let b = bind_ok (scan r) k (a, r') e in
-      let g = rule_ok (rule b.0.0) (Fault first) b.0 (a, r') b.2 in
+      let g = rule_ok (rule b.0.0) (Broken first b.0.1.place) b.0 (a, r') b.2 in
       let t = code.takes r bytes well b.0.0 b.0.1 b.1 in
       let P : A × Rest → Type 0 = λ y. (Fits y.0 × (rule y.0 ≡ true)) × Takes r (encode y.0) y.1 × IsBytes y.1.ahead in
       subst P g.1 ((t.0, g.0), t.1, t.2);
   again = λ a f r r' t. rw (code.again a f.0 r r' t, f.1) refl;
-  uncut = λ r bytes well there. uncut_bind (scan r) _ (code.uncut r bytes well there) (λ x e here. uncut_if (rule x.0) first (Ok x) here);
+  uncut = λ r bytes well there. uncut_bind (scan r) _ (code.uncut r bytes well there) (λ x e here. uncut_if (rule x.0) first x.1.place (Ok x) here);
 }
 
 pub cells_here : (width : ℕ) → IsCode (λ r. cells_at r.place width r) (λ text. text) (λ text. (length text ≡ width) × IsBytes text)
 cells_here width = record {
   takes = λ r bytes well text r' e.
-      let g = tests_ok (ltb r.limit (r.place + width)) (ltb (length r.ahead) width) (Fault r.place) Cut (take width r.ahead, past width r) (text, r') e in
+      let g = tests_ok (ltb r.limit (r.place + width)) (ltb (length r.ahead) width) (Broken r.place r.place) Short (take width r.ahead, past width r) (text, r') e in
       let fits : r.place + width ≤ r.limit = ltb-false _ _ g.0 in
       let long : width ≤ length r.ahead = ltb-false _ _ g.1 in
       let len : length (take width r.ahead) ≡ width = omega (arith, length-take width r.ahead) in
@@ -380,7 +374,7 @@ cells_here width = record {
       let a : drop width r.ahead ≡ r'.ahead = rw t.parts (drop_at text r'.ahead width len) in
       rests (past width r) r' (omega (arith, t.place, len)) (sym t.limit) a in
       rw (one, two, value, after) refl;
-  uncut = λ r bytes well there. uncut_unless (ltb r.limit (r.place + width)) r.place _ (λ e.
+  uncut = λ r bytes well there. uncut_unless (ltb r.limit (r.place + width)) r.place r.place _ (λ e.
       let le : r.place + width ≤ r.limit = ltb-false _ _ e in
       let two : ltb (length r.ahead) width ≡ false = le-ltb _ _ (omega arith) in
       let here : IsThere (past width r) = omega (arith, length-drop width r.ahead) in
@@ -397,7 +391,7 @@ number_code w limit wide rule = ruled (whole_code w limit wide) rule
 pub cells_code : (first width : ℕ) → IsCode (cells_at first width) (λ text. text) (λ text. length text ≡ width)
 cells_code first width = record {
   takes = λ r bytes well text r' e.
-      let g = tests_ok (ltb r.limit (r.place + width)) (ltb (length r.ahead) width) (Fault first) Cut (take width r.ahead, past width r) (text, r') e in
+      let g = tests_ok (ltb r.limit (r.place + width)) (ltb (length r.ahead) width) (Broken first r.place) Short (take width r.ahead, past width r) (text, r') e in
       let fits : r.place + width ≤ r.limit = ltb-false _ _ g.0 in
       let long : width ≤ length r.ahead = ltb-false _ _ g.1 in
       let len : length (take width r.ahead) ≡ width = omega (arith, length-take width r.ahead) in
@@ -418,7 +412,7 @@ cells_code first width = record {
       let a : drop width r.ahead ≡ r'.ahead = rw t.parts (drop_at text r'.ahead width len) in
       rests (past width r) r' (omega (arith, t.place, len)) (sym t.limit) a in
       rw (one, two, value, after) refl;
-  uncut = λ r bytes well there. uncut_unless (ltb r.limit (r.place + width)) first _ (λ e.
+  uncut = λ r bytes well there. uncut_unless (ltb r.limit (r.place + width)) first r.place _ (λ e.
       let le : r.place + width ≤ r.limit = ltb-false _ _ e in
       let two : ltb (length r.ahead) width ≡ false = le-ltb _ _ (omega arith) in
       let here : IsThere (past width r) = omega (arith, length-drop width r.ahead) in

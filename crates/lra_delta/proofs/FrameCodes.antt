@@ -7,10 +7,9 @@ use Rattle.std.proofs.lemmas.Bool.{eqb-true}
 use Rattle.std.proofs.lemmas.Bool.Decides.{nat_tests}
 use Rattle.std.proofs.lemmas.List.{append-nil, nil_from_length}
 use Rattle.lra_id.specs.Ids.{last_number}
-use Rattle.lra_delta.specs.declared.input.Stop.TheVariants.{Fault}
 use Rattle.lra_forest.specs.declared.record.Record.{Record}
 use Rattle.lra_delta.specs.Frames.{Frame}
-use Rattle.lra_delta.specs.FrameFields.{Rest, Read, ◌>>=◌, value_of, Along}
+use Rattle.lra_delta.specs.FrameFields.{Rest, Read, Halt, Short, Broken, ◌>>=◌, value_of, told_of, Along}
 use Rattle.lra_delta.specs.Encoding.{live_mark, live_body, live_list, live, record_text, records, body, flat, magic, encoding}
 use Rattle.lra_delta.specs.Rules.{Context, start, after, is_record_count, IsRecord, is_live_mark, is_live_count, is_live_number, AreLive, IsLive, is_node_count, are_counts, is_front, at_most, IsBody, IsDelta, is_frame_length, by_home}
 use Rattle.lra_delta.specs.OneRecord.{IsRecordUnder, alone_at, record_in, under}
@@ -156,11 +155,11 @@ pub ended_code : (len : ℕ) → IsCode (ended_at len) body (λ d. IsBody d × (
 unfolding ended_at
 ended_code len = record {
   takes = λ r bytes well d r' e.
-      let k : Frame × Rest → Read Frame = λ x. cond (x.1.place == r.place + len) (Ok (x.0, record { place = x.1.place; limit = r.limit; ahead = x.1.ahead })) (Err (Fault x.1.place)) in
+      let k : Frame × Rest → Read Frame = λ x. cond (x.1.place == r.place + len) (Ok (x.0, record { place = x.1.place; limit = r.limit; ahead = x.1.ahead })) (Err (Broken x.1.place x.1.place)) in
       let b = bind_ok (body_at (within len r)) k (d, r') e in
       let inside : (within len r).place ≤ (within len r).limit = omega arith in
       let t = body_code.takes (within len r) bytes inside b.0.0 b.0.1 b.1 in
-      let g = rule_ok (b.0.1.place == r.place + len) (Fault b.0.1.place) (b.0.0, record { place = b.0.1.place; limit = r.limit; ahead = b.0.1.ahead }) (d, r') b.2 in
+      let g = rule_ok (b.0.1.place == r.place + len) (Broken b.0.1.place b.0.1.place) (b.0.0, record { place = b.0.1.place; limit = r.limit; ahead = b.0.1.ahead }) (d, r') b.2 in
       let here : b.0.1.place ≡ r.place + len = eqb-true _ _ g.0 in
       let size : length (body b.0.0) ≡ len = omega (arith, here, t.1.place) in
       let text : Takes r (body b.0.0) (record { place = b.0.1.place; limit = r.limit; ahead = b.0.1.ahead }) = record { parts = t.1.parts; place = t.1.place; limit = refl; within = omega (arith, t.1.within, t.1.limit) } in
@@ -180,7 +179,7 @@ ended_code len = record {
       let t = body_code.takes (within len r) bytes inside x.0 x.1 e in
       let size : length r.ahead ≡ length (body x.0) + length x.1.ahead = ap length t.1.parts ∙ length-append (body x.0) x.1.ahead in
       let last : IsThere (record { place = x.1.place; limit = r.limit; ahead = x.1.ahead }) = omega (arith, size, t.1.place, there) in
-      uncut_if (x.1.place == r.place + len) x.1.place _ last);
+      uncut_if (x.1.place == r.place + len) x.1.place x.1.place _ last);
 }
 
 frame_length_small : (n : ℕ) → is_frame_length n ≡ true → n < 2 ^ 32
@@ -198,22 +197,23 @@ framed_code =
 
 -- ---- the laws
 
-value_ok : {A : Type 0} (m : Read A) (x : A) → value_of m ≡ Ok x → (y : A × Rest) × (m ≡ Ok y) × (y.0 ≡ x)
+value_ok : {A : Type 0} (m : Read A) (x : A) → told_of (value_of m) ≡ Ok x → (y : A × Rest) × (m ≡ Ok y) × (y.0 ≡ x)
 value_ok (Ok y) x e = (y, refl, cc)
-value_ok (Err d) x e = absurd cc
+value_ok (Err Short) x e = absurd cc
+value_ok (Err (Broken place reach)) x e = absurd cc
 
 -- one item, and then the end
 abbrev pub ending : {A : Type 0} → (Rest → Read A) → Rest → Read A
-ending scan r = scan r >>= λ x. cond (x.1.place == r.limit) (Ok x) (Err (Fault x.1.place))
+ending scan r = scan r >>= λ x. cond (x.1.place == r.limit) (Ok x) (Err (Broken x.1.place x.1.place))
 
 pub whole_takes : {A : Type 0} {scan : Rest → Read A} {encode : A → List ℕ} {Fits : A → Type 0} → IsCode scan encode Fits → (bytes : List ℕ) (a : A) → IsBytes bytes
-    → value_of (ending scan (record { place = 0; limit = length bytes; ahead = bytes })) ≡ Ok a → Fits a × (bytes ≡ encode a)
+    → told_of (value_of (ending scan (record { place = 0; limit = length bytes; ahead = bytes }))) ≡ Ok a → Fits a × (bytes ≡ encode a)
 whole_takes {A} {scan} {encode} {Fits} code bytes a fits e =
     let r : Rest = record { place = 0; limit = length bytes; ahead = bytes } in
     let v = value_ok (ending scan r) a e in
-    let k : A × Rest → Read A = λ x. cond (x.1.place == r.limit) (Ok x) (Err (Fault x.1.place)) in
+    let k : A × Rest → Read A = λ x. cond (x.1.place == r.limit) (Ok x) (Err (Broken x.1.place x.1.place)) in
     let b = bind_ok (scan r) k v.0 v.1 in
-    let g = rule_ok (b.0.1.place == r.limit) (Fault b.0.1.place) b.0 v.0 b.2 in
+    let g = rule_ok (b.0.1.place == r.limit) (Broken b.0.1.place b.0.1.place) b.0 v.0 b.2 in
     let t = code.takes r fits (omega arith) b.0.0 b.0.1 b.1 in
     let here : b.0.1.place ≡ length bytes = eqb-true _ _ g.0 in
     let size : length bytes ≡ length (encode b.0.0) + length b.0.1.ahead = ap length t.1.parts ∙ length-append (encode b.0.0) b.0.1.ahead in
@@ -223,7 +223,7 @@ whole_takes {A} {scan} {encode} {Fits} code bytes a fits e =
     subst (λ (x : A). Fits x × (bytes ≡ encode x)) same (t.0, whole)
 
 pub whole_again : {A : Type 0} {scan : Rest → Read A} {encode : A → List ℕ} {Fits : A → Type 0} → IsCode scan encode Fits → (a : A) → Fits a
-    → value_of (ending scan (record { place = 0; limit = length (encode a); ahead = encode a })) ≡ Ok a
+    → told_of (value_of (ending scan (record { place = 0; limit = length (encode a); ahead = encode a }))) ≡ Ok a
 whole_again {A} {scan} {encode} {Fits} code a f =
     let r : Rest = record { place = 0; limit = length (encode a); ahead = encode a } in
     let r' : Rest = record { place = length (encode a); limit = length (encode a); ahead = [] } in

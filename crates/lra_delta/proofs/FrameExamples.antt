@@ -2,9 +2,9 @@
 use Rattle.std.proofs.Common.{◌≡◌, ℕ, List, [], ◌∷◌, ◌++◌, take, drop, Some, None, Ok, Err, refl}
 use Rattle.std.specs.Prelude.{slice_set}
 use Rattle.lra_states.specs.declared.outcome.Verdict.TheVariants.{Close}
-use Rattle.lra_delta.specs.declared.input.Stop.TheVariants.{Fault, Cut}
+use Rattle.lra_delta.specs.declared.input.Stop.TheVariants.{Fault}
 use Rattle.lra_delta.specs.Frames.{Frame}
-use Rattle.lra_delta.specs.FrameFields.{each_at, many_at, vector_at}
+use Rattle.lra_delta.specs.FrameFields.{Short, Broken, each_at, many_at, vector_at}
 use Rattle.lra_delta.specs.Encoding.{place, parent, counted, participant, member, members, record_text, live_list, live, records, body, encoding}
 use Rattle.lra_delta.specs.Reading.{place_at, parent_by, parent_at, decision_at, text_at, link_at, participant_at, member_by, member_at, members_at, record_at, records_at, live_list_at, live_by, live_at, body_at, ended_at, framed_at, frame_at, frame_in}
 
@@ -64,6 +64,6 @@ unfolding place parent counted participant member members record_text live_list 
 second_encoded = refl
 
 -- over a stream: cut before byte 65 it is Cut, and with byte 55 set to 3 the fault comes first
-stream : (frame_at (record { place = 0; limit = 65; ahead = take 60 bytes }) ≡ Err Cut) × (frame_at (record { place = 0; limit = 65; ahead = take 60 (slice_set bytes 55 3) }) ≡ Err (Fault 55))
+stream : (frame_at (record { place = 0; limit = 65; ahead = take 60 bytes }) ≡ Err Short) × (frame_at (record { place = 0; limit = 65; ahead = take 60 (slice_set bytes 55 3) }) ≡ Err (Broken 55 56))
 unfolding each_at many_at vector_at place_at parent_by parent_at decision_at text_at link_at participant_at member_by member_at members_at record_at records_at live_list_at live_by live_at body_at ended_at framed_at frame_at
 stream = (refl, refl)

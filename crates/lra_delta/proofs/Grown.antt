@@ -4,7 +4,7 @@ use Rattle.std.proofs.lemmas.Bool.{le-ltb, lt-ltb}
 use Rattle.std.proofs.lemmas.List.{take_at, drop_at, length-append}
 use Rattle.lra_delta.specs.declared.input.Stop.{Stop}
 use Rattle.lra_delta.specs.declared.input.Stop.TheVariants.{Fault, Cut, ReadFault, Memory}
-use Rattle.lra_delta.specs.FrameFields.{Stops, cells_at}
+use Rattle.lra_delta.specs.FrameFields.{Short, Stops, cells_at}
 use Rattle.lra_delta.specs.Seen.{Begins, MayBe, Seen, rest_in}
 use Rattle.lra_delta.specs.Sources.{IsEnd}
 
@@ -27,7 +27,7 @@ taking taken got whole first limit width len fits f =
     rw (here, one, two, value, after, there) (ap (λ (n : ℕ). Ok (got, record { place = n; limit = limit; ahead = f.0 })) place)
 
 part_only : (taken got whole : List ℕ) (first limit width : ℕ) → whole ≡ taken ++ got → length got < width → length taken + width ≤ limit
-    → Begins taken whole × (cells_at first width (record { place = length taken; limit = limit; ahead = drop (length taken) whole }) ≡ Err Cut)
+    → Begins taken whole × (cells_at first width (record { place = length taken; limit = limit; ahead = drop (length taken) whole }) ≡ Err Short)
 unfolding Begins
 part_only taken got whole first limit width is short fits =
     let here : drop (length taken) whole ≡ got = rw is (drop_at taken got (length taken) refl) in
@@ -44,7 +44,7 @@ filled old new got first width start limit text len fits whole f =
 
 -- no more came than a part of a field
 pub cut_short : (old new : Seen) (got : List ℕ) (first width : ℕ) (e : Stop) → IsEnd e → new.taken ≡ old.taken ++ got → length got < width → length old.taken + width ≤ old.limit
-    → (whole : List ℕ) → MayBe e new whole → Begins old.taken whole × Stops e (cells_at first width (rest_in whole old))
+    → (whole : List ℕ) → MayBe e new whole → Begins old.taken whole × Stops (length new.taken) e (cells_at first width (rest_in whole old))
 cut_short old new got first width (Fault place) end text short fits whole f = absurd end
 cut_short old new got first width Memory end text short fits whole f = absurd end
 cut_short old new got first width Cut end text short fits whole f = part_only old.taken got whole first old.limit width (f ∙ text) short fits

@@ -4,15 +4,15 @@ use Rattle.std.specs.Prelude.{IfOk}
 use Rattle.std.proofs.lemmas.List.{append-nil}
 use Rattle.lra_delta.specs.declared.input.Stop.{Stop}
 use Rattle.lra_delta.specs.declared.input.Stop.TheVariants.{Fault, Cut, ReadFault, Memory}
-use Rattle.lra_delta.specs.FrameFields.{Rest, Read, ◌>>=◌, Stops, each_at}
+use Rattle.lra_delta.specs.FrameFields.{Rest, Read, Halt, Short, Broken, ◌>>=◌, Stops, each_at}
 use Rattle.lra_delta.specs.Seen.{Seen, Reads, Begins, IsWell, rest_in}
 
 -- the value of a step that did not fail
-pub bind_ok : {A B : Type 0} (r : Result A Stop) (f : A → Result B Stop) (y : B) → (r >>= f) ≡ Ok y → (x : A) × (r ≡ Ok x) × (f x ≡ Ok y)
+pub bind_ok : {A B : Type 0} (r : Result A Halt) (f : A → Result B Halt) (y : B) → (r >>= f) ≡ Ok y → (x : A) × (r ≡ Ok x) × (f x ≡ Ok y)
 bind_ok (Ok x) f y e = (x, refl, e)
 bind_ok (Err d) f y e = absurd cc
 
-abbrev done : {A : Type 0} → A → Result A Stop
+abbrev done : {A : Type 0} → A → Result A Halt
 done x = Ok x
 
 pub ok_is : {A : Type 0} (x y : A) → done x ≡ done y → x ≡ y
@@ -33,18 +33,18 @@ one_more item next prefix left more s r x after total k h so_far =
     let one : with_prefix prefix (each_at item next left s r) ≡ with_prefix (prefix ++ x ∷ []) (each_at item next more (next s x) after) = rw (k, h) (regroup prefix x (each_at item next more (next s x) after)) in
     sym one ∙ so_far
 
-stops : {S A : Type 0} (item : S → Rest → Read A) (next : S → A → S) (e : Stop) (prefix : List A) (left more : ℕ) (s : S) (r : Rest) (total : Read (List A)) → left ≡ suc more → Stops e (item s r)
-    → with_prefix prefix (each_at item next left s r) ≡ total → Stops e total
+stops : {S A : Type 0} (item : S → Rest → Read A) (next : S → A → S) (taken : ℕ) (e : Stop) (prefix : List A) (left more : ℕ) (s : S) (r : Rest) (total : Read (List A)) → left ≡ suc more → Stops taken e (item s r)
+    → with_prefix prefix (each_at item next left s r) ≡ total → Stops taken e total
 unfolding each_at
-stops item next Memory prefix left more s r total k h so_far = tt
-stops item next Cut prefix left more s r total k h so_far =
-    let one : with_prefix prefix (each_at item next left s r) ≡ Err Cut = rw (k, h) refl in
+stops item next taken Memory prefix left more s r total k h so_far = tt
+stops item next taken Cut prefix left more s r total k h so_far =
+    let one : with_prefix prefix (each_at item next left s r) ≡ Err Short = rw (k, h) refl in
     sym so_far ∙ one
-stops item next ReadFault prefix left more s r total k h so_far =
-    let one : with_prefix prefix (each_at item next left s r) ≡ Err Cut = rw (k, h) refl in
+stops item next taken ReadFault prefix left more s r total k h so_far =
+    let one : with_prefix prefix (each_at item next left s r) ≡ Err Short = rw (k, h) refl in
     sym so_far ∙ one
-stops item next (Fault place) prefix left more s r total k h so_far =
-    let one : with_prefix prefix (each_at item next left s r) ≡ Err (Fault place) = rw (k, h) refl in
+stops item next taken (Fault place) prefix left more s r total k h so_far =
+    let one : with_prefix prefix (each_at item next left s r) ≡ Err (Broken place taken) = rw (k, h) refl in
     sym so_far ∙ one
 
 -- where a loop stands: so many items are left to be read
@@ -83,7 +83,7 @@ ends item next count start old prefix i s now after e lt so_far read =
       (λ whole f.
           let q = r.2 whole f in
           let p = so_far.1 whole q.0 in
-          (p.0, stops item next e prefix (count - i) (count - (i + 1)) s (rest_in whole now) _ (omega (arith, lt)) q.1 p.1)),
+          (p.0, stops item next (length after.taken) e prefix (count - i) (count - (i + 1)) s (rest_in whole now) _ (omega (arith, lt)) q.1 p.1)),
       λ well. r.3 (so_far.2 well),
     )
 

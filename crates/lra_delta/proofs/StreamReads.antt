@@ -9,14 +9,15 @@ use Rattle.lra_http.specs.Streams.{AllWell, FoundEnd, Gives as GivesBytes, HasCa
 use Rattle.lra_delta.specs.declared.input.Stop.{Stop}
 use Rattle.lra_delta.specs.declared.input.Stop.TheVariants.{Fault, Cut, ReadFault, Memory}
 use Rattle.lra_delta.specs.Encoding.{encoding}
-use Rattle.lra_delta.specs.FrameFields.{Gives, value_of}
+use Rattle.lra_delta.specs.FrameFields.{Gives, told_of, value_of}
 use Rattle.lra_delta.specs.Frames.{Frame}
 use Rattle.lra_delta.specs.Rules.{IsDelta}
 use Rattle.lra_delta.specs.Seen.{Seen, Standing, Start, Answers, Whole, MayBe, HasReason, Begins, GoesWell, IsWell, StopsWell, rest_in}
 use Rattle.lra_delta.specs.Sources.{IsSound, OnReadFault, ReadsCalls, Refuses, Says, StopsReading}
-use Rattle.lra_delta.specs.Reading.{frame_at, read_of, frame_in}
+use Rattle.lra_delta.specs.Reading.{frame_at, looking, read_of, frame_in}
 use Rattle.lra_delta.proofs.FrameCodes.{frame_takes}
 use Rattle.lra_delta.proofs.Loop.{begins_itself}
+use Rattle.lra_delta.proofs.Slices.{says_told}
 
 -- nothing was taken of a source that stands so, and so many bytes may be
 pub record IsFresh (stands : Standing) (size : ℕ) (s : Seen) : Type 0 where
@@ -50,12 +51,12 @@ begins_more : (taken more : List ℕ) → Begins taken (taken ++ more)
 unfolding Begins
 begins_more taken more = (more, refl)
 
-fresh_read : (stands : Standing) (bytes : ℕ) (s : Seen) (whole : List ℕ) → IsFresh stands bytes s → value_of (frame_at (rest_in whole s)) ≡ read_of bytes whole
+fresh_read : (stands : Standing) (bytes : ℕ) (s : Seen) (whole : List ℕ) → IsFresh stands bytes s → value_of (frame_at (rest_in whole s)) ≡ looking bytes whole
 fresh_read stands bytes s whole f = rw (f.taken, f.limit) refl
 
 -- what reading gives, whatever whole it is
 abbrev Known : (bytes : ℕ) (new : Seen) (result : Result Frame Stop) → Type 0
-Known bytes new result = (whole : List ℕ) → Whole result new whole → Gives (λ (x : Frame). x) result (read_of bytes whole)
+Known bytes new result = (whole : List ℕ) → Whole result new whole → Gives (length new.taken) (λ (x : Frame). x) result (looking bytes whole)
 
 known : (stands : Standing) (bytes : ℕ) (old new : Seen) (result : Result Frame Stop) → IsFresh stands bytes old → Answers old new (λ (x : Frame). x) result frame_at → Known bytes new result
 known stands bytes old new result f a whole w = rw (← (fresh_read stands bytes old whole f)) (a.2 whole w).1
@@ -71,9 +72,9 @@ gave stands bytes old new f e sound = subst (λ (s : Standing). GivesBytes s.str
 
 -- what was given before a stop
 refuses : (bytes : ℕ) (new : Seen) (e : Stop) → HasReason e new → Known bytes new (Err e) → length new.taken ≤ bytes → new.limit ≤ bytes → Refuses bytes e new.taken
-refuses bytes new (Fault place) reason reads le lim = ((λ more. reads (new.taken ++ more) (begins_more new.taken more)), reason.0, reason.1)
-refuses bytes new Cut reason reads le lim = (reads new.taken refl, omega (arith, reason.0, lim))
-refuses bytes new ReadFault reason reads le lim = reads new.taken refl
+refuses bytes new (Fault place) reason reads le lim = ((λ more. reads (new.taken ++ more) (begins_more new.taken more)), reason)
+refuses bytes new Cut reason reads le lim = (ap told_of (reads new.taken refl), omega (arith, reason.0, lim))
+refuses bytes new ReadFault reason reads le lim = ap told_of (reads new.taken refl)
 refuses bytes new Memory reason reads le lim = tt
 
 ended : (new : Seen) (e : Stop) → HasReason e new → e ≡ Cut → FoundEnd new.now.stream
@@ -97,7 +98,7 @@ pub reads_frame : (stands : Standing) (bytes : ℕ) (old new : Seen) (result : R
 reads_frame stands bytes old new (Err e) f a sound whole = tt
 reads_frame stands bytes old new (Ok d) f a sound whole =
     let size : length new.taken ≡ bytes = whole ∙ f.limit in
-    let read : read_of bytes new.taken ≡ Ok d = known stands bytes old new (Ok d) f a new.taken (begins_itself new.taken) in
+    let read : read_of bytes new.taken ≡ Ok d = ap told_of (known stands bytes old new (Ok d) f a new.taken (begins_itself new.taken)) in
     let all : frame_in new.taken ≡ Ok d = subst (λ (n : ℕ). read_of n new.taken ≡ Ok d) (sym size) read in
     let takes = frame_takes new.taken d sound.bytes all in
     (takes.0, ap length (sym takes.1) ∙ size, subst (λ (bs : List ℕ). GivesBytes stands.stream new.now.stream bs) takes.1 (gave stands bytes old new f a.0 sound))
@@ -120,11 +121,14 @@ known_whole ahead taken (Some ys) bytes c end le =
     let all : ahead ≡ taken = c ∙ ap (λ (l : List ℕ). taken ++ l) end ∙ append-nil taken in
     take_all bytes ahead (rw all le) ∙ all
 
+told : (ahead : List ℕ) (bytes : ℕ) (new : Seen) (result : Result Frame Stop) → Known bytes new result → Whole result new (take bytes ahead) → Says result (read_of bytes (take bytes ahead))
+told ahead bytes new result reads whole = says_told (length new.taken) result _ (reads (take bytes ahead) whole)
+
 says : (ahead : List ℕ) (bytes : ℕ) (new : Seen) (result : Result Frame Stop) → Consumes (Some ahead) new.now.stream.left new.taken → length new.taken ≤ bytes → IfErr result (λ e. HasReason e new) → Known bytes new result
     → Says result (read_of bytes (take bytes ahead))
-says ahead bytes new (Ok x) c le reason reads = reads (take bytes ahead) (known_begins ahead new.taken new.now.stream.left bytes c le)
-says ahead bytes new (Err (Fault place)) c le reason reads = reads (take bytes ahead) (known_begins ahead new.taken new.now.stream.left bytes c le)
-says ahead bytes new (Err Cut) c le reason reads = reads (take bytes ahead) (known_whole ahead new.taken new.now.stream.left bytes c reason.1.1 le)
+says ahead bytes new (Ok x) c le reason reads = told ahead bytes new (Ok x) reads (known_begins ahead new.taken new.now.stream.left bytes c le)
+says ahead bytes new (Err (Fault place)) c le reason reads = told ahead bytes new (Err (Fault place)) reads (known_begins ahead new.taken new.now.stream.left bytes c le)
+says ahead bytes new (Err Cut) c le reason reads = told ahead bytes new (Err Cut) reads (known_whole ahead new.taken new.now.stream.left bytes c reason.1.1 le)
 says ahead bytes new (Err ReadFault) c le reason reads = tt
 says ahead bytes new (Err Memory) c le reason reads = tt
 

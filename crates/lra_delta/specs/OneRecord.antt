@@ -3,8 +3,7 @@ use Rattle.std.specs.Prelude.{◌≤◌, ◌<◌, ◌^◌, ◌==◌, ℕ, List, 
 use Rattle.lra_id.specs.Fronts.{count}
 use Rattle.lra_forest.specs.declared.record.Record.{Record}
 use Rattle.lra_delta.specs.declared.input.Stop.{Stop}
-use Rattle.lra_delta.specs.declared.input.Stop.TheVariants.{Fault}
-use Rattle.lra_delta.specs.FrameFields.{Rest, Read, ◌>>=◌, value_of}
+use Rattle.lra_delta.specs.FrameFields.{Rest, Read, Broken, ◌>>=◌, value_of, told_of}
 use Rattle.lra_delta.specs.Grammar.{KeepsRulesIn}
 use Rattle.lra_delta.specs.Rules.{Context, IsRecord, start, told_context}
 use Rattle.lra_delta.specs.Reading.{record_at}
@@ -29,8 +28,8 @@ IsRecordUnder front kept = IsRecord (under front) start kept
 unfoldable pub alone_at : (front : List ℕ) → Rest → Read Record
 alone_at front r = do
   kept ← record_at (under front) start r
-  if kept.1.place == r.limit then Ok kept else Err (Fault kept.1.place)
+  if kept.1.place == r.limit then Ok kept else Err (Broken kept.1.place kept.1.place)
 
 -- all of the bytes
 abbrev pub record_in : (front bytes : List ℕ) → Result Record Stop
-record_in front bytes = value_of (alone_at front (record { place = 0; limit = length bytes; ahead = bytes }))
+record_in front bytes = told_of (value_of (alone_at front (record { place = 0; limit = length bytes; ahead = bytes })))

@@ -6,7 +6,6 @@ use Rattle.lra_states.specs.declared.outcome.Verdict.TheVariants.{Close, Cancel}
 use Rattle.lra_states.specs.declared.outcome.Outcome.{Outcome}
 use Rattle.lra_states.specs.declared.outcome.Outcome.TheVariants.{Busy, Done, Failed}
 use Rattle.lra_delta.specs.declared.input.Stop.{Stop}
-use Rattle.lra_delta.specs.declared.input.Stop.TheVariants.{Fault}
 use Rattle.lra_forest.specs.declared.record.Place.{Place}
 use Rattle.lra_forest.specs.declared.record.Participant.{Participant as ParticipantRecord}
 use Rattle.lra_forest.specs.declared.record.Member.{Member}
@@ -15,7 +14,7 @@ use Rattle.lra_forest.specs.declared.record.Record.{Record}
 use Rattle.lra_facts.specs.LinkTexts.{is_kept}
 use Rattle.lra_delta.specs.Frames.{Frame}
 use Rattle.lra_delta.specs.declared.order.Last.{Last}
-use Rattle.lra_delta.specs.FrameFields.{Rest, Read, ◌>>=◌, value_of, whole_at, number_at, cells_at, vector_at, each_at}
+use Rattle.lra_delta.specs.FrameFields.{Rest, Read, Halt, Broken, ◌>>=◌, value_of, told_of, whole_at, number_at, cells_at, vector_at, each_at}
 use Rattle.lra_delta.specs.Encoding.{magic}
 use Rattle.lra_delta.specs.Rules.{is_mark, is_above, is_slot, is_decision, is_outcome, is_outcome_for, is_mark_for, is_length, is_given_length, is_kept_or_none, is_nested, next_nested, is_member_count, is_node_count, are_counts, at_most, is_front, is_live_mark, is_live_count, is_live_number, Context, is_home, is_number, are_stamps, start, after, is_record_count, is_frame_length, by_home}
 
@@ -52,12 +51,12 @@ outcome_of (suc zero) = Some Busy
 outcome_of (suc (suc zero)) = Some Done
 outcome_of (suc (suc (suc n))) = Some Failed
 
--- one field: its fault is at its first byte
+-- one field: its fault is at its first byte, and its length alone tells whether it is too long or too short
 unfoldable pub text_at : (ℕ → Bool) → (List ℕ → Bool) → Rest → Read (List ℕ)
 text_at fits rule r = do
   len ← number_at w8 fits r
   text ← cells_at r.place len.0 len.1
-  if rule text.0 then Ok text else Err (Fault r.place)
+  if rule text.0 then Ok text else Err (Broken r.place text.1.place)
 
 abbrev pub link_of : List ℕ → Option (List ℕ)
 link_of [] = None
@@ -170,7 +169,7 @@ within len r = record { place = r.place; limit = min r.limit (r.place + len); ah
 unfoldable pub ended_at : ℕ → Rest → Read Frame
 ended_at len r = do
   d ← body_at (within len r)
-  if d.1.place == r.place + len then Ok (d.0, record { place = d.1.place; limit = r.limit; ahead = d.1.ahead }) else Err (Fault d.1.place)
+  if d.1.place == r.place + len then Ok (d.0, record { place = d.1.place; limit = r.limit; ahead = d.1.ahead }) else Err (Broken d.1.place d.1.place)
 
 -- a frame at the start, which ends where its length says
 unfoldable pub framed_at : Rest → Read Frame
@@ -184,11 +183,14 @@ framed_at r = do
 unfoldable pub frame_at : Rest → Read Frame
 frame_at r = do
   d ← framed_at r
-  if d.1.place == r.limit then Ok d else Err (Fault d.1.place)
+  if d.1.place == r.limit then Ok d else Err (Broken d.1.place d.1.place)
 
--- a frame of so many bytes, at the start of these
+-- a frame of so many bytes, at the start of these, or why and where reading it halts
+abbrev pub looking : ℕ → List ℕ → Result Frame Halt
+looking size bytes = value_of (frame_at (record { place = 0; limit = size; ahead = bytes }))
+
 abbrev pub read_of : ℕ → List ℕ → Result Frame Stop
-read_of size bytes = value_of (frame_at (record { place = 0; limit = size; ahead = bytes }))
+read_of size bytes = told_of (looking size bytes)
 
 -- all of the bytes
 abbrev pub frame_in : List ℕ → Result Frame Stop

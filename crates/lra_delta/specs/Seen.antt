@@ -45,13 +45,9 @@ abbrev pub Whole : {X : Type 0} → Result X Stop → Seen → List ℕ → Type
 Whole (Ok x) s whole = Begins s.taken whole
 Whole (Err e) s whole = MayBe e s whole
 
--- no field has more bytes
-abbrev pub widest : ℕ
-widest = 128
-
--- What a stop has as its cause. From the place of a fault on no more are taken than the widest field has.
+-- what a stop has as its cause
 abbrev pub HasReason : Stop → Seen → Type 0
-HasReason (Fault place) s = (place ≤ length s.taken) × (length s.taken ≤ place + widest)
+HasReason (Fault place) s = place ≤ length s.taken
 HasReason Cut s = (length s.taken < s.limit) × FoundEnd s.now.stream
 HasReason ReadFault s = HasCause s.first.standing.counted s.first.standing.calls s.now.calls
 HasReason Memory s = Unit {0}
@@ -78,7 +74,7 @@ abbrev pub Reads : {X Y : Type 0} → Seen → Seen → (X → Y) → Result X S
 Reads old new view result scan =
     (new.first ≡ old.first)
     × IfErr result (λ e. HasReason e new)
-    × ((whole : List ℕ) → Whole result new whole → Begins old.taken whole × Gives (λ x. (view x, rest_in whole new)) result (scan (rest_in whole old)))
+    × ((whole : List ℕ) → Whole result new whole → Begins old.taken whole × Gives (length new.taken) (λ x. (view x, rest_in whole new)) result (scan (rest_in whole old)))
     × (IsWell old → StaysWell result new)
 
 -- the same without what is left
@@ -86,7 +82,7 @@ abbrev pub Answers : {X Y : Type 0} → Seen → Seen → (X → Y) → Result X
 Answers old new view result scan =
     (new.first ≡ old.first)
     × IfErr result (λ e. HasReason e new)
-    × ((whole : List ℕ) → Whole result new whole → Begins old.taken whole × Gives view result (value_of (scan (rest_in whole old))))
+    × ((whole : List ℕ) → Whole result new whole → Begins old.taken whole × Gives (length new.taken) view result (value_of (scan (rest_in whole old))))
     × (IsWell old → StaysWell result new)
 
 -- the frame ends after so many bytes more at the latest

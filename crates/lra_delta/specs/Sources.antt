@@ -8,8 +8,9 @@ use Rattle.lra_delta.specs.declared.input.Stop.{Stop}
 use Rattle.lra_delta.specs.declared.input.Stop.TheVariants.{Fault, Cut, ReadFault, Memory}
 use Rattle.lra_delta.specs.declared.stream.Progress.{Progress}
 use Rattle.lra_delta.specs.declared.stream.Progress.TheVariants.{Going, Ended, Failed}
-use Rattle.lra_delta.specs.Reading.{read_of}
-use Rattle.lra_delta.specs.Seen.{HasReason, Seen, Standing, StaysWell, IsWell, widest}
+use Rattle.lra_delta.specs.FrameFields.{Broken}
+use Rattle.lra_delta.specs.Reading.{looking, read_of}
+use Rattle.lra_delta.specs.Seen.{HasReason, Seen, Standing, StaysWell, IsWell}
 
 -- how a source stands, by what is known of sources
 abbrev pub standing : {S : Type 0} → (S → GivenBytes) → (S → Calls) → S → ℕ → Standing
@@ -87,11 +88,11 @@ pub record IsSound (s : Seen) : Type 0 where
 
 -- ---- what reading a frame says
 
--- Bytes show why no frame of so many stands there, whatever follows them; behind the end nothing does. From the place of a fault
--- on no more are taken than the widest field has.
+-- Bytes show why no frame of so many stands there, whatever follows them; behind the end nothing does. At a fault they are just
+-- those that have to be looked at.
 abbrev pub Refuses : ℕ → Stop → List ℕ → Type 0
 Refuses bytes (Fault place) given =
-    ((more : List ℕ) → read_of bytes (given ++ more) ≡ Err (Fault place)) × (place ≤ length given) × (length given ≤ place + widest)
+    ((more : List ℕ) → looking bytes (given ++ more) ≡ Err (Broken place (length given))) × (place ≤ length given)
 Refuses bytes Cut given = (read_of bytes given ≡ Err Cut) × (length given < bytes)
 Refuses bytes ReadFault given = read_of bytes given ≡ Err Cut
 Refuses bytes Memory given = Unit {0}

@@ -16,9 +16,8 @@ use std::alloc::Global;
 impl Delta {
     /// A frame of exactly so many bytes, read from a source number by number and text by text: over a socket a buffered reader
     /// goes below. What is behind them is left unread. `interrupted` counts the interrupted calls of the message that they belong
-    /// to. E16 at the place of the first field that isn't whole within the frame or breaks its rule; from there on at most 128
-    /// bytes were read, which the widest field has. `Cut` or `ReadFault` where the source ends or fails before such a field is
-    /// whole.
+    /// to. E16 at the place of the first field that isn't whole within the frame or breaks its rule, of which no more was read than
+    /// tells so, and nothing behind it. `Cut` or `ReadFault` where the source ends or fails before that.
     pub fn read<S: Source>(
         alloc: Global,
         reader: &mut S,
