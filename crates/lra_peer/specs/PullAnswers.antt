@@ -66,7 +66,8 @@ error_of CutShort = Fault Cut
 error_of ReadFailed = Fault ReadFault
 error_of Memory = Fault NoMemory
 
--- what was given of the body shows why it is no frame, whatever follows; before a cut or a failed read no field had broken its rule
+-- What was given of the body shows why it is no frame, whatever follows, and of a bad field no byte more was given than shows it; before
+-- a cut or a failed read no field had broken its rule.
 abbrev pub RefusesBody : List ℕ → PullError → Type 0
 RefusesBody bytes error =
     (size : ℕ) × (body : List ℕ) × (stop : Stop) × IsOffered bytes size body × Refuses size stop body × (error ≡ error_of stop)

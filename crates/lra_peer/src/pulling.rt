@@ -30,7 +30,7 @@ fn ask<W: Sink>(alloc: Global, writer: &mut W, front: &Front) -> Result<(), Faul
 /// behind the response is left unread, for which its head is read one byte a call: over a socket a buffered reader goes below. It
 /// asks once, and applies nothing: what comes is for `lra_delta::prepare`, which also looks whether it is of as many nodes. Errors:
 /// each `Fault`, with NotOffered for another status, whose body is left unread; and E16 with its place where the body is no frame,
-/// as soon as its first bad field has come.
+/// as soon as its first bad field has come, and nothing behind that field is read.
 pub fn pull<R: Source, W: Sink>(
     alloc: Global,
     reader: &mut R,
