@@ -11,7 +11,6 @@ import tempfile
 import threading
 import time
 
-SERVER = os.path.abspath(sys.argv[1])
 PORT, NODES, LRAS, PARTICIPANTS = 18650, 8, 256, 32
 LINK = "http://p/" + "a" * 118
 BODY = bytes([NODES]) + bytes(8 * NODES)
@@ -74,8 +73,9 @@ def pull(port):
 
 
 def main():
+    server_path = os.path.abspath(sys.argv[1])
     with tempfile.TemporaryDirectory(dir=".") as folder:
-        words = [SERVER, "serve", str(NODES), str(PORT), folder]
+        words = [server_path, "serve", str(NODES), str(PORT), folder]
         server = subprocess.Popen(words, stdin=subprocess.PIPE)
         time.sleep(2)
         began = time.time()
@@ -105,4 +105,5 @@ def main():
         server.wait(60)
 
 
-main()
+if __name__ == "__main__":
+    main()
