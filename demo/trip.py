@@ -1,9 +1,9 @@
 #!/usr/bin/env python3
-"""Four services book trips with a coordinator of three nodes, which this starts: python3 demo/trip.py [PROGRAM]
+"""Five services book trips with a coordinator of three nodes, which this starts: python3 demo/trip.py [PROGRAM]
 
 PROGRAM is crates/lra_node/out/lra_node, which ./coordinator builds, or --unproved (unproved.py). A trip is an LRA. The order begins it
-and asks hotel, flight and payment over HTTP; each joins it, and the coordinator calls each when the trip ends. The exit status is 1 where
-anything differs from what must be. Standard library alone; a few seconds."""
+and asks hotel, flight and payment over HTTP; each joins it, and the coordinator calls each when the trip ends. The mail joins to hear what
+became of it. The exit status is 1 where anything differs from what must be. Standard library alone; a few seconds."""
 import http.client
 import http.server
 import json
@@ -16,6 +16,7 @@ import tempfile
 import threading
 import time
 
+import mail
 import unproved
 
 TOP = os.path.dirname(os.path.dirname(os.path.abspath(__file__)))
@@ -91,6 +92,7 @@ class Service:
             own = self.travel.begin(3, "Its stay", stay, parent=lra)
             self.book(own)
             self.travel.book(own, "payment")
+            self.travel.listen(own)
             self.travel.at_home("PUT", own, "/close")
             return 200, json.dumps(own)
         links = {it: f"http://127.0.0.1:{self.port}/{it}" for it in ("complete", "compensate", "status", "forget")}
@@ -116,9 +118,11 @@ class Travel:
     """A coordinator of three nodes, and the scenes. Its process ends with its standard input, so also when this one is killed."""
 
     def __init__(self, folder):
-        first = next(it for it in range(18400 + os.getpid() % 100 * 7, 20000, 7) if not any(map(is_open, range(it, it + 7))))
+        first = next(it for it in range(18400 + os.getpid() % 100 * 8, 20000, 8) if not any(map(is_open, range(it, it + 8))))
         self.ports, self.folder, self.titles, self.ends = range(first, first + 3), folder, {}, {}
         self.lock, self.calls = threading.Lock(), []  # what the services were called for
+        self.heard = []  # what the mail heard
+        self.mail = mail.Mail(first + 7, lambda lra, status: self.heard.append((lra, status)))
         self.services = {name: Service(name, port, self) for port, name in enumerate(ALL, first + 3)}
         self.start()
 
@@ -148,28 +152,37 @@ class Travel:
         for name in ("order", *names):
             self.book(trip, name)
             print(f"  The {name} joins.")
+        self.listen(trip)
+        print("  The mail listens.")
         return trip
+
+    def listen(self, lra):
+        self.at_home("PUT", lra, "/join", {"after": self.mail.link})
 
     def decide(self, trip, word):
         self.at_home("PUT", trip, f"/{word}")
         print(f"  The order {word}s the trip.")
 
-    def becomes(self, lra, status, *calls, what="trip", in_order=False):
-        """Waits until the LRA shows the status and the services were called so, and tells both. Compensations come in order."""
-        comes_to(lambda: self.at_home("GET", lra)["status"] == status and len(self.calls) >= len(calls))
+    def becomes(self, lra, status, *calls, what="trip", in_order=False, mails=()):
+        """Waits until the LRA shows the status and the services were called so, and tells both. Compensations come in order. Of
+        each LRA of `mails` the mail hears what it became, in whatever order."""
+        comes_to(lambda: self.at_home("GET", lra)["status"] == status and len(self.calls) >= len(calls) and len(self.heard) >= len(mails))
         shown = self.at_home("GET", lra)["status"]
         with self.lock:
             came, self.calls = tuple(self.calls), []
         came = came if in_order else tuple(sorted(came, key=(calls + came).index))
         for it in (*came, f"{what} is {shown}"):
             print(f"  The {it}.")
-        if (came, shown) != (calls, status):
-            raise SystemExit(f"WRONG: it must be: {', '.join(calls)}, {what} is {status}.")
+        heard, self.heard = dict(self.heard), []
+        for it in mails:
+            print(f"  The mail hears that the {'stay' if self.titles[it] == 'Its stay' else 'trip'} is {heard.get(it, 'not ended')}.")
+        if (came, shown) != (calls, status) or heard != {it: self.ends[it] for it in mails}:
+            raise SystemExit(f"WRONG: it must be: {', '.join(calls)}, {what} is {status}, and the mail hears of {len(mails)}.")
 
     def booked(self):
         trip = self.trip("A trip that is booked", 1, "Closed", "hotel", "flight", "payment")
         self.decide(trip, "close")
-        self.becomes(trip, "Closed", *(f"{it} is completed" for it in ALL))
+        self.becomes(trip, "Closed", *(f"{it} is completed" for it in ALL), mails=[trip])
 
     def refused(self):
         trip = self.trip("A trip whose payment fails", 2, "Cancelled", "hotel", "flight")
@@ -177,17 +190,17 @@ class Travel:
         print("  The payment joins, finds that the card is refused, and leaves.")
         self.decide(trip, "cancel")
         self.becomes(trip, "Cancelled", "flight is compensated", "hotel needs time to compensate", "hotel is compensated",
-                     "order is compensated", in_order=True)
+                     "order is compensated", in_order=True, mails=[trip])
 
     def nested(self, word, end, *calls):
         trip = self.trip(f"A trip with a stay, {'booked' if end == 'Closed' else 'cancelled'}", 3, end, "flight")
         stay = self.book(trip, "hotel", stay=end)
-        print("  The hotel begins a stay, an LRA inside the trip.\n  Hotel and payment join it.\n  The hotel closes the stay.")
+        print("  The hotel begins a stay, an LRA inside the trip.\n  Hotel and payment join it, and the mail listens.\n  The hotel closes the stay.")
         self.becomes(stay, "Closed", "hotel is completed for the stay", "payment is completed for the stay", what="stay")
         self.book(trip, "payment")
         print("  The payment joins the trip.")
         self.decide(trip, word)
-        self.becomes(trip, end, *calls, in_order=word == "cancel")
+        self.becomes(trip, end, *calls, in_order=word == "cancel", mails=[stay, trip])
         self.becomes(stay, end, what="stay")
 
     def down(self):
@@ -199,7 +212,7 @@ class Travel:
         time.sleep(1)
         self.services["flight"].open()
         print("  The flight is back.")
-        self.becomes(trip, "Closed", "flight is completed")
+        self.becomes(trip, "Closed", "flight is completed", mails=[trip])
 
     def killed(self):
         trip = self.trip("A trip whose coordinator is killed", 1, "Closed", "hotel", "flight", "payment")
@@ -210,14 +223,14 @@ class Travel:
         print("  The coordinator starts again on the same folder.")
         self.becomes(trip, "Active")
         self.decide(trip, "close")
-        self.becomes(trip, "Closed", *(f"{it} is completed" for it in ALL))
+        self.becomes(trip, "Closed", *(f"{it} is completed" for it in ALL), mails=[trip])
 
     def agree(self):
         """Asks every node for every LRA. Each has heard of all within a few seconds."""
         def shown():
             return [{it["lra"]: it["status"] for it in ask("GET", port, "/lra")["lras"]} for port in self.ports]
         print("\nThe three nodes are asked for every LRA")
-        is_so = comes_to(lambda: all(it == self.ends for it in shown())) and not self.calls
+        is_so = comes_to(lambda: all(it == self.ends for it in shown())) and not self.calls and not self.heard
         for lra, title in self.titles.items():
             print(f"  {title}: {', '.join(it.get(lra, 'not there') for it in shown())}.")
         self.process.stdin.close()

@@ -2,9 +2,10 @@
 """A page that shows what a coordinator's nodes show: python3 demo/watch.py 8070 8071 8072 [--port 8090]
 
 Then look at http://127.0.0.1:8090. The ports are those of the nodes, in order. While someone looks, each node is asked once a
-second, by GET alone, and one question at a time. HTTP tells an LRA's status, and of a participant its number and status; it tells
+second, one question at a time, which changes nothing. HTTP tells an LRA's status, and of a participant its number and status; it tells
 neither parents, nor links, nor how many participants there are. So LRAs are a list, and the numbers 1 to 32 are tried: often where a
-participant may come soon, and never again where nothing can change. Standard library alone."""
+participant may come soon, and never again where nothing can change. Who listens for an LRA's end, and has heard of it, only frames
+tell: where an LRA has ended, what is new is pulled each five seconds (frames.py). Standard library alone."""
 import argparse
 import base64
 import collections
@@ -21,9 +22,13 @@ import sys
 import threading
 import time
 
+import frames
+
 MOST_QUESTIONS = 96  # about participants, in one round, to all nodes together
 MOST_PAGES = 40  # of LRAs; eight homes with 256 LRAs have 33
 MOST_BYTES = 65_536  # of an answer
+MOST_FRAME_BYTES = 67_108_864
+PULL_SECONDS = 5
 LRA_STATES = ["Active", "Closing", "Closed", "FailedToClose", "Cancelling", "Cancelled", "FailedToCancel"]  # they only rise
 FINAL = {"Completed", "FailedToComplete", "Compensated", "FailedToCompensate"}
 LOOKS = {  # of each status a class of the style, and a sign
@@ -51,6 +56,7 @@ class Node:
 
     def __init__(self, number, port):
         self.number, self.port, self.lras, self.fault = number, port, {}, "not asked yet"
+        self.front, self.listeners, self.pulled = None, {}, -math.inf
 
     def get(self, path):
         """The code and the JSON object of an answer. A node between two runs is asked again."""
@@ -68,6 +74,28 @@ class Node:
                 return answer.status, body
             time.sleep(0.05)
         raise Strange(f"503 {body.get('refused')}")
+
+    def pull(self, nodes):
+        """Hears who listens for an LRA's end, and who has heard of it, beyond what was told before."""
+        connection = http.client.HTTPConnection("127.0.0.1", self.port, timeout=10)
+        try:
+            connection.request("POST", "/peer/pull", frames.pull_body(self.front or [0] * nodes))
+            answer = connection.getresponse()
+            data = answer.read(MOST_FRAME_BYTES)
+        finally:
+            connection.close()
+        if answer.status == 503:
+            return  # between two runs
+        if answer.status != 200:
+            raise Strange(f"{answer.status} to POST /peer/pull: give the ports of all nodes")
+        self.front, held, told = frames.read(data)
+        self.listeners = {lra: it for lra, it in self.listeners.items() if lra in held.get(home_and_number(lra)[0], {lra})} | told
+        self.pulled = time.monotonic()
+
+    def hear(self, nodes):
+        """The same, where an LRA has ended, and not too often."""
+        if time.monotonic() - self.pulled >= PULL_SECONDS and any(rank(it) in (2, 3, 5, 6) for it in self.lras.values()):
+            self.pull(nodes)
 
     def ask(self, questions):
         """Makes the questions until one fails, and notes what went wrong."""
@@ -166,7 +194,7 @@ class Watch:
 
     def round(self, crew):
         self.round_number += 1
-        list(crew.map(lambda node: node.ask(node.look), self.nodes))
+        list(crew.map(lambda node: node.ask(lambda: (node.look(), node.hear(len(self.nodes)))), self.nodes))
         held = {lra for node in self.nodes for lra in node.lras}
         self.lras = {lra: self.lras.get(lra) or Lra(lra) for lra in held}
         for it in self.lras.values():
@@ -222,12 +250,18 @@ class Watch:
         return (f"<tr><th scope=row>{home}.{number} <code>{it.lra}</code></th><td>{badge(it.status)}</td>"
                 f"<td>{self.participants(it)}</td><td>{self.differences(it)}</td></tr>")
 
-    @staticmethod
-    def participants(it):
+    def participants(self, it):
         top = max(it.members, default=0)
-        items = [f"<li>{m} {badge(it.members[m])}</li>" if m in it.members else f"<li>{m} nested or left</li>"
+        items = [f"<li>{m} {badge(it.members[m])}{self.ear(it, m)}</li>" if m in it.members else f"<li>{m} nested or left</li>"
                  for m in range(1, top + 1) if m in it.members or it.due[m] == math.inf]
         return f"<ul>{''.join(items)}</ul>" if items else "none known"
+
+    def ear(self, it, m):
+        """Whether a participant that listens for the end has heard of it, as far as any node knows."""
+        heard = [node.listeners[it.lra][m] for node in self.nodes if m in node.listeners.get(it.lra, {})]
+        if not heard or it.is_open() and not any(heard):
+            return ""
+        return " has heard" if any(heard) else " <strong>still to hear</strong>"
 
     def differences(self, it):
         """Which nodes show something else for now."""

@@ -3,6 +3,7 @@
 
 PROGRAM is crates/lra_node/out/lra_node, which ./coordinator builds, or --unproved (demo/unproved.py). Each check prints a line; the
 status is 1 where one fails."""
+import contextlib
 import http.server
 import json
 import os
@@ -28,13 +29,15 @@ class Participant:
     """Answers calls with what a test says, and remembers them."""
 
     def __init__(self):
-        self.calls, self.answers = [], {}
+        self.calls, self.ends, self.answers = [], [], {}
         outer = self
 
         class Handler(http.server.BaseHTTPRequestHandler):
             def answer(self):
-                self.rfile.read(int(self.headers.get("Content-Length", 0)))
+                told = self.rfile.read(int(self.headers.get("Content-Length", 0)))
                 outer.calls.append((self.command, self.path, self.headers.get("Long-Running-Action")))
+                if self.headers.get("Long-Running-Action-Ended"):
+                    outer.ends.append((self.command, self.path, self.headers["Long-Running-Action-Ended"], self.headers.get("Content-Type"), told))
                 code, body = outer.answers.get(self.path, (200, b""))
                 self.send_response(code)
                 self.send_header("Content-Length", str(len(body)))
@@ -111,21 +114,69 @@ def restart(folder, lra, trip):
             check(f"the journal of node {i} is whole", database.execute("PRAGMA integrity_check").fetchone() == ("ok",))
 
 
+def listeners(folder):
+    """Who joined for the end alone, or beside the rest, hears of it once its LRA has ended for good; a purge waits for them."""
+    server, part = Server(2, folder).wait_until_up(), Participant()
+    part.answers = {"/mail": (503, b""), "/hotel/a": (404, b"")}
+    trip = ask("POST", "/lra", {})[1]["lra"]
+    mail = ask("PUT", f"/lra/{trip}/join", {"after": f"{part.url}/mail"})
+    check("a listener joins", mail[0] == 200, mail)
+    ask("PUT", f"/lra/{trip}/join", {"compensate": f"{part.url}/hotel/c", "complete": f"{part.url}/hotel/k", "after": f"{part.url}/hotel/a"})
+    asked = ask("PUT", f"/lra/{trip}/join", {"after": f"{part.url}/mail", "status": f"{part.url}/s"})
+    check("a link for the status asks for one to compensate", (asked[0], asked[1].get("refused")) == (400, "E1 BadText"), asked)
+    time.sleep(0.5)
+    check("nobody hears of an end before it", not part.ends, part.ends)
+    ask("PUT", f"/lra/{trip}/close")
+    check("an LRA closes before its listeners have heard", comes_to(5, lambda: status(trip) == "Closed"), status(trip))
+    check("both hear of it", comes_to(5, lambda: {end[1] for end in part.ends} == {"/mail", "/hotel/a"}), part.ends)
+    right = [("PUT", path, f"urn:uuid:{trip}", "text/plain", b"Closed") for path in ("/mail", "/hotel/a")]
+    check("by the LRA and what it shows", set(part.ends) == set(right), part.ends)
+    purge = ask("DELETE", f"/lra/{trip}")
+    check("a purge waits while one has not answered", (purge[0], purge[1].get("refused")) == (409, "E24 StillToTell 1.1 1"), purge)
+    check("they are told again", comes_to(10, lambda: [end[1] for end in part.ends].count("/mail") >= 3), part.ends)
+    server.process.kill()
+    server.process.wait()
+    part.answers = {"/hotel/a": (410, b"")}
+    server = Server(2, folder).wait_until_up()
+    check("they are told after a kill -9", comes_to(10, lambda: ask("DELETE", f"/lra/{trip}")[0] == 204), ask("DELETE", f"/lra/{trip}"))
+    count = len(part.ends)
+    dinner = ask("POST", "/lra", {})[1]["lra"]
+    ask("PUT", f"/lra/{dinner}/join", {"after": f"{part.url}/mail"})
+    table = ask("POST", "/lra", {"parent": dinner})[1]["lra"]
+    ask("PUT", f"/lra/{table}/join", {"compensate": f"{part.url}/table/c", "after": f"{part.url}/table/a"})
+    ask("PUT", f"/lra/{table}/close")
+    time.sleep(0.7)
+    check("a nested LRA that is closed may still be cancelled: nobody hears yet", status(table) == "Closed" and len(part.ends) == count, part.ends[count:])
+    ask("PUT", f"/lra/{dinner}/cancel")
+    check("all hear that both were cancelled", comes_to(10, lambda: {(end[1], end[4]) for end in part.ends[count:]} == {("/mail", b"Cancelled"), ("/table/a", b"Cancelled")}), part.ends[count:])
+    check("the participant was compensated before it heard", [call[1] for call in part.calls if call[1].startswith("/table")] == ["/table/c", "/table/a"], part.calls)
+    time.sleep(1)
+    check("each heard once, where it answered", len(part.ends) == count + 2, part.ends[count:])
+    ended = server.end()
+    check("and it ends", ended == (0, ""), ended)
+
+
 def written_earlier(folder):
-    """Journals that an earlier program wrote (tests/data/journal-1) are opened, and show what that program showed."""
+    """Journals that an earlier program wrote (tests/data/journal-1) are opened, and show what that program showed; then they are of version 2,
+    and opened again."""
     data = f"{os.path.dirname(os.path.abspath(__file__))}/data/journal-1"
     for node in (1, 2):
         shutil.copy(f"{data}/node-{node}.db", folder)
     with open(f"{data}/shown.json", encoding="utf-8") as file:
         rows = json.load(file)
-    server = Server(2, folder).wait_until_up()
-    for row in rows:
-        lra, node = row["lra"], row["node"]
-        seen = {"status": status(lra, node), "members": {m: ask("GET", f"/lra/{lra}/member/{m}", node=node)[1].get("status") for m in row.get("members", {})}}
-        right = {"status": row.get("status", row.get("refused")), "members": row.get("members", {})}
-        check(f"a journal of earlier: node {node}, {row['what']}", seen == right, seen)
-    ended = server.end()
-    check("and it ends", ended == (0, ""), ended)
+    for of in (1, 2):
+        server = Server(2, folder).wait_until_up()
+        for row in rows:
+            lra, node = row["lra"], row["node"]
+            seen = {"status": status(lra, node), "members": {m: ask("GET", f"/lra/{lra}/member/{m}", node=node)[1].get("status") for m in row.get("members", {})}}
+            right = {"status": row.get("status", row.get("refused")), "members": row.get("members", {})}
+            check(f"a journal of version {of}: node {node}, {row['what']}", seen == right, seen)
+        ended = server.end()
+        check("and it ends", ended == (0, ""), ended)
+        for node in (1, 2):
+            with contextlib.closing(sqlite3.connect(f"{folder}/node-{node}.db")) as database:
+                rows_of_node = database.execute("SELECT held, purged FROM front WHERE origin = 0").fetchall()
+                check(f"then the journal of node {node} is of version 2", rows_of_node == [(node, 2)], rows_of_node)
 
 
 def hanging(folder):
@@ -206,6 +257,8 @@ def main():
         Server.program = unproved.program_of(sys.argv[1])
     with tempfile.TemporaryDirectory() as folder:
         restart(folder, *three_nodes(folder))
+    with tempfile.TemporaryDirectory() as folder:
+        listeners(folder)
     with tempfile.TemporaryDirectory() as folder:
         written_earlier(folder)
     with tempfile.TemporaryDirectory() as folder:

@@ -20,7 +20,7 @@ use Rattle.lra_http.proofs.WholeMessages.{whole_response}
 use Rattle.lra_id.proofs.VisibleTexts.{text_length, text_visible}
 use Rattle.lra_states.specs.declared.status.LraStatus.TheVariants.{Active}
 use Rattle.lra_facts.specs.declared.refusal.Refusal.{Refusal}
-use Rattle.lra_facts.specs.declared.refusal.Refusal.TheVariants.{BadText, UnknownLra, NotHeld, NotHome, UnknownMember, NotActive, NotDue, NotEnded, NotRoot, StillToForget, MembersFull, DepthFull, LrasFull, NumbersSpent, Gap, BadFrame, NoMemory, JournalFailed, Stopped, RunFull, TrailLost, Strange}
+use Rattle.lra_facts.specs.declared.refusal.Refusal.TheVariants.{BadText, UnknownLra, NotHeld, NotHome, UnknownMember, NotActive, NotDue, NotEnded, NotRoot, StillToForget, StillToTell, MembersFull, DepthFull, LrasFull, NumbersSpent, Gap, NeedsVersion2, BadFrame, NoMemory, JournalFailed, Stopped, RunFull, TrailLost, Strange}
 use Rattle.lra_facts.specs.RefusalTexts.{refusal_text}
 use Rattle.lra_history.specs.declared.command.CommandReply.{CommandReply}
 use Rattle.lra_history.specs.declared.command.CommandReply.TheVariants as command
@@ -209,11 +209,13 @@ refusal_code (NotDue status) = code_409
 refusal_code (NotEnded status) = code_409
 refusal_code NotRoot = code_409
 refusal_code (StillToForget id member) = code_409
+refusal_code (StillToTell id member) = code_409
 refusal_code MembersFull = code_503
 refusal_code DepthFull = code_503
 refusal_code LrasFull = code_503
 refusal_code NumbersSpent = code_503
 refusal_code (Gap front) = code_503
+refusal_code NeedsVersion2 = code_503
 refusal_code (BadFrame place) = code_400
 refusal_code NoMemory = code_503
 refusal_code JournalFailed = code_503
@@ -285,6 +287,7 @@ sound_command limit command.Left fits small low = sound_bare limit
 sound_command limit command.Reported fits small low = sound_bare limit
 sound_command limit command.Known fits small low = sound_bare limit
 sound_command limit command.Forgotten fits small low = sound_bare limit
+sound_command limit command.Told fits small low = sound_bare limit
 sound_command limit command.Purged fits small low = sound_bare limit
 sound_command limit (command.Refused refusal) fits small low = sound_refusal limit refusal fits low
 

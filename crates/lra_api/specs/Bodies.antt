@@ -10,10 +10,9 @@ use Rattle.lra_states.specs.declared.outcome.Act.{Act}
 use Rattle.lra_states.specs.declared.outcome.Act.TheVariants.{Complete, Compensate}
 use Rattle.lra_states.specs.declared.outcome.Outcome.{Outcome}
 use Rattle.lra_states.specs.declared.outcome.Outcome.TheVariants.{Busy, Done, Failed}
-use Rattle.lra_facts.specs.declared.links.Links.{Links}
 use Rattle.lra_facts.specs.declared.refusal.Refusal.{Refusal}
 use Rattle.lra_facts.specs.declared.refusal.Refusal.TheVariants.{BadText, NoMemory}
-use Rattle.lra_facts.specs.Links.{kept_links}
+use Rattle.lra_facts.specs.Links.{Links, kept_links}
 use Rattle.lra_api.specs.Names.{id_of}
 
 -- why what was to be read is not there: it breaks its grammar, or memory runs out
@@ -82,13 +81,13 @@ parent_by body = id_if_given (text_at (codes "parent") body)
 
 -- The body of a join
 
-abbrev pub links_of : (complete compensate status forget : Option (Option (List ℕ))) → Option Links
-links_of (Some c) (Some k) (Some s) (Some f) = kept_links c k s f
-links_of _ _ _ _ = None
+abbrev pub links_of : (complete compensate status forget after : Option (Option (List ℕ))) → Option Links
+links_of (Some c) (Some k) (Some s) (Some f) (Some a) = kept_links c k s f a
+links_of _ _ _ _ _ = None
 
 abbrev pub links_by : Data → Option Links
 links_by body =
-    links_of (text_at (codes "complete") body) (text_at (codes "compensate") body) (text_at (codes "status") body) (text_at (codes "forget") body)
+    links_of (text_at (codes "complete") body) (text_at (codes "compensate") body) (text_at (codes "status") body) (text_at (codes "forget") body) (text_at (codes "after") body)
 
 -- The body of a report
 

@@ -15,7 +15,8 @@ use Rattle.sqlite.specs.State.{HasCleanDisk, Survives}
 use Rattle.sqlite.specs.Tree.{Trees}
 use Rattle.lra_journal.specs.Keeping.{IsCounted, IsOwn, JournalState, Keeps}
 use Rattle.lra_journal.specs.Ruled.{KeepsRules}
-use Rattle.lra_journal.specs.Stands.{Stands}
+use Rattle.lra_delta.specs.declared.version.Version.{Version}
+use Rattle.lra_journal.specs.Stands.{Stands, StandsAs}
 use Rattle.lra_journal.specs.Tables.{IsJournal}
 use Rattle.lra_book.specs.Next.{IsNext, is_move}
 use Rattle.lra_book.specs.Trails.{LeadsTo, entry}
@@ -109,7 +110,8 @@ pub record IsStartedBehind {S : Type 0} (g : Ghosts S) (old : BookState S) (aske
   pub survives : Survives (state g old.journal.connection) (state g left) (MayCommit g old asked now)
   pub clean : HasCleanDisk (state g left)
   pub may : (state g left).may_leave db
-  pub stands : Stands old.me db found
+  pub version : Version
+  pub stands : StandsAs version old.me db found
   pub rules : KeepsRules found
 
 -- a run began: no entry, and the opening is the view

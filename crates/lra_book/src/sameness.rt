@@ -60,6 +60,13 @@ fn same_command(a: &Command, b: &Command) -> bool
                 member: number,
             },
         ) => *id == *other && *member == *number,
+        (
+            Command::Told { id, member },
+            Command::Told {
+                id: other,
+                member: number,
+            },
+        ) => *id == *other && *member == *number,
         (Command::Purge { root }, Command::Purge { root: other }) => *root == *other,
         _ => false,
     }

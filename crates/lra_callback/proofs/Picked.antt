@@ -8,19 +8,20 @@ use Rattle.lra_states.specs.declared.outcome.Act.{Act}
 use Rattle.lra_states.specs.declared.outcome.Act.TheVariants.{Complete as CompleteAct, Compensate as CompensateAct}
 use Rattle.lra_states.specs.declared.outcome.Verdict.{Verdict}
 use Rattle.lra_states.specs.declared.outcome.Verdict.TheVariants.{Close, Cancel}
+use Rattle.lra_states.specs.declared.status.LraStatus.{LraStatus}
 use Rattle.lra_facts.specs.declared.fact.Fact.{Fact}
-use Rattle.lra_facts.specs.Duties.{is_compensation_due, is_forget_duty}
-use Rattle.lra_facts.specs.Sets.{want}
+use Rattle.lra_facts.specs.Duties.{is_after_duty, is_compensation_due, is_forget_duty}
+use Rattle.lra_facts.specs.Sets.{parent_of, want}
 use Rattle.lra_forest.specs.declared.duties.Due.{Due}
 use Rattle.lra_forest.specs.Dues.{AreAll, IsDueAt, is_before, is_complete_duty, is_topmost_before}
 use Rattle.lra_forest.proofs.Bools.{and_left, and_right, not_false}
 use Rattle.lra_forest.proofs.Gathered.{all_append, all_map}
 use Rattle.lra_callback.specs.declared.answer.Kind.{Kind}
-use Rattle.lra_callback.specs.declared.answer.Kind.TheVariants.{Complete, Compensate, Status, Forget}
+use Rattle.lra_callback.specs.declared.answer.Kind.TheVariants.{Complete, Compensate, Status, Forget, After}
 use Rattle.lra_callback.specs.declared.duty.Duty.{Duty}
 use Rattle.lra_callback.specs.declared.duty.Errand.{Errand}
-use Rattle.lra_callback.specs.declared.duty.Errand.TheVariants.{Call, Release}
-use Rattle.lra_callback.specs.CallDuties.{IsDuty, act_wanted, asks_status, comes_first, due_of, is_act_wanted, is_owed, link_given, stage}
+use Rattle.lra_callback.specs.declared.duty.Errand.TheVariants.{Call, Release, Tell}
+use Rattle.lra_callback.specs.CallDuties.{IsDuty, act_wanted, asks_status, comes_first, due_of, is_act_wanted, is_owed, link_given, shown_for, stage}
 use Rattle.lra_callback.specs.Errands.{act_from, due_by, duty_from, kind_from, kind_of_act}
 use Rattle.lra_callback.proofs.Ready.{IsReady, link_is, ready}
 
@@ -30,6 +31,7 @@ errand_of Complete act = Call CompleteAct
 errand_of Compensate act = Call CompensateAct
 errand_of Status act = Call act
 errand_of Forget act = Release
+errand_of After act = Tell
 
 -- a duty that is done on this errand
 pub record IsOn (home : ℕ) (S : List Fact) (errand : Errand) (d : Duty) : Type 0 where
@@ -40,6 +42,7 @@ abbrev pub turn : Errand → ℕ
 turn (Call CompleteAct) = 0
 turn (Call CompensateAct) = 1
 turn Release = 2
+turn Tell = 3
 
 stage_is : (kind : Kind) (act : Act) → stage kind act ≡ turn (errand_of kind act)
 stage_is Complete act = refl
@@ -47,12 +50,14 @@ stage_is Compensate act = refl
 stage_is Status CompleteAct = refl
 stage_is Status CompensateAct = refl
 stage_is Forget act = refl
+stage_is After act = refl
 
 -- in the order of participants
 abbrev pub before_by : Errand → List Fact → Due → Due → Bool
 before_by (Call CompleteAct) S = is_before
 before_by (Call CompensateAct) S = is_topmost_before S
 before_by Release S = is_before
+before_by Tell S = is_before
 
 wanted_act : (w : Option Verdict) (act : Act) → act_wanted w ≡ Some act → is_act_wanted w act ≡ true
 wanted_act None act e = absurd cc
@@ -74,6 +79,7 @@ both a b e f = rw (e, f) refl
 -- what is due is owed by the call that is made of it
 owed_so : (S : List Fact) (errand : Errand) (d : Due) (act : Act) → due_by errand S d.lra d.member ≡ true → act_from S errand d ≡ Some act → is_owed S (kind_from S errand d) act d.lra d.member ≡ true
 owed_so S Release d act due wanted = both (is_forget_duty S d.lra d.member) _ due (wanted_act (want S d.lra) act wanted)
+owed_so S Tell d act due wanted = both (is_after_duty S d.lra d.member) _ due (wanted_act (want S d.lra) act wanted)
 owed_so S (Call a) d act due wanted = subst (λ (b : Act). is_owed S (kind_from S (Call a) d) b d.lra d.member ≡ true) same (by a (asks_status S d.lra d.member a) refl due)
   where
     same : a ≡ act
@@ -87,6 +93,7 @@ owed_so S (Call a) d act due wanted = subst (λ (b : Act). is_owed S (kind_from 
 
 errand_so : (S : List Fact) (errand : Errand) (d : Due) (act : Act) → act_from S errand d ≡ Some act → errand_of (kind_from S errand d) act ≡ errand
 errand_so S Release d act wanted = refl
+errand_so S Tell d act wanted = refl
 errand_so S (Call a) d act wanted = subst (λ (b : Act). errand_of (kind_from S (Call a) d) b ≡ Call a) same (by a (asks_status S d.lra d.member a))
   where
     same : a ≡ act
@@ -107,6 +114,7 @@ there home S errand d due =
         owed = owed_so S errand d (duty_from S errand d).act due.owed acts;
         called = links;
         nested = refl;
+        shown = refl;
       };
       on = errand_so S errand d (duty_from S errand d).act acts;
     }
@@ -141,6 +149,8 @@ owed_back S Status CompensateAct d e =
     record { due = and_left (is_compensation_due S d.lra d.member) _ e; kinds = ap (λ b. cond b Status Compensate) (and_right (is_compensation_due S d.lra d.member) _ e); acts = refl }
 owed_back S Forget act d e =
     record { due = and_left (is_forget_duty S d.lra d.member) _ e; kinds = refl; acts = act_is (want S d.lra) act (and_right (is_forget_duty S d.lra d.member) _ e) }
+owed_back S After act d e =
+    record { due = and_left (is_after_duty S d.lra d.member) _ e; kinds = refl; acts = act_is (want S d.lra) act (and_right (is_after_duty S d.lra d.member) _ e) }
 
 back : (home : ℕ) (S : List Fact) (errand : Errand) (y : Duty) → IsOn home S errand y → (d : Due) × IsDueAt home S (due_by errand) d × (y ≡ duty_from S errand d)
 back home S errand y on = (due_of y, record { own = on.duty.own; held = on.duty.held; owed = from.due }, whole)
@@ -148,8 +158,8 @@ back home S errand y on = (due_of y, record { own = on.duty.own; held = on.duty.
     from : IsOwedSo S y.kind y.act errand (due_of y)
     from = subst (λ (e : Errand). IsOwedSo S y.kind y.act e (due_of y)) on.on (owed_back S y.kind y.act (due_of y) on.duty.owed)
 
-    mk : Kind → Act → List ℕ → Option Id → Duty
-    mk k a l o = record { kind = k; act = a; id = y.id; member = y.member; link = l; parent = o }
+    mk : Kind → Act → List ℕ → Option Id → Option LraStatus → Duty
+    mk k a l o s = record { kind = k; act = a; id = y.id; member = y.member; link = l; parent = o; shows = s }
 
     linked : y.link ≡ option_map_or (λ link. link) (link_given S (kind_from S errand (due_of y)) y.id y.member) []
     linked = sym (ap (λ (o : Option (List ℕ)). option_map_or (λ link. link) o []) (ap (λ k. link_given S k y.id y.member) from.kinds ∙ on.duty.called))
@@ -163,10 +173,14 @@ back home S errand y on = (due_of y, record { own = on.duty.own; held = on.duty.
     the_link : List ℕ
     the_link = option_map_or (λ link. link) (link_given S (kind_from S errand (due_of y)) y.id y.member) []
 
+    showing : y.shows ≡ shown_for S (kind_from S errand (due_of y)) y.id
+    showing = on.duty.shown ∙ sym (ap (λ k. shown_for S k y.id) from.kinds)
+
     whole : y ≡ duty_from S errand (due_of y)
     whole =
-        ap (λ k. mk k y.act y.link y.parent) (sym from.kinds) ∙ ap (λ a. mk (kind_from S errand (due_of y)) a y.link y.parent) acting
-        ∙ ap (λ l. mk (kind_from S errand (due_of y)) the_act l y.parent) linked ∙ ap (mk (kind_from S errand (due_of y)) the_act the_link) on.duty.nested
+        ap (λ k. mk k y.act y.link y.parent y.shows) (sym from.kinds) ∙ ap (λ a. mk (kind_from S errand (due_of y)) a y.link y.parent y.shows) acting
+        ∙ ap (λ l. mk (kind_from S errand (due_of y)) the_act l y.parent y.shows) linked ∙ ap (λ o. mk (kind_from S errand (due_of y)) the_act the_link o y.shows) on.duty.nested
+        ∙ ap (mk (kind_from S errand (due_of y)) the_act the_link (parent_of S y.id)) showing
 
 -- The order
 
@@ -184,6 +198,7 @@ same_turn home S errand x y a b before =
     by (Call CompleteAct) p q f = rw (p, q, f) refl
     by (Call CompensateAct) p q f = rw (p, q, f) refl
     by Release p q f = rw (p, q, f) refl
+    by Tell p q f = rw (p, q, f) refl
 
 -- those of one errand, and of all
 on_errand : (home : ℕ) (S : List Fact) (errand : Errand) (dues : List Due) → AreAll (IsDueAt home S (due_by errand)) (before_by errand S) dues → AreAll (IsOn home S errand) (comes_first S) (map (duty_from S errand) dues)
@@ -194,33 +209,43 @@ on_errand home S errand dues h =
 all_same : {X : Type 0} (P Q : X → Type 0) (before : X → X → Bool) (xs : List X) → ((x : X) → P x → Q x) → ((x : X) → Q x → P x) → AreAll P before xs → AreAll Q before xs
 all_same P Q before xs to fro h = record { all = λ x q. h.all x (fro x q); only = λ x i. to x (h.only x i); order = h.order }
 
-pub all_picked : (home : ℕ) (S : List Fact) (first second third : List Due) → AreAll (IsDueAt home S is_complete_duty) is_before first → AreAll (IsDueAt home S is_compensation_due) (is_topmost_before S) second → AreAll (IsDueAt home S is_forget_duty) is_before third → AreAll (IsDuty home S) (comes_first S) (map (duty_from S (Call CompleteAct)) first ++ (map (duty_from S (Call CompensateAct)) second ++ map (duty_from S Release) third))
-all_picked home S first second third a b c =
-    all_same (λ x. On (Call CompleteAct) x ⊎ (On (Call CompensateAct) x ⊎ On Release x)) (IsDuty home S) (comes_first S) _ to fro
-    (all_append (On (Call CompleteAct)) (λ x. On (Call CompensateAct) x ⊎ On Release x) (comes_first S) _ _ across (on_errand home S (Call CompleteAct) first a)
-    (all_append (On (Call CompensateAct)) (On Release) (comes_first S) _ _ (λ x y. later_turn home S (Call CompensateAct) Release x y refl) (on_errand home S (Call CompensateAct) second b) (on_errand home S Release third c)))
+pub all_picked : (home : ℕ) (S : List Fact) (first second third fourth : List Due) → AreAll (IsDueAt home S is_complete_duty) is_before first → AreAll (IsDueAt home S is_compensation_due) (is_topmost_before S) second → AreAll (IsDueAt home S is_forget_duty) is_before third → AreAll (IsDueAt home S is_after_duty) is_before fourth
+    → AreAll (IsDuty home S) (comes_first S) (map (duty_from S (Call CompleteAct)) first ++ (map (duty_from S (Call CompensateAct)) second ++ (map (duty_from S Release) third ++ map (duty_from S Tell) fourth)))
+all_picked home S first second third fourth a b c e =
+    all_same (λ x. On (Call CompleteAct) x ⊎ (On (Call CompensateAct) x ⊎ (On Release x ⊎ On Tell x))) (IsDuty home S) (comes_first S) _ to fro
+    (all_append (On (Call CompleteAct)) (λ x. On (Call CompensateAct) x ⊎ (On Release x ⊎ On Tell x)) (comes_first S) _ _ across (on_errand home S (Call CompleteAct) first a)
+    (all_append (On (Call CompensateAct)) (λ x. On Release x ⊎ On Tell x) (comes_first S) _ _ beyond (on_errand home S (Call CompensateAct) second b)
+    (all_append (On Release) (On Tell) (comes_first S) _ _ (λ x y. later_turn home S Release Tell x y refl) (on_errand home S Release third c) (on_errand home S Tell fourth e))))
   where
     On : Errand → Duty → Type 0
     On = IsOn home S
 
-    across : (x y : Duty) → On (Call CompleteAct) x → On (Call CompensateAct) y ⊎ On Release y → comes_first S x y ≡ true
+    across : (x y : Duty) → On (Call CompleteAct) x → On (Call CompensateAct) y ⊎ (On Release y ⊎ On Tell y) → comes_first S x y ≡ true
     across x y p (inl q) = later_turn home S (Call CompleteAct) (Call CompensateAct) x y refl p q
-    across x y p (inr q) = later_turn home S (Call CompleteAct) Release x y refl p q
+    across x y p (inr (inl q)) = later_turn home S (Call CompleteAct) Release x y refl p q
+    across x y p (inr (inr q)) = later_turn home S (Call CompleteAct) Tell x y refl p q
 
-    to : (x : Duty) → On (Call CompleteAct) x ⊎ (On (Call CompensateAct) x ⊎ On Release x) → IsDuty home S x
+    beyond : (x y : Duty) → On (Call CompensateAct) x → On Release y ⊎ On Tell y → comes_first S x y ≡ true
+    beyond x y p (inl q) = later_turn home S (Call CompensateAct) Release x y refl p q
+    beyond x y p (inr q) = later_turn home S (Call CompensateAct) Tell x y refl p q
+
+    to : (x : Duty) → On (Call CompleteAct) x ⊎ (On (Call CompensateAct) x ⊎ (On Release x ⊎ On Tell x)) → IsDuty home S x
     to x (inl p) = p.duty
     to x (inr (inl p)) = p.duty
-    to x (inr (inr p)) = p.duty
+    to x (inr (inr (inl p))) = p.duty
+    to x (inr (inr (inr p))) = p.duty
 
-    fro : (x : Duty) → IsDuty home S x → On (Call CompleteAct) x ⊎ (On (Call CompensateAct) x ⊎ On Release x)
+    fro : (x : Duty) → IsDuty home S x → On (Call CompleteAct) x ⊎ (On (Call CompensateAct) x ⊎ (On Release x ⊎ On Tell x))
     fro x d = by (errand_of x.kind x.act) refl
       where
-        by : (e : Errand) → errand_of x.kind x.act ≡ e → On (Call CompleteAct) x ⊎ (On (Call CompensateAct) x ⊎ On Release x)
+        by : (e : Errand) → errand_of x.kind x.act ≡ e → On (Call CompleteAct) x ⊎ (On (Call CompensateAct) x ⊎ (On Release x ⊎ On Tell x))
         by (Call CompleteAct) e = inl (record { duty = d; on = e })
         by (Call CompensateAct) e = inr (inl (record { duty = d; on = e }))
-        by Release e = inr (inr (record { duty = d; on = e }))
+        by Release e = inr (inr (inl (record { duty = d; on = e })))
+        by Tell e = inr (inr (inr (record { duty = d; on = e })))
 
--- three lists that are added one after another
-pub three_added : {X : Type 0} (none one two three first second third : List X) → none ≡ [] → one ≡ none ++ first → two ≡ one ++ second → three ≡ two ++ third → three ≡ first ++ (second ++ third)
-three_added none one two three first second third empty by_one by_two by_three =
-    by_three ∙ ap (λ xs. xs ++ third) (by_two ∙ ap (λ xs. xs ++ second) (by_one ∙ ap (λ xs. xs ++ first) empty)) ∙ append_assoc first second third
+-- four lists that are added one after another
+pub four_added : {X : Type 0} (none one two three four first second third fourth : List X) → none ≡ [] → one ≡ none ++ first → two ≡ one ++ second → three ≡ two ++ third → four ≡ three ++ fourth → four ≡ first ++ (second ++ (third ++ fourth))
+four_added none one two three four first second third fourth empty by_one by_two by_three by_four =
+    by_four ∙ ap (λ xs. xs ++ fourth) (by_three ∙ ap (λ xs. xs ++ third) (by_two ∙ ap (λ xs. xs ++ second) (by_one ∙ ap (λ xs. xs ++ first) empty)))
+    ∙ append_assoc (first ++ second) third fourth ∙ append_assoc first second (third ++ fourth)

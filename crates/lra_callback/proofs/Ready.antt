@@ -8,10 +8,11 @@ use Rattle.lra_states.specs.declared.outcome.Act.{Act}
 use Rattle.lra_states.specs.declared.outcome.Act.TheVariants.{Complete as CompleteAct, Compensate as CompensateAct}
 use Rattle.lra_states.specs.declared.outcome.Verdict.{Verdict}
 use Rattle.lra_states.specs.declared.outcome.Verdict.TheVariants.{Close, Cancel}
+use Rattle.lra_states.specs.declared.status.LraStatus.{LraStatus}
 use Rattle.lra_facts.specs.declared.fact.Fact.{Fact}
-use Rattle.lra_facts.specs.declared.links.Links.{Links}
-use Rattle.lra_facts.specs.Duties.{has_forgot, has_to_forget, holds_back, is_forget_duty, is_over, is_pending, owes_forget, saga_path, topmost_cancelled}
-use Rattle.lra_facts.specs.Sets.{demands, has_left, heard, is_demanded, is_participant, is_root, links_of, parent_of, status_by, want}
+use Rattle.lra_facts.specs.Links.{Links}
+use Rattle.lra_facts.specs.Duties.{has_forgot, has_to_compensate, has_to_forget, holds_back, is_after_duty, is_at_end, is_compensation_due, is_forget_duty, is_over, is_uncompensated, owes_after, owes_forget, saga_path, topmost_cancelled}
+use Rattle.lra_facts.specs.Sets.{demands, has_left, heard, is_demanded, is_ended, is_participant, is_root, links_of, parent_of, status_by, want}
 use Rattle.lra_forest.specs.declared.duties.Due.{Due}
 use Rattle.lra_forest.specs.declared.record.Participant.{Participant as ParticipantRecord}
 use Rattle.lra_forest.specs.Dues.{IsDueAt, is_complete_duty}
@@ -21,8 +22,8 @@ use Rattle.lra_callback.specs.declared.answer.Kind.{Kind}
 use Rattle.lra_callback.specs.declared.answer.Kind.TheVariants.{Status}
 use Rattle.lra_callback.specs.declared.duty.Duty.{Duty}
 use Rattle.lra_callback.specs.declared.duty.Errand.{Errand}
-use Rattle.lra_callback.specs.declared.duty.Errand.TheVariants.{Call, Release}
-use Rattle.lra_callback.specs.CallDuties.{act_wanted, asks_status, is_busy, link_for, link_given}
+use Rattle.lra_callback.specs.declared.duty.Errand.TheVariants.{Call, Release, Tell}
+use Rattle.lra_callback.specs.CallDuties.{act_wanted, asks_status, is_busy, link_for, link_given, shown_for}
 use Rattle.lra_callback.specs.Errands.{act_from, due_by, duty_from, kind_from, kind_in, kind_of_act}
 
 -- it joined and stayed, an act is wanted, and a link was given
@@ -43,10 +44,11 @@ some_of (Some x) e = (x, refl)
 joins : (S : List Fact) (errand : Errand) (l : Id) (m : ℕ) → due_by errand S l m ≡ true → is_participant S l m ≡ true
 joins S (Call CompleteAct) l m e = and_left (is_participant S l m) _ e
 joins S Release l m e = and_left (is_participant S l m) _ e
+joins S Tell l m e = and_left (is_participant S l m) _ e
 joins S (Call CompensateAct) l m e = by (topmost_cancelled S l) e
   where
     rest : Id → Bool
-    rest a = is_pending (heard S l m CompensateAct) && not (list_any (λ (f : Fact). holds_back S a (saga_path S l m) f.body) S)
+    rest a = is_uncompensated S l m && not (list_any (λ (f : Fact). holds_back S a (saga_path S l m) f.body) S)
 
     by : (o : Option Id) → option_map_or (λ a. is_participant S l m && rest a) o false ≡ true → is_participant S l m ≡ true
     by None f = absurd cc
@@ -65,6 +67,29 @@ completes S l m links joined e = by (want S l) (sym (ap (λ o. option_map_or (λ
     by None f = absurd cc
     by (Some Close) f = f
     by (Some Cancel) f = absurd cc
+
+-- one that is to compensate has a link for that
+compensates : (S : List Fact) (l : Id) (m : ℕ) (links : Links) → links_of S l m ≡ Some links → is_compensation_due S l m ≡ true → is_some links.compensate ≡ true
+compensates S l m links joined e = by (topmost_cancelled S l) e
+  where
+    by : (o : Option Id) → option_map_or (λ a. is_participant S l m && (is_uncompensated S l m && not (list_any (λ (f : Fact). holds_back S a (saga_path S l m) f.body) S))) o false ≡ true → is_some links.compensate ≡ true
+    by None f = absurd cc
+    by (Some a) f =
+        let due : is_uncompensated S l m ≡ true = and_left (is_uncompensated S l m) _ (and_right (is_participant S l m) _ f) in
+        let has : has_to_compensate links (heard S l m CompensateAct) ≡ true = sym (ap (λ o. option_map_or (λ (given : Links). has_to_compensate given (heard S l m CompensateAct)) o false) joined) ∙ due in
+        and_left (is_some links.compensate) _ has
+
+hearing : (S : List Fact) (l : Id) (m : ℕ) (links : Links) → links_of S l m ≡ Some links → is_after_duty S l m ≡ true → owes_after S l m links ≡ true
+hearing S l m links joined e = sym (ap (λ o. option_map_or (owes_after S l m) o false) joined) ∙ and_right (is_participant S l m) _ e
+
+-- of one that hears of the end something is wanted
+hears : (S : List Fact) (l : Id) (m : ℕ) (links : Links) → owes_after S l m links ≡ true → (act : Act) × (act_wanted (want S l) ≡ Some act)
+hears S l m links e = by (want S l) (and_left (is_some (want S l)) _ (and_left (is_ended S l) _ (and_left (is_at_end S l) _ e)))
+  where
+    by : (w : Option Verdict) → is_some w ≡ true → (act : Act) × (act_wanted w ≡ Some act)
+    by None f = absurd cc
+    by (Some Close) f = (CompleteAct, refl)
+    by (Some Cancel) f = (CompensateAct, refl)
 
 owing : (S : List Fact) (l : Id) (m : ℕ) (links : Links) → links_of S l m ≡ Some links → is_forget_duty S l m ≡ true → owes_forget S l m links ≡ true
 owing S l m links joined e = sym (ap (λ o. option_map_or (owes_forget S l m) o false) joined) ∙ and_right (is_participant S l m) _ e
@@ -88,16 +113,19 @@ forgets S l m links e =
 acts : (S : List Fact) (errand : Errand) (d : Due) (links : Links) → links_of S d.lra d.member ≡ Some links → due_by errand S d.lra d.member ≡ true → (act : Act) × (act_from S errand d ≡ Some act)
 acts S (Call act) d links joined e = (act, refl)
 acts S Release d links joined e = forgets S d.lra d.member links (owing S d.lra d.member links joined e)
+acts S Tell d links joined e = hears S d.lra d.member links (hearing S d.lra d.member links joined e)
 
 gives : (S : List Fact) (errand : Errand) (d : Due) (links : Links) → links_of S d.lra d.member ≡ Some links → due_by errand S d.lra d.member ≡ true → is_some (link_for (kind_from S errand d) links) ≡ true
 gives S Release d links joined e =
     and_left (is_some links.forget) _ (and_right (is_over S d.lra) _ (owing S d.lra d.member links joined e))
+gives S Tell d links joined e =
+    and_left (is_some links.after) _ (and_right (is_at_end S d.lra) _ (hearing S d.lra d.member links joined e))
 gives S (Call act) d links joined e = by act (asks_status S d.lra d.member act) refl e
   where
     by : (a : Act) (b : Bool) → asks_status S d.lra d.member a ≡ b → due_by (Call a) S d.lra d.member ≡ true → is_some (link_for (cond b Status (kind_of_act a)) links) ≡ true
     by a true t f = asked S d.lra d.member a links joined t
     by CompleteAct false t f = completes S d.lra d.member links joined f
-    by CompensateAct false t f = refl
+    by CompensateAct false t f = compensates S d.lra d.member links joined f
 
 pub ready : (home : ℕ) (S : List Fact) (errand : Errand) (d : Due) → IsDueAt home S (due_by errand) d → IsReady S errand d
 ready home S errand d due =
@@ -125,6 +153,7 @@ link_is S errand d r = ap (λ o. option_map_or (link_for (kind_from S errand d))
 -- the kind by what is kept is the kind by the set
 pub kind_is : (S : List Fact) (errand : Errand) (d : Due) (links : Links) → links_of S d.lra d.member ≡ Some links → kind_in errand (joined_as S d.lra d.member links) ≡ kind_from S errand d
 kind_is S Release d links joined = refl
+kind_is S Tell d links joined = refl
 kind_is S (Call act) d links joined = ap (λ b. cond b Status (kind_of_act act)) (by act)
   where
     by : (a : Act) → (is_busy (heard_by (joined_as S d.lra d.member links) a) && is_some links.status) ≡ asks_status S d.lra d.member a
@@ -132,9 +161,10 @@ kind_is S (Call act) d links joined = ap (λ b. cond b Status (kind_of_act act))
     by CompensateAct = ap (λ b. is_busy (heard S d.lra d.member CompensateAct) && b) (sym (ap (λ o. option_map_or (λ (given : Links). is_some given.status) o false) joined))
 
 -- the duty that is made of what is kept
-pub made : (home : ℕ) (S : List Fact) (errand : Errand) (d : Due) → IsDueAt home S (due_by errand) d → (p : ParticipantRecord) (kind : Kind) (act : Act) (link : List ℕ) (parent : Option Id) → Some p ≡ participant_of S d.lra d.member → kind ≡ kind_in errand p → Some act ≡ act_from S errand d → Some link ≡ link_for kind p.links → parent ≡ parent_held S d.lra → ◌≡◌ {A = Duty} (record { kind = kind; act = act; id = d.lra; member = d.member; link = link; parent = parent }) (duty_from S errand d)
-made home S errand d due p kind act link parent kept is_kind is_act is_link is_parent =
-    ap (λ k. mk k act link parent) kinds ∙ ap (λ a. mk (kind_from S errand d) a link parent) acting ∙ ap (λ l. mk (kind_from S errand d) the_act l parent) linked ∙ ap (mk (kind_from S errand d) the_act the_link) nested
+pub made : (home : ℕ) (S : List Fact) (errand : Errand) (d : Due) → IsDueAt home S (due_by errand) d → (p : ParticipantRecord) (kind : Kind) (act : Act) (link : List ℕ) (parent : Option Id) (shows : Option LraStatus) → Some p ≡ participant_of S d.lra d.member → kind ≡ kind_in errand p → Some act ≡ act_from S errand d → Some link ≡ link_for kind p.links → parent ≡ parent_held S d.lra → shows ≡ shown_for S kind d.lra → ◌≡◌ {A = Duty} (record { kind = kind; act = act; id = d.lra; member = d.member; link = link; parent = parent; shows = shows }) (duty_from S errand d)
+made home S errand d due p kind act link parent shows kept is_kind is_act is_link is_parent is_shown =
+    ap (λ k. mk k act link parent shows) kinds ∙ ap (λ a. mk (kind_from S errand d) a link parent shows) acting ∙ ap (λ l. mk (kind_from S errand d) the_act l parent shows) linked
+    ∙ ap (λ o. mk (kind_from S errand d) the_act the_link o shows) nested ∙ ap (mk (kind_from S errand d) the_act the_link (parent_of S d.lra)) showing
   where
     the_act : Act
     the_act = option_map_or (λ a. a) (act_from S errand d) CompleteAct
@@ -142,8 +172,8 @@ made home S errand d due p kind act link parent kept is_kind is_act is_link is_p
     the_link : List ℕ
     the_link = option_map_or (λ l. l) (link_given S (kind_from S errand d) d.lra d.member) []
 
-    mk : Kind → Act → List ℕ → Option Id → Duty
-    mk k a l o = record { kind = k; act = a; id = d.lra; member = d.member; link = l; parent = o }
+    mk : Kind → Act → List ℕ → Option Id → Option LraStatus → Duty
+    mk k a l o s = record { kind = k; act = a; id = d.lra; member = d.member; link = l; parent = o; shows = s }
 
     r : IsReady S errand d
     r = ready home S errand d due
@@ -165,3 +195,6 @@ made home S errand d due p kind act link parent kept is_kind is_act is_link is_p
 
     nested : parent ≡ parent_of S d.lra
     nested = let held = due.held in is_parent ∙ rw held refl
+
+    showing : shows ≡ shown_for S (kind_from S errand d) d.lra
+    showing = is_shown ∙ ap (λ k. shown_for S k d.lra) kinds

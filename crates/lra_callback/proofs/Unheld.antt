@@ -1,7 +1,6 @@
 -- an LRA of which a view has no record wants nothing
-use Rattle.std.proofs.Common.{◌≡◌, ◌∙◌, List, refl, sym, ap, Option, Some, None, Err, is_some}
+use Rattle.std.proofs.Common.{◌≡◌, List, refl, sym, ap, Option, Some, None, Err, is_some}
 use Rattle.lra_id.specs.Ids.{Id}
-use Rattle.lra_states.specs.declared.outcome.Verdict.{Verdict}
 use Rattle.lra_facts.specs.declared.refusal.Refusal.{Refusal}
 use Rattle.lra_forest.specs.declared.record.Record.{Record}
 use Rattle.lra_forest.specs.Said.{wanted_by}

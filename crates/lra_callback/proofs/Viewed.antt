@@ -1,29 +1,30 @@
 -- the calls that are due by the view of a settled set are all its duties, in their order
-use Rattle.std.proofs.Common.{◌≡◌, ◌≤◌, ◌++◌, ◌∙◌, inl, inr, ℕ, List, [], ◌∷◌, refl, sym, ap, subst, Option, Some, None, filter_map, length, map}
+use Rattle.std.proofs.Common.{Bool, cond, ◌≡◌, ◌≤◌, ◌++◌, ◌∙◌, inl, inr, ℕ, List, [], ◌∷◌, refl, sym, ap, subst, Option, Some, None, filter_map, length, map}
 use Rattle.std.specs.List.{cons_option}
 use Rattle.std.specs.Option.{option_map_or}
-use Rattle.lra_id.specs.Ids.{Id}
 use Rattle.lra_states.specs.declared.outcome.Act.{Act}
 use Rattle.lra_states.specs.declared.outcome.Act.TheVariants.{Complete as CompleteAct, Compensate as CompensateAct}
-use Rattle.lra_states.specs.declared.outcome.Verdict.{Verdict}
 use Rattle.lra_facts.specs.declared.fact.Fact.{Fact}
 use Rattle.lra_facts.specs.Lists.{In}
 use Rattle.lra_forest.specs.declared.duties.Due.{Due}
 use Rattle.lra_forest.specs.declared.record.Participant.{Participant as ParticipantRecord}
 use Rattle.lra_forest.specs.Dues.{AreAll, IsDueAt}
-use Rattle.lra_forest.specs.Participants.{joined_as, parent_held, participant_of}
+use Rattle.lra_forest.specs.Participants.{joined_as, parent_held}
+use Rattle.lra_states.specs.declared.status.LraStatus.{LraStatus}
 use Rattle.lra_history.specs.Growth.{IsSettled}
+use Rattle.lra_history.specs.Readings.{by_view}
 use Rattle.lra_history.specs.Views.{StandsFor, View}
 use Rattle.lra_history.proofs.SameReadings.{view_alike}
-use Rattle.lra_replica.specs.ViewDues.{compensations_of, completions_of, forgets_of, parent_in, participant_in}
-use Rattle.lra_replica.proofs.SettledDues.{all_compensations, all_completions, all_forgets, same_parent, same_participant}
+use Rattle.lra_replica.specs.ViewDues.{compensations_of, completions_of, forgets_of, hearings_of, parent_in, participant_in}
+use Rattle.lra_replica.proofs.SettledDues.{all_compensations, all_completions, all_forgets, all_hearings, same_parent, same_participant}
 use Rattle.lra_callback.specs.declared.answer.Kind.{Kind}
+use Rattle.lra_callback.specs.declared.answer.Kind.TheVariants.{Complete, Compensate, Status, Forget, After}
 use Rattle.lra_callback.specs.declared.duty.Duty.{Duty}
 use Rattle.lra_callback.specs.declared.duty.Errand.{Errand}
-use Rattle.lra_callback.specs.declared.duty.Errand.TheVariants.{Call, Release}
-use Rattle.lra_callback.specs.CallDuties.{IsDuty, act_wanted, comes_first, link_for}
+use Rattle.lra_callback.specs.declared.duty.Errand.TheVariants.{Call, Release, Tell}
+use Rattle.lra_callback.specs.CallDuties.{IsDuty, act_wanted, comes_first, link_for, shown_for}
 use Rattle.lra_callback.specs.Errands.{act_from, due_by, duty_from, kind_in}
-use Rattle.lra_callback.specs.ViewDuties.{act_by, call_at, duties_of, duty_by}
+use Rattle.lra_callback.specs.ViewDuties.{act_by, call_at, duties_of, duty_by, shown_in}
 use Rattle.lra_callback.proofs.Picked.{all_picked}
 use Rattle.lra_callback.proofs.Ready.{IsReady, kind_is, made, participant_is, ready}
 
@@ -32,8 +33,8 @@ called : (S : List Fact) (view : View) (me : ℕ) (errand : Errand) (d : Due) �
 called S view me errand d settled stands low high due =
     ap (λ (o : Option ParticipantRecord). option_map_or (λ (q : ParticipantRecord). option_map_or (λ act. call_at view d (kind_in errand q) act q) (act_by view errand d) None) o None) found
     ∙ ap (λ (o : Option Act). option_map_or (λ act. call_at view d (kind_in errand p) act p) o None) acting
-    ∙ ap (λ (o : Option (List ℕ)). option_map_or (λ link. Some (record { kind = kind_in errand p; act = r.act; id = d.lra; member = d.member; link = link; parent = parent_in view d.lra })) o None) linked
-    ∙ ap (λ (x : Duty). Some x) (made me S errand d due p (kind_in errand p) r.act r.link (parent_in view d.lra) (sym (participant_is me S errand d due r)) refl (sym r.wanted) (sym linked) parent)
+    ∙ ap (λ (o : Option (List ℕ)). option_map_or (λ link. Some (record { kind = kind_in errand p; act = r.act; id = d.lra; member = d.member; link = link; parent = parent_in view d.lra; shows = shown_in view (kind_in errand p) d.lra })) o None) linked
+    ∙ ap (λ (x : Duty). Some x) (made me S errand d due p (kind_in errand p) r.act r.link (parent_in view d.lra) (shown_in view (kind_in errand p) d.lra) (sym (participant_is me S errand d due r)) refl (sym r.wanted) (sym linked) parent (showing (kind_in errand p)))
   where
     r : IsReady S errand d
     r = ready me S errand d due
@@ -56,6 +57,16 @@ called S view me errand d settled stands low high due =
         by : (e : Errand) → act_from S e d ≡ Some r.act → act_by view e d ≡ Some r.act
         by (Call act) e = e
         by Release e = ap act_wanted ((view_alike S view settled stands).want d.lra due.held) ∙ e
+        by Tell e = ap act_wanted ((view_alike S view settled stands).want d.lra due.held) ∙ e
+
+    showing : (k : Kind) → shown_in view k d.lra ≡ shown_for S k d.lra
+    showing After =
+        let alike = view_alike S view settled stands in
+        ap (λ (b : Bool). cond b (Some ((by_view view).shows d.lra)) None) (alike.held d.lra ∙ due.held) ∙ ap (λ (s : LraStatus). Some s) (alike.shows d.lra due.held)
+    showing Complete = refl
+    showing Compensate = refl
+    showing Status = refl
+    showing Forget = refl
 
     linked : link_for (kind_in errand p) p.links ≡ Some r.link
     linked = ap (λ (k : Kind). link_for k r.links) (kind_is S errand d r.links r.joined) ∙ r.given
@@ -76,9 +87,12 @@ all_of_view S view me settled stands low high =
     let third = all_forgets S view me settled stands low high in
     let one : filter_map (duty_by view (Call CompleteAct)) (completions_of view me) ≡ map (duty_from S (Call CompleteAct)) (completions_of view me) = each_called S view me (Call CompleteAct) (completions_of view me) settled stands low high first.only in
     let two : filter_map (duty_by view (Call CompensateAct)) (compensations_of view me) ≡ map (duty_from S (Call CompensateAct)) (compensations_of view me) = each_called S view me (Call CompensateAct) (compensations_of view me) settled stands low high second.only in
+    let fourth = all_hearings S view me settled stands low high in
     let three : filter_map (duty_by view Release) (forgets_of view me) ≡ map (duty_from S Release) (forgets_of view me) = each_called S view me Release (forgets_of view me) settled stands low high third.only in
-    let same : duties_of view me ≡ map (duty_from S (Call CompleteAct)) (completions_of view me) ++ (map (duty_from S (Call CompensateAct)) (compensations_of view me) ++ map (duty_from S Release) (forgets_of view me)) =
-    ap (λ (ds : List Duty). ds ++ (filter_map (duty_by view (Call CompensateAct)) (compensations_of view me) ++ filter_map (duty_by view Release) (forgets_of view me))) one
-    ∙ ap (λ (ds : List Duty). map (duty_from S (Call CompleteAct)) (completions_of view me) ++ (ds ++ filter_map (duty_by view Release) (forgets_of view me))) two
-    ∙ ap (λ (ds : List Duty). map (duty_from S (Call CompleteAct)) (completions_of view me) ++ (map (duty_from S (Call CompensateAct)) (compensations_of view me) ++ ds)) three in
-    subst (λ (ds : List Duty). AreAll (IsDuty me S) (comes_first S) ds) (sym same) (all_picked me S (completions_of view me) (compensations_of view me) (forgets_of view me) first second third)
+    let four : filter_map (duty_by view Tell) (hearings_of view me) ≡ map (duty_from S Tell) (hearings_of view me) = each_called S view me Tell (hearings_of view me) settled stands low high fourth.only in
+    let same : duties_of view me ≡ map (duty_from S (Call CompleteAct)) (completions_of view me) ++ (map (duty_from S (Call CompensateAct)) (compensations_of view me) ++ (map (duty_from S Release) (forgets_of view me) ++ map (duty_from S Tell) (hearings_of view me))) =
+    ap (λ (ds : List Duty). ds ++ (filter_map (duty_by view (Call CompensateAct)) (compensations_of view me) ++ (filter_map (duty_by view Release) (forgets_of view me) ++ filter_map (duty_by view Tell) (hearings_of view me)))) one
+    ∙ ap (λ (ds : List Duty). map (duty_from S (Call CompleteAct)) (completions_of view me) ++ (ds ++ (filter_map (duty_by view Release) (forgets_of view me) ++ filter_map (duty_by view Tell) (hearings_of view me)))) two
+    ∙ ap (λ (ds : List Duty). map (duty_from S (Call CompleteAct)) (completions_of view me) ++ (map (duty_from S (Call CompensateAct)) (compensations_of view me) ++ (ds ++ filter_map (duty_by view Tell) (hearings_of view me)))) three
+    ∙ ap (λ (ds : List Duty). map (duty_from S (Call CompleteAct)) (completions_of view me) ++ (map (duty_from S (Call CompensateAct)) (compensations_of view me) ++ (map (duty_from S Release) (forgets_of view me) ++ ds))) four in
+    subst (λ (ds : List Duty). AreAll (IsDuty me S) (comes_first S) ds) (sym same) (all_picked me S (completions_of view me) (compensations_of view me) (forgets_of view me) (hearings_of view me) first second third fourth)

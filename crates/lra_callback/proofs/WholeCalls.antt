@@ -1,8 +1,8 @@
 -- The text of the request for a duty is one whole request: each byte of a link's parts is visible, so none ends a line.
-use Rattle.std.proofs.Common.{◌≡◌, ◌∙◌, ◌<◌, ◌≤◌, ◌+◌, ◌*◌, ◌^◌, ◌&&◌, ◌==◌, ℕ, zero, suc, Bool, true, false, IsTrue, List, [], ◌∷◌, ◌++◌, Option, Some, None, Ok, All, IfSome, IsUtf8, ap, arith, codes, get_or, is_some, length, map, nat_le, nat_lt, not, option_map, refl, subst, sym}
+use Rattle.std.proofs.Common.{◌≡◌, ◌∙◌, ◌<◌, ◌≤◌, ◌+◌, ◌^◌, ◌&&◌, ◌==◌, ℕ, zero, suc, Bool, true, false, IsTrue, List, [], ◌∷◌, ◌++◌, Option, Some, None, Ok, Err, Result, OnOk, All, ap, append_assoc, arith, codes, get_or, is_some, length, map, nat_le, nat_lt, not, option_map, refl, subst, sym}
 use Rattle.std.specs.Prelude.{unwrap_or}
 use Rattle.std.specs.Fmt.{decimal, digits}
-use Rattle.std.specs.List.{concat, list_all}
+use Rattle.std.specs.List.{concat}
 use Rattle.std.specs.Option.{option_map_or}
 use Rattle.std.specs.Str.{bytes_eq}
 use Rattle.std.proofs.lemmas.Bool.Decides.{nat_tests}
@@ -13,7 +13,7 @@ use Rattle.std.proofs.lemmas.List.Sums.{AllPass-from_list_all}
 use Rattle.std.proofs.lemmas.Slice.Eq.{bytes_eq-Decides}
 use Rattle.std.proofs.lemmas.Str.{IsUtf8-from_ascii}
 use Rattle.std.proofs.lemmas.Str.Ascii.{IsAscii-from_all}
-use Rattle.httparse.specs.Grammar.{AllPass, IsToken, is_token_byte, is_uri_byte}
+use Rattle.httparse.specs.Grammar.{IsToken, is_token_byte, is_uri_byte}
 use Rattle.percent_encoding.specs.declared.ascii_set.TheConstants.{CONTROLS}
 use Rattle.percent_encoding.specs.Percent.{IsKept}
 use Rattle.url.specs.declared.sets.TheConstants.{FORBIDDEN_DOMAIN, FORBIDDEN_HOST, PATH, QUERY, SPECIAL_QUERY}
@@ -27,26 +27,26 @@ use Rattle.url.specs.Parts.{IsPortOf, IsValid, IsValidHead, Parts, host_or_empty
 use Rattle.url.specs.Parser.{parse_url}
 use Rattle.url.specs.Scheme.{default_port, is_special, scheme_type}
 use Rattle.url.proofs.HostLemmas.{All-host_text}
-use Rattle.url.proofs.PiecesLemmas.{option_cases}
 use Rattle.url.proofs.SetLemmas.{passes_from_kept}
 use Rattle.url.proofs.TextLemmas.{All_kept, All_part}
 use Rattle.url.proofs.ValidLemmas.{base_from_authority, hierarchical, segment_list_kept, special_has_authority}
 use Rattle.lra_id.specs.Ids.{Id, text_of}
 use Rattle.lra_id.proofs.VisibleTexts.{text_length, text_visible}
-use Rattle.lra_facts.specs.LinkTexts.{is_link, kept_of, kept_text, max_link_bytes}
-use Rattle.lra_http.specs.declared.message.CallRequest.{CallRequest}
+use Rattle.lra_facts.specs.LinkTexts.{is_link, kept_of, kept_text}
 use Rattle.lra_http.specs.declared.message.Field.{Field}
 use Rattle.lra_http.specs.HeadFields.{field_bytes, length_in, request_length}
-use Rattle.lra_http.specs.MessageTexts.{field_lines, host_line, line_end, request_head, request_line}
+use Rattle.lra_http.specs.MessageTexts.{field_lines, host_line, line_end, request_line}
 use Rattle.lra_http.specs.WholeMessages.{IsPlain, IsSoundCall, host_field}
 use Rattle.lra_http.proofs.PlainValues.{Short, decimal_visible, is_visible, length_is, lines_short, literal_visible, plain_visible, sized}
 use Rattle.lra_http.proofs.WholeMessages.{whole_request}
+use Rattle.lra_states.specs.declared.status.LraStatus.{LraStatus}
+use Rattle.lra_states.specs.declared.status.LraStatus.TheVariants.{Active, Closing, Closed, FailedToClose, Cancelling, Cancelled, FailedToCancel}
 use Rattle.lra_callback.specs.declared.answer.Kind.{Kind}
-use Rattle.lra_callback.specs.declared.answer.Kind.TheVariants.{Complete, Compensate, Status, Forget}
+use Rattle.lra_callback.specs.declared.answer.Kind.TheVariants.{Complete, Compensate, Status, Forget, After}
 use Rattle.lra_callback.specs.declared.duty.Duty.{Duty}
 use Rattle.lra_callback.specs.declared.request.FieldName.{FieldName}
-use Rattle.lra_callback.specs.declared.request.FieldName.TheVariants.{Action, Parent, Recovery, ContentLength, Connection}
-use Rattle.lra_callback.specs.CallRequests.{IsOneRequest, IsUrlOf, field, field_name, fields_of, host_of, length_fields, method_of, parent_fields, recovery_path, request_by, target_of, urn}
+use Rattle.lra_callback.specs.declared.request.FieldName.TheVariants.{Action, Ended, Parent, Recovery, ContentType, ContentLength, Connection}
+use Rattle.lra_callback.specs.CallRequests.{IsOneRequest, IsUrlOf, field, field_name, fields_of, host_of, action_name, body_of, length_fields, method_of, parent_fields, recovery_path, request_by, target_of, told_body, urn}
 
 abbrev Visible : ℕ → Type 0
 Visible b = IsTrue (is_visible b)
@@ -163,8 +163,10 @@ target_short url short = by url.query (piece_short (pieces url) 12)
 field_plain : (name : FieldName) (value : List ℕ) → All Visible value → IsPlain (field name value)
 unfolding is_token_byte
 field_plain Action value h = plain_visible (field_name Action) value (omega arith) refl h
+field_plain Ended value h = plain_visible (field_name Ended) value (omega arith) refl h
 field_plain Parent value h = plain_visible (field_name Parent) value (omega arith) refl h
 field_plain Recovery value h = plain_visible (field_name Recovery) value (omega arith) refl h
+field_plain ContentType value h = plain_visible (field_name ContentType) value (omega arith) refl h
 field_plain ContentLength value h = plain_visible (field_name ContentLength) value (omega arith) refl h
 field_plain Connection value h = plain_visible (field_name Connection) value (omega arith) refl h
 
@@ -196,11 +198,29 @@ parents_plain (Some p) = All-cons IsPlain (field Parent (urn p)) [] (field_plain
 zero_plain : All IsPlain (field ContentLength (codes "0") ∷ [])
 zero_plain = All-cons IsPlain (field ContentLength (codes "0")) [] (field_plain ContentLength (codes "0") (literal_visible (codes "0") refl)) (All-nil IsPlain)
 
-lengths_plain : (k : Kind) → All IsPlain (length_fields k)
-lengths_plain Complete = zero_plain
-lengths_plain Compensate = zero_plain
-lengths_plain Status = All-nil IsPlain
-lengths_plain Forget = All-nil IsPlain
+body_small : (shows : Option LraStatus) → length (body_of shows) ≤ 14
+body_small None = omega arith
+body_small (Some Active) = omega arith
+body_small (Some Closing) = omega arith
+body_small (Some Closed) = omega arith
+body_small (Some FailedToClose) = omega arith
+body_small (Some Cancelling) = omega arith
+body_small (Some Cancelled) = omega arith
+body_small (Some FailedToCancel) = omega arith
+
+lengths_plain : (k : Kind) (shows : Option LraStatus) → All IsPlain (length_fields k shows)
+lengths_plain Complete shows = zero_plain
+lengths_plain Compensate shows = zero_plain
+lengths_plain Status shows = All-nil IsPlain
+lengths_plain Forget shows = All-nil IsPlain
+lengths_plain After shows =
+    All-cons IsPlain (field ContentType (codes "text/plain")) (field ContentLength (decimal (length (body_of shows))) ∷ []) (field_plain ContentType (codes "text/plain") (literal_visible (codes "text/plain") refl))
+    (All-cons IsPlain (field ContentLength (decimal (length (body_of shows)))) [] (field_plain ContentLength (decimal (length (body_of shows))) (decimal_visible (length (body_of shows)) (omega (arith, body_small shows)))) (All-nil IsPlain))
+
+-- one field, and one more where the last is added
+pub both_added : {X E : Type 0} (r : Result X E) (before middle after : List Field) (a b : Field) → middle ≡ before ++ (a ∷ []) → OnOk r (after ≡ middle ++ (b ∷ [])) → OnOk r (after ≡ before ++ (a ∷ b ∷ []))
+both_added (Ok x) before middle after a b one two = two ∙ (ap (λ fields. fields ++ (b ∷ [])) one ∙ append_assoc before (a ∷ []) (b ∷ []))
+both_added (Err x) before middle after a b one two = tt
 
 close_plain : All IsPlain (field Connection (codes "close") ∷ [])
 close_plain = All-cons IsPlain (field Connection (codes "close")) [] (field_plain Connection (codes "close") (literal_visible (codes "close") refl)) (All-nil IsPlain)
@@ -208,62 +228,73 @@ close_plain = All-cons IsPlain (field Connection (codes "close")) [] (field_plai
 all_plain : (d : Duty) (host : List ℕ) → d.member < 2 ^ 64 → All Visible host → All IsPlain (host_field host ∷ fields_of d)
 all_plain d host fits visible =
     All-cons IsPlain (host_field host) (fields_of d) (host_plain host visible)
-    (All-cons IsPlain (field Action (urn d.id)) _ (field_plain Action (urn d.id) (urn_visible d.id))
+    (All-cons IsPlain (field (action_name d.kind) (urn d.id)) _ (field_plain (action_name d.kind) (urn d.id) (urn_visible d.id))
     (All-append IsPlain (parent_fields d.parent) _ (parents_plain d.parent)
     (All-cons IsPlain (field Recovery (recovery_path d.id d.member)) _ (field_plain Recovery (recovery_path d.id d.member) (path_seen d.id d.member fits))
-    (All-append IsPlain (length_fields d.kind) _ (lengths_plain d.kind) close_plain))))
+    (All-append IsPlain (length_fields d.kind d.shows) _ (lengths_plain d.kind d.shows) close_plain))))
 
 -- the fields, by what they go by
-abbrev fields_by : Id → ℕ → Option Id → Kind → List Field
-fields_by id m parent kind =
-    field Action (urn id) ∷ (parent_fields parent ++ (field Recovery (recovery_path id m) ∷ (length_fields kind ++ (field Connection (codes "close") ∷ []))))
+abbrev fields_by : Id → ℕ → Option Id → Kind → Option LraStatus → List Field
+fields_by id m parent kind shows =
+    field (action_name kind) (urn id) ∷ (parent_fields parent ++ (field Recovery (recovery_path id m) ∷ (length_fields kind shows ++ (field Connection (codes "close") ∷ []))))
 
-fields_short : (id : Id) (m : ℕ) (parent : Option Id) (kind : Kind) → m < 2 ^ 64
-    → Short (fields_by id m parent kind) × (length (fields_by id m parent kind) ≤ 5)
-fields_short id m None kind fits = by kind
+action_short : (kind : Kind) (id : Id) → length (field_name (action_name kind)) + length (urn id) ≤ 300
+action_short Complete id = omega (arith, urn_short id)
+action_short Compensate id = omega (arith, urn_short id)
+action_short Status id = omega (arith, urn_short id)
+action_short Forget id = omega (arith, urn_short id)
+action_short After id = omega (arith, urn_short id)
+
+counted_short : (n : ℕ) → n ≤ 14 → length (field_name ContentLength) + length (decimal n) ≤ 300
+counted_short n small = let size : length (decimal n) ≤ 20 = length-decimal-le 20 n (omega arith) (omega arith) (omega (arith, small)) in omega (arith, size)
+
+length_short : (shows : Option LraStatus) → length (field_name ContentLength) + length (decimal (length (body_of shows))) ≤ 300
+length_short shows = counted_short (length (body_of shows)) (body_small shows)
+
+fields_short : (id : Id) (m : ℕ) (parent : Option Id) (kind : Kind) (shows : Option LraStatus) → m < 2 ^ 64
+    → Short (fields_by id m parent kind shows) × (length (fields_by id m parent kind shows) ≤ 6)
+fields_short id m None kind shows fits = by kind
   where
-    one : length (field_name Action) + length (urn id) ≤ 300
-    one = omega (arith, urn_short id)
-
     two : length (field_name Recovery) + length (recovery_path id m) ≤ 300
     two = omega (arith, recovery_short id m fits)
 
-    by : (k : Kind) → Short (fields_by id m None k) × (length (fields_by id m None k) ≤ 5)
-    by Complete = ((one, (two, (omega arith, (omega arith, tt)))), omega arith)
-    by Compensate = ((one, (two, (omega arith, (omega arith, tt)))), omega arith)
-    by Status = ((one, (two, (omega arith, tt))), omega arith)
-    by Forget = ((one, (two, (omega arith, tt))), omega arith)
-fields_short id m (Some p) kind fits = by kind
+    by : (k : Kind) → Short (fields_by id m None k shows) × (length (fields_by id m None k shows) ≤ 6)
+    by Complete = ((action_short Complete id, (two, (omega arith, (omega arith, tt)))), omega arith)
+    by Compensate = ((action_short Compensate id, (two, (omega arith, (omega arith, tt)))), omega arith)
+    by Status = ((action_short Status id, (two, (omega arith, tt))), omega arith)
+    by Forget = ((action_short Forget id, (two, (omega arith, tt))), omega arith)
+    by After = ((action_short After id, (two, (omega arith, (length_short shows, (omega arith, tt))))), omega arith)
+fields_short id m (Some p) kind shows fits = by kind
   where
-    one : length (field_name Action) + length (urn id) ≤ 300
-    one = omega (arith, urn_short id)
-
     above : length (field_name Parent) + length (urn p) ≤ 300
     above = omega (arith, urn_short p)
 
     two : length (field_name Recovery) + length (recovery_path id m) ≤ 300
     two = omega (arith, recovery_short id m fits)
 
-    by : (k : Kind) → Short (fields_by id m (Some p) k) × (length (fields_by id m (Some p) k) ≤ 5)
-    by Complete = ((one, (above, (two, (omega arith, (omega arith, tt))))), omega arith)
-    by Compensate = ((one, (above, (two, (omega arith, (omega arith, tt))))), omega arith)
-    by Status = ((one, (above, (two, (omega arith, tt)))), omega arith)
-    by Forget = ((one, (above, (two, (omega arith, tt)))), omega arith)
+    by : (k : Kind) → Short (fields_by id m (Some p) k shows) × (length (fields_by id m (Some p) k shows) ≤ 6)
+    by Complete = ((action_short Complete id, (above, (two, (omega arith, (omega arith, tt))))), omega arith)
+    by Compensate = ((action_short Compensate id, (above, (two, (omega arith, (omega arith, tt))))), omega arith)
+    by Status = ((action_short Status id, (above, (two, (omega arith, tt)))), omega arith)
+    by Forget = ((action_short Forget id, (above, (two, (omega arith, tt)))), omega arith)
+    by After = ((action_short After id, (above, (two, (omega arith, (length_short shows, (omega arith, tt)))))), omega arith)
 
 zero_length : (limit : ℕ) → length_in limit (codes "0") ≡ sized 0
 unfolding digits
 zero_length limit = length_is limit 0 (omega arith) (omega arith)
 
-stated_by : (limit : ℕ) (host : List ℕ) (id : Id) (m : ℕ) (parent : Option Id) (kind : Kind)
-    → request_length limit 1 (map field_bytes (host_field host ∷ fields_by id m parent kind)) ≡ sized 0
-stated_by limit host id m None Complete = zero_length limit
-stated_by limit host id m None Compensate = zero_length limit
-stated_by limit host id m None Status = refl
-stated_by limit host id m None Forget = refl
-stated_by limit host id m (Some p) Complete = zero_length limit
-stated_by limit host id m (Some p) Compensate = zero_length limit
-stated_by limit host id m (Some p) Status = refl
-stated_by limit host id m (Some p) Forget = refl
+stated_by : (limit : ℕ) (host : List ℕ) (id : Id) (m : ℕ) (parent : Option Id) (kind : Kind) (shows : Option LraStatus) → length (told_body kind shows) ≤ limit
+    → request_length limit 1 (map field_bytes (host_field host ∷ fields_by id m parent kind shows)) ≡ sized (length (told_body kind shows))
+stated_by limit host id m None Complete shows some = zero_length limit
+stated_by limit host id m None Compensate shows some = zero_length limit
+stated_by limit host id m None Status shows some = refl
+stated_by limit host id m None Forget shows some = refl
+stated_by limit host id m None After shows some = length_is limit (length (body_of shows)) (omega (arith, body_small shows)) some
+stated_by limit host id m (Some p) Complete shows some = zero_length limit
+stated_by limit host id m (Some p) Compensate shows some = zero_length limit
+stated_by limit host id m (Some p) Status shows some = refl
+stated_by limit host id m (Some p) Forget shows some = refl
+stated_by limit host id m (Some p) After shows some = length_is limit (length (body_of shows)) (omega (arith, body_small shows)) some
 
 -- The request
 
@@ -272,6 +303,7 @@ unfolding is_token_byte
 method_token Complete = (omega arith, AllPass-from_list_all is_token_byte (codes "PUT") refl)
 method_token Compensate = (omega arith, AllPass-from_list_all is_token_byte (codes "PUT") refl)
 method_token Status = (omega arith, AllPass-from_list_all is_token_byte (codes "GET") refl)
+method_token After = (omega arith, AllPass-from_list_all is_token_byte (codes "PUT") refl)
 method_token Forget = (omega arith, AllPass-from_list_all is_token_byte (codes "DELETE") refl)
 
 method_short : (k : Kind) → length (method_of k) ≤ 6
@@ -279,9 +311,10 @@ method_short Complete = omega arith
 method_short Compensate = omega arith
 method_short Status = omega arith
 method_short Forget = omega arith
+method_short After = omega arith
 
 head_short : (method target host : List ℕ) (fields : List Field) → length method ≤ 6 → length target ≤ 255 → length host ≤ 255
-    → Short fields → length fields ≤ 5 → length (request_line method target ++ (host_line host ++ (field_lines fields ++ line_end))) ≤ 16384
+    → Short fields → length fields ≤ 6 → length (request_line method target ++ (host_line host ++ (field_lines fields ++ line_end))) ≤ 16384
 head_short method target host fields m t h short few =
     let one = length-append (request_line method target) (host_line host ++ (field_lines fields ++ line_end)) in
     let two = length-append (host_line host) (field_lines fields ++ line_end) in
@@ -292,17 +325,17 @@ head_short method target host fields m t h short few =
     let lines = lines_short fields short in
     omega (arith, one, two, three, four, five, six, lines, m, t, h, few)
 
-sound_call : (limit : ℕ) (d : Duty) (url : Parts) → IsValid url → is_link url ≡ true → d.member < 2 ^ 64 → IsSoundCall limit (request_by d url)
-sound_call limit d url valid link fits =
+sound_call : (limit : ℕ) (d : Duty) (url : Parts) → IsValid url → is_link url ≡ true → d.member < 2 ^ 64 → length (told_body d.kind d.shows) ≤ limit → IsSoundCall limit (request_by d url)
+sound_call limit d url valid link fits some =
     let target = target_visible url valid link in
     let short = link_short url link in
-    let fields = fields_short d.id d.member d.parent d.kind fits in
+    let fields = fields_short d.id d.member d.parent d.kind d.shows fits in
     record {
       method = method_token d.kind;
       target = (target_some, All-weaker Visible (λ b. IsTrue (is_uri_byte b)) uri_byte (target_of url) target);
       text = IsUtf8-from_ascii (target_of url) (IsAscii-from_all (target_of url) (All-weaker Visible (λ b. b < 128) below_128 (target_of url) target));
       fields = all_plain d (host_of url) fits (address_visible url valid);
-      stated = stated_by limit (host_of url) d.id d.member d.parent d.kind;
+      stated = stated_by limit (host_of url) d.id d.member d.parent d.kind d.shows some;
       short = head_short (method_of d.kind) (target_of url) (host_of url) (fields_of d) (method_short d.kind) (target_short url short) (host_short url short) fields.0 fields.1;
       few = omega (arith, fields.1);
     }
@@ -311,11 +344,11 @@ sound_call limit d url valid link fits =
     target_some = omega (arith, (path_visible url valid link).1, length-append url.path (option_map_or (λ q. codes "?" ++ q) url.query []))
 
 whole_call : (d : Duty) (url : Parts) → IsUrlOf d.link url → d.member < 2 ^ 8 → IsOneRequest (request_by d url)
-whole_call d url parts fits = λ limit rest. whole_request limit (request_by d url) rest (sound_call limit d url parts.valid parts.link (omega (arith, fits)))
+whole_call d url parts fits = λ limit rest some. whole_request limit (request_by d url) rest (sound_call limit d url parts.valid parts.link (omega (arith, fits)) some)
 
 -- a request with these parts
 pub whole_of : (d : Duty) (url : Parts) (method target host body : List ℕ) (fields : List Field) → IsUrlOf d.link url → d.member < 2 ^ 8
-    → method ≡ method_of d.kind → target ≡ target_of url → host ≡ host_of url → fields ≡ fields_of d → body ≡ []
+    → method ≡ method_of d.kind → target ≡ target_of url → host ≡ host_of url → fields ≡ fields_of d → body ≡ told_body d.kind d.shows
     → IsOneRequest (record { method = method; target = target; host = host; fields = fields; body = body })
 whole_of d url method target host body fields parts fits em et eh ef eb =
     let same : request_by d url ≡ record { method = method; target = target; host = host; fields = fields; body = body } =

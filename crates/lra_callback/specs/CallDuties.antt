@@ -9,14 +9,15 @@ use Rattle.lra_states.specs.declared.outcome.Outcome.{Outcome}
 use Rattle.lra_states.specs.declared.outcome.Outcome.TheVariants.{Busy, Done, Failed}
 use Rattle.lra_states.specs.declared.outcome.Verdict.{Verdict}
 use Rattle.lra_states.specs.declared.outcome.Verdict.TheVariants.{Close, Cancel}
+use Rattle.lra_states.specs.declared.status.LraStatus.{LraStatus}
 use Rattle.lra_facts.specs.declared.fact.Fact.{Fact}
-use Rattle.lra_facts.specs.declared.links.Links.{Links}
-use Rattle.lra_facts.specs.Duties.{is_compensation_due, is_forget_duty}
-use Rattle.lra_facts.specs.Sets.{heard, is_held, links_of, parent_of, want}
+use Rattle.lra_facts.specs.Links.{Links}
+use Rattle.lra_facts.specs.Duties.{is_after_duty, is_compensation_due, is_forget_duty}
+use Rattle.lra_facts.specs.Sets.{heard, is_held, links_of, parent_of, shows_now, want}
 use Rattle.lra_forest.specs.declared.duties.Due.{Due}
 use Rattle.lra_forest.specs.Dues.{is_before, is_complete_duty, is_topmost_before}
 use Rattle.lra_callback.specs.declared.answer.Kind.{Kind}
-use Rattle.lra_callback.specs.declared.answer.Kind.TheVariants.{Complete, Compensate, Status, Forget}
+use Rattle.lra_callback.specs.declared.answer.Kind.TheVariants.{Complete, Compensate, Status, Forget, After}
 use Rattle.lra_callback.specs.declared.duty.Duty.{Duty}
 
 abbrev pub is_busy : Option Outcome → Bool
@@ -44,26 +45,37 @@ is_act_wanted (Some Close) CompensateAct = false
 is_act_wanted (Some Cancel) CompleteAct = false
 is_act_wanted None act = false
 
--- whether the participant m of l is to be called so, for this act. One that is to forget is told the act that was wanted
+-- whether the participant m of l is to be called so, for this act. Of one that is to forget or to hear of the end it
+-- is the act that was wanted
 abbrev pub is_owed : List Fact → Kind → Act → Id → ℕ → Bool
 is_owed S Complete CompleteAct l m = is_complete_duty S l m && not (asks_status S l m CompleteAct)
 is_owed S Status CompleteAct l m = is_complete_duty S l m && asks_status S l m CompleteAct
 is_owed S Compensate CompensateAct l m = is_compensation_due S l m && not (asks_status S l m CompensateAct)
 is_owed S Status CompensateAct l m = is_compensation_due S l m && asks_status S l m CompensateAct
 is_owed S Forget act l m = is_forget_duty S l m && is_act_wanted (want S l) act
+is_owed S After act l m = is_after_duty S l m && is_act_wanted (want S l) act
 is_owed S Complete CompensateAct l m = false
 is_owed S Compensate CompleteAct l m = false
 
 -- the link for calls of a kind
 abbrev pub link_for : Kind → Links → Option (List ℕ)
 link_for Complete links = links.complete
-link_for Compensate links = Some links.compensate
+link_for Compensate links = links.compensate
 link_for Status links = links.status
 link_for Forget links = links.forget
+link_for After links = links.after
 
 -- the one that a participant gave
 abbrev pub link_given : List Fact → Kind → Id → ℕ → Option (List ℕ)
 link_given S kind l m = option_map_or (link_for kind) (links_of S l m) None
+
+-- what a call tells of the LRA: what it shows, where the participant hears that it has ended
+abbrev pub shown_for : List Fact → Kind → Id → Option LraStatus
+shown_for S After l = Some (shows_now S l)
+shown_for S Complete l = None
+shown_for S Compensate l = None
+shown_for S Status l = None
+shown_for S Forget l = None
 
 -- a participant of an LRA of the home is to be called so now, at the link that it gave for it
 pub record IsDuty (home : ℕ) (S : List Fact) (d : Duty) : Type 0 where
@@ -72,8 +84,9 @@ pub record IsDuty (home : ℕ) (S : List Fact) (d : Duty) : Type 0 where
   pub owed : is_owed S d.kind d.act d.id d.member ≡ true
   pub called : link_given S d.kind d.id d.member ≡ Some d.link
   pub nested : d.parent ≡ parent_of S d.id
+  pub shown : d.shows ≡ shown_for S d.kind d.id
 
--- The order: completions, then compensations, then what is to be forgotten
+-- The order: completions, then compensations, then what is to be forgotten, then what is to be heard
 
 abbrev pub stage : Kind → Act → ℕ
 stage Complete act = 0
@@ -81,6 +94,7 @@ stage Compensate act = 1
 stage Status CompleteAct = 0
 stage Status CompensateAct = 1
 stage Forget act = 2
+stage After act = 3
 
 abbrev pub due_of : Duty → Due
 due_of d = record { lra = d.id; member = d.member }

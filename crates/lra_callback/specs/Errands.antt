@@ -5,24 +5,25 @@ use Rattle.lra_id.specs.Ids.{Id}
 use Rattle.lra_states.specs.declared.outcome.Act.{Act}
 use Rattle.lra_states.specs.declared.outcome.Act.TheVariants.{Complete as CompleteAct, Compensate as CompensateAct}
 use Rattle.lra_facts.specs.declared.fact.Fact.{Fact}
-use Rattle.lra_facts.specs.Duties.{is_compensation_due, is_forget_duty}
+use Rattle.lra_facts.specs.Duties.{is_after_duty, is_compensation_due, is_forget_duty}
 use Rattle.lra_facts.specs.Sets.{parent_of, want}
 use Rattle.lra_forest.specs.declared.duties.Due.{Due}
 use Rattle.lra_forest.specs.declared.record.Participant.{Participant as ParticipantRecord}
 use Rattle.lra_forest.specs.Dues.{is_complete_duty}
 use Rattle.lra_forest.specs.Participants.{heard_by}
 use Rattle.lra_callback.specs.declared.answer.Kind.{Kind}
-use Rattle.lra_callback.specs.declared.answer.Kind.TheVariants.{Complete, Compensate, Status, Forget}
+use Rattle.lra_callback.specs.declared.answer.Kind.TheVariants.{Complete, Compensate, Status, Forget, After}
 use Rattle.lra_callback.specs.declared.duty.Duty.{Duty}
 use Rattle.lra_callback.specs.declared.duty.Errand.{Errand}
-use Rattle.lra_callback.specs.declared.duty.Errand.TheVariants.{Call, Release}
-use Rattle.lra_callback.specs.CallDuties.{act_wanted, asks_status, is_busy, link_given}
+use Rattle.lra_callback.specs.declared.duty.Errand.TheVariants.{Call, Release, Tell}
+use Rattle.lra_callback.specs.CallDuties.{act_wanted, asks_status, is_busy, link_given, shown_for}
 
 -- what has to be due of a participant
 abbrev pub due_by : Errand → List Fact → Id → ℕ → Bool
 due_by (Call CompleteAct) = is_complete_duty
 due_by (Call CompensateAct) = is_compensation_due
 due_by Release = is_forget_duty
+due_by Tell = is_after_duty
 
 abbrev pub kind_of_act : Act → Kind
 kind_of_act CompleteAct = Complete
@@ -35,15 +36,18 @@ kind_by p act = if is_busy (heard_by p act) && is_some p.links.status then Statu
 abbrev pub kind_in : Errand → ParticipantRecord → Kind
 kind_in (Call act) p = kind_by p act
 kind_in Release p = Forget
+kind_in Tell p = After
 
 -- and by the set
 abbrev pub kind_from : List Fact → Errand → Due → Kind
 kind_from S (Call act) d = if asks_status S d.lra d.member act then Status else kind_of_act act
 kind_from S Release d = Forget
+kind_from S Tell d = After
 
 abbrev pub act_from : List Fact → Errand → Due → Option Act
 act_from S (Call act) d = Some act
 act_from S Release d = act_wanted (want S d.lra)
+act_from S Tell d = act_wanted (want S d.lra)
 
 -- the duty that is made of it; where no act is wanted or no link was given, any act and link
 abbrev pub duty_from : List Fact → Errand → Due → Duty
@@ -55,4 +59,5 @@ duty_from S errand d =
       member = d.member;
       link = option_map_or (λ link. link) (link_given S (kind_from S errand d) d.lra d.member) [];
       parent = parent_of S d.lra;
+      shows = shown_for S (kind_from S errand d) d.lra;
     }

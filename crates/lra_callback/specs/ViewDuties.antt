@@ -1,25 +1,35 @@
 -- What participants are called for now, by a view.
-use Rattle.std.specs.Prelude.{◌++◌, ℕ, List, Option, Some, None, filter_map}
+use Rattle.std.specs.Prelude.{◌++◌, ℕ, List, Option, Some, None, filter_map, if◌then◌else◌}
 use Rattle.std.specs.Option.{option_map_or}
 use Rattle.lra_states.specs.declared.outcome.Act.{Act}
 use Rattle.lra_states.specs.declared.outcome.Act.TheVariants.{Complete as CompleteAct, Compensate as CompensateAct}
+use Rattle.lra_id.specs.Ids.{Id}
+use Rattle.lra_states.specs.declared.status.LraStatus.{LraStatus}
 use Rattle.lra_forest.specs.declared.duties.Due.{Due}
 use Rattle.lra_forest.specs.declared.record.Participant.{Participant as ParticipantRecord}
 use Rattle.lra_history.specs.Readings.{by_view}
 use Rattle.lra_history.specs.Views.{View}
-use Rattle.lra_replica.specs.ViewDues.{compensations_of, completions_of, forgets_of, parent_in, participant_in}
+use Rattle.lra_replica.specs.ViewDues.{compensations_of, completions_of, forgets_of, hearings_of, parent_in, participant_in}
 use Rattle.lra_callback.specs.declared.answer.Kind.{Kind}
-use Rattle.lra_callback.specs.declared.answer.Kind.TheVariants.{Forget}
+use Rattle.lra_callback.specs.declared.answer.Kind.TheVariants.{Complete, Compensate, Status, Forget, After}
 use Rattle.lra_callback.specs.declared.duty.Duty.{Duty}
 use Rattle.lra_callback.specs.declared.duty.Errand.{Errand}
-use Rattle.lra_callback.specs.declared.duty.Errand.TheVariants.{Call, Release}
+use Rattle.lra_callback.specs.declared.duty.Errand.TheVariants.{Call, Release, Tell}
 use Rattle.lra_callback.specs.CallDuties.{act_wanted, link_for}
 use Rattle.lra_callback.specs.Errands.{kind_by, kind_in}
+
+-- what a call tells of the LRA: what it shows, if it is held, where the participant hears that it has ended
+abbrev pub shown_in : View → Kind → Id → Option LraStatus
+shown_in view After l = if (by_view view).held l then Some ((by_view view).shows l) else None
+shown_in view Complete l = None
+shown_in view Compensate l = None
+shown_in view Status l = None
+shown_in view Forget l = None
 
 -- the call of a participant that is due, at the link that it gave for calls of this kind, if it gave one
 abbrev pub call_at : View → Due → Kind → Act → ParticipantRecord → Option Duty
 call_at view d kind act p =
-    option_map_or (λ link. Some (record { kind = kind; act = act; id = d.lra; member = d.member; link = link; parent = parent_in view d.lra })) (link_for kind p.links) None
+    option_map_or (λ link. Some (record { kind = kind; act = act; id = d.lra; member = d.member; link = link; parent = parent_in view d.lra; shows = shown_in view kind d.lra })) (link_for kind p.links) None
 
 -- to do an act, or to tell its status, if it is busy with it and gave a link for that
 abbrev pub call_for : View → Act → Due → Option Duty
@@ -30,17 +40,24 @@ abbrev pub forget_call : View → Due → Option Duty
 forget_call view d =
     option_map_or (λ p. option_map_or (λ act. call_at view d Forget act p) (act_wanted ((by_view view).want d.lra)) None) (participant_in view d.lra d.member) None
 
--- the calls that are due at a home: to complete, then to compensate, then to forget
+-- to hear that the LRA has ended
+abbrev pub after_call : View → Due → Option Duty
+after_call view d =
+    option_map_or (λ p. option_map_or (λ act. call_at view d After act p) (act_wanted ((by_view view).want d.lra)) None) (participant_in view d.lra d.member) None
+
+-- the calls that are due at a home: to complete, then to compensate, then to forget, then to hear of the end
 abbrev pub duties_of : View → ℕ → List Duty
 duties_of view me =
     filter_map (call_for view CompleteAct) (completions_of view me)
-    ++ (filter_map (call_for view CompensateAct) (compensations_of view me) ++ filter_map (forget_call view) (forgets_of view me))
+    ++ (filter_map (call_for view CompensateAct) (compensations_of view me)
+    ++ (filter_map (forget_call view) (forgets_of view me) ++ filter_map (after_call view) (hearings_of view me)))
 
 -- The same by errands
 
 abbrev pub act_by : View → Errand → Due → Option Act
 act_by view (Call act) d = Some act
 act_by view Release d = act_wanted ((by_view view).want d.lra)
+act_by view Tell d = act_wanted ((by_view view).want d.lra)
 
 -- the call that is due on an errand
 abbrev pub duty_by : View → Errand → Due → Option Duty

@@ -1,19 +1,21 @@
 // What is heard of a participant's answer.
 ghost use Rattle.std.specs.Prelude.{◌≡◌, Some};
 ghost use Rattle.lra_callback.specs.CallWords.{heard_name, kind_name};
-ghost use Rattle.lra_callback.specs.Answers.{bare, done_status, failed_status, heard_by_act, heard_by_forget, heard_by_status, heard_of, trimmed, unquoted, without_leading, without_trailing};
+ghost use Rattle.lra_callback.specs.Answers.{bare, done_status, failed_status, heard_by_act, heard_by_after, heard_by_forget, heard_by_status, heard_of, trimmed, unquoted, without_leading, without_trailing};
 
 use lra_http::Bytes;
 use lra_states::{Act, MemberStatus, Outcome};
 use std::fmt;
 
-/// What a participant is called for: to complete, to compensate, for the status of one of these, or to forget.
+/// What a participant is called for: to complete, to compensate, for the status of one of these, to forget, or to hear that its
+/// LRA has ended.
 #[derive(Clone, Copy, Debug, PartialEq, Eq)]
 pub enum Kind {
     Complete,
     Compensate,
     Status,
     Forget,
+    After,
 }
 
 impl Kind {
@@ -26,6 +28,7 @@ impl Kind {
             Kind::Compensate => "compensate",
             Kind::Status => "status",
             Kind::Forget => "forget",
+            Kind::After => "after",
         }
     }
 }
@@ -45,12 +48,13 @@ pub enum Answer {
     Broken,
 }
 
-/// What is heard of an answer: an outcome of the act, that the participant was told to forget, or nothing that counts, so
-/// that it is to be called again.
+/// What is heard of an answer: an outcome of the act, that the participant was told to forget or that its LRA has
+/// ended, or nothing that counts, so that it is to be called again.
 #[derive(Clone, Copy, Debug, PartialEq, Eq)]
 pub enum Heard {
     Told(Outcome),
     Forgotten,
+    Informed,
     Again,
 }
 
@@ -64,6 +68,7 @@ impl Heard {
             Heard::Told(Outcome::Done) => "Done",
             Heard::Told(Outcome::Failed) => "Failed",
             Heard::Forgotten => "Forgotten",
+            Heard::Informed => "Told",
             Heard::Again => "Again",
         }
     }
@@ -157,6 +162,15 @@ fn heard_by_forget(code: u16) -> Heard
     }
 }
 
+fn heard_by_after(code: u16) -> Heard
+    ensures { result ≡ heard_by_after code }
+{
+    match code {
+        200 | 204 | 410 => Heard::Informed,
+        _ => Heard::Again,
+    }
+}
+
 /// What is heard of an answer to a call of this kind. A broken answer is none.
 pub fn hear(act: Act, kind: Kind, answer: &Answer) -> Heard
     ensures { result ≡ heard_of act kind answer.now }
@@ -168,5 +182,6 @@ pub fn hear(act: Act, kind: Kind, answer: &Answer) -> Heard
         Kind::Complete | Kind::Compensate => heard_by_act(*code),
         Kind::Status => heard_by_status(act, *code, body.as_slice()),
         Kind::Forget => heard_by_forget(*code),
+        Kind::After => heard_by_after(*code),
     }
 }

@@ -4,17 +4,18 @@ ghost use Rattle.std.specs.Option.{option_copied};
 ghost use Rattle.lra_facts.specs.declared.refusal.Refusal.TheVariants.{NoMemory};
 ghost use Rattle.lra_forest.specs.Dues.{AreAll};
 ghost use Rattle.lra_replica.specs.Replicas.{view_of};
+ghost use Rattle.lra_history.specs.Readings.{by_view};
 ghost use Rattle.lra_history.specs.Views.{OfItsSet};
 ghost use Rattle.lra_callback.specs.CallDuties.{IsDuty, act_wanted, comes_first, link_for};
 ghost use Rattle.lra_callback.specs.Errands.{kind_by, kind_in, kind_of_act};
-ghost use Rattle.lra_callback.specs.ViewDuties.{act_by, duties_of, duty_by};
+ghost use Rattle.lra_callback.specs.ViewDuties.{act_by, duties_of, duty_by, shown_in};
 
 use crate::Kind;
 use lra_facts::{Link, Refusal};
 use lra_forest::{Due, Participant};
 use lra_id::{LraId, NodeId};
 use lra_replica::Replica;
-use lra_states::{Act, Outcome, Verdict};
+use lra_states::{Act, LraStatus, Outcome, Verdict};
 use std::alloc::{AllocError, Global};
 use std::marker::Model;
 
@@ -23,7 +24,7 @@ use std::marker::Model;
 pub struct Duty {
     /// What the call is.
     pub kind: Kind,
-    /// The act that is to be done, is asked about, or was done; of a forget the one that the LRA wants.
+    /// The act that is to be done, is asked about, or was done; of a forget, and of the end, the one that the LRA wants.
     pub act: Act,
     /// The LRA.
     pub id: LraId,
@@ -33,6 +34,8 @@ pub struct Duty {
     pub link: Link,
     /// The LRA in which this one is nested.
     pub parent: Option<LraId>,
+    /// What the LRA shows, where the participant hears that it has ended.
+    pub shows: Option<LraStatus>,
 }
 
 /// The participants that are to be called, in order.
@@ -79,6 +82,7 @@ impl Clone for Duty {
             member: self.member,
             link: self.link.clone()?,
             parent: self.parent,
+            shows: self.shows,
         })
     }
 }
@@ -95,11 +99,12 @@ impl Clone for Duties {
     }
 }
 
-/// What a participant is called for: to do an act, or to be released from remembering it.
+/// What a participant is called for: to do an act, to be released from remembering it, or to hear that its LRA has ended.
 #[derive(Clone, Copy)]
 enum Errand {
     Call(Act),
     Release,
+    Tell,
 }
 
 fn kind_of_act(act: Act) -> Kind
@@ -114,7 +119,7 @@ fn kind_of_act(act: Act) -> Kind
 fn kind_by(participant: &Participant, act: Act) -> Kind
     ensures { result ≡ kind_by participant.now act }
 {
-    match (participant.heard(act), &participant.links.status) {
+    match (participant.heard(act), participant.links.status()) {
         (Some(Outcome::Busy), Some(_)) => Kind::Status,
         _ => kind_of_act(act),
     }
@@ -126,6 +131,7 @@ fn kind_in(errand: Errand, participant: &Participant) -> Kind
     match errand {
         Errand::Call(act) => kind_by(participant, act),
         Errand::Release => Kind::Forget,
+        Errand::Tell => Kind::After,
     }
 }
 
@@ -144,10 +150,20 @@ fn link_for(participant: &Participant, kind: Kind) -> Option<&Link>
     ensures { option_copied result ≡ link_for kind participant.now.links }
 {
     match kind {
-        Kind::Complete => participant.links.complete.as_ref(),
-        Kind::Compensate => Some(&participant.links.compensate),
-        Kind::Status => participant.links.status.as_ref(),
-        Kind::Forget => participant.links.forget.as_ref(),
+        Kind::Complete => participant.links.complete(),
+        Kind::Compensate => participant.links.compensate(),
+        Kind::Status => participant.links.status(),
+        Kind::Forget => participant.links.forget(),
+        Kind::After => participant.links.after(),
+    }
+}
+
+fn act_at(replica: &Replica, id: LraId) -> Option<Act>
+    ensures { result ≡ act_wanted ((by_view (view_of replica.now)).want id) }
+{
+    match replica.want(id) {
+        Ok(want) => act_wanted(want),
+        Err(_) => None,
     }
 }
 
@@ -156,10 +172,18 @@ fn act_of(replica: &Replica, errand: Errand, due: Due) -> Option<Act>
 {
     match errand {
         Errand::Call(act) => Some(act),
-        Errand::Release => match replica.want(due.lra) {
-            Ok(want) => act_wanted(want),
-            Err(_) => None,
-        },
+        Errand::Release => act_at(replica, due.lra),
+        Errand::Tell => act_at(replica, due.lra),
+    }
+}
+
+/// What the LRA shows, where a call tells it.
+fn shown_in(replica: &Replica, kind: Kind, id: LraId) -> Option<LraStatus>
+    ensures { result ≡ shown_in (view_of replica.now) kind id }
+{
+    match kind {
+        Kind::After => replica.shown(id).ok(),
+        _ => None,
     }
 }
 
@@ -183,6 +207,7 @@ fn duty_of(replica: &Replica, errand: Errand, due: Due) -> Result<Option<Duty>, 
         member: due.member,
         link: link.clone()?,
         parent: replica.parent(due.lra),
+        shows: shown_in(replica, kind, due.lra),
     }))
 }
 
@@ -204,8 +229,8 @@ fn add(
 }
 
 /// The participants in LRAs of a home that are to be called now: first to complete, by LRA and member number; then to compensate,
-/// by the number of the topmost cancelled LRA; then those to be told that they may forget, by LRA and member number. Errors:
-/// NoMemory.
+/// by the number of the topmost cancelled LRA; then those to be told that they may forget, and those to be told that
+/// their LRAs have ended, by LRA and member number. Errors: NoMemory.
 pub fn pick(alloc: Global, replica: &Replica, me: NodeId) -> Result<Duties, Refusal>
     requires { me ≤ length replica.now.front }
     ensures next { IfOk result (λ duties. duties ≡ duties_of (view_of replica.now) me) }
@@ -222,5 +247,7 @@ pub fn pick(alloc: Global, replica: &Replica, me: NodeId) -> Result<Duties, Refu
     add(replica, Errand::Call(Act::Compensate), &dues, &mut list)?;
     let dues = replica.forget_duties(alloc, me)?;
     add(replica, Errand::Release, &dues, &mut list)?;
+    let dues = replica.after_duties(alloc, me)?;
+    add(replica, Errand::Tell, &dues, &mut list)?;
     Ok(Duties { list })
 }

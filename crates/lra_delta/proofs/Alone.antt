@@ -12,6 +12,7 @@ use Rattle.lra_history.proofs.SetsToMerge.{closed_proper}
 use Rattle.lra_history.proofs.ViewsHaveShape.{closed_shape}
 use Rattle.lra_history.specs.Histories.{History, IsClosed, IsLawful, facts}
 use Rattle.lra_history.specs.Views.{StandsFor, View, records_at}
+use Rattle.lra_delta.specs.declared.version.Version.TheVariants.{Two}
 use Rattle.lra_delta.specs.Frames.{frame_of, is_beyond, live_at}
 use Rattle.lra_delta.specs.Grammar.{KeepsRulesIn}
 use Rattle.lra_delta.specs.Order.{Follows}
@@ -19,7 +20,7 @@ use Rattle.lra_delta.specs.OneRecord.{KeepsRulesUnder, IsRecordUnder, under}
 use Rattle.lra_delta.specs.Rules.{is_home, is_next, start}
 use Rattle.lra_delta.specs.Typed.{HasLinks, IsTypedRecord}
 use Rattle.lra_delta.proofs.Beyond.{below_from}
-use Rattle.lra_delta.proofs.Fitted.{record_fits as is_record}
+use Rattle.lra_delta.proofs.Fitted.{knows_all, record_fits as is_record}
 use Rattle.lra_delta.proofs.Grammar.{own_counted, record_fits, small_counts}
 
 first_home : (nodes home : ℕ) → 1 ≤ home → home ≤ nodes → is_home nodes 0 home ≡ true
@@ -35,7 +36,7 @@ first_next home num some = rw (no_home home some) refl
 pub is_record_under : (front : List ℕ) (kept : Record) → IsTypedRecord kept → KeepsRulesUnder front kept → IsRecordUnder front kept
 is_record_under front kept typed is =
     let follows : Follows (length front) start kept = (first_home (length front) kept.home is.some is.high, first_next kept.home kept.num is.some) in
-    is_record (under front) start kept is.few is.small is.fits follows typed.deadline (recursion_from_All HasLinks kept.members typed.links)
+    is_record (under Two front) start kept is.few is.small is.fits follows typed.deadline (recursion_from_All HasLinks kept.members typed.links) (knows_all kept.members)
 
 zero_count : (n i : ℕ) → slice_index (replicate n 0) i ≡ 0
 zero_count zero i = refl

@@ -6,6 +6,7 @@ use Rattle.lra_forest.specs.declared.merging.Told.{Told}
 use Rattle.lra_forest.specs.declared.record.Record.{Record}
 use Rattle.lra_history.specs.Merging.{AreToldFrom}
 use Rattle.lra_history.specs.Views.{records_at}
+use Rattle.lra_delta.specs.declared.version.Version.{Version}
 use Rattle.lra_delta.specs.declared.input.Stop.{Stop}
 use Rattle.lra_delta.specs.declared.order.Last.{Last}
 use Rattle.lra_delta.specs.Order.{AreInOrder, ArePut, lists, records_told}
@@ -50,8 +51,8 @@ put_next n old ts ts' done r put order told held records =
     }
 
 -- a record is read against the live lists alone
-pub reads_as_before : (old new : Seen) (result : Result Record Stop) (base front : List ℕ) (ts ts' : List Told) (last : Last) → lists ts' ≡ lists ts
-    → Reads old new (λ (x : Record). x) result (record_at (told_context base front ts') last) → Reads old new (λ (x : Record). x) result (record_at (told_context base front ts) last)
-reads_as_before old new result base front ts ts' last e read =
-    let same : told_context base front ts' ≡ told_context base front ts = ap (λ (l : List (Option (List ℕ))). record { base = base; front = front; lives = l }) e in
+pub reads_as_before : (old new : Seen) (result : Result Record Stop) (v : Version) (base front : List ℕ) (ts ts' : List Told) (last : Last) → lists ts' ≡ lists ts
+    → Reads old new (λ (x : Record). x) result (record_at (told_context v base front ts') last) → Reads old new (λ (x : Record). x) result (record_at (told_context v base front ts) last)
+reads_as_before old new result v base front ts ts' last e read =
+    let same : told_context v base front ts' ≡ told_context v base front ts = ap (λ (l : List (Option (List ℕ))). record { version = v; base = base; front = front; lives = l }) e in
     subst (λ (k : Context). Reads old new (λ (x : Record). x) result (record_at k last)) same read

@@ -17,6 +17,9 @@ use Rattle.lra_forest.specs.declared.record.Member.TheVariants.{Nested, Particip
 use Rattle.lra_forest.specs.declared.record.Place.{Place}
 use Rattle.lra_forest.specs.declared.record.Record.{Record}
 use Rattle.lra_forest.specs.RecordMerges.{home_stamp, linked}
+use Rattle.lra_delta.specs.declared.version.Version.{Version}
+use Rattle.lra_delta.specs.declared.version.Version.TheVariants.{Two}
+use Rattle.lra_delta.specs.Versions.{knows}
 use Rattle.lra_delta.specs.declared.order.Last.{Last}
 use Rattle.lra_delta.specs.Order.{Follows}
 use Rattle.lra_delta.proofs.HomeLists.{home_parts}
@@ -54,15 +57,26 @@ mark_fits (Some text) false e = refl
 mark_fits None true e = absurd cc
 mark_fits None false e = refl
 
-participant_fits : (p : ParticipantRecord) → linked p ≡ p → AreLinks p.links → IsParticipant p
-participant_fits p e f = record {
+participant_fits : (v : Version) (p : ParticipantRecord) → linked p ≡ p → AreLinks p.links → knows v p.links.after ≡ true → IsParticipant v p
+participant_fits v p e f w = record {
   complete = f.complete;
   compensate = f.compensate;
   status = f.status;
   forget = f.forget;
+  after = f.after;
+  together = f.together;
+  known = w;
   completed = outcome_fits p.links.complete p.completed (ap (λ (q : ParticipantRecord). q.completed) e);
+  compensated = outcome_fits p.links.compensate p.compensated (ap (λ (q : ParticipantRecord). q.compensated) e);
   forgotten = mark_fits p.links.forget p.forgotten (ap (λ (q : ParticipantRecord). q.forgotten) e);
+  told = mark_fits p.links.after p.told (ap (λ (q : ParticipantRecord). q.told) e);
 }
+
+-- the version knows what the member has
+abbrev pub Knows : Version → Member → Type 0
+Knows v (Nested num) = Unit {0}
+Knows v (Participant p) = knows v p.links.after ≡ true
+Knows v Left = Unit {0}
 
 nested_fits : (stamp last n : ℕ) → last < n → n ≤ stamp → is_nested last stamp n ≡ true
 nested_fits stamp last n lt le = grind (arith, nat_tests)
@@ -71,15 +85,15 @@ above : (stamp last n : ℕ) (ns : List ℕ) → AllByRecursion (λ k. n < k) ns
 above stamp last n [] f g = tt
 above stamp last n (k ∷ ns) f g = ((f.0, g.0.1), above stamp last n ns f.1 g.1)
 
-pub members_fit : (stamp last : ℕ) (ms : List Member) → stamp < 2 ^ 64 → IsRising (nested_numbers ms) → AllByRecursion (λ n. (last < n) × (n ≤ stamp)) (nested_numbers ms)
-    → AllByRecursion IsLinked ms → AllByRecursion HasLinks ms → Along (IsMember stamp) next_nested last ms
-members_fit stamp last [] lt up within own kept = tt
-members_fit stamp last (Nested n ∷ ms) lt up within own kept = (
+pub members_fit : (v : Version) (stamp last : ℕ) (ms : List Member) → stamp < 2 ^ 64 → IsRising (nested_numbers ms) → AllByRecursion (λ n. (last < n) × (n ≤ stamp)) (nested_numbers ms)
+    → AllByRecursion IsLinked ms → AllByRecursion HasLinks ms → AllByRecursion (Knows v) ms → Along (IsMember v stamp) next_nested last ms
+members_fit v stamp last [] lt up within own kept known = tt
+members_fit v stamp last (Nested n ∷ ms) lt up within own kept known = (
   (omega (arith, lt, within.0.1), nested_fits stamp last n within.0.0 within.0.1),
-  members_fit stamp n ms lt up.1 (above stamp last n (nested_numbers ms) up.0 within.1) own.1 kept.1,
+  members_fit v stamp n ms lt up.1 (above stamp last n (nested_numbers ms) up.0 within.1) own.1 kept.1 known.1,
 )
-members_fit stamp last (Participant p ∷ ms) lt up within own kept = (participant_fits p own.0 kept.0, members_fit stamp last ms lt up within own.1 kept.1)
-members_fit stamp last (Left ∷ ms) lt up within own kept = (tt, members_fit stamp last ms lt up within own.1 kept.1)
+members_fit v stamp last (Participant p ∷ ms) lt up within own kept known = (participant_fits v p own.0 kept.0 known.0, members_fit v stamp last ms lt up within own.1 kept.1 known.1)
+members_fit v stamp last (Left ∷ ms) lt up within own kept known = (tt, members_fit v stamp last ms lt up within own.1 kept.1 known.1)
 
 -- ---- records
 
@@ -123,8 +137,8 @@ pub at_place : (v : List ℕ) (i : ℕ) → count v (suc i) ≡ slice_index v i
 at_place v i = ap (λ (n : ℕ). slice_index v n) (before i)
 
 pub record_fits : (k : Context) (last : Last) (r : Record) → length k.front ≤ 8 → ((node : ℕ) → count k.front node < 2 ^ 48) → KeepsRulesIn k.base k.front (live_at k.lives r.home) r
-    → Follows (length k.front) last r → r.deadline < 2 ^ 64 → AllByRecursion HasLinks r.members → IsRecord k last r
-record_fits k last r nodes small f follows deadline kept =
+    → Follows (length k.front) last r → r.deadline < 2 ^ 64 → AllByRecursion HasLinks r.members → AllByRecursion (Knows k.version) r.members → IsRecord k last r
+record_fits k last r nodes small f follows deadline kept known =
     let home = home_parts (length k.front) last.home r.home follows.0 in
     let wide : r.num < 2 ^ 64 = omega (arith, f.reach, small r.home) in
     let stamp : home_stamp r < 2 ^ 64 = omega (arith, f.within r.home, small r.home) in
@@ -139,5 +153,12 @@ record_fits k last r nodes small f follows deadline kept =
       stamps = both_true (at_most k.front r.stamps) _ (at_most_by r.stamps k.front f.nodes (λ i. omega (arith, f.within (suc i), at_place r.stamps i, at_place k.front i))) (both_true (nat_le r.num (home_stamp r)) _ (le_true _ _ f.own) f.new);
       wide_stamps = small_by r.stamps (λ i. omega (arith, f.within (suc i), small (suc i), at_place r.stamps i, at_place k.front i));
       count = le_true (length r.members) 32 f.few;
-      members = members_fit (home_stamp r) r.num r.members stamp f.rising f.nested f.linked kept;
+      members = members_fit k.version (home_stamp r) r.num r.members stamp f.rising f.nested f.linked kept known;
     }
+
+-- version 2 knows all
+pub knows_all : (ms : List Member) → AllByRecursion (Knows Two) ms
+knows_all [] = tt
+knows_all (Nested num ∷ ms) = (tt, knows_all ms)
+knows_all (Participant p ∷ ms) = (refl, knows_all ms)
+knows_all (Left ∷ ms) = (tt, knows_all ms)

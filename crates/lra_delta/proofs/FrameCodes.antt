@@ -7,13 +7,16 @@ use Rattle.std.proofs.lemmas.Bool.{eqb-true}
 use Rattle.std.proofs.lemmas.Bool.Decides.{nat_tests}
 use Rattle.std.proofs.lemmas.List.{append-nil, nil_from_length}
 use Rattle.lra_id.specs.Ids.{last_number}
+use Rattle.lra_delta.specs.declared.version.Version.{Version}
+use Rattle.lra_delta.specs.declared.version.Version.TheVariants.{One, Two}
+use Rattle.lra_delta.specs.Versions.{is_version, version_mark, version_of}
 use Rattle.lra_forest.specs.declared.record.Record.{Record}
 use Rattle.lra_delta.specs.Frames.{Frame}
-use Rattle.lra_delta.specs.FrameFields.{Rest, Read, Halt, Short, Broken, ◌>>=◌, value_of, told_of, Along}
-use Rattle.lra_delta.specs.Encoding.{live_mark, live_body, live_list, live, record_text, records, body, flat, magic, encoding}
-use Rattle.lra_delta.specs.Rules.{Context, start, after, is_record_count, IsRecord, is_live_mark, is_live_count, is_live_number, AreLive, IsLive, is_node_count, are_counts, is_front, at_most, IsBody, IsDelta, is_frame_length, by_home}
-use Rattle.lra_delta.specs.OneRecord.{IsRecordUnder, alone_at, record_in, under}
-use Rattle.lra_delta.specs.Reading.{records_at, live_list_at, live_by, live_at, body_at, within, ended_at, framed_at, frame_at, frame_in}
+use Rattle.lra_delta.specs.FrameFields.{Rest, Read, Short, Broken, ◌>>=◌, value_of, told_of, Along}
+use Rattle.lra_delta.specs.Encoding.{live_mark, live_body, live_list, live, record_text_as, records, body, flat, magic, encoding_as}
+use Rattle.lra_delta.specs.Rules.{Context, start, after, is_record_count, IsRecord, is_live_mark, is_live_count, is_live_number, AreLive, IsLive, is_node_count, are_counts, is_front, at_most, IsBody, IsDeltaAs, is_frame_length, by_home}
+use Rattle.lra_delta.specs.OneRecord.{IsRecordUnderAs, alone_at, record_in_as, under}
+use Rattle.lra_delta.specs.Reading.{records_at, live_list_at, live_by, live_at, body_at, within, ended_at, framed_at, frame_at, frame_in, versioned_at}
 use Rattle.lra_delta.proofs.Codes.{IsBytes, IsCode, IsThere, Takes, bind_ok, rule_ok, ok_is, uncut_bind, uncut_if, step, cased, finish, refit, each_code, number_code, wide8, wide16, wide32, wide64}
 use Rattle.lra_delta.proofs.HomeLists.{flat_by_home}
 use Rattle.lra_delta.proofs.RecordCodes.{vector_code, record_code}
@@ -64,7 +67,7 @@ nodes_few n e = grind (arith, nat_tests)
 record_count_small : (nodes n : ℕ) → nodes ≤ 8 → is_record_count nodes n ≡ true → n < 2 ^ 16
 record_count_small nodes n le e = grind (arith, nat_tests)
 
-pub records_code : (k : Context) → length k.front ≤ 8 → IsCode (records_at k) records (λ rs. (is_record_count (length k.front) (length rs) ≡ true) × Along (IsRecord k) after start rs)
+pub records_code : (k : Context) → length k.front ≤ 8 → IsCode (records_at k) (records k.version) (λ rs. (is_record_count (length k.front) (length rs) ≡ true) × Along (IsRecord k) after start rs)
 unfolding records_at records
 records_code k le = step _ (number_code w16 (2 ^ 16) wide16 (is_record_count (length k.front))) (λ rs. length rs) (λ rs f. (record_count_small (length k.front) (length rs) le f.0, f.0)) (λ n fn.
     refit (each_code (record_code k) n start) (λ rs f. ((rw f.1 fn.1, f.0), f.1)) (λ rs f. (f.0.1, f.1)))
@@ -101,20 +104,20 @@ purges_fit (l ∷ limits) (n ∷ ns) len f e = let h = both (nat_le n l) (at_mos
 front_counts : (base ns : List ℕ) → is_front base ns ≡ true → are_counts ns ≡ true
 front_counts base ns e = grind (arith, nat_tests)
 
-pub body_code : IsCode body_at body IsBody
+pub body_code : (v : Version) → IsCode (body_at v) (body v) (IsBody v)
 unfolding body_at body
-body_code =
+body_code v =
     step _ (number_code w8 (2 ^ 8) wide8 is_node_count) (λ d. length d.base) (λ d f. (nodes_small (length d.base) f.nodes, f.nodes)) (λ n fn.
     step _ (vector_code n are_counts) (λ d. d.base) (λ d f. ((counts_fit d.base f.0.base, f.1), f.0.base)) (λ a fa.
     step _ (vector_code n (is_front a)) (λ d. d.front) (λ d f. let g = f.0.0 in ((counts_fit d.front (front_counts d.base d.front g.front), g.same_nodes ∙ f.0.1), rw (← f.1) g.front)) (λ b fb.
     step _ (vector_code n (at_most b)) (λ d. d.purges) (λ d f. let g = f.0.0.0 in ((purges_fit d.front d.purges (g.purge_nodes ∙ sym g.same_nodes) (counts_fit d.front (front_counts d.base d.front g.front)) g.purges, g.purge_nodes ∙ f.0.0.1), rw (← f.1) g.purges)) (λ c fc.
     step _ (each_code (λ i. live_code (slice_index a i) (slice_index c i) (slice_index b i)) n 0) (λ d. d.live) (λ d f. let g = f.0.0.0.0 in (rw (← f.0.0.1, ← f.0.1, ← f.1) g.lives, g.live_nodes ∙ f.0.0.0.1)) (λ l fl.
-    let k : Context = record { base = a; front = b; lives = l } in
+    let k : Context = record { version = v; base = a; front = b; lives = l } in
     let put : (rs : List Record) → (is_record_count (length b) (length rs) ≡ true) × Along (IsRecord k) after start rs → flat (by_home n rs) ≡ rs =
     λ rs fr. ap (λ (x : ℕ). flat (by_home x rs)) (sym fb.0.1) ∙ flat_by_home k start rs fr.1 in
     cased (records_code k (omega (arith, nodes_few n fn.1, fb.0.1)))
     (λ rs. record { base = a; front = b; purges = c; live = l; records = by_home n rs })
-    (λ rs fr. ap records (put rs fr))
+    (λ rs fr. ap (records v) (put rs fr))
     (λ rs fr. (
       (
         (
@@ -151,23 +154,23 @@ body_code =
 same_place : (n : ℕ) → (n == n) ≡ true
 same_place n = grind (arith, nat_tests)
 
-pub ended_code : (len : ℕ) → IsCode (ended_at len) body (λ d. IsBody d × (length (body d) ≡ len))
+pub ended_code : (v : Version) (len : ℕ) → IsCode (ended_at v len) (body v) (λ d. IsBody v d × (length (body v d) ≡ len))
 unfolding ended_at
-ended_code len = record {
+ended_code v len = record {
   takes = λ r bytes well d r' e.
       let k : Frame × Rest → Read Frame = λ x. cond (x.1.place == r.place + len) (Ok (x.0, record { place = x.1.place; limit = r.limit; ahead = x.1.ahead })) (Err (Broken x.1.place x.1.place)) in
-      let b = bind_ok (body_at (within len r)) k (d, r') e in
+      let b = bind_ok (body_at v (within len r)) k (d, r') e in
       let inside : (within len r).place ≤ (within len r).limit = omega arith in
-      let t = body_code.takes (within len r) bytes inside b.0.0 b.0.1 b.1 in
+      let t = (body_code v).takes (within len r) bytes inside b.0.0 b.0.1 b.1 in
       let g = rule_ok (b.0.1.place == r.place + len) (Broken b.0.1.place b.0.1.place) (b.0.0, record { place = b.0.1.place; limit = r.limit; ahead = b.0.1.ahead }) (d, r') b.2 in
       let here : b.0.1.place ≡ r.place + len = eqb-true _ _ g.0 in
-      let size : length (body b.0.0) ≡ len = omega (arith, here, t.1.place) in
-      let text : Takes r (body b.0.0) (record { place = b.0.1.place; limit = r.limit; ahead = b.0.1.ahead }) = record { parts = t.1.parts; place = t.1.place; limit = refl; within = omega (arith, t.1.within, t.1.limit) } in
-      let P : Frame × Rest → Type 0 = λ y. (IsBody y.0 × (length (body y.0) ≡ len)) × Takes r (body y.0) y.1 × IsBytes y.1.ahead in
+      let size : length (body v b.0.0) ≡ len = omega (arith, here, t.1.place) in
+      let text : Takes r (body v b.0.0) (record { place = b.0.1.place; limit = r.limit; ahead = b.0.1.ahead }) = record { parts = t.1.parts; place = t.1.place; limit = refl; within = omega (arith, t.1.within, t.1.limit) } in
+      let P : Frame × Rest → Type 0 = λ y. (IsBody v y.0 × (length (body v y.0) ≡ len)) × Takes r (body v y.0) y.1 × IsBytes y.1.ahead in
       subst P g.1 ((t.0, size), text, t.2);
   again = λ d f r r' t.
       let mid : Rest = record { place = r'.place; limit = min r.limit (r.place + len); ahead = r'.ahead } in
-      let one : body_at (within len r) ≡ Ok (d, mid) = body_code.again d f.0 (within len r) mid (record { parts = t.parts; place = t.place; limit = refl; within = omega (arith, t.place, t.within, t.limit, f.1) }) in
+      let one : body_at v (within len r) ≡ Ok (d, mid) = (body_code v).again d f.0 (within len r) mid (record { parts = t.parts; place = t.place; limit = refl; within = omega (arith, t.place, t.within, t.limit, f.1) }) in
       let at_end : r'.place ≡ r.place + len = omega (arith, t.place, f.1) in
       let two : (r'.place == r.place + len) ≡ true = rw (← at_end) (same_place r'.place) in
       let same : record { place = r'.place; limit = r.limit; ahead = r'.ahead } ≡ r' = ap (λ (n : ℕ). record { place = r'.place; limit = n; ahead = r'.ahead }) (sym t.limit) in
@@ -175,9 +178,9 @@ ended_code len = record {
   uncut = λ r bytes well there.
       let inside : (within len r).place ≤ (within len r).limit = omega arith in
       let here : IsThere (within len r) = omega arith in
-      uncut_bind (body_at (within len r)) _ (body_code.uncut (within len r) bytes inside here) (λ x e there'.
-      let t = body_code.takes (within len r) bytes inside x.0 x.1 e in
-      let size : length r.ahead ≡ length (body x.0) + length x.1.ahead = ap length t.1.parts ∙ length-append (body x.0) x.1.ahead in
+      uncut_bind (body_at v (within len r)) _ ((body_code v).uncut (within len r) bytes inside here) (λ x e there'.
+      let t = (body_code v).takes (within len r) bytes inside x.0 x.1 e in
+      let size : length r.ahead ≡ length (body v x.0) + length x.1.ahead = ap length t.1.parts ∙ length-append (body v x.0) x.1.ahead in
       let last : IsThere (record { place = x.1.place; limit = r.limit; ahead = x.1.ahead }) = omega (arith, size, t.1.place, there) in
       uncut_if (x.1.place == r.place + len) x.1.place x.1.place _ last);
 }
@@ -185,15 +188,42 @@ ended_code len = record {
 frame_length_small : (n : ℕ) → is_frame_length n ≡ true → n < 2 ^ 32
 frame_length_small n e = grind (arith, nat_tests)
 
-pub framed_code : IsCode framed_at encoding IsDelta
+version_back : (n : ℕ) → is_version n ≡ true → version_mark (version_of n) ≡ n
+version_back zero e = absurd cc
+version_back (suc zero) e = refl
+version_back (suc (suc zero)) e = refl
+version_back (suc (suc (suc n))) e = absurd (let no : is_version (suc (suc (suc n))) ≡ false = grind (arith, nat_tests) in cc)
+
+version_is : (v : Version) → (version_mark v < 2 ^ 8) × (is_version (version_mark v) ≡ true)
+version_is One = (omega arith, refl)
+version_is Two = (omega arith, refl)
+
+version_again : (v : Version) → version_of (version_mark v) ≡ v
+version_again One = refl
+version_again Two = refl
+
+-- a version with a frame
+abbrev pub IsVersioned : Version × Frame → Type 0
+IsVersioned x = IsDeltaAs x.0 x.1
+
+abbrev pub versioned : Version × Frame → List ℕ
+versioned x = encoding_as x.0 x.1
+
+versioned_made : (n len : ℕ) (x : Version × Frame) → version_mark x.0 ≡ n → x ≡ (version_of n, x.1)
+versioned_made n len x e = ap (λ (v : Version). (v, x.1)) (sym (version_again x.0) ∙ ap version_of e)
+
+pub framed_code : IsCode framed_at versioned IsVersioned
 unfolding framed_at
 framed_code =
-    step _ (number_code w32 (2 ^ 32) wide32 (λ n. n == magic)) (λ d. magic) (λ d f. (omega arith, refl)) (λ m fm.
-    step _ (number_code w8 (2 ^ 8) wide8 (λ n. n == 1)) (λ d. 1) (λ d f. (omega arith, refl)) (λ v fv.
-    step (λ x. ended_at x.0 x.1) (number_code w32 (2 ^ 32) wide32 is_frame_length) (λ d. length (body d)) (λ d f. (frame_length_small (length (body d)) f.0.0.short, f.0.0.short)) (λ len fl.
-    refit (ended_code len)
-    (λ d f. (((record { is_body = f.0; short = rw f.1 fl.1 }, sym (eqb-true _ _ fm.1)), sym (eqb-true _ _ fv.1)), f.1))
-    (λ d f. (f.0.0.0.is_body, f.1)))))
+    step _ (number_code w32 (2 ^ 32) wide32 (λ n. n == magic)) (λ x. magic) (λ x f. (omega arith, refl)) (λ m fm.
+    step _ (number_code w8 (2 ^ 8) wide8 is_version) (λ x. version_mark x.0) (λ x f. version_is x.0) (λ n fn.
+    step _ (number_code w32 (2 ^ 32) wide32 is_frame_length) (λ x. length (body x.0 x.1)) (λ x f. (frame_length_small (length (body x.0 x.1)) f.0.0.short, f.0.0.short)) (λ len fl.
+    cased (ended_code (version_of n) len) (λ d. (version_of n, d)) (λ d f. refl)
+    (λ d f. (((record { is_body = f.0; short = rw f.1 fl.1 }, sym (eqb-true _ _ fm.1)), version_back n fn.1), f.1))
+    (λ x f.
+    let made = versioned_made n len x f.0.1 in
+    let same : x.0 ≡ version_of n = ap (λ (y : Version × Frame). y.0) made in
+    (x.1, made, (subst (λ (v : Version). IsBody v x.1) same f.0.0.0.is_body, ap (λ (v : Version). length (body v x.1)) (sym same) ∙ f.1))))))
 
 -- ---- the laws
 
@@ -230,21 +260,36 @@ whole_again {A} {scan} {encode} {Fits} code a f =
     let one : scan r ≡ Ok (a, r') = code.again a f r r' (record { parts = sym (append-nil (encode a)); place = omega arith; limit = refl; within = omega arith }) in
     rw (one, same_place (length (encode a))) refl
 
-pub frame_takes : (bytes : List ℕ) (d : Frame) → IsBytes bytes → frame_in bytes ≡ Ok d → IsDelta d × (bytes ≡ encoding d)
-unfolding frame_at
-frame_takes bytes d fits e = whole_takes framed_code bytes d fits e
+-- the frame alone
+dropped : (m : Read (Version × Frame)) (d : Frame) → told_of (value_of (m >>= λ x. Ok (x.0.1, x.1))) ≡ Ok d → (v : Version) × (told_of (value_of m) ≡ Ok (v, d))
+dropped (Ok y) d e = let same : y.0.1 ≡ d = cc in (y.0.0, ap (λ (x : Frame). Ok (y.0.0, x)) same)
+dropped (Err Short) d e = absurd cc
+dropped (Err (Broken place reach)) d e = absurd cc
 
-pub frame_again : (d : Frame) → IsDelta d → frame_in (encoding d) ≡ Ok d
-unfolding frame_at
-frame_again d f = whole_again framed_code d f
+kept_value : (m : Read (Version × Frame)) (v : Version) (d : Frame) → told_of (value_of m) ≡ Ok (v, d) → told_of (value_of (m >>= λ x. Ok (x.0.1, x.1))) ≡ Ok d
+kept_value (Ok y) v d e = let same : y.0 ≡ (v, d) = cc in ap (λ (x : Version × Frame). Ok x.1) same
+kept_value (Err Short) v d e = absurd cc
+kept_value (Err (Broken place reach)) v d e = absurd cc
 
-pub record_takes : (front bytes : List ℕ) (kept : Record) → IsBytes bytes → record_in front bytes ≡ Ok kept → IsRecordUnder front kept × (bytes ≡ record_text kept)
+pub frame_takes : (bytes : List ℕ) (d : Frame) → IsBytes bytes → frame_in bytes ≡ Ok d → (v : Version) × IsDeltaAs v d × (bytes ≡ encoding_as v d)
+unfolding frame_at versioned_at
+frame_takes bytes d fits e =
+    let r : Rest = record { place = 0; limit = length bytes; ahead = bytes } in
+    let x = dropped (versioned_at r) d e in
+    let t = whole_takes framed_code bytes (x.0, d) fits x.1 in
+    (x.0, t.0, t.1)
+
+pub frame_again : (v : Version) (d : Frame) → IsDeltaAs v d → frame_in (encoding_as v d) ≡ Ok d
+unfolding frame_at versioned_at
+frame_again v d f = kept_value (versioned_at (record { place = 0; limit = length (encoding_as v d); ahead = encoding_as v d })) v d (whole_again framed_code (v, d) f)
+
+pub record_takes : (v : Version) (front bytes : List ℕ) (kept : Record) → IsBytes bytes → record_in_as v front bytes ≡ Ok kept → IsRecordUnderAs v front kept × (bytes ≡ record_text_as v kept)
 unfolding alone_at
-record_takes front bytes kept fits e = whole_takes (record_code (under front) start) bytes kept fits e
+record_takes v front bytes kept fits e = whole_takes (record_code (under v front) start) bytes kept fits e
 
-pub record_again : (front : List ℕ) (kept : Record) → IsRecordUnder front kept → record_in front (record_text kept) ≡ Ok kept
+pub record_again : (v : Version) (front : List ℕ) (kept : Record) → IsRecordUnderAs v front kept → record_in_as v front (record_text_as v kept) ≡ Ok kept
 unfolding alone_at
-record_again front kept f = whole_again (record_code (under front) start) kept f
+record_again v front kept f = whole_again (record_code (under v front) start) kept f
 
 -- no encoding begins another
 pub one_of : {A : Type 0} {scan : Rest → Read A} {encode : A → List ℕ} {Fits : A → Type 0} → IsCode scan encode Fits → (a b : A) (x y : List ℕ) → Fits a → Fits b → encode a ++ x ≡ encode b ++ y → (a ≡ b) × (x ≡ y)
@@ -258,8 +303,11 @@ one_of {A} {scan} {encode} {Fits} code a b x y fa fb e =
     let same = ok_is (a, ra) (b, rb) (sym one ∙ two) in
     (ap (λ (p : A × Rest). p.0) same, ap (λ (p : A × Rest). p.1.ahead) same)
 
-pub one_delta : (a b : Frame) (x y : List ℕ) → IsDelta a → IsDelta b → encoding a ++ x ≡ encoding b ++ y → (a ≡ b) × (x ≡ y)
-one_delta = one_of framed_code
+-- an encoding has one version and one frame
+pub one_delta : (v w : Version) (a b : Frame) (x y : List ℕ) → IsDeltaAs v a → IsDeltaAs w b → encoding_as v a ++ x ≡ encoding_as w b ++ y → (v ≡ w) × (a ≡ b) × (x ≡ y)
+one_delta v w a b x y fa fb e =
+    let one = one_of framed_code (v, a) (w, b) x y fa fb e in
+    (ap (λ (p : Version × Frame). p.0) one.0, ap (λ (p : Version × Frame). p.1) one.0, one.1)
 
-pub one_record : (front : List ℕ) (a b : Record) (x y : List ℕ) → IsRecordUnder front a → IsRecordUnder front b → record_text a ++ x ≡ record_text b ++ y → (a ≡ b) × (x ≡ y)
-one_record front = one_of (record_code (under front) start)
+pub one_record : (v : Version) (front : List ℕ) (a b : Record) (x y : List ℕ) → IsRecordUnderAs v front a → IsRecordUnderAs v front b → record_text_as v a ++ x ≡ record_text_as v b ++ y → (a ≡ b) × (x ≡ y)
+one_record v front = one_of (record_code (under v front) start)

@@ -21,13 +21,14 @@ use Rattle.lra_delta.specs.Order.{Follows}
 use Rattle.lra_delta.specs.Rules.{Context, IsRecord, after, by_home, is_home, is_next}
 use Rattle.lra_delta.specs.Encoding.{flat}
 use Rattle.lra_delta.specs.Typed.{HasLinks, IsTypedRecord}
-use Rattle.lra_delta.proofs.Fitted.{record_fits}
+use Rattle.lra_delta.proofs.Fitted.{Knows, record_fits}
 use Rattle.lra_delta.proofs.ToldLists.{last_of}
 
 -- the record fits in a frame, and its numbers and links have their types
 pub record MeetsSettled (k : Context) (r : Record) : Type 0 where
   pub fits : KeepsRulesIn k.base k.front (live_at k.lives r.home) r
   pub typed : IsTypedRecord r
+  pub known : AllByRecursion (Knows k.version) r.members
 
 -- at most 256 records of the home, in order, which fit
 pub record AreFit (k : Context) (home : ℕ) (rs : List Record) : Type 0 where
@@ -81,7 +82,7 @@ records_along k home last [] nodes small some high own rising few each may = tt
 records_along k home last (r ∷ rs) nodes small some high own rising few each may =
     let here : MayFollow r.home last (r ∷ rs) = subst (λ (h : ℕ). MayFollow h last (r ∷ rs)) (sym own.0) may in
     let follows : Follows (length k.front) last r = (home_right (length k.front) last.home r.home (omega (arith, some, own.0)) (omega (arith, high, own.0)) (low_right last r.home (r ∷ rs) here), next_right last r rs here) in (
-      record_fits k last r nodes small each.0.fits follows each.0.typed.deadline (recursion_from_All HasLinks r.members each.0.typed.links),
+      record_fits k last r nodes small each.0.fits follows each.0.typed.deadline (recursion_from_All HasLinks r.members each.0.typed.links) each.0.known,
       records_along k home (after last r) rs nodes small some high own.1 rising.1 (omega (arith, few)) each.1 (inr (own.0, rising.0, count_right last r rs few here)),
     )
 

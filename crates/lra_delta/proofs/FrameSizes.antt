@@ -12,9 +12,11 @@ use Rattle.lra_forest.specs.declared.record.Place.{Place}
 use Rattle.lra_forest.specs.declared.record.Record.{Record}
 use Rattle.lra_forest.proofs.Bools.{all_from}
 use Rattle.lra_forest.proofs.Giving.{in_get}
+use Rattle.lra_delta.specs.declared.version.Version.{Version}
+use Rattle.lra_delta.specs.declared.version.Version.TheVariants.{One, Two}
 use Rattle.lra_delta.specs.Frames.{Frame, live_at}
 use Rattle.lra_delta.specs.Grammar.{KeepsRulesIn, IsOfGrammar}
-use Rattle.lra_delta.specs.FrameSizes.{HasShortLinks, IsShort, frame_size, link_size, live_size, member_size, place_size, record_size}
+use Rattle.lra_delta.specs.FrameSizes.{HasShortLinks, IsShort, after_size, frame_size, link_size, live_size, marks_size, member_size, place_size, record_size}
 
 -- a sum of so many numbers, none of which is greater than this
 sum_most : {X : Type 0} (f : X → ℕ) (most : ℕ) (xs : List X) → ((x : X) → In x xs → f x ≤ most) → sum_by f xs ≤ length xs * most
@@ -35,19 +37,27 @@ link_most : (o : Option (List ℕ)) → IfSome o (λ text. length text ≤ 127) 
 link_most None e = omega arith
 link_most (Some text) e = omega (arith, e)
 
-member_most : (m : Member) → HasShortLinks m → member_size m ≤ 516
-member_most (Nested num) short = omega arith
-member_most (Participant p) short =
-    omega (arith, link_most p.links.complete short.complete, short.compensate, link_most p.links.status short.status, link_most p.links.forget short.forget)
-member_most Left short = omega arith
+after_most : (v : Version) (o : Option (List ℕ)) → IfSome o (λ text. length text ≤ 127) → after_size v o ≤ 128
+after_most One o e = omega arith
+after_most Two o e = link_most o e
+
+marks_most : (v : Version) → marks_size v ≤ 4
+marks_most One = omega arith
+marks_most Two = omega arith
+
+member_most : (v : Version) (m : Member) → HasShortLinks m → member_size v m ≤ 645
+member_most v (Nested num) short = omega arith
+member_most v (Participant p) short =
+    omega (arith, marks_most v, link_most p.links.complete short.complete, link_most p.links.compensate short.compensate, link_most p.links.status short.status, link_most p.links.forget short.forget, after_most v p.links.after short.after)
+member_most v Left short = omega arith
 
 place_most : (o : Option Place) → place_size o ≤ 10
 place_most None = omega arith
 place_most (Some place) = omega arith
 
-record_most : (base front : List ℕ) (live : Option (List ℕ)) (r : Record) → KeepsRulesIn base front live r → length front ≤ 8 → ((m : Member) → In m r.members → HasShortLinks m) → record_size r ≤ 16605
-record_most base front live r fits few short =
-    let members = sum_most member_size 516 r.members (λ m k. member_most m (short m k)) in
+record_most : (v : Version) (base front : List ℕ) (live : Option (List ℕ)) (r : Record) → KeepsRulesIn base front live r → length front ≤ 8 → ((m : Member) → In m r.members → HasShortLinks m) → record_size v r ≤ 20733
+record_most v base front live r fits few short =
+    let members = sum_most (member_size v) 645 r.members (λ m k. member_most v m (short m k)) in
     omega (arith, place_most r.parent, fits.nodes, few, members, fits.few)
 
 live_most : (o : Option (List ℕ)) → ((nums : List ℕ) → o ≡ Some nums → length nums ≤ 256) → live_size o ≤ 2051
@@ -55,17 +65,17 @@ live_most None each = omega arith
 live_most (Some nums) each = omega (arith, each nums refl)
 
 -- the whole
-pub frame_most : (frame : Frame) → IsOfGrammar frame → length frame.front ≤ 8 → IsShort frame → frame_size frame ≤ 67108855
-frame_most frame is few short =
+pub frame_most : (v : Version) (frame : Frame) → IsOfGrammar frame → length frame.front ≤ 8 → IsShort frame → frame_size v frame ≤ 67108855
+frame_most v frame is few short =
     let lives = sum_most live_size 2051 frame.live (λ o m.
     let home = at_its_home frame.live None o m in
     live_most o (λ nums e. (is.live home.0 nums home.1 (omega (arith, home.2, is.lives)) (home.3 ∙ e)).few)) in
-    let records = sum_most (λ rs. sum_by record_size rs) 4250880 frame.records (λ rs m.
+    let records = sum_most (λ rs. sum_by (record_size v) rs) 5307648 frame.records (λ rs m.
     let home = at_its_home frame.records [] rs m in
     let low = home.1 in
     let high : home.0 ≤ length frame.front = omega (arith, home.2, is.homes) in
     let size = ap (λ (xs : List Record). length xs) home.3 in
-    let each = sum_most record_size 16605 rs (λ r k.
-    record_most frame.base frame.front (live_at frame.live home.0) r (is.records home.0 r low high (subst (λ (xs : List Record). In r xs) (sym home.3) k)) few (λ n j. short rs r n m k j)) in
+    let each = sum_most (record_size v) 20733 rs (λ r k.
+    record_most v frame.base frame.front (live_at frame.live home.0) r (is.records home.0 r low high (subst (λ (xs : List Record). In r xs) (sym home.3) k)) few (λ n j. short rs r n m k j)) in
     omega (arith, each, size, is.few home.0 low high)) in
     omega (arith, few, is.bases, is.nodes, lives, records, is.lives, is.homes)

@@ -1,7 +1,9 @@
 -- what keeps the rules of frames, and has the types of a delta, has an encoding
-use Rattle.std.proofs.Common.{◌≡◌, ◌≤◌, ◌<◌, ◌+◌, ◌-◌, ◌*◌, ◌^◌, ℕ, suc, List, [], ◌∷◌, true, Option, Some, None, refl, sym, ap, subst, ◌∙◌, arith, get_or, length, is_some}
+use Rattle.std.proofs.Common.{Bool, false, inl, inr, zero, ◌≡◌, ◌≤◌, ◌<◌, ◌+◌, ◌-◌, ◌*◌, ◌^◌, ℕ, suc, List, [], ◌∷◌, true, Option, Some, None, refl, sym, ap, subst, ◌∙◌, arith, get_or, length, is_some}
 use Rattle.std.specs.Prelude.{IfSome, nat_le, nat_lt, slice_index}
-use Rattle.std.specs.List.{All, AllByRecursion}
+use Rattle.std.specs.List.{All, AllByRecursion, list_any}
+use Rattle.lra_facts.specs.Lists.{In}
+use Rattle.lra_facts.proofs.Membership.{any_from}
 use Rattle.std.proofs.lemmas.Bool.Decides.{nat_tests}
 use Rattle.std.proofs.lemmas.List.Elements.{recursion_from_All}
 use Rattle.lra_id.specs.Fronts.{IsBelow}
@@ -11,14 +13,17 @@ use Rattle.lra_forest.specs.declared.record.Member.TheVariants.{Nested, Particip
 use Rattle.lra_forest.specs.declared.record.Record.{Record}
 use Rattle.lra_forest.proofs.Bools.{all_from, all_in}
 use Rattle.lra_history.specs.Views.{records_at}
+use Rattle.lra_delta.specs.declared.version.Version.{Version}
+use Rattle.lra_delta.specs.declared.version.Version.TheVariants.{One, Two}
+use Rattle.lra_delta.specs.Versions.{knows, listens, needs_two}
 use Rattle.lra_delta.specs.FrameFields.{Along}
 use Rattle.lra_delta.specs.Frames.{Frame, IsRising, live_at}
 use Rattle.lra_delta.specs.Grammar.{AreLive as AreLiveNumbers, KeepsRulesIn, IsOfGrammar}
-use Rattle.lra_delta.specs.Rules.{IsDelta, IsLink, IsLive, are_counts, at_most, by_home, context, is_given_length, is_live_number, is_node_count, start}
+use Rattle.lra_delta.specs.Rules.{IsDelta, IsDeltaAs, IsLink, IsLive, are_counts, at_most, by_home, context, is_given_length, is_live_number, is_node_count, start}
 use Rattle.lra_delta.specs.FrameSizes.{HasShortLinks, IsShort}
 use Rattle.lra_delta.specs.Encoding.{body, flat}
 use Rattle.lra_delta.specs.Typed.{HasLinks, IsTyped, IsTypedRecord}
-use Rattle.lra_delta.proofs.Fitted.{at_most_by, at_place, both_true, le_true}
+use Rattle.lra_delta.proofs.Fitted.{Knows, at_most_by, at_place, both_true, knows_all, le_true}
 use Rattle.lra_delta.proofs.Lengths.{length_body}
 use Rattle.lra_delta.proofs.FrameOrder.{AreFit, AreHomes, MeetsSettled, are_homes, flat_few, homes_along, parted}
 use Rattle.lra_delta.proofs.FrameSizes.{frame_most}
@@ -83,9 +88,10 @@ member_short : (m : Member) → HasLinks m → HasShortLinks m
 member_short (Nested num) f = tt
 member_short (Participant p) f = record {
   complete = link_short p.links.complete f.complete;
-  compensate = given_short (length p.links.compensate) f.compensate.0;
+  compensate = link_short p.links.compensate f.compensate;
   status = link_short p.links.status f.status;
   forget = link_short p.links.forget f.forget;
+  after = link_short p.links.after f.after;
 }
 member_short Left f = tt
 
@@ -100,26 +106,31 @@ is_short d typed rs r m in_rs in_r in_m =
 node_count : (n : ℕ) → 1 ≤ n → n ≤ 8 → is_node_count n ≡ true
 node_count n some few = grind (arith, nat_tests)
 
-home_fits : (d : Frame) → IsOfGrammar d → IsTyped d → (home : ℕ) → 1 ≤ home → home ≤ length d.front → AreFit (context d) home (records_at d.records home)
-home_fits d is typed home low high =
+-- the version knows what the records have
+abbrev pub KnowsAll : Version → Frame → Type 0
+KnowsAll v d = (home : ℕ) (r : Record) → In r (records_at d.records home) → AllByRecursion (Knows v) r.members
+
+home_fits : (v : Version) (d : Frame) → IsOfGrammar d → IsTyped d → KnowsAll v d → (home : ℕ) → 1 ≤ home → home ≤ length d.front → AreFit (context v d) home (records_at d.records home)
+home_fits v d is typed known home low high =
     let rs = records_at d.records home in
     let own = is.order home low high in
     let there : home - 1 < length d.records = omega (arith, low, high, is.homes) in
     record {
       own = own;
       few = is.few home low high;
-      each = all_from (MeetsSettled (context d)) rs (λ r m.
+      each = all_from (MeetsSettled (context v d)) rs (λ r m.
           let mine : r.home ≡ home = all_in (λ (q : Record). q.home ≡ home) rs own.homes r m in
           record {
             fits = subst (λ (h : ℕ). KeepsRulesIn d.base d.front (live_at d.live h) r) (sym mine) (is.records home r low high m);
             typed = all_in IsTypedRecord rs (recursion_from_All IsTypedRecord rs (typed.records (home - 1) [] there)) r m;
+            known = known home r m;
           });
     }
 
-homes_fit : (d : Frame) → IsOfGrammar d → IsTyped d → AreHomes (context d) 0 d.records
-homes_fit d is typed = are_homes (context d) 0 d.records (λ home low high.
+homes_fit : (v : Version) (d : Frame) → IsOfGrammar d → IsTyped d → KnowsAll v d → AreHomes (context v d) 0 d.records
+homes_fit v d is typed known = are_homes (context v d) 0 d.records (λ home low high.
     let place : home - 1 - 0 ≡ home - 1 = omega arith in
-    subst (AreFit (context d) home) (ap (λ (i : ℕ). get_or d.records i []) (sym place)) (home_fits d is typed home (omega (arith, low)) (omega (arith, high, is.homes))))
+    subst (AreFit (context v d) home) (ap (λ (i : ℕ). get_or d.records i []) (sym place)) (home_fits v d is typed known home (omega (arith, low)) (omega (arith, high, is.homes))))
 
 lives_fit : (d : Frame) → IsOfGrammar d → Along (λ i o. IsLive (slice_index d.base i) (slice_index d.purges i) (slice_index d.front i) o) (λ i o. i + 1) 0 d.live
 lives_fit d is = lives_along (slice_index d.base) (slice_index d.purges) (slice_index d.front) 0 d.live (λ k low high.
@@ -132,9 +143,9 @@ lives_fit d is = lives_along (slice_index d.base) (slice_index d.purges) (slice_
     let wide : slice_index d.front k < 2 ^ 64 = omega (arith, is.small (suc k), at_place d.front k) in
     rw here (live_is (slice_index d.base k) (slice_index d.purges k) (slice_index d.front k) (get_or d.live k None) wide tag (λ ns e. rw place at (is.live (suc k) ns some there (mine ∙ e)))))
 
-pub is_delta : (d : Frame) → IsTyped d → IsOfGrammar d → IsDelta d
-is_delta d typed is =
-    let homes = homes_fit d is typed in
+pub is_delta_of : (v : Version) (d : Frame) → IsTyped d → IsOfGrammar d → KnowsAll v d → IsDeltaAs v d
+is_delta_of v d typed is known =
+    let homes = homes_fit v d is typed known in
     let limit : (i : ℕ) → slice_index d.front i ≤ last_number = λ i. omega (arith, is.small (suc i), at_place d.front i) in
     let low : (i : ℕ) → slice_index d.base i ≤ slice_index d.front i = under d.base d.front is.base in
     record {
@@ -147,9 +158,47 @@ is_delta d typed is =
         purges = at_most_by d.purges d.front is.nodes (under d.purges d.front is.purges);
         live_nodes = is.lives ∙ sym is.bases;
         lives = lives_fit d is;
-        count = le_true (length (flat d.records)) (256 * length d.base) (omega (arith, flat_few (context d) 0 d.records homes, is.homes, is.bases));
-        records = homes_along (context d) 0 start d.records typed.few is.small (omega arith) (omega (arith, is.homes)) homes;
-        homes = parted (context d) d.records homes ∙ ap (λ (n : ℕ). by_home n (flat d.records)) (is.homes ∙ sym is.bases);
+        count = le_true (length (flat d.records)) (256 * length d.base) (omega (arith, flat_few (context v d) 0 d.records homes, is.homes, is.bases));
+        records = homes_along (context v d) 0 start d.records typed.few is.small (omega arith) (omega (arith, is.homes)) homes;
+        homes = parted (context v d) d.records homes ∙ ap (λ (n : ℕ). by_home n (flat d.records)) (is.homes ∙ sym is.bases);
       };
-      short = le_true (length (body d)) 67108855 (omega (arith, length_body d, frame_most d is typed.few (is_short d typed.records)));
+      short = le_true (length (body v d)) 67108855 (omega (arith, length_body v d, frame_most v d is typed.few (is_short d typed.records)));
     }
+
+-- so each has an encoding of version 2
+pub is_delta : (d : Frame) → IsTyped d → IsOfGrammar d → IsDelta d
+is_delta d typed is = is_delta_of Two d typed is (λ home r m. knows_all r.members)
+
+-- and one of version 1 where no record has a link for the end
+
+none_first : {X : Type 0} (p : X → Bool) (xs : List X) (x : X) → list_any p xs ≡ false → In x xs → p x ≡ false
+none_first p xs x none m = by (p x) refl
+  where
+    by : (b : Bool) → p x ≡ b → p x ≡ false
+    by false e = e
+    by true e = absurd (let wrong : true ≡ false = sym (any_from p xs x m e) ∙ none in cc)
+
+known_members : (ms : List Member) → ((m : Member) → In m ms → listens m ≡ false) → AllByRecursion (Knows One) ms
+known_members [] none = tt
+known_members (Nested num ∷ ms) none = (tt, known_members ms (λ m k. none m (inr k)))
+known_members (Participant p ∷ ms) none = (by p.links.after (none (Participant p) (inl refl)), known_members ms (λ m k. none m (inr k)))
+  where
+    by : (o : Option (List ℕ)) → is_some o ≡ false → knows One o ≡ true
+    by None e = refl
+    by (Some text) e = absurd cc
+known_members (Left ∷ ms) none = (tt, known_members ms (λ m k. none m (inr k)))
+
+pub is_first_delta : (d : Frame) → IsTyped d → IsOfGrammar d → needs_two d ≡ false → IsDeltaAs One d
+is_first_delta d typed is none = is_delta_of One d typed is known
+  where
+    in_records : (homes : List (List Record)) (i : ℕ) (r : Record) → In r (get_or homes i []) → In (get_or homes i []) homes
+    in_records [] i r m = absurd m
+    in_records (rs ∷ homes) zero r m = inl refl
+    in_records (rs ∷ homes) (suc i) r m = inr (in_records homes i r m)
+
+    known : KnowsAll One d
+    known home r m =
+        let rs = records_at d.records home in
+        let one = none_first (λ qs. list_any (λ (q : Record). list_any listens q.members) qs) d.records rs none (in_records d.records (home - 1) r m) in
+        let two = none_first (λ (q : Record). list_any listens q.members) rs r one m in
+        known_members r.members (λ x k. none_first listens r.members x two k)

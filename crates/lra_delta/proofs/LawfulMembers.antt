@@ -8,10 +8,10 @@ use Rattle.lra_states.specs.declared.outcome.Act.{Act}
 use Rattle.lra_states.specs.declared.outcome.Act.TheVariants.{Complete, Compensate}
 use Rattle.lra_states.specs.declared.outcome.Outcome.{Outcome}
 use Rattle.lra_facts.specs.declared.fact.Body.{Body}
-use Rattle.lra_facts.specs.declared.fact.Body.TheVariants.{Begin, Join, Leave, Decide, Report, Forgot, Purge}
+use Rattle.lra_facts.specs.declared.fact.Body.TheVariants.{Begin, Join, Leave, Decide, Report, Forgot, Told, Purge}
 use Rattle.lra_facts.specs.declared.fact.Fact.{Fact}
-use Rattle.lra_facts.specs.declared.links.Links.{Links}
-use Rattle.lra_facts.specs.Duties.{has_forgot, is_forgot}
+use Rattle.lra_facts.specs.Links.{Links}
+use Rattle.lra_facts.specs.Duties.{has_forgot, has_told, is_forgot, is_told_of}
 use Rattle.lra_facts.specs.Lists.{In}
 use Rattle.lra_facts.specs.Sets.{NamesEarlier, begins, gives_number, has_left, heard, is_begun, member_number, parent_named, parent_of, reported}
 use Rattle.lra_facts.proofs.Membership.{any_gives}
@@ -19,6 +19,7 @@ use Rattle.lra_forest.specs.declared.record.Participant.{Participant as Particip
 use Rattle.lra_forest.specs.declared.record.Member.{Member}
 use Rattle.lra_forest.specs.declared.record.Member.TheVariants.{Nested, Participant, Left}
 use Rattle.lra_forest.specs.declared.record.Place.{Place}
+use Rattle.lra_forest.specs.Participants.{joined_as}
 use Rattle.lra_forest.specs.RecordMerges.{linked}
 use Rattle.lra_forest.specs.Records.{givers, is_about, is_named, member_by, members_of, place_in, stamp}
 use Rattle.lra_forest.proofs.Begins.{begin_gives, parent_begin}
@@ -33,7 +34,7 @@ use Rattle.lra_history.proofs.Basics.{about_named, false_from, giver_names}
 use Rattle.lra_history.proofs.SettledFacts.{givers_length, number_within}
 use Rattle.lra_history.proofs.Covered.{begun_covered}
 use Rattle.lra_history.proofs.ListsWithOneMore.{none_found}
-use Rattle.lra_history.proofs.TwoClosedSets.{IsProper, stamp_reaches}
+use Rattle.lra_history.proofs.TwoClosedSets.{IsProper, link_for, stamp_reaches}
 use Rattle.lra_delta.specs.Frames.{IsRising}
 use Rattle.lra_delta.specs.Grammar.{IsLinked, IsPlaced, nested_numbers}
 
@@ -91,6 +92,7 @@ begin_of S l f n gives e = by f.body refl
     by (Decide id v) s = absurd (let none : false ≡ true = sym (ap (gives_number l) s) ∙ gives in cc)
     by (Report id m act o) s = absurd (let none : false ≡ true = sym (ap (gives_number l) s) ∙ gives in cc)
     by (Forgot id m) s = absurd (let none : false ≡ true = sym (ap (gives_number l) s) ∙ gives in cc)
+    by (Told id m) s = absurd (let none : false ≡ true = sym (ap (gives_number l) s) ∙ gives in cc)
     by (Purge root) s = absurd (let none : false ≡ true = sym (ap (gives_number l) s) ∙ gives in cc)
 
 later : (l : Id) (f : Fact) → NamesEarlier f → parent_named f.body ≡ Some l → l.num < f.num
@@ -146,25 +148,29 @@ all_mapped P k (f ∷ gs) each = (each f (inl refl), all_mapped P k gs (λ g m. 
 
 module _ (S : List Fact) (proper : IsProper S) (l : Id) where
   -- what has no link was not heard or marked
-  unheard : (f : Fact) (m : ℕ) (links : Links) → In f S → f.body ≡ Join l m links → is_some links.complete ≡ false → heard S l m Complete ≡ None
-  unheard f m links k joins off = heard_none S l m Complete (λ g n. by g n (reported l m Complete g.body) refl)
+  unheard : (f : Fact) (m : ℕ) (links : Links) (act : Act) → In f S → f.body ≡ Join l m links → is_some (link_for act links) ≡ false → heard S l m act ≡ None
+  unheard f m links act k joins off = heard_none S l m act (λ g n. by g n (reported l m act g.body) refl)
     where
-      by : (g : Fact) → In g S → (o : Option Outcome) → reported l m Complete g.body ≡ o → o ≡ None
+      by : (g : Fact) → In g S → (o : Option Outcome) → reported l m act g.body ≡ o → o ≡ None
       by g n None e = refl
-      by g n (Some o) e = let on = proper.completes g f l m links o n e k joins in absurd cc
+      by g n (Some o) e = let on = proper.reports g f l m links act o n e k joins in absurd cc
 
   unmarked : (f : Fact) (m : ℕ) (links : Links) → In f S → f.body ≡ Join l m links → is_some links.forget ≡ false → has_forgot S l m ≡ false
   unmarked f m links k joins off = none_found (λ g. is_forgot l m g.body) S (λ g n. false_from (is_forgot l m g.body) (λ e. let on = proper.forgets g f l m links n e k joins in absurd cc))
+
+  untold : (f : Fact) (m : ℕ) (links : Links) → In f S → f.body ≡ Join l m links → is_some links.after ≡ false → has_told S l m ≡ false
+  untold f m links k joins off = none_found (λ g. is_told_of l m g.body) S (λ g n. false_from (is_told_of l m g.body) (λ e. let on = proper.tells g f l m links n e k joins in absurd cc))
 
   member_linked : (f : Fact) → In f S → gives_number l f.body ≡ true → IsLinked (member_by S l f.num f.body)
   member_linked f k gives = by f.body refl
     where
       joined : (m : ℕ) (links : Links) → f.body ≡ Join l m links → IsLinked (member_by S l f.num (Join l m links))
       joined m links joins =
-          let complete = masked (is_some links.complete) (heard S l m Complete) (unheard f m links k joins) in
+          let complete = masked (is_some links.complete) (heard S l m Complete) (unheard f m links Complete k joins) in
+          let compensate = masked (is_some links.compensate) (heard S l m Compensate) (unheard f m links Compensate k joins) in
           let forget = masked_and (is_some links.forget) (has_forgot S l m) (unmarked f m links k joins) in
-          linked_or_left (has_left S l m) (record { links = links; completed = heard S l m Complete; compensated = heard S l m Compensate; forgotten = has_forgot S l m })
-          (rw (complete, forget) refl)
+          let told = masked_and (is_some links.after) (has_told S l m) (untold f m links k joins) in
+          linked_or_left (has_left S l m) (joined_as S l m links) (rw (complete, compensate, forget, told) refl)
 
       by : (body : Body) → f.body ≡ body → IsLinked (member_by S l f.num f.body)
       by (Begin parent d) s = subst (λ (b : Body). IsLinked (member_by S l f.num b)) (sym s) tt
@@ -176,6 +182,7 @@ module _ (S : List Fact) (proper : IsProper S) (l : Id) where
       by (Decide id v) s = subst (λ (b : Body). IsLinked (member_by S l f.num b)) (sym s) tt
       by (Report id m act o) s = subst (λ (b : Body). IsLinked (member_by S l f.num b)) (sym s) tt
       by (Forgot id m) s = subst (λ (b : Body). IsLinked (member_by S l f.num b)) (sym s) tt
+      by (Told id m) s = subst (λ (b : Body). IsLinked (member_by S l f.num b)) (sym s) tt
       by (Purge root) s = subst (λ (b : Body). IsLinked (member_by S l f.num b)) (sym s) tt
 
   pub members_linked : AllByRecursion IsLinked (members_of S l)

@@ -9,9 +9,13 @@ use Rattle.lra_forest.specs.declared.record.Member.TheVariants.{Nested, Particip
 use Rattle.lra_forest.specs.declared.record.Participant.{Participant as ParticipantRecord}
 use Rattle.lra_forest.specs.declared.record.Place.{Place}
 use Rattle.lra_forest.specs.declared.record.Record.{Record}
+use Rattle.lra_delta.specs.declared.version.Version.{Version}
+use Rattle.lra_delta.specs.declared.version.Version.TheVariants.{One, Two}
 use Rattle.lra_delta.specs.Frames.{Frame}
-use Rattle.lra_delta.specs.FrameSizes.{frame_size, link_size, links_size, live_size, member_size, place_size, record_size}
-use Rattle.lra_delta.specs.Encoding.{body, byte, counted, decision_mark, flat, link_text, live, live_list, member, members, number, parent, participant, place, record_text, records, two_bytes, vector}
+use Rattle.lra_delta.specs.FrameSizes.{after_size, frame_size, link_size, links_size, live_size, marks_size, member_size, place_size, record_size}
+use Rattle.lra_facts.specs.Links.{Links}
+use Rattle.lra_delta.specs.declared.marks.Marks.{Marks}
+use Rattle.lra_delta.specs.Encoding.{links_text, marks_of, marks_text, after_link, body, byte, counted, decision_mark, flat, link_text, live, live_list, member, members, number, parent, participant, place, record_text_as, records, two_bytes, vector}
 use Rattle.lra_delta.proofs.RecordCodes.{length-vector}
 
 both : (a b : List ℕ) (m n : ℕ) → length a ≡ m → length b ≡ n → length (a ++ b) ≡ m + n
@@ -38,38 +42,51 @@ link_length : (o : Option (List ℕ)) → length (counted (link_text o)) ≡ lin
 link_length None = text_length []
 link_length (Some text) = text_length text
 
-participant_length : (p : ParticipantRecord) → length (participant p) ≡ links_size p.links + 3
+after_length : (v : Version) (o : Option (List ℕ)) → length (after_link v o) ≡ after_size v o
+after_length One o = refl
+after_length Two o = link_length o
+
+links_length : (v : Version) (l : Links) → length (links_text v l) ≡ links_size v l
+unfolding links_text
+links_length v l =
+    let complete = link_length l.complete in
+    let compensate = link_length l.compensate in
+    let status = link_length l.status in
+    let forget = link_length l.forget in
+    both _ _ _ _ complete (both _ _ _ _ compensate (both _ _ _ _ status (both _ _ _ _ forget (after_length v l.after)))) ∙ omega arith
+
+marks_length : (v : Version) (m : Marks) → length (marks_text v m) ≡ marks_size v
+unfolding marks_text
+marks_length One m = refl
+marks_length Two m = refl
+
+participant_length : (v : Version) (p : ParticipantRecord) → length (participant v p) ≡ links_size v p.links + marks_size v
 unfolding participant
-participant_length p =
-    let complete = link_length p.links.complete in
-    let compensate = text_length p.links.compensate in
-    let status = link_length p.links.status in
-    let forget = link_length p.links.forget in
-    both _ _ _ _ complete (both _ _ _ _ compensate (both _ _ _ _ status (both _ _ _ _ forget refl))) ∙ omega arith
+participant_length v p = both _ _ _ _ (links_length v p.links) (marks_length v (marks_of p))
 
-member_length : (m : Member) → length (member m) ≡ member_size m
+member_length : (v : Version) (m : Member) → length (member v m) ≡ member_size v m
 unfolding member
-member_length (Nested num) = refl
-member_length (Participant p) = byte_first 1 (participant p) (links_size p.links + 3) (participant_length p) ∙ omega arith
-member_length Left = refl
+member_length v (Nested num) = refl
+member_length v (Participant p) = byte_first 1 (participant v p) (links_size v p.links + marks_size v) (participant_length v p) ∙ omega arith
+member_length v Left = refl
 
-members_length : (ms : List Member) → length (members ms) ≡ 1 + sum_by member_size ms
+members_length : (v : Version) (ms : List Member) → length (members v ms) ≡ 1 + sum_by (member_size v) ms
 unfolding members
-members_length ms = byte_first (length ms) (flat_map member ms) (sum_by member_size ms) (each member member_size member_length ms)
+members_length v ms = byte_first (length ms) (flat_map (member v) ms) (sum_by (member_size v) ms) (each (member v) (member_size v) (member_length v) ms)
 
 parent_length : (o : Option Place) → length (parent o) ≡ place_size o
 unfolding parent place
 parent_length None = refl
 parent_length (Some p) = refl
 
-record_length : (r : Record) → length (record_text r) ≡ record_size r
-unfolding record_text
-record_length r =
-    let marked : List ℕ = vector r.stamps ++ members r.members in
+record_length : (v : Version) (r : Record) → length (record_text_as v r) ≡ record_size v r
+unfolding record_text_as
+record_length v r =
+    let marked : List ℕ = vector r.stamps ++ members v r.members in
     let decided : List ℕ = byte (decision_mark r.decision) ++ marked in
     let timed : List ℕ = number r.deadline ++ decided in
     let nested : List ℕ = parent r.parent ++ timed in
-    let last = both (vector r.stamps) (members r.members) _ _ (length-vector r.stamps) (members_length r.members) in
+    let last = both (vector r.stamps) (members v r.members) _ _ (length-vector r.stamps) (members_length v r.members) in
     let after = number_first r.deadline decided _ (byte_first (decision_mark r.decision) marked _ last) in
     let whole = byte_first r.home (number r.num ++ nested) _ (number_first r.num nested _ (both (parent r.parent) timed _ _ (parent_length r.parent) after)) in
     whole ∙ omega arith
@@ -79,21 +96,21 @@ unfolding live live_list
 live_length None = refl
 live_length (Some ns) = byte_first 1 (two_bytes (length ns) ++ vector ns) _ (count_first (length ns) (vector ns) (8 * length ns) (length-vector ns)) ∙ omega arith
 
-homes_length : (homes : List (List Record)) → length (flat_map record_text (flat homes)) ≡ sum_by (λ rs. sum_by record_size rs) homes
-homes_length [] = refl
-homes_length (rs ∷ homes) =
-    ap (λ (l : List ℕ). length l) (flat_map-append record_text rs (flat homes))
-    ∙ both _ _ _ _ (each record_text record_size record_length rs) (homes_length homes)
-    ∙ sym (sum_by-cons (λ qs. sum_by record_size qs) rs homes)
+homes_length : (v : Version) (homes : List (List Record)) → length (flat_map (record_text_as v) (flat homes)) ≡ sum_by (λ rs. sum_by (record_size v) rs) homes
+homes_length v [] = refl
+homes_length v (rs ∷ homes) =
+    ap (λ (l : List ℕ). length l) (flat_map-append (record_text_as v) rs (flat homes))
+    ∙ both _ _ _ _ (each (record_text_as v) (record_size v) (record_length v) rs) (homes_length v homes)
+    ∙ sym (sum_by-cons (λ qs. sum_by (record_size v) qs) rs homes)
 
-records_length : (homes : List (List Record)) → length (records (flat homes)) ≡ 2 + sum_by (λ rs. sum_by record_size rs) homes
+records_length : (v : Version) (homes : List (List Record)) → length (records v (flat homes)) ≡ 2 + sum_by (λ rs. sum_by (record_size v) rs) homes
 unfolding records
-records_length homes = count_first (length (flat homes)) _ _ (homes_length homes)
+records_length v homes = count_first (length (flat homes)) _ _ (homes_length v homes)
 
-pub length_body : (d : Frame) → length (body d) ≡ frame_size d
+pub length_body : (v : Version) (d : Frame) → length (body v d) ≡ frame_size v d
 unfolding body
-length_body d =
+length_body v d =
     let lives = each live live_size live_length d.live in
-    let last = both (flat_map live d.live) (records (flat d.records)) _ _ lives (records_length d.records) in
+    let last = both (flat_map live d.live) (records v (flat d.records)) _ _ lives (records_length v d.records) in
     let vectors = both (vector d.base) _ _ _ (length-vector d.base) (both (vector d.front) _ _ _ (length-vector d.front) (both (vector d.purges) _ _ _ (length-vector d.purges) last)) in
     byte_first (length d.base) _ _ vectors ∙ omega arith

@@ -6,6 +6,7 @@ mod CopiedHomes
 mod Examples
 mod Existing
 mod Filters
+pub mod FirstVersion
 mod Fitted
 mod Found
 pub mod FrameCodes
@@ -31,6 +32,7 @@ pub mod RecordCodes
 mod Slices
 mod StreamReads
 mod TakenIsUnion
+mod Together
 mod ToldByFrames
 mod ToldLists
 mod ToldSince

@@ -1,24 +1,27 @@
 -- what was put of the homes, one after another
-use Rattle.std.proofs.Common.{◌≡◌, ◌<◌, ◌+◌, ◌++◌, ◌∙◌, ℕ, List, [], ◌∷◌, refl, sym, ap, subst, append_assoc, get_or, length, take}
-use Rattle.std.specs.List.{All, AllByRecursion, flat_map}
+use Rattle.std.proofs.Common.{Bool, ◌||◌, ◌≡◌, ◌<◌, ◌+◌, ◌++◌, ◌∙◌, ℕ, List, [], ◌∷◌, refl, sym, ap, subst, append_assoc, get_or, length, take}
+use Rattle.lra_forest.specs.declared.record.Record.{Record}
+use Rattle.std.specs.List.{All, AllByRecursion, flat_map, list_any}
 use Rattle.std.proofs.lemmas.List.Elements.{All-from_recursion, All-push, recursion_from_All}
 use Rattle.std.proofs.lemmas.List.{append-nil, take_more}
 use Rattle.std.proofs.lemmas.Grind.{flat_map-append}
 use Rattle.lra_forest.specs.declared.merging.Told.{Told}
 use Rattle.lra_forest.specs.RecordMerges.{held_numbers}
+use Rattle.lra_delta.specs.declared.version.Version.{Version}
 use Rattle.lra_delta.specs.Order.{lists, records_told}
-use Rattle.lra_delta.specs.Encoding.{flat, live, record_text}
+use Rattle.lra_delta.specs.Encoding.{flat, live, record_text_as}
 use Rattle.lra_delta.specs.Typed.{IsTypedRecord}
+use Rattle.lra_delta.specs.Versions.{listens}
 
 pub lives_put : (homes : List Told) → flat_map (λ (told : Told). live (held_numbers told.held)) homes ≡ flat_map live (lists homes)
 lives_put [] = refl
 lives_put (told ∷ homes) = ap (λ (l : List ℕ). live (held_numbers told.held) ++ l) (lives_put homes)
 
-pub homes_put : (homes : List Told) → flat_map (λ (told : Told). flat_map record_text told.records.records) homes ≡ flat_map record_text (flat (records_told homes))
-homes_put [] = refl
-homes_put (told ∷ homes) =
-    ap (λ (l : List ℕ). flat_map record_text told.records.records ++ l) (homes_put homes)
-    ∙ sym (flat_map-append record_text told.records.records (flat (records_told homes)))
+pub homes_put : (v : Version) (homes : List Told) → flat_map (λ (told : Told). flat_map (record_text_as v) told.records.records) homes ≡ flat_map (record_text_as v) (flat (records_told homes))
+homes_put v [] = refl
+homes_put v (told ∷ homes) =
+    ap (λ (l : List ℕ). flat_map (record_text_as v) told.records.records ++ l) (homes_put v homes)
+    ∙ sym (flat_map-append (record_text_as v) told.records.records (flat (records_told homes)))
 
 -- what is typed of each home is of its records
 pub homes_typed : (homes : List Told) → All (λ (told : Told). All IsTypedRecord told.records.records) homes → All (All IsTypedRecord) (records_told homes)
@@ -41,3 +44,11 @@ text_next f xs i x old before after within at so_far here =
     let text : flat_map f (take (i + 1) xs) ≡ flat_map f (take i xs) ++ f x =
     ap (flat_map f) more ∙ flat_map-append f (take i xs) (x ∷ []) ∙ ap (λ l. flat_map f (take i xs) ++ l) (append-nil (f x)) in
     here ∙ ap (λ l. l ++ f x) so_far ∙ append_assoc old (flat_map f (take i xs)) (f x) ∙ sym (ap (λ l. old ++ l) text)
+
+-- whether a record of some home listens
+abbrev listens_in : List Record → Bool
+listens_in rs = list_any (λ (r : Record). list_any listens r.members) rs
+
+pub any_told : (homes : List Told) → list_any (λ (told : Told). list_any (λ (r : Record). list_any listens r.members) told.records.records) homes ≡ list_any (λ rs. list_any (λ (r : Record). list_any listens r.members) rs) (records_told homes)
+any_told [] = refl
+any_told (told ∷ homes) = ap (λ (b : Bool). listens_in told.records.records || b) (any_told homes)

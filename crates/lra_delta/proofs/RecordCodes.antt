@@ -1,7 +1,8 @@
 -- the parts of a record
-use Rattle.std.proofs.Common.{◌≡◌, ℕ, zero, suc, ◌*◌, ◌-◌, ◌^◌, ◌<◌, ◌≤◌, Bool, true, false, List, [], ◌∷◌, ◌++◌, length, Option, Some, None, refl, ap, arith, length-append}
+use Rattle.std.proofs.Common.{◌≡◌, ℕ, zero, suc, ◌*◌, ◌-◌, ◌^◌, ◌<◌, ◌≤◌, Bool, true, false, List, [], ◌∷◌, ◌++◌, length, Option, Some, None, refl, subst, ap, arith, length-append}
 use Rattle.std.specs.Int.{w8, w64}
-use Rattle.std.specs.Prelude.{◌==◌, slice_index}
+use Rattle.std.specs.Prelude.{◌==◌, ◌&&◌, ◌||◌, is_none, is_some, slice_index}
+use mathlib.Core.Bool.{not}
 use Rattle.std.specs.List.{AllByRecursion}
 use Rattle.std.proofs.lemmas.Bool.Decides.{nat_tests}
 use Rattle.std.proofs.lemmas.List.Concat.{flat_map-cons}
@@ -15,11 +16,16 @@ use Rattle.lra_forest.specs.declared.record.Member.{Member}
 use Rattle.lra_forest.specs.declared.record.Member.TheVariants.{Nested, Participant, Left}
 use Rattle.lra_forest.specs.declared.record.Record.{Record}
 use Rattle.lra_delta.specs.declared.order.Last.{Last}
-use Rattle.lra_facts.specs.LinkTexts.{is_kept}
+use Rattle.lra_facts.specs.Links.{Links, are_links}
+use Rattle.lra_delta.specs.declared.marks.Marks.{Marks}
+use Rattle.lra_delta.specs.declared.version.Version.{Version}
+use Rattle.lra_delta.specs.declared.version.Version.TheVariants.{One, Two}
+use Rattle.lra_delta.specs.Versions.{knows}
 use Rattle.lra_delta.specs.FrameFields.{many_at, vector_at, Along}
-use Rattle.lra_delta.specs.Encoding.{parent_mark, parent_body, parent, byte, number, place, decision_mark, outcome_mark, flag_mark, link_text, counted, vector, participant, member_mark, member_body, member, members, record_text}
-use Rattle.lra_delta.specs.Rules.{is_mark, is_above, is_slot, IsPlace, IsParent, is_decision, is_outcome, is_outcome_for, is_mark_for, is_length, is_given_length, is_kept_or_none, IsLink, IsParticipant, is_nested, IsMember, next_nested, is_member_count, Context, is_home, is_number, are_stamps, IsRecord}
-use Rattle.lra_delta.specs.Reading.{place_at, parent_by, parent_at, decision_of, decision_at, outcome_of, text_at, link_of, link_at, participant_at, is_member_mark, member_by, member_at, members_at, record_at}
+use Rattle.lra_delta.specs.Encoding.{links_text, marks_of, marks_text, parent_mark, parent_body, parent, byte, number, place, decision_mark, outcome_mark, flag_mark, link_text, counted, vector, after_link, told_mark, participant, member_mark, member_body, member, members, record_text_as}
+use Rattle.lra_delta.specs.Rules.{is_mark, is_above, is_slot, IsPlace, IsParent, is_decision, is_outcome, is_outcome_for, is_mark_for, is_given_length, is_kept_or_none, is_length_for, may_be, may_be_after, needs_compensate, IsLink, IsParticipant, is_nested, IsMember, next_nested, is_member_count, Context, is_home, is_number, are_stamps, IsRecord}
+use Rattle.lra_delta.specs.Reading.{place_at, parent_by, parent_at, decision_of, decision_at, outcome_of, text_at, link_of, link_at, after_at, told_at, last_link_at, links_at, marks_at, participant_at, is_member_mark, member_by, member_at, members_at, record_at}
+use Rattle.lra_delta.proofs.Together.{all_together, both, may_all, with_both}
 use Rattle.lra_delta.proofs.Codes.{IsCode, step, step_from, cased, finish, refit, guarded, ruled, ruled_at, each_code, cells_code, whole_code, number_code, wide8, wide64}
 
 mark_small : (n : ℕ) → is_mark n ≡ true → n ≤ 1
@@ -110,17 +116,36 @@ unfolding text_at counted
 text_code fits rule small = step_from _ (number_code w8 (2 ^ 8) wide8 fits) (λ text. length text) (λ text f. (small (length text) f.0, f.0)) (λ len fl from.
     refit (ruled_at from.place (cells_code from.place len) rule) (λ text f. ((rw f.0 fl.1, f.1), f.0)) (λ text f. (f.1, f.0.1)))
 
-length_small : (n : ℕ) → is_length n ≡ true → n < 2 ^ 8
-length_small n e = grind (arith, nat_tests)
+length_small : (needed allowed : Bool) (n : ℕ) → is_length_for needed allowed n ≡ true → n < 2 ^ 8
+length_small needed allowed n e = grind (arith, nat_tests)
 
-given_small : (n : ℕ) → is_given_length n ≡ true → n < 2 ^ 8
-given_small n e = grind (arith, nat_tests)
+-- a link of some length is one that is given
+given_from : (needed allowed : Bool) (n : ℕ) → is_length_for needed allowed (suc n) ≡ true → is_given_length (suc n) ≡ true
+given_from needed allowed n e = grind (arith, nat_tests)
 
-given_from : (n : ℕ) → is_length (suc n) ≡ true → is_given_length (suc n) ≡ true
-given_from n e = grind (arith, nat_tests)
+some_from : (needed allowed : Bool) (n : ℕ) → is_length_for needed allowed (suc n) ≡ true → ((not needed || true) && (allowed || false)) ≡ true
+some_from true true n e = refl
+some_from false true n e = refl
+some_from true false n e = absurd (let no : is_length_for true false (suc n) ≡ false = grind (arith, nat_tests) in cc)
+some_from false false n e = absurd (let no : is_length_for false false (suc n) ≡ false = grind (arith, nat_tests) in cc)
 
-length_from : (n : ℕ) → is_given_length n ≡ true → is_length n ≡ true
-length_from n e = grind (arith, nat_tests)
+none_from : (needed allowed : Bool) → is_length_for needed allowed 0 ≡ true → ((not needed || false) && (allowed || true)) ≡ true
+none_from true true e = absurd cc
+none_from true false e = absurd cc
+none_from false true e = refl
+none_from false false e = refl
+
+length_none : (needed allowed : Bool) → may_be needed allowed None ≡ true → is_length_for needed allowed 0 ≡ true
+length_none true true e = absurd cc
+length_none true false e = absurd cc
+length_none false true e = refl
+length_none false false e = refl
+
+length_from : (needed allowed : Bool) (n : ℕ) (text : List ℕ) → may_be needed allowed (Some text) ≡ true → is_given_length n ≡ true → is_length_for needed allowed n ≡ true
+length_from true true n text m e = grind (arith, nat_tests, e)
+length_from false true n text m e = grind (arith, nat_tests, e)
+length_from true false n text m e = absurd cc
+length_from false false n text m e = absurd cc
 
 nothing_given : is_given_length 0 ≡ true → ⊥
 nothing_given e = cc
@@ -129,18 +154,36 @@ link_back : (text : List ℕ) → link_text (link_of text) ≡ text
 link_back [] = refl
 link_back (c ∷ text) = refl
 
-link_kept : (text : List ℕ) → (is_length (length text) ≡ true) × (is_kept_or_none text ≡ true) → IsLink (link_of text)
-link_kept [] f = tt
-link_kept (c ∷ text) f = (given_from (length text) f.0, f.1)
+-- a link that may be there, and is where it is needed
+abbrev pub IsLinkFor : (needed allowed : Bool) → Option (List ℕ) → Type 0
+IsLinkFor needed allowed o = IsLink o × (may_be needed allowed o ≡ true)
 
-link_made : (o : Option (List ℕ)) → IsLink o → (x : List ℕ) × (o ≡ link_of x) × ((is_length (length x) ≡ true) × (is_kept_or_none x ≡ true))
-link_made None f = ([], refl, (refl, refl))
-link_made (Some []) f = absurd (nothing_given f.0)
-link_made (Some (c ∷ text)) f = (c ∷ text, refl, (length_from (suc (length text)) f.0, f.1))
+link_kept : (needed allowed : Bool) (text : List ℕ) → (is_length_for needed allowed (length text) ≡ true) × (is_kept_or_none text ≡ true) → IsLinkFor needed allowed (link_of text)
+link_kept needed allowed [] f = (tt, none_from needed allowed f.0)
+link_kept needed allowed (c ∷ text) f = ((given_from needed allowed (length text) f.0, f.1), some_from needed allowed (length text) f.0)
 
-pub link_code : IsCode link_at (λ o. counted (link_text o)) IsLink
+link_made : (needed allowed : Bool) (o : Option (List ℕ)) → IsLinkFor needed allowed o → (x : List ℕ) × (o ≡ link_of x) × ((is_length_for needed allowed (length x) ≡ true) × (is_kept_or_none x ≡ true))
+link_made needed allowed None f = ([], refl, (length_none needed allowed f.1, refl))
+link_made needed allowed (Some []) f = absurd (nothing_given f.0.0)
+link_made needed allowed (Some (c ∷ text)) f = (c ∷ text, refl, (length_from needed allowed (suc (length text)) (c ∷ text) f.1 f.0.0, f.0.1))
+
+pub link_code : (needed allowed : Bool) → IsCode (link_at needed allowed) (λ o. counted (link_text o)) (IsLinkFor needed allowed)
 unfolding link_at
-link_code = cased (text_code is_length is_kept_or_none length_small) link_of (λ text f. ap counted (link_back text)) link_kept link_made
+link_code needed allowed = cased (text_code (is_length_for needed allowed) is_kept_or_none (length_small needed allowed)) link_of (λ text f. ap counted (link_back text)) (link_kept needed allowed) (link_made needed allowed)
+
+-- the one for the end, where the version knows it
+abbrev pub IsAfter : Version → Bool → Option (List ℕ) → Type 0
+IsAfter One needed o = o ≡ None
+IsAfter Two needed o = IsLinkFor needed true o
+
+after_code : (v : Version) (needed : Bool) → IsCode (λ r. after_at v needed r) (after_link v) (IsAfter v needed)
+unfolding after_at
+after_code One needed = finish None refl refl (λ o f. f)
+after_code Two needed = link_code needed true
+
+abbrev pub IsToldMark : Version → Option (List ℕ) → Bool → Type 0
+IsToldMark One link b = b ≡ false
+IsToldMark Two link b = is_mark_for link (flag_mark b) ≡ true
 
 -- ---- participants
 
@@ -181,26 +224,165 @@ flag_again false = refl
 mark_for_small : (link : Option (List ℕ)) (n : ℕ) → is_mark_for link n ≡ true → n ≤ 1
 mark_for_small link n e = grind (arith, nat_tests)
 
-made_is : (p : ParticipantRecord) (a : Option (List ℕ)) (b : List ℕ) (c d : Option (List ℕ)) (m n : ℕ)
-    → p.links.complete ≡ a → p.links.compensate ≡ b → p.links.status ≡ c → p.links.forget ≡ d → outcome_mark p.completed ≡ m → outcome_mark p.compensated ≡ n
-    → p ≡ record { links = record { complete = a; compensate = b; status = c; forget = d }; completed = outcome_of m; compensated = outcome_of n; forgotten = flag_mark p.forgotten == 1 }
-made_is p a b c d m n ea eb ec ed em en = rw (← ea, ← eb, ← ec, ← ed, ← em, ← en, outcome_again p.completed, outcome_again p.compensated, flag_again p.forgotten) refl
+-- the mark as a number: 0 where the version does not know it
+abbrev told_number : Version → Bool → ℕ
+told_number v b = flag_mark b
 
-pub participant_code : IsCode participant_at participant IsParticipant
+abbrev IsToldNumber : Version → Option (List ℕ) → ℕ → Type 0
+IsToldNumber One link n = n ≡ 0
+IsToldNumber Two link n = (n < 2 ^ 8) × (is_mark_for link n ≡ true)
+
+abbrev told_bytes : Version → ℕ → List ℕ
+told_bytes One n = []
+told_bytes Two n = byte n
+
+told_code : (v : Version) (link : Option (List ℕ)) → IsCode (λ r. told_at v link r) (told_bytes v) (IsToldNumber v link)
+unfolding told_at
+told_code One link = finish 0 refl refl (λ n f. f)
+told_code Two link = number_code w8 (2 ^ 8) wide8 (is_mark_for link)
+
+told_text : (v : Version) (link : Option (List ℕ)) (x : ℕ) → IsToldNumber v link x → told_mark v (x == 1) ≡ told_bytes v x
+told_text One link x f = refl
+told_text Two link x f = ap byte (flag_back x (mark_for_small link x f.1))
+
+told_fits : (v : Version) (link : Option (List ℕ)) (x : ℕ) → IsToldNumber v link x → is_mark_for link (flag_mark (x == 1)) ≡ true
+told_fits One link x f = rw f (unmarked link)
+  where
+    unmarked : (link : Option (List ℕ)) → is_mark_for link 0 ≡ true
+    unmarked (Some text) = refl
+    unmarked None = refl
+told_fits Two link x f = rw (flag_back x (mark_for_small link x f.1)) f.1
+
+-- without a link there is no mark
+told_made : (v : Version) (link : Option (List ℕ)) (b : Bool) → knows v link ≡ true → is_mark_for link (flag_mark b) ≡ true → IsToldNumber v link (flag_mark b)
+told_made One None true k e = absurd cc
+told_made One None false k e = refl
+told_made One (Some text) b k e = absurd cc
+told_made Two link b k e = (omega (arith, mark_for_small link (flag_mark b) e), e)
+
+after_from : (v : Version) (needed : Bool) (a : Option (List ℕ)) → IsLink a → may_be_after v needed a ≡ true → IsAfter v needed a
+after_from One needed None l m = refl
+after_from One needed (Some a) l m = absurd cc
+after_from Two needed a l m = (l, m)
+
+after_link_is : (v : Version) (needed : Bool) (a : Option (List ℕ)) → IsAfter v needed a → IsLink a
+after_link_is One needed a f = rw f tt
+after_link_is Two needed a f = f.0
+
+may_after_is : (v : Version) (needed : Bool) (a : Option (List ℕ)) → IsAfter v needed a → may_be_after v needed a ≡ true
+may_after_is One needed a f = rw f refl
+may_after_is Two needed a f = f.1
+
+-- the links keep the rules of a participant's
+record AreGiven (v : Version) (l : Links) : Type 0 where
+  complete : IsLink l.complete
+  compensate : IsLink l.compensate
+  status : IsLink l.status
+  forget : IsLink l.forget
+  after : IsLink l.after
+  together : are_links l ≡ true
+  known : knows v l.after ≡ true
+
+-- what each link may be
+record MayEach (v : Version) (l : Links) : Type 0 where
+  complete : may_be false true l.complete ≡ true
+  compensate : may_be (needs_compensate v l.complete) true l.compensate ≡ true
+  status : may_be false (is_some l.compensate) l.status ≡ true
+  forget : may_be false (is_some l.compensate) l.forget ≡ true
+  after : may_be_after v (is_none l.compensate) l.after ≡ true
+
+may_each : (v : Version) (l : Links) → AreGiven v l → MayEach v l
+may_each v l f =
+    let a = both (may_be false true l.complete) _ (may_all v l.complete l.compensate l.status l.forget l.after f.together f.known) in
+    let b = both (may_be (needs_compensate v l.complete) true l.compensate) _ a.1 in
+    let c = both (may_be false (is_some l.compensate) l.status) _ b.1 in
+    let d = both (may_be false (is_some l.compensate) l.forget) _ c.1 in
+    record { complete = a.0; compensate = b.0; status = c.0; forget = d.0; after = d.1 }
+
+links_made : (l : Links) (a b c d : Option (List ℕ)) → l.complete ≡ a → l.compensate ≡ b → l.status ≡ c → l.forget ≡ d
+    → l ≡ record { complete = a; compensate = b; status = c; forget = d; after = l.after }
+links_made l a b c d ea eb ec ed = rw (← ea, ← eb, ← ec, ← ed) refl
+
+links_code : (v : Version) → IsCode (links_at v) (links_text v) (AreGiven v)
+unfolding links_at last_link_at links_text
+links_code v =
+    step _ (link_code false true) (λ l. l.complete) (λ l f. (f.complete, (may_each v l f).complete)) (λ a fa.
+    step _ (link_code (needs_compensate v a) true) (λ l. l.compensate) (λ l f. (f.0.compensate, rw (← f.1) (may_each v l f.0).compensate)) (λ b fb.
+    step _ (link_code false (is_some b)) (λ l. l.status) (λ l f. (f.0.0.status, rw (← f.1) (may_each v l f.0.0).status)) (λ c fc.
+    step _ (link_code false (is_some b)) (λ l. l.forget) (λ l f. (f.0.0.0.forget, rw (← f.0.1) (may_each v l f.0.0.0).forget)) (λ d fd.
+    cased (after_code v (is_none b))
+    (λ e. record { complete = a; compensate = b; status = c; forget = d; after = e })
+    (λ e fe. refl)
+    (λ e fe.
+    let all = all_together v a b c d e (with_both _ _ fa.1 (with_both _ _ fb.1 (with_both _ _ fc.1 (with_both _ _ fd.1 (may_after_is v (is_none b) e fe))))) in
+    ((((record { complete = fa.0; compensate = fb.0; status = fc.0; forget = fd.0; after = after_link_is v (is_none b) e fe; together = all.0; known = all.1 }, refl), refl), refl), refl))
+    (λ l f. (
+      l.after,
+      links_made l a b c d f.0.0.0.1 f.0.0.1 f.0.1 f.1,
+      after_from v (is_none b) l.after f.0.0.0.0.after (rw (← f.0.0.1) (may_each v l f.0.0.0.0).after),
+    ))))))
+
+-- the marks keep the rules beside such links
+record AreMarks (links : Links) (m : Marks) : Type 0 where
+  completed : is_outcome_for links.complete (outcome_mark m.completed) ≡ true
+  compensated : is_outcome_for links.compensate (outcome_mark m.compensated) ≡ true
+  forgotten : is_mark_for links.forget (flag_mark m.forgotten) ≡ true
+  told : is_mark_for links.after (flag_mark m.told) ≡ true
+
+marks_made : (p : Marks) (m n o : ℕ) → outcome_mark p.completed ≡ m → outcome_mark p.compensated ≡ n → flag_mark p.forgotten ≡ o
+    → p ≡ record { completed = outcome_of m; compensated = outcome_of n; forgotten = o == 1; told = flag_mark p.told == 1 }
+marks_made p m n o em en eo = rw (← em, ← en, ← eo, outcome_again p.completed, outcome_again p.compensated, flag_again p.forgotten, flag_again p.told) refl
+
+marks_code : (v : Version) (links : Links) → knows v links.after ≡ true → IsCode (marks_at v links) (marks_text v) (AreMarks links)
+unfolding marks_at marks_text
+marks_code v links known =
+    step _ (number_code w8 (2 ^ 8) wide8 (is_outcome_for links.complete)) (λ p. outcome_mark p.completed) (λ p f. ((outcome_is p.completed).0, f.completed)) (λ m fm.
+    step _ (number_code w8 (2 ^ 8) wide8 (is_outcome_for links.compensate)) (λ p. outcome_mark p.compensated) (λ p f. ((outcome_is p.compensated).0, f.0.compensated)) (λ n fn.
+    step _ (number_code w8 (2 ^ 8) wide8 (is_mark_for links.forget)) (λ p. flag_mark p.forgotten) (λ p f. let g = f.0.0.forgotten in (omega (arith, mark_for_small links.forget (flag_mark p.forgotten) g), g)) (λ o fo.
+    cased (told_code v links.after)
+    (λ x. record { completed = outcome_of m; compensated = outcome_of n; forgotten = o == 1; told = x == 1 })
+    (λ x fx. told_text v links.after x fx)
+    (λ x fx.
+    let em = outcome_back m (outcome_for_small links.complete m fm.1) in
+    let en = outcome_back n (outcome_for_small links.compensate n fn.1) in
+    let eo = flag_back o (mark_for_small links.forget o fo.1) in
+    (((record { completed = rw em fm.1; compensated = rw en fn.1; forgotten = rw eo fo.1; told = told_fits v links.after x fx }, em), en), eo))
+    (λ p f. (flag_mark p.told, marks_made p m n o f.0.0.1 f.0.1 f.1, told_made v links.after p.told known f.0.0.0.told)))))
+
+participant_is : (p : ParticipantRecord) (links : Links) → p.links ≡ links
+    → p ≡ record { links = links; completed = p.completed; compensated = p.compensated; forgotten = p.forgotten; told = p.told }
+participant_is p links e = rw (← e) refl
+
+given_links : (v : Version) (p : ParticipantRecord) → IsParticipant v p → AreGiven v p.links
+given_links v p f = record { complete = f.complete; compensate = f.compensate; status = f.status; forget = f.forget; after = f.after; together = f.together; known = f.known }
+
+given_marks : (v : Version) (p : ParticipantRecord) → IsParticipant v p → AreMarks p.links (marks_of p)
+given_marks v p f = record { completed = f.completed; compensated = f.compensated; forgotten = f.forgotten; told = f.told }
+
+pub participant_code : (v : Version) → IsCode (participant_at v) (participant v) (IsParticipant v)
 unfolding participant_at participant
-participant_code =
-    step _ link_code (λ p. p.links.complete) (λ p f. f.complete) (λ a fa.
-    step _ (text_code is_given_length is_kept given_small) (λ p. p.links.compensate) (λ p f. f.0.compensate) (λ b fb.
-    step _ link_code (λ p. p.links.status) (λ p f. f.0.0.status) (λ c fc.
-    step _ link_code (λ p. p.links.forget) (λ p f. f.0.0.0.forget) (λ d fd.
-    step _ (number_code w8 (2 ^ 8) wide8 (is_outcome_for a)) (λ p. outcome_mark p.completed) (λ p f. ((outcome_is p.completed).0, rw (← f.0.0.0.1) f.0.0.0.0.completed)) (λ m fm.
-    step _ (number_code w8 (2 ^ 8) wide8 is_outcome) (λ p. outcome_mark p.compensated) (λ p f. outcome_is p.compensated) (λ n fn.
-    cased (number_code w8 (2 ^ 8) wide8 (is_mark_for d))
-    (λ x. record { links = record { complete = a; compensate = b; status = c; forget = d }; completed = outcome_of m; compensated = outcome_of n; forgotten = x == 1 })
-    (λ x fx. ap byte (flag_back x (mark_for_small d x fx.1)))
-    (λ x fx. let em = outcome_back m (outcome_for_small a m fm.1) in let en = outcome_back n fn.1 in
-    ((((((record { complete = fa; compensate = fb; status = fc; forget = fd; completed = rw em fm.1; forgotten = rw (flag_back x (mark_for_small d x fx.1)) fx.1 }, refl), refl), refl), refl), em), en))
-    (λ p f. (flag_mark p.forgotten, made_is p a b c d m n f.0.0.0.0.0.1 f.0.0.0.0.1 f.0.0.0.1 f.0.0.1 f.0.1 f.1, (omega (arith, mark_for_small p.links.forget (flag_mark p.forgotten) f.0.0.0.0.0.0.forgotten), rw (← f.0.0.1) f.0.0.0.0.0.0.forgotten)))))))))
+participant_code v =
+    step _ (links_code v) (λ p. p.links) (given_links v) (λ links fl.
+    cased (marks_code v links fl.known)
+    (λ m. record { links = links; completed = m.completed; compensated = m.compensated; forgotten = m.forgotten; told = m.told })
+    (λ m fm. refl)
+    (λ m fm. (
+      record {
+        complete = fl.complete;
+        compensate = fl.compensate;
+        status = fl.status;
+        forget = fl.forget;
+        after = fl.after;
+        together = fl.together;
+        known = fl.known;
+        completed = fm.completed;
+        compensated = fm.compensated;
+        forgotten = fm.forgotten;
+        told = fm.told;
+      },
+      refl,
+    ))
+    (λ p f. (marks_of p, participant_is p links f.1, subst (λ (l : Links). AreMarks l (marks_of p)) f.1 (given_marks v p f.0))))
 
 -- ---- members
 
@@ -212,39 +394,39 @@ member_mark_is Left = (omega arith, refl)
 member_mark_small : (n : ℕ) → is_member_mark n ≡ true → n ≤ 2
 member_mark_small n e = grind (arith, nat_tests)
 
-nested_made : (stamp last : ℕ) (m : Member) → IsMember stamp last m × (member_mark m ≡ 0) → (x : ℕ) × (m ≡ Nested x) × ((x < 2 ^ 64) × (is_nested last stamp x ≡ true))
-nested_made stamp last (Nested n) f = (n, refl, f.0)
-nested_made stamp last (Participant p) f = absurd cc
-nested_made stamp last Left f = absurd cc
+nested_made : (v : Version) (stamp last : ℕ) (m : Member) → IsMember v stamp last m × (member_mark m ≡ 0) → (x : ℕ) × (m ≡ Nested x) × ((x < 2 ^ 64) × (is_nested last stamp x ≡ true))
+nested_made v stamp last (Nested n) f = (n, refl, f.0)
+nested_made v stamp last (Participant p) f = absurd cc
+nested_made v stamp last Left f = absurd cc
 
-participant_made : (stamp last : ℕ) (m : Member) → IsMember stamp last m × (member_mark m ≡ 1) → (x : ParticipantRecord) × (m ≡ Participant x) × IsParticipant x
-participant_made stamp last (Nested n) f = absurd cc
-participant_made stamp last (Participant p) f = (p, refl, f.0)
-participant_made stamp last Left f = absurd cc
+participant_made : (v : Version) (stamp last : ℕ) (m : Member) → IsMember v stamp last m × (member_mark m ≡ 1) → (x : ParticipantRecord) × (m ≡ Participant x) × IsParticipant v x
+participant_made v stamp last (Nested n) f = absurd cc
+participant_made v stamp last (Participant p) f = (p, refl, f.0)
+participant_made v stamp last Left f = absurd cc
 
 left_made : (m : Member) → member_mark m ≡ 2 → m ≡ Left
 left_made (Nested n) e = absurd cc
 left_made (Participant p) e = absurd cc
 left_made Left e = refl
 
-member_by_code : (stamp last mark : ℕ) → (mark < 2 ^ 8) × (is_member_mark mark ≡ true) → IsCode (λ r. member_by stamp last mark r) member_body (λ m. IsMember stamp last m × (member_mark m ≡ mark))
+member_by_code : (v : Version) (stamp last mark : ℕ) → (mark < 2 ^ 8) × (is_member_mark mark ≡ true) → IsCode (λ r. member_by v stamp last mark r) (member_body v) (λ m. IsMember v stamp last m × (member_mark m ≡ mark))
 unfolding member_by
-member_by_code stamp last zero f = cased (number_code w64 (2 ^ 64) wide64 (is_nested last stamp)) (λ n. Nested n) (λ n g. refl) (λ n g. (g, refl)) (nested_made stamp last)
-member_by_code stamp last (suc zero) f = cased participant_code (λ p. Participant p) (λ p g. refl) (λ p g. (g, refl)) (participant_made stamp last)
-member_by_code stamp last (suc (suc zero)) f = finish Left refl (tt, refl) (λ m g. left_made m g.1)
-member_by_code stamp last (suc (suc (suc n))) f = absurd (omega (arith, member_mark_small (suc (suc (suc n))) f.1))
+member_by_code v stamp last zero f = cased (number_code w64 (2 ^ 64) wide64 (is_nested last stamp)) (λ n. Nested n) (λ n g. refl) (λ n g. (g, refl)) (nested_made v stamp last)
+member_by_code v stamp last (suc zero) f = cased (participant_code v) (λ p. Participant p) (λ p g. refl) (λ p g. (g, refl)) (participant_made v stamp last)
+member_by_code v stamp last (suc (suc zero)) f = finish Left refl (tt, refl) (λ m g. left_made m g.1)
+member_by_code v stamp last (suc (suc (suc n))) f = absurd (omega (arith, member_mark_small (suc (suc (suc n))) f.1))
 
-pub member_code : (stamp last : ℕ) → IsCode (member_at stamp last) member (IsMember stamp last)
+pub member_code : (v : Version) (stamp last : ℕ) → IsCode (member_at v stamp last) (member v) (IsMember v stamp last)
 unfolding member_at member
-member_code stamp last = step (λ x. member_by stamp last x.0 x.1) (number_code w8 (2 ^ 8) wide8 is_member_mark) member_mark (λ m f. member_mark_is m) (λ mark f. member_by_code stamp last mark f)
+member_code v stamp last = step (λ x. member_by v stamp last x.0 x.1) (number_code w8 (2 ^ 8) wide8 is_member_mark) member_mark (λ m f. member_mark_is m) (λ mark f. member_by_code v stamp last mark f)
 
 member_count_small : (n : ℕ) → is_member_count n ≡ true → n < 2 ^ 8
 member_count_small n e = grind (arith, nat_tests)
 
-pub members_code : (stamp num : ℕ) → IsCode (members_at stamp num) members (λ ms. (is_member_count (length ms) ≡ true) × Along (IsMember stamp) next_nested num ms)
+pub members_code : (v : Version) (stamp num : ℕ) → IsCode (members_at v stamp num) (members v) (λ ms. (is_member_count (length ms) ≡ true) × Along (IsMember v stamp) next_nested num ms)
 unfolding members_at members
-members_code stamp num = step _ (number_code w8 (2 ^ 8) wide8 is_member_count) (λ ms. length ms) (λ ms f. (member_count_small (length ms) f.0, f.0)) (λ n fn.
-    refit (each_code (member_code stamp) n num) (λ ms f. ((rw f.1 fn.1, f.0), f.1)) (λ ms f. (f.0.1, f.1)))
+members_code v stamp num = step _ (number_code w8 (2 ^ 8) wide8 is_member_count) (λ ms. length ms) (λ ms f. (member_count_small (length ms) f.0, f.0)) (λ n fn.
+    refit (each_code (member_code v stamp) n num) (λ ms f. ((rw f.1 fn.1, f.0), f.1)) (λ ms f. (f.0.1, f.1)))
 
 -- ---- records
 
@@ -253,8 +435,8 @@ record_is : (p : Record) (a b : ℕ) (c : Option Place) (d : ℕ) (e : Option Ve
     → p ≡ record { home = a; num = b; parent = c; deadline = d; decision = e; stamps = s; members = p.members }
 record_is p a b c d e s ea eb ec ed ee es = rw (← ea, ← eb, ← ec, ← ed, ← ee, ← es) refl
 
-pub record_code : (k : Context) (last : Last) → IsCode (record_at k last) record_text (IsRecord k last)
-unfolding record_at record_text
+pub record_code : (k : Context) (last : Last) → IsCode (record_at k last) (record_text_as k.version) (IsRecord k last)
+unfolding record_at record_text_as
 record_code k last =
     step _ (number_code w8 (2 ^ 8) wide8 (is_home (length k.front) last.home)) (λ p. p.home) (λ p f. (f.small, f.home)) (λ a fa.
     step _ (number_code w64 (2 ^ 64) wide64 (is_number k last a)) (λ p. p.num) (λ p f. (f.0.wide, rw (← f.1) f.0.num)) (λ b fb.
@@ -262,7 +444,7 @@ record_code k last =
     step _ (whole_code w64 (2 ^ 64) wide64) (λ p. p.deadline) (λ p f. f.0.0.0.deadline) (λ d fd.
     step _ decision_code (λ p. p.decision) (λ p f. tt) (λ e fe.
     step _ (vector_code (length k.front) (are_stamps k a b)) (λ p. p.stamps) (λ p f. let g = f.0.0.0.0.0 in ((g.wide_stamps, g.nodes), rw (← f.0.0.0.0.1, ← f.0.0.0.1) g.stamps)) (λ s fs.
-    cased (members_code (slice_index s (a - 1)) b)
+    cased (members_code k.version (slice_index s (a - 1)) b)
     (λ ms. record { home = a; num = b; parent = c; deadline = d; decision = e; stamps = s; members = ms })
     (λ ms fm. refl)
     (λ ms fm. ((((((record { home = fa.1; small = fa.0; num = fb.1; wide = fb.0; parent = fc; deadline = fd; nodes = fs.0.1; stamps = fs.1; wide_stamps = fs.0.0; count = fm.0; members = fm.1 }, refl), refl), refl), refl), refl), refl))

@@ -8,10 +8,11 @@ use Rattle.std.proofs.Math.Seq.{take-append-add}
 use Rattle.lra_http.specs.Streams.{AllWell, FoundEnd, Gives as GivesBytes, HasCause, IsLost, too_many_interrupted}
 use Rattle.lra_delta.specs.declared.input.Stop.{Stop}
 use Rattle.lra_delta.specs.declared.input.Stop.TheVariants.{Fault, Cut, ReadFault, Memory}
-use Rattle.lra_delta.specs.Encoding.{encoding}
+use Rattle.lra_delta.specs.Encoding.{encoding_as}
 use Rattle.lra_delta.specs.FrameFields.{Gives, told_of, value_of}
 use Rattle.lra_delta.specs.Frames.{Frame}
-use Rattle.lra_delta.specs.Rules.{IsDelta}
+use Rattle.lra_delta.specs.Rules.{IsDeltaAs}
+use Rattle.lra_delta.specs.declared.version.Version.{Version}
 use Rattle.lra_delta.specs.Seen.{Seen, Standing, Start, Answers, Whole, MayBe, HasReason, Begins, GoesWell, IsWell, StopsWell, rest_in}
 use Rattle.lra_delta.specs.Sources.{IsSound, OnReadFault, ReadsCalls, Refuses, Says, StopsReading}
 use Rattle.lra_delta.specs.Reading.{frame_at, looking, read_of, frame_in}
@@ -94,14 +95,14 @@ reads_stop stands bytes old new (Err e) f a sound =
     }
 
 pub reads_frame : (stands : Standing) (bytes : ℕ) (old new : Seen) (result : Result Frame Stop) → IsFresh stands bytes old → Answers old new (λ (x : Frame). x) result frame_at → IsSound new → IfOk result (λ _. length new.taken ≡ old.limit)
-    → IfOk result (λ d. IsDelta d × (length (encoding d) ≡ bytes) × GivesBytes stands.stream new.now.stream (encoding d))
+    → IfOk result (λ d. (v : Version) × IsDeltaAs v d × (length (encoding_as v d) ≡ bytes) × GivesBytes stands.stream new.now.stream (encoding_as v d))
 reads_frame stands bytes old new (Err e) f a sound whole = tt
 reads_frame stands bytes old new (Ok d) f a sound whole =
     let size : length new.taken ≡ bytes = whole ∙ f.limit in
     let read : read_of bytes new.taken ≡ Ok d = ap told_of (known stands bytes old new (Ok d) f a new.taken (begins_itself new.taken)) in
     let all : frame_in new.taken ≡ Ok d = subst (λ (n : ℕ). read_of n new.taken ≡ Ok d) (sym size) read in
     let takes = frame_takes new.taken d sound.bytes all in
-    (takes.0, ap length (sym takes.1) ∙ size, subst (λ (bs : List ℕ). GivesBytes stands.stream new.now.stream bs) takes.1 (gave stands bytes old new f a.0 sound))
+    (takes.0, takes.1, ap length (sym takes.2) ∙ size, subst (λ (bs : List ℕ). GivesBytes stands.stream new.now.stream bs) takes.2 (gave stands bytes old new f a.0 sound))
 
 -- ---- known bytes
 

@@ -4,7 +4,7 @@ use Rattle.std.proofs.lemmas.Bool.Decides.{nat_tests}
 use Rattle.lra_id.specs.Ids.{Id, is_fact_number}
 use Rattle.lra_id.specs.Fronts.{IsBelow, count, is_covered, join_fronts}
 use Rattle.lra_facts.specs.declared.fact.Body.{Body}
-use Rattle.lra_facts.specs.declared.fact.Body.TheVariants.{Begin, Join, Leave, Decide, Report, Forgot, Purge}
+use Rattle.lra_facts.specs.declared.fact.Body.TheVariants.{Begin, Join, Leave, Decide, Report, Forgot, Told, Purge}
 use Rattle.lra_facts.specs.declared.fact.Fact.{Fact}
 use Rattle.lra_facts.specs.Lists.{In}
 use Rattle.lra_facts.specs.Sets.{is_held, is_purge}
@@ -30,6 +30,7 @@ purge_is a (Leave q m) e = absurd cc
 purge_is a (Decide q v) e = absurd cc
 purge_is a (Report q m act o) e = absurd cc
 purge_is a (Forgot q m) e = absurd cc
+purge_is a (Told q m) e = absurd cc
 purge_is a (Purge q) e = refl
 
 -- the last purge of a node reaches each of its purges

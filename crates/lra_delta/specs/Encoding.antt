@@ -1,4 +1,4 @@
--- the one encoding of a frame
+-- the encoding of a frame, one of each version
 use Rattle.std.specs.Prelude.{◌++◌, ℕ, List, [], Bool, true, false, Option, Some, None, length}
 use Rattle.std.specs.List.{flat_map}
 use Rattle.std.specs.Int.{w8, w16, w32, w64, to_be_bytes}
@@ -11,7 +11,12 @@ use Rattle.lra_forest.specs.declared.record.Participant.{Participant as Particip
 use Rattle.lra_forest.specs.declared.record.Member.{Member}
 use Rattle.lra_forest.specs.declared.record.Member.TheVariants.{Nested, Participant, Left}
 use Rattle.lra_forest.specs.declared.record.Record.{Record}
+use Rattle.lra_facts.specs.Links.{Links}
+use Rattle.lra_delta.specs.declared.marks.Marks.{Marks}
+use Rattle.lra_delta.specs.declared.version.Version.{Version}
+use Rattle.lra_delta.specs.declared.version.Version.TheVariants.{One, Two}
 use Rattle.lra_delta.specs.Frames.{Frame}
+use Rattle.lra_delta.specs.Versions.{version_mark}
 
 abbrev pub byte : ℕ → List ℕ
 byte n = to_be_bytes w8 n
@@ -67,29 +72,48 @@ link_text (Some text) = text
 unfoldable pub counted : List ℕ → List ℕ
 counted text = byte (length text) ++ text
 
-unfoldable pub participant : ParticipantRecord → List ℕ
-participant p =
-    counted (link_text p.links.complete) ++ (counted p.links.compensate ++ (counted (link_text p.links.status) ++ (counted (link_text p.links.forget) ++ (byte (outcome_mark p.completed) ++ (byte (outcome_mark p.compensated) ++ (byte (flag_mark p.forgotten)))))))
+-- what version 1 does not know takes no byte there
+abbrev pub after_link : Version → Option (List ℕ) → List ℕ
+after_link One link = []
+after_link Two link = counted (link_text link)
+
+abbrev pub told_mark : Version → Bool → List ℕ
+told_mark One told = []
+told_mark Two told = byte (flag_mark told)
+
+unfoldable pub links_text : Version → Links → List ℕ
+links_text v l =
+    counted (link_text l.complete) ++ (counted (link_text l.compensate) ++ (counted (link_text l.status) ++ (counted (link_text l.forget) ++ after_link v l.after)))
+
+-- what is marked of a participant: what was heard of it, and what it was told
+abbrev pub marks_of : ParticipantRecord → Marks
+marks_of p = record { completed = p.completed; compensated = p.compensated; forgotten = p.forgotten; told = p.told }
+
+unfoldable pub marks_text : Version → Marks → List ℕ
+marks_text v m = byte (outcome_mark m.completed) ++ (byte (outcome_mark m.compensated) ++ (byte (flag_mark m.forgotten) ++ told_mark v m.told))
+
+unfoldable pub participant : Version → ParticipantRecord → List ℕ
+participant v p = links_text v p.links ++ marks_text v (marks_of p)
 
 abbrev pub member_mark : Member → ℕ
 member_mark (Nested n) = 0
 member_mark (Participant p) = 1
 member_mark Left = 2
 
-abbrev pub member_body : Member → List ℕ
-member_body (Nested n) = number n
-member_body (Participant p) = participant p
-member_body Left = []
+abbrev pub member_body : Version → Member → List ℕ
+member_body v (Nested n) = number n
+member_body v (Participant p) = participant v p
+member_body v Left = []
 
-unfoldable pub member : Member → List ℕ
-member m = byte (member_mark m) ++ member_body m
+unfoldable pub member : Version → Member → List ℕ
+member v m = byte (member_mark m) ++ member_body v m
 
-unfoldable pub members : List Member → List ℕ
-members ms = byte (length ms) ++ flat_map member ms
+unfoldable pub members : Version → List Member → List ℕ
+members v ms = byte (length ms) ++ flat_map (member v) ms
 
-unfoldable pub record_text : Record → List ℕ
-record_text r =
-    byte r.home ++ (number r.num ++ (parent r.parent ++ (number r.deadline ++ (byte (decision_mark r.decision) ++ (vector r.stamps ++ (members r.members))))))
+unfoldable pub record_text_as : Version → Record → List ℕ
+record_text_as v r =
+    byte r.home ++ (number r.num ++ (parent r.parent ++ (number r.deadline ++ (byte (decision_mark r.decision) ++ (vector r.stamps ++ (members v r.members))))))
 
 -- the numbers of a home's LRAs that are held
 unfoldable pub live_list : List ℕ → List ℕ
@@ -106,21 +130,29 @@ live_body (Some ns) = live_list ns
 unfoldable pub live : Option (List ℕ) → List ℕ
 live o = byte (live_mark o) ++ live_body o
 
-unfoldable pub records : List Record → List ℕ
-records rs = two_bytes (length rs) ++ flat_map record_text rs
+unfoldable pub records : Version → List Record → List ℕ
+records v rs = two_bytes (length rs) ++ flat_map (record_text_as v) rs
 
 -- the records of all homes, one home after another
 abbrev pub flat : List (List Record) → List Record
 flat homes = flat_map (λ rs. rs) homes
 
 -- what stands after the length
-unfoldable pub body : Frame → List ℕ
-body d =
-    byte (length d.base) ++ (vector d.base ++ (vector d.front ++ (vector d.purges ++ (flat_map live d.live ++ records (flat d.records)))))
+unfoldable pub body : Version → Frame → List ℕ
+body v d =
+    byte (length d.base) ++ (vector d.base ++ (vector d.front ++ (vector d.purges ++ (flat_map live d.live ++ records v (flat d.records)))))
 
 -- the letters LRAD
 abbrev pub magic : ℕ
 magic = 0x4c524144
 
+abbrev pub encoding_as : Version → Frame → List ℕ
+encoding_as v d = four_bytes magic ++ (byte (version_mark v) ++ (four_bytes (length (body v d)) ++ body v d))
+
+-- Version 2, which is what nodes write
+
+abbrev pub record_text : Record → List ℕ
+record_text r = record_text_as Two r
+
 abbrev pub encoding : Frame → List ℕ
-encoding d = four_bytes magic ++ (byte 1 ++ (four_bytes (length (body d)) ++ body d))
+encoding d = encoding_as Two d

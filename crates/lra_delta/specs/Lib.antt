@@ -15,4 +15,5 @@ pub mod Encoding
 pub mod TakenFrames
 pub mod Telling
 pub mod Typed
+pub mod Versions
 pub mod WrittenSoFar

@@ -3,13 +3,15 @@ use Rattle.std.specs.Prelude.{◌≤◌, ◌<◌, ◌^◌, ◌==◌, ℕ, List, 
 use Rattle.lra_id.specs.Fronts.{count}
 use Rattle.lra_forest.specs.declared.record.Record.{Record}
 use Rattle.lra_delta.specs.declared.input.Stop.{Stop}
+use Rattle.lra_delta.specs.declared.version.Version.{Version}
+use Rattle.lra_delta.specs.declared.version.Version.TheVariants.{Two}
 use Rattle.lra_delta.specs.FrameFields.{Rest, Read, Broken, ◌>>=◌, value_of, told_of}
 use Rattle.lra_delta.specs.Grammar.{KeepsRulesIn}
 use Rattle.lra_delta.specs.Rules.{Context, IsRecord, start, told_context}
 use Rattle.lra_delta.specs.Reading.{record_at}
 
-abbrev pub under : (front : List ℕ) → Context
-under front = told_context (replicate (length front) 0) front []
+abbrev pub under : Version → (front : List ℕ) → Context
+under v front = told_context v (replicate (length front) 0) front []
 
 -- The record keeps the rules under this front, of at most 8 nodes and with numbers of 48 bits: it is of one of the nodes, and
 -- would keep those of a frame with base zero
@@ -20,16 +22,24 @@ pub record KeepsRulesUnder (front : List ℕ) (kept : Record) : Type 0 where
   pub high : kept.home ≤ length front
   pub fits : KeepsRulesIn (replicate (length front) 0) front None kept
 
--- what has an encoding as one record
-abbrev pub IsRecordUnder : (front : List ℕ) → Record → Type 0
-IsRecordUnder front kept = IsRecord (under front) start kept
+-- what has an encoding of a version as one record
+abbrev pub IsRecordUnderAs : Version → (front : List ℕ) → Record → Type 0
+IsRecordUnderAs v front kept = IsRecord (under v front) start kept
 
 -- a record, and then the end
-unfoldable pub alone_at : (front : List ℕ) → Rest → Read Record
-alone_at front r = do
-  kept ← record_at (under front) start r
+unfoldable pub alone_at : Version → (front : List ℕ) → Rest → Read Record
+alone_at v front r = do
+  kept ← record_at (under v front) start r
   if kept.1.place == r.limit then Ok kept else Err (Broken kept.1.place kept.1.place)
 
 -- all of the bytes
+abbrev pub record_in_as : Version → (front bytes : List ℕ) → Result Record Stop
+record_in_as v front bytes = told_of (value_of (alone_at v front (record { place = 0; limit = length bytes; ahead = bytes })))
+
+-- Version 2
+
+abbrev pub IsRecordUnder : (front : List ℕ) → Record → Type 0
+IsRecordUnder front kept = IsRecordUnderAs Two front kept
+
 abbrev pub record_in : (front bytes : List ℕ) → Result Record Stop
-record_in front bytes = told_of (value_of (alone_at front (record { place = 0; limit = length bytes; ahead = bytes })))
+record_in front bytes = record_in_as Two front bytes

@@ -1,5 +1,5 @@
 -- the table of a frame's fields in order, each with its width and its rule
-use Rattle.std.specs.Prelude.{◌+◌, ◌-◌, ◌==◌, ℕ, zero, suc, List, [], ◌∷◌, Bool, Option, Some, None, Result, Ok, Err, length, nat_lt, slice_index, if◌then◌else◌, min}
+use Rattle.std.specs.Prelude.{◌+◌, ◌-◌, ◌==◌, ℕ, zero, suc, List, [], ◌∷◌, Bool, Option, Some, None, Result, Ok, Err, false, true, is_none, is_some, length, nat_lt, slice_index, if◌then◌else◌, min}
 use Rattle.std.specs.Int.{w8, w16, w32, w64}
 use Rattle.lra_states.specs.declared.outcome.Verdict.{Verdict}
 use Rattle.lra_states.specs.declared.outcome.Verdict.TheVariants.{Close, Cancel}
@@ -11,12 +11,16 @@ use Rattle.lra_forest.specs.declared.record.Participant.{Participant as Particip
 use Rattle.lra_forest.specs.declared.record.Member.{Member}
 use Rattle.lra_forest.specs.declared.record.Member.TheVariants.{Nested, Participant, Left}
 use Rattle.lra_forest.specs.declared.record.Record.{Record}
-use Rattle.lra_facts.specs.LinkTexts.{is_kept}
+use Rattle.lra_facts.specs.Links.{Links}
 use Rattle.lra_delta.specs.Frames.{Frame}
+use Rattle.lra_delta.specs.declared.version.Version.{Version}
+use Rattle.lra_delta.specs.declared.version.Version.TheVariants.{One, Two}
+use Rattle.lra_delta.specs.declared.marks.Marks.{Marks}
 use Rattle.lra_delta.specs.declared.order.Last.{Last}
 use Rattle.lra_delta.specs.FrameFields.{Rest, Read, Halt, Broken, ◌>>=◌, value_of, told_of, whole_at, number_at, cells_at, vector_at, each_at}
 use Rattle.lra_delta.specs.Encoding.{magic}
-use Rattle.lra_delta.specs.Rules.{is_mark, is_above, is_slot, is_decision, is_outcome, is_outcome_for, is_mark_for, is_length, is_given_length, is_kept_or_none, is_nested, next_nested, is_member_count, is_node_count, are_counts, at_most, is_front, is_live_mark, is_live_count, is_live_number, Context, is_home, is_number, are_stamps, start, after, is_record_count, is_frame_length, by_home}
+use Rattle.lra_delta.specs.Versions.{is_version, version_of}
+use Rattle.lra_delta.specs.Rules.{is_mark, is_above, is_slot, is_decision, is_outcome_for, is_mark_for, is_kept_or_none, is_length_for, needs_compensate, is_nested, next_nested, is_member_count, is_node_count, are_counts, at_most, is_front, is_live_mark, is_live_count, is_live_number, Context, is_home, is_number, are_stamps, start, after, is_record_count, is_frame_length, by_home}
 
 unfoldable pub place_at : ℕ → Rest → Read Place
 place_at num r = do
@@ -62,51 +66,90 @@ abbrev pub link_of : List ℕ → Option (List ℕ)
 link_of [] = None
 link_of (c ∷ text) = Some (c ∷ text)
 
-unfoldable pub link_at : Rest → Read (Option (List ℕ))
-link_at r = do
-  text ← text_at is_length is_kept_or_none r
+-- of a link that may be needed, or not allowed
+unfoldable pub link_at : (needed allowed : Bool) → Rest → Read (Option (List ℕ))
+link_at needed allowed r = do
+  text ← text_at (is_length_for needed allowed) is_kept_or_none r
   Ok (link_of text.0, text.1)
 
-unfoldable pub participant_at : Rest → Read ParticipantRecord
-participant_at r = do
-  complete ← link_at r
-  compensate ← text_at is_given_length is_kept complete.1
-  status ← link_at compensate.1
-  forget ← link_at status.1
-  completed ← number_at w8 (is_outcome_for complete.0) forget.1
-  compensated ← number_at w8 is_outcome completed.1
-  forgotten ← number_at w8 (is_mark_for forget.0) compensated.1
+-- what version 1 does not know is not there
+unfoldable pub after_at : Version → (needed : Bool) → Rest → Read (Option (List ℕ))
+after_at One needed r = Ok (None, r)
+after_at Two needed r = link_at needed true r
+
+unfoldable pub told_at : Version → Option (List ℕ) → Rest → Read ℕ
+told_at One link r = Ok (0, r)
+told_at Two link r = number_at w8 (is_mark_for link) r
+
+-- behind the others the link for the end, which is needed where there is none to compensate
+unfoldable pub last_link_at : Version → (complete compensate status forget : Option (List ℕ)) → Rest → Read Links
+last_link_at v complete compensate status forget r = do
+  link ← after_at v (is_none compensate) r
+  Ok (record { complete = complete; compensate = compensate; status = status; forget = forget; after = link.0 }, link.1)
+
+-- a link to compensate is needed in version 1, and beside one to complete; those for the status and to forget stand beside it
+-- alone
+unfoldable pub links_at : Version → Rest → Read Links
+links_at v r = do
+  complete ← link_at false true r
+  compensate ← link_at (needs_compensate v complete.0) true complete.1
+  status ← link_at false (is_some compensate.0) compensate.1
+  forget ← link_at false (is_some compensate.0) status.1
+  last_link_at v complete.0 compensate.0 status.0 forget.0 forget.1
+
+-- what has no link has no mark
+unfoldable pub marks_at : Version → Links → Rest → Read Marks
+marks_at v links r = do
+  completed ← number_at w8 (is_outcome_for links.complete) r
+  compensated ← number_at w8 (is_outcome_for links.compensate) completed.1
+  forgotten ← number_at w8 (is_mark_for links.forget) compensated.1
+  told ← told_at v links.after forgotten.1
   Ok (
     record {
-      links = record { complete = complete.0; compensate = compensate.0; status = status.0; forget = forget.0 };
       completed = outcome_of completed.0;
       compensated = outcome_of compensated.0;
       forgotten = forgotten.0 == 1;
+      told = told.0 == 1;
     },
-    forgotten.1,
+    told.1,
+  )
+
+unfoldable pub participant_at : Version → Rest → Read ParticipantRecord
+participant_at v r = do
+  links ← links_at v r
+  marks ← marks_at v links.0 links.1
+  Ok (
+    record {
+      links = links.0;
+      completed = marks.0.completed;
+      compensated = marks.0.compensated;
+      forgotten = marks.0.forgotten;
+      told = marks.0.told;
+    },
+    marks.1,
   )
 
 abbrev pub is_member_mark : ℕ → Bool
 is_member_mark n = nat_lt n 3
 
-unfoldable pub member_by : ℕ → ℕ → ℕ → Rest → Read Member
-member_by stamp last zero r = do
+unfoldable pub member_by : Version → ℕ → ℕ → ℕ → Rest → Read Member
+member_by v stamp last zero r = do
   n ← number_at w64 (is_nested last stamp) r
   Ok (Nested n.0, n.1)
-member_by stamp last (suc zero) r = do
-  p ← participant_at r
+member_by v stamp last (suc zero) r = do
+  p ← participant_at v r
   Ok (Participant p.0, p.1)
-member_by stamp last (suc (suc n)) r = Ok (Left, r)
+member_by v stamp last (suc (suc n)) r = Ok (Left, r)
 
-unfoldable pub member_at : ℕ → ℕ → Rest → Read Member
-member_at stamp last r = do
+unfoldable pub member_at : Version → ℕ → ℕ → Rest → Read Member
+member_at v stamp last r = do
   mark ← number_at w8 is_member_mark r
-  member_by stamp last mark.0 mark.1
+  member_by v stamp last mark.0 mark.1
 
-unfoldable pub members_at : ℕ → ℕ → Rest → Read (List Member)
-members_at stamp num r = do
+unfoldable pub members_at : Version → ℕ → ℕ → Rest → Read (List Member)
+members_at v stamp num r = do
   count ← number_at w8 is_member_count r
-  each_at (member_at stamp) next_nested count.0 num count.1
+  each_at (member_at v stamp) next_nested count.0 num count.1
 
 unfoldable pub record_at : Context → Last → Rest → Read Record
 record_at k last r = do
@@ -116,7 +159,7 @@ record_at k last r = do
   deadline ← whole_at w64 parent.1
   decision ← decision_at deadline.1
   stamps ← vector_at (length k.front) (are_stamps k home.0 num.0) decision.1
-  members ← members_at (slice_index stamps.0 (home.0 - 1)) num.0 stamps.1
+  members ← members_at k.version (slice_index stamps.0 (home.0 - 1)) num.0 stamps.1
   Ok (
     record {
       home = home.0;
@@ -151,14 +194,14 @@ live_at base purge top r = do
   mark ← number_at w8 (is_live_mark base purge) r
   live_by top mark.0 mark.1
 
-unfoldable pub body_at : Rest → Read Frame
-body_at r = do
+unfoldable pub body_at : Version → Rest → Read Frame
+body_at v r = do
   nodes ← number_at w8 is_node_count r
   base ← vector_at nodes.0 are_counts nodes.1
   front ← vector_at nodes.0 (is_front base.0) base.1
   purges ← vector_at nodes.0 (at_most front.0) front.1
   lives ← each_at (λ i. live_at (slice_index base.0 i) (slice_index purges.0 i) (slice_index front.0 i)) (λ i o. i + 1) nodes.0 0 purges.1
-  records ← records_at (record { base = base.0; front = front.0; lives = lives.0 }) lives.1
+  records ← records_at (record { version = v; base = base.0; front = front.0; lives = lives.0 }) lives.1
   Ok (record { base = base.0; front = front.0; purges = purges.0; live = lives.0; records = by_home nodes.0 records.0 }, records.1)
 
 -- the stated length bounds what comes
@@ -166,24 +209,31 @@ abbrev pub within : ℕ → Rest → Rest
 within len r = record { place = r.place; limit = min r.limit (r.place + len); ahead = r.ahead }
 
 -- so many bytes of body
-unfoldable pub ended_at : ℕ → Rest → Read Frame
-ended_at len r = do
-  d ← body_at (within len r)
+unfoldable pub ended_at : Version → ℕ → Rest → Read Frame
+ended_at v len r = do
+  d ← body_at v (within len r)
   if d.1.place == r.place + len then Ok (d.0, record { place = d.1.place; limit = r.limit; ahead = d.1.ahead }) else Err (Broken d.1.place d.1.place)
 
--- a frame at the start, which ends where its length says
-unfoldable pub framed_at : Rest → Read Frame
+-- a frame at the start with its version, which ends where its length says
+unfoldable pub framed_at : Rest → Read (Version × Frame)
 framed_at r = do
   letters ← number_at w32 (λ n. n == magic) r
-  version ← number_at w8 (λ n. n == 1) letters.1
+  version ← number_at w8 is_version letters.1
   len ← number_at w32 is_frame_length version.1
-  ended_at len.0 len.1
+  d ← ended_at (version_of version.0) len.0 len.1
+  Ok ((version_of version.0, d.0), d.1)
 
--- a frame, and then the end
-unfoldable pub frame_at : Rest → Read Frame
-frame_at r = do
+-- that, and then the end
+unfoldable pub versioned_at : Rest → Read (Version × Frame)
+versioned_at r = do
   d ← framed_at r
   if d.1.place == r.limit then Ok d else Err (Broken d.1.place d.1.place)
+
+-- the frame, of whichever version
+unfoldable pub frame_at : Rest → Read Frame
+frame_at r = do
+  d ← versioned_at r
+  Ok (d.0.1, d.1)
 
 -- a frame of so many bytes, at the start of these, or why and where reading it halts
 abbrev pub looking : ℕ → List ℕ → Result Frame Halt

@@ -1,5 +1,6 @@
 -- the rule of each field, and what has an encoding
-use Rattle.std.specs.Prelude.{◌≡◌, ◌+◌, ◌-◌, ◌*◌, ◌^◌, ◌<◌, ◌&&◌, ◌||◌, ◌==◌, ℕ, List, [], ◌∷◌, Bool, true, Option, Some, None, length, is_some, nat_lt, nat_le, slice_index, filter, map, if◌then◌else◌}
+use Rattle.std.specs.Prelude.{◌≡◌, ◌+◌, ◌-◌, ◌*◌, ◌^◌, ◌<◌, ◌&&◌, ◌||◌, ◌==◌, ℕ, List, [], ◌∷◌, Bool, true, Option, Some, None, length, is_none, is_some, nat_lt, nat_le, slice_index, filter, map, if◌then◌else◌}
+use mathlib.Core.Bool.{not}
 use Rattle.std.specs.List.{list_any, list_all, AllByRecursion, zip}
 use Rattle.lra_id.specs.Ids.{last_number}
 use Rattle.lra_forest.specs.declared.record.Place.{Place}
@@ -7,13 +8,17 @@ use Rattle.lra_forest.specs.declared.record.Participant.{Participant as Particip
 use Rattle.lra_forest.specs.declared.record.Member.{Member}
 use Rattle.lra_forest.specs.declared.record.Member.TheVariants.{Nested, Participant, Left}
 use Rattle.lra_forest.specs.declared.record.Record.{Record}
+use Rattle.lra_facts.specs.Links.{are_links}
 use Rattle.lra_facts.specs.LinkTexts.{is_kept}
 use Rattle.lra_forest.specs.declared.merging.Told.{Told}
 use Rattle.lra_forest.specs.RecordMerges.{held_numbers}
 use Rattle.lra_forest.specs.Records.{nodes_to}
 use Rattle.lra_delta.specs.Frames.{Frame, is_beyond, live_at}
 use Rattle.lra_delta.specs.declared.order.Last.{Last}
+use Rattle.lra_delta.specs.declared.version.Version.{Version}
+use Rattle.lra_delta.specs.declared.version.Version.TheVariants.{One, Two}
 use Rattle.lra_delta.specs.FrameFields.{Along}
+use Rattle.lra_delta.specs.Versions.{is_first, knows}
 use Rattle.lra_delta.specs.Encoding.{body, flat, outcome_mark, flag_mark}
 
 abbrev pub is_mark : ℕ → Bool
@@ -54,6 +59,22 @@ is_length n = nat_le n 127
 abbrev pub is_given_length : ℕ → Bool
 is_given_length n = nat_le 1 n && nat_le n 127
 
+-- of a link that may be left out, or may not be there
+abbrev pub is_length_for : (needed allowed : Bool) → ℕ → Bool
+is_length_for needed allowed n = nat_le n 127 && ((not needed || nat_le 1 n) && (allowed || (n == 0)))
+
+abbrev pub may_be : (needed allowed : Bool) → Option (List ℕ) → Bool
+may_be needed allowed link = (not needed || is_some link) && (allowed || is_none link)
+
+-- of the one for the end, which version 1 does not know
+abbrev pub may_be_after : Version → (needed : Bool) → Option (List ℕ) → Bool
+may_be_after One needed link = is_none link
+may_be_after Two needed link = may_be needed true link
+
+-- one to compensate is needed in version 1, and beside one to complete
+abbrev pub needs_compensate : Version → Option (List ℕ) → Bool
+needs_compensate v complete = is_first v || is_some complete
+
 abbrev pub is_kept_or_none : List ℕ → Bool
 is_kept_or_none [] = true
 is_kept_or_none (c ∷ text) = is_kept (c ∷ text)
@@ -62,22 +83,28 @@ abbrev pub IsLink : Option (List ℕ) → Type 0
 IsLink None = Unit {0}
 IsLink (Some text) = (is_given_length (length text) ≡ true) × (is_kept text ≡ true)
 
-pub record IsParticipant (p : ParticipantRecord) : Type 0 where
+-- The links are those of a participant of the saga, or in version 2 that for the end alone. What has no link has nothing of it
+pub record IsParticipant (v : Version) (p : ParticipantRecord) : Type 0 where
   pub complete : IsLink p.links.complete
-  pub compensate : IsLink (Some p.links.compensate)
+  pub compensate : IsLink p.links.compensate
   pub status : IsLink p.links.status
   pub forget : IsLink p.links.forget
+  pub after : IsLink p.links.after
+  pub together : are_links p.links ≡ true
+  pub known : knows v p.links.after ≡ true
   pub completed : is_outcome_for p.links.complete (outcome_mark p.completed) ≡ true
+  pub compensated : is_outcome_for p.links.compensate (outcome_mark p.compensated) ≡ true
   pub forgotten : is_mark_for p.links.forget (flag_mark p.forgotten) ≡ true
+  pub told : is_mark_for p.links.after (flag_mark p.told) ≡ true
 
 -- above the record's and every earlier nested LRA's, at most the home's stamp
 abbrev pub is_nested : ℕ → ℕ → ℕ → Bool
 is_nested last stamp n = nat_lt last n && nat_le n stamp
 
-abbrev pub IsMember : ℕ → ℕ → Member → Type 0
-IsMember stamp last (Nested n) = (n < 2 ^ 64) × (is_nested last stamp n ≡ true)
-IsMember stamp last (Participant p) = IsParticipant p
-IsMember stamp last Left = Unit {0}
+abbrev pub IsMember : Version → ℕ → ℕ → Member → Type 0
+IsMember v stamp last (Nested n) = (n < 2 ^ 64) × (is_nested last stamp n ≡ true)
+IsMember v stamp last (Participant p) = IsParticipant v p
+IsMember v stamp last Left = Unit {0}
 
 abbrev pub next_nested : ℕ → Member → ℕ
 next_nested last (Nested n) = n
@@ -125,6 +152,7 @@ IsLive base purge count (Some ns) =
 
 -- what a record is read against
 pub record Context : Type 0 where
+  pub version : Version
   pub base : List ℕ
   pub front : List ℕ
   pub lives : List (Option (List ℕ))
@@ -157,7 +185,7 @@ pub record IsRecord (k : Context) (last : Last) (r : Record) : Type 0 where
   pub stamps : are_stamps k r.home r.num r.stamps ≡ true
   pub wide_stamps : AllByRecursion (λ n. n < 2 ^ 64) r.stamps
   pub count : is_member_count (length r.members) ≡ true
-  pub members : Along (IsMember (slice_index r.stamps (r.home - 1))) next_nested r.num r.members
+  pub members : Along (IsMember k.version (slice_index r.stamps (r.home - 1))) next_nested r.num r.members
 
 abbrev pub start : Last
 start = record { home = 0; num = 0; count = 0 }
@@ -168,18 +196,18 @@ after last r = record { home = r.home; num = r.num; count = (if last.home == r.h
 abbrev pub is_record_count : ℕ → ℕ → Bool
 is_record_count nodes n = nat_le n (256 * nodes)
 
-abbrev pub context : Frame → Context
-context d = record { base = d.base; front = d.front; lives = d.live }
+abbrev pub context : Version → Frame → Context
+context v d = record { version = v; base = d.base; front = d.front; lives = d.live }
 
 -- of a base, a front and what is told of each home
-abbrev pub told_context : (base front : List ℕ) → List Told → Context
-told_context base front homes = record { base = base; front = front; lives = map (λ (told : Told). held_numbers told.held) homes }
+abbrev pub told_context : Version → (base front : List ℕ) → List Told → Context
+told_context v base front homes = record { version = v; base = base; front = front; lives = map (λ (told : Told). held_numbers told.held) homes }
 
 -- the records of each home from 1 to so many
 abbrev pub by_home : ℕ → List Record → List (List Record)
 by_home nodes rs = map (λ home. filter (λ (r : Record). r.home == home) rs) (nodes_to nodes)
 
-pub record IsBody (d : Frame) : Type 0 where
+pub record IsBody (v : Version) (d : Frame) : Type 0 where
   pub nodes : is_node_count (length d.base) ≡ true
   pub base : are_counts d.base ≡ true
   pub same_nodes : length d.front ≡ length d.base
@@ -189,13 +217,17 @@ pub record IsBody (d : Frame) : Type 0 where
   pub live_nodes : length d.live ≡ length d.base
   pub lives : Along (λ i o. IsLive (slice_index d.base i) (slice_index d.purges i) (slice_index d.front i) o) (λ i o. i + 1) 0 d.live
   pub count : is_record_count (length d.base) (length (flat d.records)) ≡ true
-  pub records : Along (IsRecord (context d)) after start (flat d.records)
+  pub records : Along (IsRecord (context v d)) after start (flat d.records)
   pub homes : d.records ≡ by_home (length d.base) (flat d.records)
 
 abbrev pub is_frame_length : ℕ → Bool
 is_frame_length n = nat_le n 67108855
 
--- what has an encoding
-pub record IsDelta (d : Frame) : Type 0 where
-  pub is_body : IsBody d
-  pub short : is_frame_length (length (body d)) ≡ true
+-- what has an encoding of a version
+pub record IsDeltaAs (v : Version) (d : Frame) : Type 0 where
+  pub is_body : IsBody v d
+  pub short : is_frame_length (length (body v d)) ≡ true
+
+-- what has an encoding of version 2
+abbrev pub IsDelta : Frame → Type 0
+IsDelta d = IsDeltaAs Two d

@@ -1,19 +1,21 @@
 -- What the types of a delta say of its numbers and links, which are plain lists here.
-use Rattle.std.specs.Prelude.{◌≤◌, ◌<◌, ◌^◌, Some, length}
+use Rattle.std.specs.Prelude.{◌≡◌, ◌≤◌, ◌<◌, ◌^◌, true, length}
 use Rattle.std.specs.List.{All}
-use Rattle.lra_facts.specs.declared.links.Links.{Links}
+use Rattle.lra_facts.specs.Links.{Links, are_links}
 use Rattle.lra_forest.specs.declared.record.Member.{Member}
 use Rattle.lra_forest.specs.declared.record.Member.TheVariants.{Nested, Participant, Left}
 use Rattle.lra_forest.specs.declared.record.Record.{Record}
 use Rattle.lra_delta.specs.Frames.{Frame}
 use Rattle.lra_delta.specs.Rules.{IsLink}
 
--- each link that is given is kept as it is
+-- each link that is given is kept as it is, and they are those of a participant
 pub record AreLinks (links : Links) : Type 0 where
   pub complete : IsLink links.complete
-  pub compensate : IsLink (Some links.compensate)
+  pub compensate : IsLink links.compensate
   pub status : IsLink links.status
   pub forget : IsLink links.forget
+  pub after : IsLink links.after
+  pub together : are_links links ≡ true
 
 abbrev pub HasLinks : Member → Type 0
 HasLinks (Nested num) = Unit {0}

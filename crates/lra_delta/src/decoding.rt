@@ -3,8 +3,9 @@ ghost use Rattle.std.specs.Prelude.{◌≡◌, ◌++◌, ℕ, List, Ok, IfOk};
 ghost use Rattle.lra_delta.specs.Answer.{Decodes};
 ghost use Rattle.lra_delta.specs.Frames.{Frame};
 ghost use Rattle.lra_delta.specs.Reading.{frame_in};
-ghost use Rattle.lra_delta.specs.Rules.{IsDelta};
-ghost use Rattle.lra_delta.specs.Encoding.{encoding};
+ghost use Rattle.lra_delta.specs.Rules.{IsDeltaAs};
+ghost use Rattle.lra_delta.specs.Encoding.{encoding_as};
+ghost use Rattle.lra_delta.specs.declared.version.Version.{Version};
 
 use crate::Delta;
 use crate::bytes::Bytes;
@@ -28,15 +29,16 @@ fn decoded(alloc: Global, bytes: &[u8]) -> Result<Delta, Refusal>
 }
 
 impl Delta {
-    /// What all of the bytes encode. E16 at the place of the first field that isn't whole or breaks its rule.
+    /// What all of the bytes encode, in version 1 or 2. E16 at the place of the first field that isn't whole or breaks its rule.
     pub fn decode(alloc: Global, bytes: &[u8]) -> Result<Delta, Refusal>
         // Which place it is.
         ensures exact { Decodes result (frame_in bytes.now) }
         // What is read keeps the rules, and is encoded so.
-        ensures found { IfOk result (λ delta. IsDelta delta × (bytes.now ≡ encoding delta)) }
+        ensures found { IfOk result (λ delta. (version : Version)
+            × IsDeltaAs version delta × (bytes.now ≡ encoding_as version delta)) }
         // What is encoded so is read, unless memory runs out.
-        ensures only { (frame : Frame) →
-            IsDelta frame → bytes.now ≡ encoding frame → Decodes result (Ok frame) }
+        ensures only { (version : Version) (frame : Frame) → IsDeltaAs version frame →
+            bytes.now ≡ encoding_as version frame → Decodes result (Ok frame) }
     {
         decoded(alloc, bytes)
     }

@@ -11,6 +11,7 @@ ghost use Rattle.lra_delta.specs.FrameFields.{each_at, number_at, vector_at};
 ghost use Rattle.lra_delta.specs.Rules.{are_counts, at_most, by_home, is_frame_length, is_front, is_live_number, is_node_count, start, told_context, after as after_lem};
 ghost use Rattle.lra_delta.specs.Reading.{body_at, frame_at, live_at, live_list_at, record_at, records_at};
 ghost use Rattle.lra_delta.specs.Encoding.{magic};
+ghost use Rattle.lra_delta.specs.Versions.{is_version, version_mark};
 ghost use Rattle.lra_delta.specs.Order.{AreEmpty, ArePutAs, lists, live_of_place, next_place, records_told};
 
 use crate::Delta;
@@ -18,6 +19,7 @@ use crate::fields::{byte, four_bytes, number, two_bytes};
 use crate::input::{Input, Stop};
 use crate::order::Last;
 use crate::record_fields::{at_most, many_of, record_of};
+use crate::version::Version;
 use lra_forest::{Forest, Record, Told};
 use lra_id::{Front, LAST_NUMBER, NodeId};
 use std::alloc::{AllocError, Global};
@@ -247,6 +249,7 @@ fn put_home(homes: &mut Vec<Told>, kept: Record) -> Result<(), AllocError>
 
 fn each_record<I: Input>(
     alloc: Global,
+    version: Version,
     base: &Front,
     front: &Front,
     homes: &mut Vec<Told>,
@@ -256,7 +259,7 @@ fn each_record<I: Input>(
     requires { AreEmpty (length front.now) homes.old.items }
     ensures { ArePutAs (length front.now)
         (I.seen input.old) (I.seen input.new) homes.old.items homes.new.items result (each_at
-        (record_at (told_context base.now front.now homes.old.items)) after_lem count start) }
+        (record_at (told_context version base.now front.now homes.old.items)) after_lem count start) }
 {
     let mut last = Last {
         home: 0,
@@ -264,7 +267,7 @@ fn each_record<I: Input>(
         count: 0,
     };
     'records: for _ in 0..count {
-        let kept = record_of(alloc, base, front, homes.as_slice(), last, input)?;
+        let kept = record_of(alloc, version, base, front, homes.as_slice(), last, input)?;
         last = after(last, &kept);
         // straight to its home: a list between would move each record, of some 150 bytes, twice
         put_home(homes, kept)?;
@@ -275,6 +278,7 @@ fn each_record<I: Input>(
 #[tactic(auto, unfolding(crate::specs::Reading::records_at))]
 fn records_of<I: Input>(
     alloc: Global,
+    version: Version,
     base: &Front,
     front: &Front,
     homes: &mut Vec<Told>,
@@ -282,14 +286,14 @@ fn records_of<I: Input>(
 ) -> Result<(), Stop>
     requires { AreEmpty (length front.now) homes.old.items }
     ensures { ArePutAs (length front.now) (I.seen input.old) (I.seen input.new) homes.old.items
-        homes.new.items result (records_at (told_context base.now front.now homes.old.items)) }
+        homes.new.items result (records_at (told_context version base.now front.now homes.old.items)) }
 {
     let place = input.place();
     let count = two_bytes(input)?;
     if !(count as usize <= 256 * front.nodes()) {
         return Err(Stop::Fault(place));
     }
-    each_record(alloc, base, front, homes, count, input)
+    each_record(alloc, version, base, front, homes, count, input)
 }
 
 // ---- the frame
@@ -309,15 +313,15 @@ fn nodes_of<I: Input>(input: &mut I) -> Result<u8, Stop>
 }
 
 #[tactic(auto, unfolding(crate::specs::Reading::body_at))]
-fn body_of<I: Input>(alloc: Global, input: &mut I) -> Result<Delta, Stop>
-    ensures { Reads (I.seen input.old) (I.seen input.new) (λ x. x) result body_at }
+fn body_of<I: Input>(alloc: Global, version: Version, input: &mut I) -> Result<Delta, Stop>
+    ensures { Reads (I.seen input.old) (I.seen input.new) (λ x. x) result (body_at version) }
 {
     let nodes = nodes_of(input)?;
     let base = base_of(nodes, input)?;
     let front = front_of(nodes, &base, input)?;
     let purges = purges_of(nodes, &front, input)?;
     let mut homes = each_home(alloc, nodes, &base, &purges, &front, input)?;
-    records_of(alloc, &base, &front, &mut homes, input)?;
+    records_of(alloc, version, &base, &front, &mut homes, input)?;
     Ok(Delta::new(base, front, purges, homes))
 }
 
@@ -333,16 +337,16 @@ fn magic_of<I: Input>(input: &mut I) -> Result<u32, Stop>
     Ok(letters)
 }
 
-fn version_of<I: Input>(input: &mut I) -> Result<u8, Stop>
+fn version_of<I: Input>(input: &mut I) -> Result<Version, Stop>
     ensures { Reads (I.seen input.old) (I.seen input.new)
-        (λ x. x) result (number_at w8 (λ n. n == 1)) }
+        version_mark result (number_at w8 is_version) }
 {
     let place = input.place();
-    let version = byte(input)?;
-    if !(version == 1) {
-        return Err(Stop::Fault(place));
+    match byte(input)? {
+        1 => Ok(Version::One),
+        2 => Ok(Version::Two),
+        _ => Err(Stop::Fault(place)),
     }
-    Ok(version)
 }
 
 /// How many bytes come after it.
@@ -366,18 +370,18 @@ fn ends(start: u64, len: u64, place: u64) -> bool
 }
 
 /// A frame, which must end where its length says and where the input has to.
-#[tactic(auto, unfolding(crate::specs::Reading::frame_at, crate::specs::Reading::framed_at, crate::specs::Reading::ended_at))]
+#[tactic(auto, unfolding(crate::specs::Reading::frame_at, crate::specs::Reading::versioned_at, crate::specs::Reading::framed_at, crate::specs::Reading::ended_at))]
 pub fn frame_of<I: Input>(alloc: Global, input: &mut I) -> Result<Delta, Stop>
     ensures answers { Answers (I.seen input.old) (I.seen input.new) (λ x. x) result frame_at }
     ensures whole { IfOk result (λ _. length (I.seen input.new).taken ≡ (I.seen input.old).limit) }
 {
     let limit = input.limit();
     magic_of(input)?;
-    version_of(input)?;
+    let version = version_of(input)?;
     let len = length_of(input)? as u64;
     let start = input.place();
     input.bound(len);
-    let delta = body_of(alloc, input)?;
+    let delta = body_of(alloc, version, input)?;
     let place = input.place();
     if !ends(start, len, place) {
         return Err(Stop::Fault(place));

@@ -13,12 +13,15 @@ ghost use Rattle.lra_history.specs.ViewShape.{HasShape};
 ghost use Rattle.lra_history.specs.Views.{IsCounted, StandsFor, View, purge_number, records_at};
 ghost use Rattle.lra_delta.specs.Frames.{Frame, IsFrame, frame_of, has_news};
 ghost use Rattle.lra_delta.specs.Grammar.{IsOfGrammar};
-ghost use Rattle.lra_delta.specs.Rules.{IsDelta};
-ghost use Rattle.lra_delta.specs.OneRecord.{KeepsRulesUnder, IsRecordUnder};
+ghost use Rattle.lra_delta.specs.Rules.{IsDelta, IsDeltaAs};
+ghost use Rattle.lra_delta.specs.OneRecord.{KeepsRulesUnder, IsRecordUnder, IsRecordUnderAs};
 ghost use Rattle.lra_delta.specs.Reading.{frame_in};
-ghost use Rattle.lra_delta.specs.Encoding.{record_text, encoding};
+ghost use Rattle.lra_delta.specs.Encoding.{record_text_as, encoding, encoding_as};
 ghost use Rattle.lra_delta.specs.FrameSizes.{IsShort, frame_size};
 ghost use Rattle.lra_delta.specs.TakenFrames.{IsTaken};
+ghost use Rattle.lra_delta.specs.Versions.{needs_two};
+ghost use Rattle.lra_delta.specs.declared.version.Version.{Version};
+ghost use Rattle.lra_delta.specs.declared.version.Version.TheVariants.{One, Two};
 ghost use Rattle.lra_delta.specs.Typed.{IsTyped, IsTypedRecord};
 
 pub use crate::scan::since_by_scan;
@@ -80,14 +83,16 @@ pub fn frames_of_a_history_keep_the_rules()
 /// A frame that keeps the rules is no longer than a frame can be, where no link is longer than links can be.
 #[tactic(auto, using(crate::proofs::FrameSizes::frame_most))]
 pub fn frames_are_not_too_long()
-    ensures { (frame : Frame) →
-        IsOfGrammar frame → length frame.front ≤ 8 → IsShort frame → frame_size frame ≤ 67108855 }
+    ensures { (version : Version) (frame : Frame) →
+        IsOfGrammar frame → length frame.front ≤ 8 → IsShort frame → frame_size version frame ≤ 67108855 }
 {}
 
 /// What keeps the rules that the frames of nodes of a history keep, and has the types of a delta, keeps the rules of a frame. So
 /// what a node of a lawful history tells has an encoding, which is read as itself again.
 pub fn frames_of_a_history_have_an_encoding()
     ensures rules { (frame : Frame) → IsTyped frame → IsOfGrammar frame → IsDelta frame }
+    ensures first { (frame : Frame) → IsTyped frame → IsOfGrammar frame →
+        needs_two frame ≡ false → IsDeltaAs One frame }
     ensures read { (h : History) (w base : List ℕ) (view : View) →
         IsLawful h → IsClosed h w → StandsFor (facts h w) view →
         length base ≡ length view.front → IsBelow base view.front → IsTyped (frame_of view base) →
@@ -105,11 +110,20 @@ pub fn records_of_a_history_have_an_encoding()
         IsTypedRecord kept → KeepsRulesUnder front kept → IsRecordUnder front kept }
 {}
 
-/// What keeps the rules of a frame has one encoding, and no prefix of an encoding is another's. So it is of a record under a
-/// front.
+/// A record that keeps the rules of version 1 under a front keeps those of version 2. So one that was read in version 1 is read back
+/// where it is written in version 2.
+#[tactic(auto, using(crate::proofs::FirstVersion::record_first))]
+pub fn a_record_of_version_1_keeps_the_rules_of_version_2()
+    ensures { (front : List ℕ) (kept : Record) →
+        IsRecordUnderAs One front kept → IsRecordUnder front kept }
+{}
+
+/// What keeps the rules of a frame of a version has one encoding of it, and no prefix of an encoding is another's, of whichever
+/// version. So it is of a record under a front.
 pub fn one_encoding()
-    ensures frame { (a b : Frame) (x y : List ℕ) →
-        IsDelta a → IsDelta b → encoding a ++ x ≡ encoding b ++ y → (a ≡ b) × (x ≡ y) }
-    ensures one { (front : List ℕ) (a b : Record) (x y : List ℕ) → IsRecordUnder front a →
-        IsRecordUnder front b → record_text a ++ x ≡ record_text b ++ y → (a ≡ b) × (x ≡ y) }
+    ensures frame { (v w : Version) (a b : Frame) (x y : List ℕ) → IsDeltaAs v a → IsDeltaAs w b →
+        encoding_as v a ++ x ≡ encoding_as w b ++ y → (v ≡ w) × (a ≡ b) × (x ≡ y) }
+    ensures one { (v : Version) (front : List ℕ) (a b : Record) (x y : List ℕ) →
+        IsRecordUnderAs v front a → IsRecordUnderAs v front b →
+        record_text_as v a ++ x ≡ record_text_as v b ++ y → (a ≡ b) × (x ≡ y) }
 {}

@@ -2,9 +2,10 @@
 ghost use Rattle.std.specs.Prelude.{◌≡◌, ℕ, List, IfOk, Ok, length};
 ghost use Rattle.lra_forest.specs.declared.record.Record.{Record};
 ghost use Rattle.lra_delta.specs.Answer.{Decodes};
-ghost use Rattle.lra_delta.specs.OneRecord.{KeepsRulesUnder, IsRecordUnder, alone_at, record_in};
+ghost use Rattle.lra_delta.specs.OneRecord.{KeepsRulesUnder, IsRecordUnder, IsRecordUnderAs, alone_at, record_in_as};
 ghost use Rattle.lra_delta.specs.Seen.{Answers};
-ghost use Rattle.lra_delta.specs.Encoding.{record_text};
+ghost use Rattle.lra_delta.specs.Encoding.{record_text, record_text_as};
+ghost use Rattle.lra_delta.specs.declared.version.Version.TheVariants.{Two};
 
 use crate::buffer::Buffer;
 use crate::bytes::Bytes;
@@ -12,14 +13,20 @@ use crate::input::{Input, Stop};
 use crate::order::Last;
 use crate::record_encoding::put_record;
 use crate::record_fields::record_of;
+use crate::version::Version;
 use lra_facts::Refusal;
 use lra_forest::Record;
 use lra_id::Front;
 use std::alloc::{AllocError, Global};
 
 #[tactic(auto, unfolding(crate::specs::OneRecord::alone_at))]
-fn alone_of<I: Input>(alloc: Global, front: &Front, input: &mut I) -> Result<Record, Stop>
-    ensures { Answers (I.seen input.old) (I.seen input.new) (λ x. x) result (alone_at front.now) }
+fn alone_of<I: Input>(
+    alloc: Global,
+    version: Version,
+    front: &Front,
+    input: &mut I,
+) -> Result<Record, Stop>
+    ensures { Answers (I.seen input.old) (I.seen input.new) (λ x. x) result (alone_at version front.now) }
 {
     let limit = input.limit();
     let base = Front::zero(front.nodes());
@@ -28,7 +35,7 @@ fn alone_of<I: Input>(alloc: Global, front: &Front, input: &mut I) -> Result<Rec
         num: 0,
         count: 0,
     };
-    let kept = record_of(alloc, &base, front, &[], last, input)?;
+    let kept = record_of(alloc, version, &base, front, &[], last, input)?;
     let place = input.place();
     if !(place == limit) {
         return Err(Stop::Fault(place));
@@ -37,11 +44,11 @@ fn alone_of<I: Input>(alloc: Global, front: &Front, input: &mut I) -> Result<Rec
 }
 
 /// The record that all of the bytes encode.
-fn alone(alloc: Global, bytes: &[u8], front: &Front) -> Result<Record, Refusal>
-    ensures { Decodes result (record_in front.now bytes.now) }
+fn alone(alloc: Global, bytes: &[u8], front: &Front, version: Version) -> Result<Record, Refusal>
+    ensures { Decodes result (record_in_as version front.now bytes.now) }
 {
     let mut input = Bytes::new(bytes);
-    match alone_of(alloc, front, &mut input) {
+    match alone_of(alloc, version, front, &mut input) {
         Ok(kept) => Ok(kept),
         Err(Stop::Fault(place)) => Err(Refusal::BadFrame(place)),
         Err(Stop::Cut) => unreachable!(),
@@ -50,28 +57,34 @@ fn alone(alloc: Global, bytes: &[u8], front: &Front) -> Result<Record, Refusal>
     }
 }
 
-/// The record that all of the bytes encode, with base zero and no live list, under a front. E16 at the place of the first field
+/// The record that all of the bytes encode in a version, with base zero and no live list, under a front. E16 at the place of the first field
 /// that isn't whole or breaks its rule.
-pub fn decode_record(alloc: Global, bytes: &[u8], front: &Front) -> Result<Record, Refusal>
+pub fn decode_record(
+    alloc: Global,
+    bytes: &[u8],
+    front: &Front,
+    version: Version,
+) -> Result<Record, Refusal>
     // Which place it is.
-    ensures exact { Decodes result (record_in front.now bytes.now) }
+    ensures exact { Decodes result (record_in_as version front.now bytes.now) }
     // What is read keeps the rules, and is encoded so.
-    ensures found { IfOk result (λ kept. IsRecordUnder front.now kept
-        × (bytes.now ≡ record_text kept)) }
+    ensures found { IfOk result (λ kept. IsRecordUnderAs version front.now kept
+        × (bytes.now ≡ record_text_as version kept)) }
     // What is encoded so is read, unless memory runs out.
     ensures only { (kept : Record) →
-        IsRecordUnder front.now kept → bytes.now ≡ record_text kept → Decodes result (Ok kept) }
+        IsRecordUnderAs version front.now kept →
+        bytes.now ≡ record_text_as version kept → Decodes result (Ok kept) }
 {
-    alone(alloc, bytes, front)
+    alone(alloc, bytes, front, version)
 }
 
-/// The bytes that encode a record. Under a front where it fits they are read as itself again.
+/// The bytes that encode a record, in version 2. Under a front where it fits they are read as itself again.
 pub fn encode_record(alloc: Global, kept: &Record) -> Result<Vec<u8>, AllocError>
     ensures text { IfOk result (λ bytes. bytes.items ≡ record_text kept.now) }
     ensures rules { (front : List ℕ) →
         KeepsRulesUnder front kept.now → IsRecordUnder front kept.now }
 {
     let mut out = Buffer::new(alloc);
-    put_record(&mut out, kept);
+    put_record(&mut out, Version::Two, kept);
     out.into_bytes()
 }

@@ -1,10 +1,11 @@
 // A frame out of a source.
 ghost use Rattle.std.specs.Prelude.{◌≡◌, ◌+◌, ◌<◌, length, take, IfErr, IfOk, IfSome, OnOk};
 ghost use Rattle.lra_http.specs.Streams.{Gives, too_many_interrupted};
-ghost use Rattle.lra_delta.specs.Encoding.{encoding};
+ghost use Rattle.lra_delta.specs.Encoding.{encoding_as};
 ghost use Rattle.lra_delta.specs.Reading.{read_of};
-ghost use Rattle.lra_delta.specs.Rules.{IsDelta};
+ghost use Rattle.lra_delta.specs.Rules.{IsDeltaAs};
 ghost use Rattle.lra_delta.specs.Sources.{ReadsCalls, Says, StopsReading};
+ghost use Rattle.lra_delta.specs.declared.version.Version.{Version};
 
 use crate::Delta;
 use crate::frame_fields::frame_of;
@@ -14,7 +15,7 @@ use lra_http::Source;
 use std::alloc::Global;
 
 impl Delta {
-    /// A frame of exactly so many bytes, read from a source number by number and text by text: over a socket a buffered reader
+    /// A frame of exactly so many bytes, of version 1 or 2, read from a source number by number and text by text: over a socket a buffered reader
     /// goes below. What is behind them is left unread. `interrupted` counts the interrupted calls of the message that they belong
     /// to. E16 at the place of the first field that isn't whole within the frame or breaks its rule, of which no more was read than
     /// tells so, and nothing behind it. `Cut` or `ReadFault` where the source ends or fails before that.
@@ -25,9 +26,10 @@ impl Delta {
         interrupted: &mut u16,
     ) -> Result<Delta, Stop>
         requires { interrupted.old < too_many_interrupted }
-        // What was given is the encoding of a frame that keeps the rules, and no byte more.
-        ensures frame { IfOk result (λ delta. IsDelta delta × (length (encoding delta) ≡ bytes)
-            × Gives (S.stream reader.old) (S.stream reader.new) (encoding delta)) }
+        // What was given is the encoding of a frame that keeps the rules, in a version, and no byte more.
+        ensures frame { IfOk result (λ delta. (version : Version)
+            × IsDeltaAs version delta × (length (encoding_as version delta) ≡ bytes)
+            × Gives (S.stream reader.old) (S.stream reader.new) (encoding_as version delta)) }
         // What was given before each stop shows it, whatever follows.
         ensures stop { IfErr result
             (StopsReading bytes (S.stream reader.old) (S.stream reader.new)) }

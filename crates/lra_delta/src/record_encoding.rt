@@ -1,12 +1,14 @@
-// The one encoding of a record, put field by field.
+// The encoding of a record, one of each version, put field by field.
 ghost use Rattle.std.specs.Prelude.{◌≡◌, ◌++◌, ◌≤◌, Some, length};
 ghost use Rattle.std.specs.List.{All, flat_map};
+ghost use Rattle.std.specs.Option.{option_copied};
 ghost use Rattle.lra_delta.specs.Rules.{IsLink};
-ghost use Rattle.lra_delta.specs.Encoding.{byte, counted, decision_mark, link_text, member, members, number, outcome_mark, parent, participant, record_text, vector};
+ghost use Rattle.lra_delta.specs.Encoding.{after_link, byte, counted, decision_mark, flag_mark, link_text, links_text, member, members, number, outcome_mark, parent, participant, record_text, record_text_as, told_mark, vector};
 ghost use Rattle.lra_delta.specs.Typed.{AreLinks, HasLinks, IsTypedRecord};
 
 use crate::output::Output;
-use lra_facts::Link;
+use crate::version::Version;
+use lra_facts::{Link, Links};
 use lra_forest::{Member, Members, Participant, Place, Record};
 use lra_id::Front;
 use lra_states::{Outcome, Verdict};
@@ -83,10 +85,10 @@ fn put_link<O: Output>(out: &mut O, link: &Link)
     put_text(out, link.as_bytes());
 }
 
-fn put_link_or_none<O: Output>(out: &mut O, link: &Option<Link>)
+fn put_link_or_none<O: Output>(out: &mut O, link: Option<&Link>)
     ensures same { O.start out.new ≡ O.start out.old }
-    ensures text { O.text out.new ≡ O.text out.old ++ counted (link_text link.now) }
-    ensures link { IsLink link.now }
+    ensures text { O.text out.new ≡ O.text out.old ++ counted (link_text (option_copied link.entry)) }
+    ensures link { IsLink (option_copied link.entry) }
 {
     match link {
         None => put_text(out, &[]),
@@ -94,25 +96,74 @@ fn put_link_or_none<O: Output>(out: &mut O, link: &Option<Link>)
     }
 }
 
-#[tactic(auto, unfolding(crate::specs::Encoding::participant))]
-fn put_participant<O: Output>(out: &mut O, p: &Participant)
+/// The link for the end, where the version knows it. What it is by its type is said in any case.
+fn put_after<O: Output>(out: &mut O, version: Version, link: Option<&Link>)
     ensures same { O.start out.new ≡ O.start out.old }
-    ensures text { O.text out.new ≡ O.text out.old ++ participant p.now }
+    ensures text { O.text out.new ≡ O.text out.old ++ after_link version (option_copied link.entry) }
+    ensures link { IsLink (option_copied link.entry) }
+{
+    match version {
+        Version::One => {
+            if let Some(link) = link {
+                is_link(link);
+            }
+        }
+        Version::Two => put_link_or_none(out, link),
+    }
+}
+
+#[tactic(auto, using(crate::proofs::Fitted::kept_is_link))]
+fn is_link(link: &Link)
+    ensures { IsLink (Some link.now) }
+{
+    let _ = link.as_bytes();
+}
+
+fn flag(marked: bool) -> u8
+    ensures { result ≡ flag_mark marked }
+{
+    if marked { 1 } else { 0 }
+}
+
+fn put_told<O: Output>(out: &mut O, version: Version, told: bool)
+    ensures same { O.start out.new ≡ O.start out.old }
+    ensures text { O.text out.new ≡ O.text out.old ++ told_mark version told }
+{
+    if let Version::Two = version {
+        put_byte(out, flag(told));
+    }
+}
+
+#[tactic(auto, unfolding(crate::specs::Encoding::links_text))]
+fn put_links<O: Output>(out: &mut O, version: Version, links: &Links)
+    ensures same { O.start out.new ≡ O.start out.old }
+    ensures text { O.text out.new ≡ O.text out.old ++ links_text version links.now }
+    ensures links { AreLinks links.now }
+{
+    put_link_or_none(out, links.complete());
+    put_link_or_none(out, links.compensate());
+    put_link_or_none(out, links.status());
+    put_link_or_none(out, links.forget());
+    put_after(out, version, links.after());
+}
+
+#[tactic(auto, unfolding(crate::specs::Encoding::participant, crate::specs::Encoding::marks_text))]
+fn put_participant<O: Output>(out: &mut O, version: Version, p: &Participant)
+    ensures same { O.start out.new ≡ O.start out.old }
+    ensures text { O.text out.new ≡ O.text out.old ++ participant version p.now }
     ensures links { AreLinks p.now.links }
 {
-    put_link_or_none(out, &p.links.complete);
-    put_link(out, &p.links.compensate);
-    put_link_or_none(out, &p.links.status);
-    put_link_or_none(out, &p.links.forget);
+    put_links(out, version, &p.links);
     put_byte(out, outcome_mark(p.completed));
     put_byte(out, outcome_mark(p.compensated));
-    put_byte(out, if p.forgotten { 1 } else { 0 });
+    put_byte(out, flag(p.forgotten));
+    put_told(out, version, p.told);
 }
 
 #[tactic(auto, unfolding(crate::specs::Encoding::member))]
-fn put_member<O: Output>(out: &mut O, m: &Member)
+fn put_member<O: Output>(out: &mut O, version: Version, m: &Member)
     ensures same { O.start out.new ≡ O.start out.old }
-    ensures text { O.text out.new ≡ O.text out.old ++ member m.now }
+    ensures text { O.text out.new ≡ O.text out.old ++ member version m.now }
     ensures links { HasLinks m.now }
 {
     match m {
@@ -122,31 +173,31 @@ fn put_member<O: Output>(out: &mut O, m: &Member)
         }
         Member::Participant(p) => {
             put_byte(out, 1);
-            put_participant(out, p);
+            put_participant(out, version, p);
         }
         Member::Left => put_byte(out, 2),
     }
 }
 
-fn put_each_member<O: Output>(out: &mut O, ms: &[Member])
+fn put_each_member<O: Output>(out: &mut O, version: Version, ms: &[Member])
     ensures same { O.start out.new ≡ O.start out.old }
-    ensures text { O.text out.new ≡ O.text out.old ++ flat_map member ms.now }
+    ensures text { O.text out.new ≡ O.text out.old ++ flat_map (member version) ms.now }
     ensures links { All HasLinks ms.now }
 {
     for m in ms {
-        put_member(out, m);
+        put_member(out, version, m);
     }
 }
 
 #[tactic(auto, unfolding(crate::specs::Encoding::members))]
-fn put_members<O: Output>(out: &mut O, ms: &Members)
+fn put_members<O: Output>(out: &mut O, version: Version, ms: &Members)
     ensures same { O.start out.new ≡ O.start out.old }
-    ensures text { O.text out.new ≡ O.text out.old ++ members ms.now }
+    ensures text { O.text out.new ≡ O.text out.old ++ members version ms.now }
     ensures links { All HasLinks ms.now }
 {
     let list = ms.as_slice();
     put_byte(out, list.len() as u8);
-    put_each_member(out, list);
+    put_each_member(out, version, list);
 }
 
 /// Numbers, one after another.
@@ -168,10 +219,10 @@ pub(crate) fn put_front<O: Output>(out: &mut O, front: &Front)
 }
 
 /// A record. What its numbers and links keep by their types is said beside.
-#[tactic(auto, unfolding(crate::specs::Encoding::record_text))]
-pub(crate) fn put_record<O: Output>(out: &mut O, r: &Record)
+#[tactic(auto, unfolding(crate::specs::Encoding::record_text_as))]
+pub(crate) fn put_record<O: Output>(out: &mut O, version: Version, r: &Record)
     ensures same { O.start out.new ≡ O.start out.old }
-    ensures text { O.text out.new ≡ O.text out.old ++ record_text r.now }
+    ensures text { O.text out.new ≡ O.text out.old ++ record_text_as version r.now }
     ensures typed { IsTypedRecord r.now }
 {
     put_byte(out, r.home.number());
@@ -180,5 +231,5 @@ pub(crate) fn put_record<O: Output>(out: &mut O, r: &Record)
     put_number(out, r.deadline);
     put_byte(out, decision_mark(r.decision));
     put_front(out, &r.stamps);
-    put_members(out, &r.members);
+    put_members(out, version, &r.members);
 }

@@ -1,5 +1,5 @@
 // The fields of a record in order.
-ghost use Rattle.std.specs.Prelude.{[], ◌≡◌, ◌+◌, ◌-◌, ◌*◌, ◌≤◌, ◌<◌, ◌==◌, ℕ, length, slice_index, true, IfOk};
+ghost use Rattle.std.specs.Prelude.{[], ◌≡◌, ◌+◌, ◌-◌, ◌*◌, ◌≤◌, ◌<◌, ◌==◌, ℕ, length, slice_index, true, false, is_none, is_some, Some, IfOk};
 ghost use Rattle.std.specs.Int.{w8, w64};
 ghost use Rattle.std.specs.List.{list_any};
 ghost use Rattle.lra_id.specs.Fronts.{count};
@@ -8,18 +8,21 @@ ghost use Rattle.lra_delta.specs.Order.{Follows};
 ghost use Rattle.lra_delta.specs.Seen.{Reads};
 ghost use Rattle.lra_delta.specs.FrameFields.{each_at, many_at, number_at, vector_at, whole_at};
 ghost use Rattle.lra_delta.specs.Frames.{is_beyond, live_at};
-ghost use Rattle.lra_delta.specs.Rules.{are_stamps, at_most, is_among, is_home, is_mark_for, is_next, is_number, is_outcome, is_outcome_for, next_nested, told_context};
-ghost use Rattle.lra_delta.specs.Reading.{decision_at, link_at, member_at, members_at, outcome_of, parent_at, participant_at, place_at, record_at, text_at};
-ghost use Rattle.lra_delta.specs.Rules.{is_given_length};
-ghost use Rattle.lra_facts.specs.LinkTexts.{is_kept};
+ghost use Rattle.lra_delta.specs.Rules.{are_stamps, at_most, is_among, is_home, is_kept_or_none, is_length_for, is_next, is_number, may_be, may_be_after, needs_compensate, next_nested, told_context};
+ghost use Rattle.lra_delta.specs.Reading.{after_at, decision_at, last_link_at, link_at, links_at, member_at, members_at, parent_at, participant_at, place_at, record_at};
+ghost use Rattle.lra_facts.specs.Links.{links_together};
+ghost use Rattle.lra_delta.specs.declared.version.Version.TheVariants.{One, Two};
+ghost use Rattle.lra_delta.specs.Versions.{version_mark};
 
 use crate::fields::{byte, number, text};
 use crate::input::{Input, Stop};
+use crate::marks::marks_of;
 use crate::order::Last;
+use crate::version::Version;
 use lra_facts::{Link, Links};
 use lra_forest::{Member, Members, Participant, Place, Record, Told};
 use lra_id::{Front, NodeId};
-use lra_states::{Outcome, Verdict};
+use lra_states::Verdict;
 use std::alloc::Global;
 
 #[tactic(auto, unfolding(crate::specs::Reading::place_at))]
@@ -69,30 +72,27 @@ fn decision_of<I: Input>(input: &mut I) -> Result<Option<Verdict>, Stop>
 
 // ---- links
 
-#[tactic(auto, unfolding(crate::specs::Reading::text_at))]
-fn given_link_of<I: Input>(alloc: Global, input: &mut I) -> Result<Link, Stop>
-    ensures { Reads (I.seen input.old) (I.seen input.new)
-        (λ x. x) result (text_at is_given_length is_kept) }
+fn is_length_for(needed: bool, allowed: bool, len: u8) -> bool
+    ensures { result ≡ is_length_for needed allowed len }
 {
-    let place = input.place();
-    let len = byte(input)?;
-    if !(1 <= len && len <= 127) {
-        return Err(Stop::Fault(place));
-    }
-    let text = text(alloc, place, len, input)?;
-    match Link::from_kept(alloc, &text)? {
-        Some(link) => Ok(link),
-        None => Err(Stop::Fault(place)),
-    }
+    len <= 127 && (!needed || 1 <= len) && (allowed || len == 0)
 }
 
+/// A link, which may be needed here, or not allowed.
 #[tactic(auto, unfolding(crate::specs::Reading::link_at, crate::specs::Reading::text_at))]
-fn link_of<I: Input>(alloc: Global, input: &mut I) -> Result<Option<Link>, Stop>
-    ensures { Reads (I.seen input.old) (I.seen input.new) (λ x. x) result link_at }
+fn link_of<I: Input>(
+    alloc: Global,
+    needed: bool,
+    allowed: bool,
+    input: &mut I,
+) -> Result<Option<Link>, Stop>
+    ensures gives { Reads (I.seen input.old) (I.seen input.new)
+        (λ x. x) result (link_at needed allowed) }
+    ensures may { IfOk result (λ link. may_be needed allowed link ≡ true) }
 {
     let place = input.place();
     let len = byte(input)?;
-    if !(len <= 127) {
+    if !is_length_for(needed, allowed, len) {
         return Err(Stop::Fault(place));
     }
     let text = text(alloc, place, len, input)?;
@@ -105,78 +105,113 @@ fn link_of<I: Input>(alloc: Global, input: &mut I) -> Result<Option<Link>, Stop>
     }
 }
 
-// ---- participants
-
-fn outcome_of(mark: u8) -> Option<Outcome>
-    ensures { result ≡ outcome_of mark }
+/// The link for the end, where the version knows it.
+#[tactic(auto, unfolding(crate::specs::Reading::after_at))]
+fn after_of<I: Input>(
+    alloc: Global,
+    version: Version,
+    needed: bool,
+    input: &mut I,
+) -> Result<Option<Link>, Stop>
+    ensures gives { Reads (I.seen input.old) (I.seen input.new)
+        (λ x. x) result (after_at version needed) }
+    ensures may { IfOk result (λ link. may_be_after version needed link ≡ true) }
 {
-    match mark {
-        0 => None,
-        1 => Some(Outcome::Busy),
-        2 => Some(Outcome::Done),
-        _ => Some(Outcome::Failed),
+    match version {
+        Version::One => Ok(None),
+        Version::Two => link_of(alloc, needed, true, input),
     }
 }
 
-/// The mark of what was heard of completing: 0 without a link.
-fn completed_of<I: Input>(link: &Option<Link>, input: &mut I) -> Result<u8, Stop>
-    ensures { Reads (I.seen input.old) (I.seen input.new)
-        (λ x. x) result (number_at w8 (is_outcome_for link.now)) }
+fn needs_compensate(version: Version, complete: &Option<Link>) -> bool
+    ensures { result ≡ needs_compensate version complete.now }
 {
-    let place = input.place();
-    let mark = byte(input)?;
-    if !(mark <= 3 && (link.is_some() || mark == 0)) {
-        return Err(Stop::Fault(place));
-    }
-    Ok(mark)
+    version == Version::One || complete.is_some()
 }
 
-fn compensated_of<I: Input>(input: &mut I) -> Result<u8, Stop>
-    ensures { Reads (I.seen input.old) (I.seen input.new)
-        (λ x. x) result (number_at w8 is_outcome) }
+/// These links, each of which may be there as it is.
+#[tactic(auto, using(crate::proofs::Together::links_are))]
+fn links_of(
+    version: Version,
+    complete: Option<Link>,
+    compensate: Option<Link>,
+    status: Option<Link>,
+    forget: Option<Link>,
+    after: Option<Link>,
+) -> Links
+    requires compensate { may_be (needs_compensate version complete) true compensate ≡ true }
+    requires status { may_be false (is_some compensate) status ≡ true }
+    requires forget { may_be false (is_some compensate) forget ≡ true }
+    requires after { may_be_after version (is_none compensate) after ≡ true }
+    ensures links { Some result ≡ links_together complete compensate status forget after }
 {
-    let place = input.place();
-    let mark = byte(input)?;
-    if !(mark <= 3) {
-        return Err(Stop::Fault(place));
+    match Links::of(complete, compensate, status, forget, after) {
+        Some(links) => links,
+        None => unreachable!(),
     }
-    Ok(mark)
 }
 
-/// The mark of being told to forget: 0 without a link.
-fn forgotten_of<I: Input>(link: &Option<Link>, input: &mut I) -> Result<u8, Stop>
-    ensures { Reads (I.seen input.old) (I.seen input.new)
-        (λ x. x) result (number_at w8 (is_mark_for link.now)) }
+/// What it takes is dropped. An early return that drops four links has an end for each that is given.
+fn let_go(
+    complete: Option<Link>,
+    compensate: Option<Link>,
+    status: Option<Link>,
+    forget: Option<Link>,
+) {}
+
+/// These links with that for the end behind them.
+#[tactic(auto, unfolding(crate::specs::Reading::last_link_at))]
+fn with_after<I: Input>(
+    alloc: Global,
+    version: Version,
+    complete: Option<Link>,
+    compensate: Option<Link>,
+    status: Option<Link>,
+    forget: Option<Link>,
+    input: &mut I,
+) -> Result<Links, Stop>
+    requires compensate { may_be (needs_compensate version complete) true compensate ≡ true }
+    requires status { may_be false (is_some compensate) status ≡ true }
+    requires forget { may_be false (is_some compensate) forget ≡ true }
+    ensures { Reads (I.seen input.old) (I.seen input.new) (λ x. x) result
+        (last_link_at version complete compensate status forget) }
 {
-    let place = input.place();
-    let mark = byte(input)?;
-    if !(mark <= 1 && (link.is_some() || mark == 0)) {
-        return Err(Stop::Fault(place));
+    match after_of(alloc, version, compensate.is_none(), input) {
+        Ok(after) => Ok(links_of(version, complete, compensate, status, forget, after)),
+        Err(stop) => {
+            let_go(complete, compensate, status, forget);
+            Err(stop)
+        }
     }
-    Ok(mark)
+}
+
+#[tactic(auto, unfolding(crate::specs::Reading::links_at))]
+fn given_links<I: Input>(alloc: Global, version: Version, input: &mut I) -> Result<Links, Stop>
+    ensures { Reads (I.seen input.old) (I.seen input.new) (λ x. x) result (links_at version) }
+{
+    let complete = link_of(alloc, false, true, input)?;
+    let compensate = link_of(alloc, needs_compensate(version, &complete), true, input)?;
+    let status = link_of(alloc, false, compensate.is_some(), input)?;
+    let forget = link_of(alloc, false, compensate.is_some(), input)?;
+    with_after(alloc, version, complete, compensate, status, forget, input)
 }
 
 #[tactic(auto, unfolding(crate::specs::Reading::participant_at))]
-fn participant_of<I: Input>(alloc: Global, input: &mut I) -> Result<Participant, Stop>
-    ensures { Reads (I.seen input.old) (I.seen input.new) (λ x. x) result participant_at }
+fn participant_of<I: Input>(
+    alloc: Global,
+    version: Version,
+    input: &mut I,
+) -> Result<Participant, Stop>
+    ensures { Reads (I.seen input.old) (I.seen input.new) (λ x. x) result (participant_at version) }
 {
-    let complete = link_of(alloc, input)?;
-    let compensate = given_link_of(alloc, input)?;
-    let status = link_of(alloc, input)?;
-    let forget = link_of(alloc, input)?;
-    let completed = completed_of(&complete, input)?;
-    let compensated = compensated_of(input)?;
-    let forgotten = forgotten_of(&forget, input)?;
+    let links = given_links(alloc, version, input)?;
+    let marks = marks_of(version, &links, input)?;
     Ok(Participant {
-        links: Links {
-            complete,
-            compensate,
-            status,
-            forget,
-        },
-        completed: outcome_of(completed),
-        compensated: outcome_of(compensated),
-        forgotten: forgotten == 1,
+        links,
+        completed: marks.completed,
+        compensated: marks.compensated,
+        forgotten: marks.forgotten,
+        told: marks.told,
     })
 }
 
@@ -184,8 +219,14 @@ fn participant_of<I: Input>(alloc: Global, input: &mut I) -> Result<Participant,
 
 /// A member. An LRA that is nested has a number above the last one, at most the stamp of the home.
 #[tactic(auto, unfolding(crate::specs::Reading::member_at, crate::specs::Reading::member_by))]
-fn member_of<I: Input>(alloc: Global, stamp: u64, last: u64, input: &mut I) -> Result<Member, Stop>
-    ensures { Reads (I.seen input.old) (I.seen input.new) (λ x. x) result (member_at stamp last) }
+fn member_of<I: Input>(
+    alloc: Global,
+    version: Version,
+    stamp: u64,
+    last: u64,
+    input: &mut I,
+) -> Result<Member, Stop>
+    ensures { Reads (I.seen input.old) (I.seen input.new) (λ x. x) result (member_at version stamp last) }
 {
     let place = input.place();
     match byte(input)? {
@@ -197,7 +238,7 @@ fn member_of<I: Input>(alloc: Global, stamp: u64, last: u64, input: &mut I) -> R
             }
             Ok(Member::Nested(nested))
         }
-        1 => Ok(Member::Participant(participant_of(alloc, input)?)),
+        1 => Ok(Member::Participant(participant_of(alloc, version, input)?)),
         2 => Ok(Member::Left),
         _ => Err(Stop::Fault(place)),
     }
@@ -215,19 +256,20 @@ fn next_nested(last: u64, member: &Member) -> u64
 
 fn each_member<I: Input>(
     alloc: Global,
+    version: Version,
     stamp: u64,
     num: u64,
     count: u8,
     input: &mut I,
 ) -> Result<Vec<Member>, Stop>
     ensures gives { Reads (I.seen input.old) (I.seen input.new)
-        (λ x. x.items) result (each_at (member_at stamp) next_nested count num) }
+        (λ x. x.items) result (each_at (member_at version stamp) next_nested count num) }
     ensures count { IfOk result (λ x. length x.items ≡ count) }
 {
     let mut list = Vec::new(alloc);
     let mut last = num;
     'members: for _ in 0..count {
-        let member = member_of(alloc, stamp, last, input)?;
+        let member = member_of(alloc, version, stamp, last, input)?;
         last = next_nested(last, &member);
         list.push(member)?;
     }
@@ -235,15 +277,21 @@ fn each_member<I: Input>(
 }
 
 #[tactic(auto, unfolding(crate::specs::Reading::members_at))]
-fn members_of<I: Input>(alloc: Global, stamp: u64, num: u64, input: &mut I) -> Result<Members, Stop>
-    ensures { Reads (I.seen input.old) (I.seen input.new) (λ x. x) result (members_at stamp num) }
+fn members_of<I: Input>(
+    alloc: Global,
+    version: Version,
+    stamp: u64,
+    num: u64,
+    input: &mut I,
+) -> Result<Members, Stop>
+    ensures { Reads (I.seen input.old) (I.seen input.new) (λ x. x) result (members_at version stamp num) }
 {
     let place = input.place();
     let count = byte(input)?;
     if !(count <= 32) {
         return Err(Stop::Fault(place));
     }
-    let list = each_member(alloc, stamp, num, count, input)?;
+    let list = each_member(alloc, version, stamp, num, count, input)?;
     Ok(Members::from_vec(list))
 }
 
@@ -316,7 +364,7 @@ fn is_told(told: &Told, num: u64) -> bool
 }
 
 fn is_among(homes: &[Told], home: NodeId, num: u64) -> bool
-    ensures { result ≡ is_among (live_at (told_context [] [] homes.now).lives home) num }
+    ensures { result ≡ is_among (live_at (told_context One [] [] homes.now).lives home) num }
 {
     match homes.get(usize::from(home.number() - 1)) {
         Some(told) => is_told(told, num),
@@ -325,7 +373,7 @@ fn is_among(homes: &[Told], home: NodeId, num: u64) -> bool
 }
 
 fn is_number(front: &Front, homes: &[Told], last: Last, home: NodeId, num: u64) -> bool
-    ensures { result ≡ is_number (told_context [] front.now homes.now) last home num }
+    ensures { result ≡ is_number (told_context One [] front.now homes.now) last home num }
 {
     1 <= num
         && num <= front.count(home)
@@ -358,7 +406,7 @@ fn num_of<I: Input>(
     input: &mut I,
 ) -> Result<u64, Stop>
     ensures gives { Reads (I.seen input.old) (I.seen input.new) (λ x. x) result
-        (number_at w64 (is_number (told_context [] front.now homes.now) last home)) }
+        (number_at w64 (is_number (told_context One [] front.now homes.now) last home)) }
     ensures rule { IfOk result (λ num. is_next last home num ≡ true) }
 {
     let place = input.place();
@@ -376,7 +424,7 @@ fn is_beyond(base: &Front, counts: &Front) -> bool
 }
 
 fn are_stamps(base: &Front, front: &Front, home: NodeId, num: u64, stamps: &Front) -> bool
-    ensures { result ≡ are_stamps (told_context base.now front.now []) home num stamps.now }
+    ensures { result ≡ are_stamps (told_context One base.now front.now []) home num stamps.now }
 {
     at_most(front.as_slice(), stamps.as_slice())
         && num <= stamps.count(home)
@@ -392,7 +440,7 @@ fn stamps_of<I: Input>(
     input: &mut I,
 ) -> Result<Front, Stop>
     ensures { Reads (I.seen input.old) (I.seen input.new) (λ x. x) result
-        (vector_at (length front.now) (are_stamps (told_context base.now front.now []) home num)) }
+        (vector_at (length front.now) (are_stamps (told_context One base.now front.now []) home num)) }
 {
     let place = input.place();
     let stamps = many_of(front.nodes() as u8, input)?;
@@ -406,6 +454,7 @@ fn stamps_of<I: Input>(
 #[tactic(auto, unfolding(crate::specs::Reading::record_at))]
 pub(crate) fn record_of<I: Input>(
     alloc: Global,
+    version: Version,
     base: &Front,
     front: &Front,
     homes: &[Told],
@@ -413,7 +462,7 @@ pub(crate) fn record_of<I: Input>(
     input: &mut I,
 ) -> Result<Record, Stop>
     ensures gives { Reads (I.seen input.old) (I.seen input.new)
-        (λ x. x) result (record_at (told_context base.now front.now homes.now) last) }
+        (λ x. x) result (record_at (told_context version base.now front.now homes.now) last) }
     ensures follows { IfOk result (λ x. Follows (length front.now) last x) }
 {
     let home = home_of(front.nodes(), last.home, input)?;
@@ -422,7 +471,7 @@ pub(crate) fn record_of<I: Input>(
     let deadline = number(input)?;
     let decision = decision_of(input)?;
     let stamps = stamps_of(base, front, home, num, input)?;
-    let members = members_of(alloc, stamps.count(home), num, input)?;
+    let members = members_of(alloc, version, stamps.count(home), num, input)?;
     Ok(Record {
         home,
         num,

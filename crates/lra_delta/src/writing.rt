@@ -10,6 +10,7 @@ ghost use Rattle.lra_delta.specs.WrittenSoFar.{Blames, appends_is_fact, blames_i
 use crate::Delta;
 use crate::frame_encoding::put_frame;
 use crate::output::Output;
+use crate::version::Version;
 use lra_http::{Log, Sink, WriteFault, write_all};
 use std::snapshot::Snapshot;
 
@@ -86,7 +87,7 @@ impl<'a, W: Sink> Output for Writing<'a, W> {
 }
 
 impl Delta {
-    /// Writes the bytes that encode it, number by number and text by text, or a prefix of them before a fault: over a socket a
+    /// Writes the bytes that encode it in version 2, number by number and text by text, or a prefix of them before a fault: over a socket a
     /// buffered writer goes below. It takes no memory. `interrupted` counts the interrupted calls of the message that they
     /// belong to.
     #[tactic(auto, using(crate::proofs::PartsPut::part_put))]
@@ -106,7 +107,7 @@ impl Delta {
     {
         let mut sheet = Sheet::new(writer);
         let mut out = Writing::new(writer, &mut sheet, *interrupted);
-        put_frame(&mut out, self);
+        put_frame(&mut out, Version::Two, self);
         *interrupted = out.interrupted;
         if out.broken {
             return Err(WriteFault);

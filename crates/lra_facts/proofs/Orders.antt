@@ -13,9 +13,9 @@ use Rattle.lra_states.specs.declared.outcome.Outcome.{Outcome}
 use Rattle.lra_states.specs.declared.outcome.Verdict.{Verdict}
 use Rattle.lra_states.specs.declared.outcome.Verdict.TheVariants.{Close, Cancel}
 use Rattle.lra_facts.specs.declared.fact.Body.{Body}
-use Rattle.lra_facts.specs.declared.fact.Body.TheVariants.{Begin, Join, Leave, Decide, Report, Forgot, Purge}
+use Rattle.lra_facts.specs.declared.fact.Body.TheVariants.{Begin, Join, Leave, Decide, Report, Forgot, Told, Purge}
 use Rattle.lra_facts.specs.declared.fact.Fact.{Fact}
-use Rattle.lra_facts.specs.declared.links.Links.{Links}
+use Rattle.lra_facts.specs.Links.{Links}
 use Rattle.lra_facts.specs.Lists.{In}
 use Rattle.lra_facts.specs.Laws.{IsSameSet, AreNumberedOnce, AreJoinedOnce}
 use Rattle.lra_facts.specs.Sets.{begins, is_begun, parent_named, parent_of, chain_within, chain, is_purge, is_purged_root, is_held, is_decision, is_decided, want, is_under, joined_links, links_of, is_leave, has_left, heard, status_by, joined_status, member_status, shows, some_shows, is_open, is_ended, shows_now, status}
@@ -137,6 +137,7 @@ shows_same S T once same test l (Leave d m) = refl
 shows_same S T once same test l (Decide d v) = refl
 shows_same S T once same test l (Report d m act o) = refl
 shows_same S T once same test l (Forgot d m) = refl
+shows_same S T once same test l (Told d m) = refl
 shows_same S T once same test l (Purge d) = refl
 
 pub some_shows_same : (S T : List Fact) → AreNumberedOnce S → IsSameSet S T → (test : MemberStatus → Bool) (l : Id) → some_shows test S l ≡ some_shows test T l

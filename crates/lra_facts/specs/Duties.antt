@@ -1,4 +1,4 @@
--- What is due of a participant: to compensate, in saga order, and to forget.
+-- What is due of a participant: to compensate, in saga order, to forget, and to hear that its LRA has ended.
 use Rattle.std.specs.Prelude.{◌==◌, ◌&&◌, ◌||◌, ◌++◌, ℕ, Bool, true, false, Option, Some, None, List, [], ◌∷◌, if◌then◌else◌, is_some, nat_lt}
 use mathlib.Core.Bool.{not}
 use Rattle.std.specs.List.{list_any}
@@ -9,12 +9,13 @@ use Rattle.lra_states.specs.declared.status.MemberStatus.{MemberStatus}
 use Rattle.lra_states.specs.declared.status.MemberStatus.TheVariants.{Completed, FailedToComplete, FailedToCompensate}
 use Rattle.lra_states.specs.declared.outcome.Act.TheVariants.{Compensate}
 use Rattle.lra_states.specs.declared.outcome.Outcome.{Outcome}
-use Rattle.lra_states.specs.declared.outcome.Verdict.TheVariants.{Cancel}
+use Rattle.lra_states.specs.declared.outcome.Verdict.{Verdict}
+use Rattle.lra_states.specs.declared.outcome.Verdict.TheVariants.{Close, Cancel}
 use Rattle.lra_facts.specs.declared.fact.Body.{Body}
-use Rattle.lra_facts.specs.declared.fact.Body.TheVariants.{Join, Forgot}
+use Rattle.lra_facts.specs.declared.fact.Body.TheVariants.{Join, Forgot, Told}
 use Rattle.lra_facts.specs.declared.fact.Fact.{Fact}
-use Rattle.lra_facts.specs.declared.links.Links.{Links}
-use Rattle.lra_facts.specs.Sets.{member_number, parent_of, chain, is_root, is_under, is_decided, is_participant, links_of, has_left, heard, joined_status, is_ended}
+use Rattle.lra_facts.specs.Links.{Links}
+use Rattle.lra_facts.specs.Sets.{member_number, parent_of, chain, is_root, is_under, is_decided, is_participant, links_of, has_left, heard, joined_status, is_ended, want}
 
 -- Saga order. A saga T1 .. Tj that is given up runs the compensations Cj .. C1 (Garcia-Molina and Salem, Sagas, 1987,
 -- section 2). Here what is nested is compensated in the place at which it was begun
@@ -51,17 +52,26 @@ is_later (x ∷ p) (y ∷ q) = nat_lt y x || ((x == y) && is_later p q)
 abbrev pub is_pending : Option Outcome → Bool
 is_pending o = nat_lt (level o) 2
 
--- it tells of a participant under a that is later in the saga than the path, and was not heard to be done or to have failed
+-- a participant with these links is to compensate, as far as this was heard of it: it gave a link for that, and no outcome
+-- that ends it was heard
+abbrev pub has_to_compensate : Links → Option Outcome → Bool
+has_to_compensate links o = is_some links.compensate && is_pending o
+
+-- the participant that joined l as m is to compensate: a listener never is
+abbrev pub is_uncompensated : List Fact → Id → ℕ → Bool
+is_uncompensated S l m = option_map_or (λ links. has_to_compensate links (heard S l m Compensate)) (links_of S l m) false
+
+-- it tells of a participant under a that is later in the saga than the path, and is still to compensate
 abbrev pub holds_back : List Fact → Id → List ℕ → Body → Bool
 holds_back S a path (Join d m links) =
-    is_under S a d && (not (has_left S d m) && (is_later (saga_path S d m) path && is_pending (heard S d m Compensate)))
+    is_under S a d && (not (has_left S d m) && (is_later (saga_path S d m) path && is_uncompensated S d m))
 holds_back S a path _ = false
 
--- the participant m of l is to be asked to compensate now: it is pending, and none later in the saga is
+-- the participant m of l is to be asked to compensate now: it is to compensate, and none later in the saga is
 abbrev pub is_compensation_due : List Fact → Id → ℕ → Bool
 is_compensation_due S l m =
     option_map_or
-    (λ a. is_participant S l m && (is_pending (heard S l m Compensate) && not (list_any (λ f. holds_back S a (saga_path S l m) f.body) S)))
+    (λ a. is_participant S l m && (is_uncompensated S l m && not (list_any (λ f. holds_back S a (saga_path S l m) f.body) S)))
     (topmost_cancelled S l) false
 
 -- Forgetting (this project's profile of the standard's forget callback)
@@ -89,3 +99,41 @@ owes_forget S l m links =
 
 abbrev pub is_forget_duty : List Fact → Id → ℕ → Bool
 is_forget_duty S l m = is_participant S l m && option_map_or (owes_forget S l m) (links_of S l m) false
+
+-- The end of an LRA (this project's profile of the standard's listeners)
+
+abbrev pub is_told_of : Id → ℕ → Body → Bool
+is_told_of l m (Told id member) = same_id id l && (member == m)
+is_told_of l m _ = false
+
+abbrev pub has_told : List Fact → Id → ℕ → Bool
+has_told S l m = list_any (λ f. is_told_of l m f.body) S
+
+-- the root of l wants something
+abbrev pub is_root_decided : List Fact → Id → Bool
+is_root_decided S l = list_any (λ a. is_root S a && is_some (want S a)) (chain S l)
+
+abbrev pub wants_cancel : Option Verdict → Bool
+wants_cancel (Some Cancel) = true
+wants_cancel (Some Close) = false
+wants_cancel None = false
+
+-- No later decision changes what l shows: it is ended, and it wants Cancel or its root wants something. A closed LRA whose root
+-- wants nothing is still cancelled with an LRA above it
+abbrev pub is_at_end : List Fact → Id → Bool
+is_at_end S l = is_ended S l && (wants_cancel (want S l) || is_root_decided S l)
+
+-- a participant of l with this number and these links has a link for the end of its LRA, and was not told of it
+abbrev pub is_untold_by : List Fact → Id → ℕ → Links → Bool
+is_untold_by S l m links = is_some links.after && not (has_told S l m)
+
+-- such a participant is to be told now
+abbrev pub owes_after : List Fact → Id → ℕ → Links → Bool
+owes_after S l m links = is_at_end S l && is_untold_by S l m links
+
+abbrev pub is_after_duty : List Fact → Id → ℕ → Bool
+is_after_duty S l m = is_participant S l m && option_map_or (owes_after S l m) (links_of S l m) false
+
+-- the participant m of l is still to be told, now or later: it has a link for the end, and was not told
+abbrev pub is_untold : List Fact → Id → ℕ → Bool
+is_untold S l m = is_participant S l m && option_map_or (is_untold_by S l m) (links_of S l m) false

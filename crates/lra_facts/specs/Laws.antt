@@ -2,7 +2,7 @@
 use Rattle.std.specs.Prelude.{◌≡◌, ◌<◌, ℕ, List, [], ◌∷◌, Some}
 use Rattle.lra_id.specs.Ids.{Id}
 use Rattle.lra_facts.specs.declared.fact.Fact.{Fact}
-use Rattle.lra_facts.specs.declared.links.Links.{Links}
+use Rattle.lra_facts.specs.Links.{Links}
 use Rattle.lra_facts.specs.Lists.{In, IsInside}
 use Rattle.lra_facts.specs.Sets.{joined_links}
 

@@ -8,7 +8,7 @@ use Rattle.lra_id.specs.Ids.{Id, IsFactNumber, same_id}
 use Rattle.lra_states.specs.States.{greater, level, same_act, same_verdict, is_final, same_member_status, completing, compensating, shown}
 use Rattle.lra_states.specs.declared.status.LraStatus.{LraStatus}
 use Rattle.lra_states.specs.declared.status.MemberStatus.{MemberStatus}
-use Rattle.lra_states.specs.declared.status.MemberStatus.TheVariants.{Active, Completed, FailedToComplete, FailedToCompensate}
+use Rattle.lra_states.specs.declared.status.MemberStatus.TheVariants.{Active, Completed, FailedToComplete, Compensated, FailedToCompensate}
 use Rattle.lra_states.specs.declared.outcome.Act.{Act}
 use Rattle.lra_states.specs.declared.outcome.Act.TheVariants.{Complete, Compensate}
 use Rattle.lra_states.specs.declared.outcome.Outcome.{Outcome}
@@ -17,7 +17,7 @@ use Rattle.lra_states.specs.declared.outcome.Verdict.TheVariants.{Close, Cancel}
 use Rattle.lra_facts.specs.declared.fact.Body.{Body}
 use Rattle.lra_facts.specs.declared.fact.Body.TheVariants.{Begin, Join, Leave, Decide, Report, Purge}
 use Rattle.lra_facts.specs.declared.fact.Fact.{Fact}
-use Rattle.lra_facts.specs.declared.links.Links.{Links}
+use Rattle.lra_facts.specs.Links.{Links}
 
 -- Facts
 
@@ -155,7 +155,7 @@ is_heard S l m act outcome = nat_le (level (Some outcome)) (level (heard S l m a
 -- whether a want demands the act of a participant with these links
 abbrev pub demands : Option Verdict → Links → Act → Bool
 demands (Some Close) links Complete = is_some links.complete
-demands (Some Cancel) links Compensate = true
+demands (Some Cancel) links Compensate = is_some links.compensate
 demands (Some Close) links Compensate = false
 demands (Some Cancel) links Complete = false
 demands None links act = false
@@ -164,11 +164,12 @@ abbrev pub is_demanded : List Fact → Id → ℕ → Act → Bool
 is_demanded S l m act = option_map_or (λ links. demands (want S l) links act) (links_of S l m) false
 
 -- The status of a participant, by what its LRA wants, its links and what was heard of it: the standard's states. One
--- without a complete link is Completed as soon as its LRA closes
+-- without a complete link is Completed as soon as its LRA closes, and one without a compensate link, a listener, is
+-- Compensated as soon as it is cancelled
 abbrev pub status_by : Option Verdict → Links → Option Outcome → Option Outcome → MemberStatus
 status_by None links completed compensated = Active
 status_by (Some Close) links completed compensated = if is_some links.complete then completing completed else Completed
-status_by (Some Cancel) links completed compensated = compensating compensated
+status_by (Some Cancel) links completed compensated = if is_some links.compensate then compensating compensated else Compensated
 
 abbrev pub joined_status : List Fact → Id → ℕ → Links → MemberStatus
 joined_status S l m links = status_by (want S l) links (heard S l m Complete) (heard S l m Compensate)

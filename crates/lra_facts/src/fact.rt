@@ -39,6 +39,11 @@ pub enum Body {
         id: LraId,
         member: u8,
     },
+    /// A participant was told that its LRA has ended.
+    Told {
+        id: LraId,
+        member: u8,
+    },
     /// A root and all that is nested in it is removed.
     Purge {
         root: LraId,

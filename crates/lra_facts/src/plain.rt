@@ -256,7 +256,7 @@ pub fn status_for(
     match want {
         None => MemberStatus::Active,
         Some(Verdict::Close) => {
-            if links.complete.is_none() {
+            if links.complete().is_none() {
                 return MemberStatus::Completed;
             }
             match completed {
@@ -265,11 +265,16 @@ pub fn status_for(
                 Some(Outcome::Failed) => MemberStatus::FailedToComplete,
             }
         }
-        Some(Verdict::Cancel) => match compensated {
-            None | Some(Outcome::Busy) => MemberStatus::Compensating,
-            Some(Outcome::Done) => MemberStatus::Compensated,
-            Some(Outcome::Failed) => MemberStatus::FailedToCompensate,
-        },
+        Some(Verdict::Cancel) => {
+            if links.compensate().is_none() {
+                return MemberStatus::Compensated;
+            }
+            match compensated {
+                None | Some(Outcome::Busy) => MemberStatus::Compensating,
+                Some(Outcome::Done) => MemberStatus::Compensated,
+                Some(Outcome::Failed) => MemberStatus::FailedToCompensate,
+            }
+        }
     }
 }
 
@@ -495,8 +500,8 @@ pub fn demands(want: Option<Verdict>, links: &Links, act: Act) -> bool
     ensures { result ≡ demands want links.now act }
 {
     match (want, act) {
-        (Some(Verdict::Close), Act::Complete) => links.complete.is_some(),
-        (Some(Verdict::Cancel), Act::Compensate) => true,
+        (Some(Verdict::Close), Act::Complete) => links.complete().is_some(),
+        (Some(Verdict::Cancel), Act::Compensate) => links.compensate().is_some(),
         _ => false,
     }
 }

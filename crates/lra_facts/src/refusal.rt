@@ -30,6 +30,8 @@ pub enum Refusal {
     NotRoot,
     /// E10: this participant of this LRA is still to be told to forget.
     StillToForget(LraId, u8),
+    /// E24: this participant of this LRA is still to be told that the LRA has ended.
+    StillToTell(LraId, u8),
     /// E11: 32 member numbers were given.
     MembersFull,
     /// E12: the parent has depth 8.
@@ -40,6 +42,8 @@ pub enum Refusal {
     NumbersSpent,
     /// E15: a base is not below this front.
     Gap(Front),
+    /// E23: a record has a link for the end of its LRA, which version 1 of frames does not know.
+    NeedsVersion2,
     /// E16: a frame, pull body or journal row breaks its grammar at this place.
     BadFrame(u64),
     /// E17: a request for memory was refused.
@@ -81,11 +85,13 @@ impl fmt::Display for Refusal {
             Refusal::NotEnded(status) => write!(f, "E8 NotEnded {status}"),
             Refusal::NotRoot => f.write_str("E9 NotRoot"),
             Refusal::StillToForget(id, member) => write!(f, "E10 StillToForget {id} {member}"),
+            Refusal::StillToTell(id, member) => write!(f, "E24 StillToTell {id} {member}"),
             Refusal::MembersFull => f.write_str("E11 MembersFull"),
             Refusal::DepthFull => f.write_str("E12 DepthFull"),
             Refusal::LrasFull => f.write_str("E13 LrasFull"),
             Refusal::NumbersSpent => f.write_str("E14 NumbersSpent"),
             Refusal::Gap(front) => write!(f, "E15 Gap {front}"),
+            Refusal::NeedsVersion2 => f.write_str("E23 NeedsVersion2"),
             Refusal::BadFrame(place) => write!(f, "E16 BadFrame {place}"),
             Refusal::NoMemory => f.write_str("E17 NoMemory"),
             Refusal::JournalFailed => f.write_str("E18 JournalFailed"),

@@ -2,7 +2,7 @@
 use Rattle.std.proofs.Common.{◌≡◌, inl, inr, List, [], ◌∷◌, refl, sym, ap, ◌∙◌, Bool, true, false, cond, Some, None}
 use Rattle.lra_id.specs.Ids.{Id, same_id}
 use Rattle.lra_facts.specs.declared.fact.Body.{Body}
-use Rattle.lra_facts.specs.declared.fact.Body.TheVariants.{Begin, Join, Leave, Decide, Report, Forgot, Purge}
+use Rattle.lra_facts.specs.declared.fact.Body.TheVariants.{Begin, Join, Leave, Decide, Report, Forgot, Told, Purge}
 use Rattle.lra_facts.specs.declared.fact.Fact.{Fact}
 use Rattle.lra_facts.specs.Sets.{begins, is_begin, begun_by, is_begun, gives_number, parent_named, parent_of}
 use Rattle.lra_facts.specs.Lists.{In}
@@ -55,6 +55,7 @@ begin_gives l (Leave id m) e = absurd cc
 begin_gives l (Decide id verdict) e = absurd cc
 begin_gives l (Report id m act outcome) e = absurd cc
 begin_gives l (Forgot id m) e = absurd cc
+begin_gives l (Told id m) e = absurd cc
 begin_gives l (Purge root) e = absurd cc
 
 -- a fact begins the LRA of its origin and number, if it is a begin

@@ -7,15 +7,15 @@ use Rattle.std.specs.Option.{option_map_or}
 use Rattle.lra_id.specs.Ids.{Id, same_id}
 use Rattle.lra_states.specs.declared.outcome.Verdict.{Verdict}
 use Rattle.lra_facts.specs.declared.fact.Fact.{Fact}
-use Rattle.lra_facts.specs.Duties.{has_forgot, has_to_forget, is_forget_duty, is_over}
+use Rattle.lra_facts.specs.Duties.{has_forgot, has_told, has_to_forget, is_after_duty, is_at_end, is_forget_duty, is_over, is_root_decided, wants_cancel}
 use Rattle.lra_facts.specs.Lists.{In}
 use Rattle.lra_facts.specs.Sets.{chain, depth, is_begun, is_ended, is_held, is_participant, is_root, is_under, want, IsNumbered}
 use Rattle.lra_facts.proofs.Chains.{chain_any}
 use Rattle.lra_forest.specs.declared.duties.Due.{Due}
 use Rattle.lra_forest.specs.declared.duties.Errand.{Errand}
-use Rattle.lra_forest.specs.declared.duties.Errand.TheVariants.{Complete, Forget}
+use Rattle.lra_forest.specs.declared.duties.Errand.TheVariants.{Complete, Forget, Tell}
 use Rattle.lra_forest.specs.declared.duties.Owing.{Owing}
-use Rattle.lra_forest.specs.declared.duties.Owing.TheVariants.{Nothing, Forgetting}
+use Rattle.lra_forest.specs.declared.duties.Owing.TheVariants.{Nothing, Forgetting, Hearing}
 use Rattle.lra_forest.specs.declared.record.Member.{Member}
 use Rattle.lra_forest.specs.declared.record.Member.TheVariants.{Nested, Participant, Left}
 use Rattle.lra_forest.specs.declared.record.Participant.{Participant as ParticipantRecord}
@@ -26,7 +26,7 @@ use Rattle.lra_forest.specs.MembersByNumber.{numbered}
 use Rattle.lra_forest.specs.Owings.{completing_by, forgetting_at, owed_by, owes, owes_at, owing_at, owing_of}
 use Rattle.lra_forest.specs.Participants.{answered_of, participant_at}
 use Rattle.lra_forest.specs.Records.{members_of, record_of}
-use Rattle.lra_forest.specs.Said.{first_owed, ids_below, is_below, is_ended_at, is_over_at, is_owed, is_owed_at, is_owed_member, is_root_at, is_forgot_at, is_under_at, participant_of, records_up, want_at}
+use Rattle.lra_forest.specs.Said.{first_member, ids_below, is_at_end_at, is_below, is_ended_at, is_over_at, is_owed, is_owed_at, is_root_at, is_root_decided_at, is_forgot_at, is_to_hear, is_to_hear_at, is_told_at, is_under_at, is_unheard, participant_of, passes_member, records_up, want_at}
 use Rattle.lra_forest.specs.Shape.{found_at}
 use Rattle.lra_forest.specs.Standing.{IsNested, IsSeated, IsWhole, Stands}
 use Rattle.lra_forest.specs.Statuses.{status_in}
@@ -147,6 +147,23 @@ over_said nodes S records l whole nest stands held =
         ∙ ap (λ (n : ℕ). is_root S (at l.home k) && is_ended_at (found_at l.home records) n) (found_number l.home k records r found)
         ∙ ap (λ (b : Bool). is_root S (at l.home k) && b) (ended_said nodes S records (at l.home k) whole nest stands kept)
 
+pub decided_said : (nodes : ℕ) (S : List Fact) (records : List Record) (l : Id) → IsWhole S → IsNested S → Stands nodes l.home S records → is_held S l ≡ true → is_root_decided_at (found_at l.home records) l.num ≡ is_root_decided S l
+decided_said nodes S records l whole nest stands held =
+    chain_said nodes l.home S records (λ (r : Record). is_none r.parent && is_some (want_at (found_at l.home records) r.num)) (λ a. is_root S a && is_some (want S a)) whole stands same 8 l.num held (nest.shallow l (and_left (is_begun S l) _ held))
+  where
+    same : (k : ℕ) (r : Record) → is_held S (at l.home k) ≡ true → found_at l.home records k ≡ Some r → (is_none r.parent && is_some (want_at (found_at l.home records) r.num)) ≡ (is_root S (at l.home k) && is_some (want S (at l.home k)))
+    same k r kept found =
+        ap (λ (b : Bool). b && is_some (want_at (found_at l.home records) r.num)) (no_parent_said nodes S records (at l.home k) r whole stands found)
+        ∙ ap (λ (n : ℕ). is_root S (at l.home k) && is_some (want_at (found_at l.home records) n)) (found_number l.home k records r found)
+        ∙ ap (λ (w : Option Verdict). is_root S (at l.home k) && is_some w) (want_said nodes S records (at l.home k) whole nest stands kept)
+
+pub end_said : (nodes : ℕ) (S : List Fact) (records : List Record) (l : Id) → IsWhole S → IsNested S → Stands nodes l.home S records → is_held S l ≡ true → is_at_end_at (found_at l.home records) l.num ≡ is_at_end S l
+end_said nodes S records l whole nest stands held =
+    let at = found_at l.home records in
+    ap (λ (b : Bool). b && (wants_cancel (want_at at l.num) || is_root_decided_at at l.num)) (ended_said nodes S records l whole nest stands held)
+    ∙ ap (λ (w : Option Verdict). is_ended S l && (wants_cancel w || is_root_decided_at at l.num)) (want_said nodes S records l whole nest stands held)
+    ∙ ap (λ (b : Bool). is_ended S l && (wants_cancel (want S l) || b)) (decided_said nodes S records l whole nest stands held)
+
 -- What is owed
 
 pub owing_said : (errand : Errand) (nodes home : ℕ) (S : List Fact) (records : List Record) (r : Record) → IsWhole S → IsNested S → Stands nodes home S records → found_at home records r.num ≡ Some r → owing_at errand (found_at home records) r ≡ owing_of errand S (at home r.num)
@@ -158,6 +175,9 @@ owing_said Forget nodes home S records r whole nest stands found =
     ap (λ (b : Bool). cond b (Forgetting (want_at (found_at home records) r.num) (is_some r.parent)) Nothing) (over_said nodes S records l whole nest stands held)
     ∙ ap (λ (w : Option Verdict). cond (is_over S l) (Forgetting w (is_some r.parent)) Nothing) (want_said nodes S records l whole nest stands held)
     ∙ ap (λ (b : Bool). cond (is_over S l) (Forgetting (want S l) b) Nothing) (nested_is nodes S records l r whole stands found)
+owing_said Tell nodes home S records r whole nest stands found =
+    let l = at home r.num in
+    ap (λ (b : Bool). cond b Hearing Nothing) (end_said nodes S records l whole nest stands (held_if_found nodes S records l r stands found))
 
 owed_either : (b nested : Bool) (w : Option Verdict) (p : ParticipantRecord) → (b && (is_some p.links.forget && (not p.forgotten && has_to_forget nested (status_in w p)))) ≡ owes (cond b (Forgetting w nested) Nothing) p
 owed_either true nested w p = refl
@@ -166,28 +186,47 @@ owed_either false nested w p = refl
 pub owed_owes : (at : ℕ → Option Record) (r : Record) (p : ParticipantRecord) → is_owed at r p ≡ owes (owing_at Forget at r) p
 owed_owes at r p = owed_either (is_over_at at r.num) (is_some r.parent) (want_at at r.num) p
 
-member_owes : (at : ℕ → Option Record) (r : Record) (m : Member) → is_owed_member at r m ≡ owes_at (owing_at Forget at r) m
-member_owes at r (Participant p) = owed_owes at r p
-member_owes at r (Nested num) = refl
-member_owes at r Left = refl
+either_hear : (b : Bool) (p : ParticipantRecord) → (b && is_unheard p) ≡ owes (cond b Hearing Nothing) p
+either_hear true p = refl
+either_hear false p = refl
 
-pub first_owed_is : (at : ℕ → Option Record) (r : Record) (k : ℕ) (ms : List Member) → first_owed at r k ms ≡ slice_get (owed_by (owing_at Forget at r) (id_of r) k ms) 0
-first_owed_is at r k [] = refl
-first_owed_is at r k (m ∷ ms) = ap (λ (b : Bool). cond b (Some (record { lra = id_of r; member = k })) (first_owed at r (k + 1) ms)) (member_owes at r m) ∙ by (owes_at (owing_at Forget at r) m) (first_owed_is at r (k + 1) ms)
+pub hears_owes : (at : ℕ → Option Record) (r : Record) (p : ParticipantRecord) → is_to_hear at r p ≡ owes (owing_at Tell at r) p
+hears_owes at r p = either_hear (is_at_end_at at r.num) p
+
+-- what passes is what is owed
+abbrev pub Agrees : (ParticipantRecord → Bool) → Owing → Type 0
+Agrees passes owing = (p : ParticipantRecord) → passes p ≡ owes owing p
+
+member_owes : (passes : ParticipantRecord → Bool) (owing : Owing) → Agrees passes owing → (m : Member) → passes_member passes m ≡ owes_at owing m
+member_owes passes owing agrees (Participant p) = agrees p
+member_owes passes owing agrees (Nested num) = refl
+member_owes passes owing agrees Left = refl
+
+pub first_member_is : (passes : ParticipantRecord → Bool) (owing : Owing) → Agrees passes owing → (l : Id) (k : ℕ) (ms : List Member) → first_member passes l k ms ≡ slice_get (owed_by owing l k ms) 0
+first_member_is passes owing agrees l k [] = refl
+first_member_is passes owing agrees l k (m ∷ ms) = ap (λ (b : Bool). cond b (Some (record { lra = l; member = k })) (first_member passes l (k + 1) ms)) (member_owes passes owing agrees m) ∙ by (owes_at owing m) (first_member_is passes owing agrees l (k + 1) ms)
   where
-    by : (b : Bool) → first_owed at r (k + 1) ms ≡ slice_get (owed_by (owing_at Forget at r) (id_of r) (k + 1) ms) 0
-        → cond b (Some (record { lra = id_of r; member = k })) (first_owed at r (k + 1) ms) ≡ slice_get (cond b (record { lra = id_of r; member = k } ∷ owed_by (owing_at Forget at r) (id_of r) (k + 1) ms) (owed_by (owing_at Forget at r) (id_of r) (k + 1) ms)) 0
+    by : (b : Bool) → first_member passes l (k + 1) ms ≡ slice_get (owed_by owing l (k + 1) ms) 0
+        → cond b (Some (record { lra = l; member = k })) (first_member passes l (k + 1) ms) ≡ slice_get (cond b (record { lra = l; member = k } ∷ owed_by owing l (k + 1) ms) (owed_by owing l (k + 1) ms)) 0
     by true rest = refl
     by false rest = rest
 
 -- the answer of an LRA and a participant that are there
+pub tested_is : (test : Record → ParticipantRecord → Bool) (at : ℕ → Option Record) (num m : ℕ) (r : Record) (p : ParticipantRecord) (b : Bool) → at num ≡ Some r → participant_of at num m ≡ Some p → b ≡ test r p
+    → Ok b ≡ answered_of (is_some (at num)) (is_some (participant_of at num m)) (option_map_or (λ (q : Record). option_map_or (test q) (participant_of at num m) false) (at num) false)
+tested_is test at num m r p b found joined is =
+    answer_known (is_some (at num)) (is_some (participant_of at num m)) b _ (ap is_some found) (ap is_some joined)
+    (is
+    ∙ sym (ap (λ (o : Option ParticipantRecord). option_map_or (test r) o false) joined)
+    ∙ sym (ap (λ (o : Option Record). option_map_or (λ (q : Record). option_map_or (test q) (participant_of at num m) false) o false) found))
+
 pub to_forget_is : (at : ℕ → Option Record) (num m : ℕ) (r : Record) (p : ParticipantRecord) (b : Bool) → at num ≡ Some r → participant_of at num m ≡ Some p → b ≡ is_owed at r p
     → Ok b ≡ answered_of (is_some (at num)) (is_some (participant_of at num m)) (is_owed_at at num m)
-to_forget_is at num m r p b found joined is =
-    answer_known (is_some (at num)) (is_some (participant_of at num m)) b (is_owed_at at num m) (ap is_some found) (ap is_some joined)
-    (is
-    ∙ sym (ap (λ (o : Option ParticipantRecord). option_map_or (is_owed at r) o false) joined)
-    ∙ sym (ap (λ (o : Option Record). option_map_or (λ (q : Record). option_map_or (is_owed at q) (participant_of at num m) false) o false) found))
+to_forget_is at num m r p b found joined is = tested_is (is_owed at) at num m r p b found joined is
+
+pub to_hear_is : (at : ℕ → Option Record) (num m : ℕ) (r : Record) (p : ParticipantRecord) (b : Bool) → at num ≡ Some r → participant_of at num m ≡ Some p → b ≡ is_to_hear at r p
+    → Ok b ≡ answered_of (is_some (at num)) (is_some (participant_of at num m)) (is_to_hear_at at num m)
+to_hear_is at num m r p b found joined is = tested_is (is_to_hear at) at num m r p b found joined is
 
 pub both_true : (a b : Bool) → b ≡ true → a ≡ (a && b)
 both_true true b e = sym e
@@ -215,6 +254,14 @@ none_forgetting at r lra ms none = nothing_owed lra 1 ms ∙ sym (by (is_over_at
     by true = no_first (owed_by (forgetting_at at r) lra 1 ms) none
     by false = nothing_owed lra 1 ms
 
+-- where none has anything to hear, nothing is owed, whether the LRA has ended or not
+pub none_hearing : (at : ℕ → Option Record) (r : Record) (lra : Id) (ms : List Member) → slice_get (owed_by Hearing lra 1 ms) 0 ≡ None → owed_by Nothing lra 1 ms ≡ owed_by (owing_at Tell at r) lra 1 ms
+none_hearing at r lra ms none = nothing_owed lra 1 ms ∙ sym (by (is_at_end_at at r.num))
+  where
+    by : (b : Bool) → owed_by (cond b Hearing Nothing) lra 1 ms ≡ []
+    by true = no_first (owed_by Hearing lra 1 ms) none
+    by false = nothing_owed lra 1 ms
+
 pub owed_said : (nodes : ℕ) (S : List Fact) (records : List Record) (l : Id) (m : ℕ) → IsWhole S → IsNested S → IsSeated S → Stands nodes l.home S records → is_held S l ≡ true → is_owed_at (found_at l.home records) l.num m ≡ is_forget_duty S l m
 owed_said nodes S records l m whole nest seated stands held =
     let at = found_at l.home records in
@@ -230,6 +277,21 @@ owed_said nodes S records l m whole nest seated stands held =
         ∙ ap (λ (owing : Owing). owes owing p) (owing_said Forget nodes l.home S records (record_of nodes S l) whole nest stands found)
         ∙ sym (due_owes Forget S l m p seated e)
 
+pub hear_said : (nodes : ℕ) (S : List Fact) (records : List Record) (l : Id) (m : ℕ) → IsWhole S → IsNested S → IsSeated S → Stands nodes l.home S records → is_held S l ≡ true → is_to_hear_at (found_at l.home records) l.num m ≡ is_after_duty S l m
+hear_said nodes S records l m whole nest seated stands held =
+    let at = found_at l.home records in
+    let found = stands_at nodes l.home S records l stands refl held in
+    ap (λ (o : Option Record). option_map_or (λ (r : Record). option_map_or (is_to_hear at r) (participant_at (numbered (option_map_or (λ (q : Record). q.members) o []) m)) false) o false) found
+    ∙ by (participant_at (numbered (members_of S l) m)) refl
+  where
+    by : (o : Option ParticipantRecord) → participant_at (numbered (members_of S l) m) ≡ o → option_map_or (is_to_hear (found_at l.home records) (record_of nodes S l)) o false ≡ is_after_duty S l m
+    by None e = sym (due_none Tell S l m seated e)
+    by (Some p) e =
+        let found = stands_at nodes l.home S records l stands refl held in
+        hears_owes (found_at l.home records) (record_of nodes S l) p
+        ∙ ap (λ (owing : Owing). owes owing p) (owing_said Tell nodes l.home S records (record_of nodes S l) whole nest stands found)
+        ∙ sym (due_owes Tell S l m p seated e)
+
 pub told_said : (nodes : ℕ) (S : List Fact) (records : List Record) (l : Id) (m : ℕ) → IsSeated S → Stands nodes l.home S records → is_held S l ≡ true → is_participant S l m ≡ true → is_forgot_at (found_at l.home records) l.num m ≡ has_forgot S l m
 told_said nodes S records l m seated stands held some =
     let found = stands_at nodes l.home S records l stands refl held in
@@ -239,6 +301,16 @@ told_said nodes S records l m seated stands held some =
     by : (o : Option ParticipantRecord) → participant_at (numbered (members_of S l) m) ≡ o → option_map_or (λ (p : ParticipantRecord). p.forgotten) o false ≡ has_forgot S l m
     by None e = absurd (let wrong : true ≡ false = sym some ∙ unknown_is S l m seated e in cc)
     by (Some p) e = sym (ap (λ (q : ParticipantRecord). q.forgotten) (joined_is S l m p seated e).is)
+
+pub end_told_said : (nodes : ℕ) (S : List Fact) (records : List Record) (l : Id) (m : ℕ) → IsSeated S → Stands nodes l.home S records → is_held S l ≡ true → is_participant S l m ≡ true → is_told_at (found_at l.home records) l.num m ≡ has_told S l m
+end_told_said nodes S records l m seated stands held some =
+    let found = stands_at nodes l.home S records l stands refl held in
+    ap (λ (o : Option Record). option_map_or (λ (p : ParticipantRecord). p.told) (participant_at (numbered (option_map_or (λ (q : Record). q.members) o []) m)) false) found
+    ∙ by (participant_at (numbered (members_of S l) m)) refl
+  where
+    by : (o : Option ParticipantRecord) → participant_at (numbered (members_of S l) m) ≡ o → option_map_or (λ (p : ParticipantRecord). p.told) o false ≡ has_told S l m
+    by None e = absurd (let wrong : true ≡ false = sym some ∙ unknown_is S l m seated e in cc)
+    by (Some p) e = sym (ap (λ (q : ParticipantRecord). q.told) (joined_is S l m p seated e).is)
 
 -- What is below
 

@@ -6,8 +6,8 @@ use Rattle.std.specs.Option.{option_map_or}
 use Rattle.std.proofs.lemmas.List.{take_all, take_more}
 use Rattle.std.proofs.lemmas.List.Elements.{filter_map-append}
 use Rattle.lra_facts.specs.declared.fact.Fact.{Fact}
-use Rattle.lra_facts.specs.Duties.{is_compensation_due}
-use Rattle.lra_facts.specs.Sets.{is_held, IsNumbered}
+use Rattle.lra_facts.specs.Duties.{is_compensation_due, wants_cancel}
+use Rattle.lra_facts.specs.Sets.{is_decided, is_held, IsNumbered}
 use Rattle.lra_forest.specs.declared.duties.Due.{Due}
 use Rattle.lra_forest.specs.declared.record.Place.{Place}
 use Rattle.lra_forest.specs.declared.record.Record.{Record}
@@ -19,7 +19,6 @@ use Rattle.lra_forest.specs.Said.{want_at}
 use Rattle.lra_forest.specs.Shape.{found_at}
 use Rattle.lra_forest.specs.Standing.{IsNested, IsSeated, IsWhole, Stands}
 use Rattle.lra_forest.specs.Walks.{last_of, pending_within}
-use Rattle.lra_forest.specs.Wants.{wants_cancel}
 use Rattle.lra_forest.proofs.Collected.{AreSoFar, as_list, share_more, share_whole}
 use Rattle.lra_forest.proofs.Greatest.{IsGreatest}
 use Rattle.lra_forest.proofs.Overdue.{at, find_at, number_passes}

@@ -10,14 +10,14 @@ use Rattle.lra_states.specs.declared.outcome.Act.TheVariants.{Complete as Comple
 use Rattle.lra_states.specs.declared.outcome.Verdict.{Verdict}
 use Rattle.lra_states.specs.declared.outcome.Verdict.TheVariants.{Close, Cancel}
 use Rattle.lra_facts.specs.declared.fact.Fact.{Fact}
-use Rattle.lra_facts.specs.declared.links.Links.{Links}
-use Rattle.lra_facts.specs.Duties.{is_over, is_pending, owes_forget}
+use Rattle.lra_facts.specs.Links.{Links}
+use Rattle.lra_facts.specs.Duties.{is_at_end, is_over, is_pending, is_untold, is_untold_by, owes_after, owes_forget}
 use Rattle.lra_facts.specs.Lists.{In}
 use Rattle.lra_facts.specs.Sets.{demands, has_left, is_held, is_root, links_of, want, IsNumbered}
 use Rattle.lra_forest.specs.declared.duties.Due.{Due}
 use Rattle.lra_forest.specs.declared.duties.Errand.{Errand}
-use Rattle.lra_forest.specs.declared.duties.Errand.TheVariants.{Complete, Forget}
-use Rattle.lra_forest.specs.declared.duties.Owing.TheVariants.{Nothing, Forgetting}
+use Rattle.lra_forest.specs.declared.duties.Errand.TheVariants.{Complete, Forget, Tell}
+use Rattle.lra_forest.specs.declared.duties.Owing.TheVariants.{Nothing, Forgetting, Hearing}
 use Rattle.lra_forest.specs.declared.record.Participant.{Participant as ParticipantRecord}
 use Rattle.lra_forest.specs.declared.record.Place.{Place}
 use Rattle.lra_forest.specs.declared.record.Record.{Record}
@@ -27,6 +27,7 @@ use Rattle.lra_forest.specs.MembersByNumber.{numbered}
 use Rattle.lra_forest.specs.Owings.{completing_by, duty_of, owed_by, owes, owing_of}
 use Rattle.lra_forest.specs.Participants.{joined_as, participant_at}
 use Rattle.lra_forest.specs.Records.{members_of, record_of}
+use Rattle.lra_forest.specs.Said.{is_unheard}
 use Rattle.lra_forest.specs.Standing.{IsSeated, IsWhole, Stands}
 use Rattle.lra_forest.proofs.Asked.{participant_law, unknown_is}
 use Rattle.lra_forest.proofs.Collected.{lesser_before}
@@ -60,6 +61,10 @@ forget_owes : (S : List Fact) (l : Id) (m : ℕ) (links : Links) (b : Bool) → 
 forget_owes S l m links true e = rw e refl
 forget_owes S l m links false e = rw e refl
 
+after_owes : (S : List Fact) (l : Id) (m : ℕ) (links : Links) (b : Bool) → is_at_end S l ≡ b → owes_after S l m links ≡ owes (cond b Hearing Nothing) (joined_as S l m links)
+after_owes S l m links true e = rw e refl
+after_owes S l m links false e = rw e refl
+
 pub due_owes : (errand : Errand) (S : List Fact) (l : Id) (m : ℕ) (p : ParticipantRecord) → IsSeated S → participant_at (numbered (members_of S l) m) ≡ Some p → duty_of errand S l m ≡ owes (owing_of errand S l) p
 due_owes Complete S l m p seated found =
     let j = joined_is S l m p seated found in
@@ -67,10 +72,24 @@ due_owes Complete S l m p seated found =
 due_owes Forget S l m p seated found =
     let j = joined_is S l m p seated found in
     rw (j.links, j.stayed) (forget_owes S l m j.given (is_over S l) refl) ∙ ap (owes (owing_of Forget S l)) j.is
+due_owes Tell S l m p seated found =
+    let j = joined_is S l m p seated found in
+    rw (j.links, j.stayed) (after_owes S l m j.given (is_at_end S l) refl) ∙ ap (owes (owing_of Tell S l)) j.is
+
+-- it is still to be told by its record as by the set
+pub untold_unheard : (S : List Fact) (l : Id) (m : ℕ) (p : ParticipantRecord) → IsSeated S → participant_at (numbered (members_of S l) m) ≡ Some p → is_untold S l m ≡ is_unheard p
+untold_unheard S l m p seated found =
+    let j = joined_is S l m p seated found in
+    let same : is_untold_by S l m j.given ≡ is_unheard (joined_as S l m j.given) = refl in
+    rw (j.links, j.stayed) same ∙ ap is_unheard j.is
+
+pub untold_none : (S : List Fact) (l : Id) (m : ℕ) → IsSeated S → participant_at (numbered (members_of S l) m) ≡ None → is_untold S l m ≡ false
+untold_none S l m seated none = rw (unknown_is S l m seated none) refl
 
 pub due_none : (errand : Errand) (S : List Fact) (l : Id) (m : ℕ) → IsSeated S → participant_at (numbered (members_of S l) m) ≡ None → duty_of errand S l m ≡ false
 due_none Complete S l m seated none = rw (unknown_is S l m seated none) refl
 due_none Forget S l m seated none = rw (unknown_is S l m seated none) refl
+due_none Tell S l m seated none = rw (unknown_is S l m seated none) refl
 
 -- an LRA is nested where its record has a parent
 pub nested_is : (nodes : ℕ) (S : List Fact) (records : List Record) (x : Id) (r : Record) → IsWhole S → Stands nodes x.home S records → find (is_of x) records ≡ Some r → is_some r.parent ≡ not (is_root S x)

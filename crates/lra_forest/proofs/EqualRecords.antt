@@ -12,7 +12,7 @@ use Rattle.lra_states.specs.declared.outcome.Verdict.{Verdict}
 use Rattle.lra_states.specs.declared.outcome.Verdict.TheVariants.{Close, Cancel}
 use Rattle.lra_states.specs.contracts.outcome.OutcomePartialEq.TheImpl as of_outcomes
 use Rattle.lra_states.specs.contracts.outcome.VerdictPartialEq.TheImpl as of_verdicts
-use Rattle.lra_facts.specs.declared.links.Links.{Links}
+use Rattle.lra_facts.specs.Links.{Links}
 use Rattle.lra_facts.specs.contracts.links.LinksPartialEq.TheImpl as of_links
 use Rattle.lra_forest.specs.declared.record.Place.{Place}
 use Rattle.lra_forest.specs.declared.record.Participant.{Participant as ParticipantRecord}
@@ -136,35 +136,39 @@ place_same a b e =
 place_own : Own of_places.ghosts.eq
 place_own a = place_is a a ∙ all_true (a.number == a.number) (a.slot == a.slot) (number_own a.number) (number_own a.slot)
 
-links_is : (a b : Links) → of_links.ghosts.eq a b ≡ (option_eq bytes_eq a.complete b.complete && (bytes_eq a.compensate b.compensate && (option_eq bytes_eq a.status b.status && option_eq bytes_eq a.forget b.forget)))
+abbrev same_link : Option (List ℕ) → Option (List ℕ) → Bool
+same_link = option_eq bytes_eq
+
+links_is : (a b : Links) → of_links.ghosts.eq a b ≡ (same_link a.complete b.complete && (same_link a.compensate b.compensate && (same_link a.status b.status && (same_link a.forget b.forget && same_link a.after b.after))))
 links_is a b = refl
 
 pub links_same : Same of_links.ghosts.eq
 links_same a b e =
+    let same = option_same bytes_eq text_same in
     let is = sym (links_is a b) ∙ e in
-    let second = and_right (option_eq bytes_eq a.complete b.complete) _ is in
-    let third = and_right (bytes_eq a.compensate b.compensate) _ second in
-    let complete = option_same bytes_eq text_same a.complete b.complete (and_left (option_eq bytes_eq a.complete b.complete) _ is) in
-    let compensate = text_same a.compensate b.compensate (and_left (bytes_eq a.compensate b.compensate) _ second) in
-    let status = option_same bytes_eq text_same a.status b.status (and_left (option_eq bytes_eq a.status b.status) _ third) in
-    let forget = option_same bytes_eq text_same a.forget b.forget (and_right (option_eq bytes_eq a.status b.status) _ third) in
-    let first : ◌≡◌ {A = Links} (record { complete = a.complete; compensate = a.compensate; status = a.status; forget = a.forget }) (record { complete = b.complete; compensate = a.compensate; status = a.status; forget = a.forget }) = ap (λ (x : Option (List ℕ)). record { complete = x; compensate = a.compensate; status = a.status; forget = a.forget }) complete in
-    first
-    ∙ ap (λ (x : List ℕ). record { complete = b.complete; compensate = x; status = a.status; forget = a.forget }) compensate
-    ∙ ap (λ (x : Option (List ℕ)). record { complete = b.complete; compensate = b.compensate; status = x; forget = a.forget }) status
-    ∙ ap (λ (x : Option (List ℕ)). record { complete = b.complete; compensate = b.compensate; status = b.status; forget = x }) forget
+    let second = and_right (same_link a.complete b.complete) _ is in
+    let third = and_right (same_link a.compensate b.compensate) _ second in
+    let fourth = and_right (same_link a.status b.status) _ third in
+    let complete = same a.complete b.complete (and_left (same_link a.complete b.complete) _ is) in
+    let compensate = same a.compensate b.compensate (and_left (same_link a.compensate b.compensate) _ second) in
+    let status = same a.status b.status (and_left (same_link a.status b.status) _ third) in
+    let forget = same a.forget b.forget (and_left (same_link a.forget b.forget) _ fourth) in
+    let after = same a.after b.after (and_right (same_link a.forget b.forget) _ fourth) in
+    let all : ◌≡◌ {A = Links} (record { complete = a.complete; compensate = a.compensate; status = a.status; forget = a.forget; after = a.after }) (record { complete = b.complete; compensate = b.compensate; status = b.status; forget = b.forget; after = b.after }) = rw (complete, compensate, status, forget, after) refl in
+    all
 
 pub links_own : Own of_links.ghosts.eq
 links_own a =
     let given = option_own bytes_eq text_own in
     links_is a a
-    ∙ all_true (option_eq bytes_eq a.complete a.complete) _ (given a.complete)
-    (all_true (bytes_eq a.compensate a.compensate) _ (text_own a.compensate) (all_true (option_eq bytes_eq a.status a.status) _ (given a.status) (given a.forget)))
+    ∙ all_true (same_link a.complete a.complete) _ (given a.complete)
+    (all_true (same_link a.compensate a.compensate) _ (given a.compensate)
+    (all_true (same_link a.status a.status) _ (given a.status) (all_true (same_link a.forget a.forget) _ (given a.forget) (given a.after))))
 
 abbrev same_heard : Option Outcome → Option Outcome → Bool
 same_heard = option_eq of_outcomes.ghosts.eq
 
-participant_is : (a b : ParticipantRecord) → of_participants.ghosts.eq a b ≡ (of_links.ghosts.eq a.links b.links && (same_heard a.completed b.completed && (same_heard a.compensated b.compensated && beq a.forgotten b.forgotten)))
+participant_is : (a b : ParticipantRecord) → of_participants.ghosts.eq a b ≡ (of_links.ghosts.eq a.links b.links && (same_heard a.completed b.completed && (same_heard a.compensated b.compensated && (beq a.forgotten b.forgotten && beq a.told b.told))))
 participant_is a b = refl
 
 participant_same : Same of_participants.ghosts.eq
@@ -172,22 +176,22 @@ participant_same a b e =
     let is = sym (participant_is a b) ∙ e in
     let second = and_right (of_links.ghosts.eq a.links b.links) _ is in
     let third = and_right (same_heard a.completed b.completed) _ second in
+    let fourth = and_right (same_heard a.compensated b.compensated) _ third in
     let links = links_same a.links b.links (and_left (of_links.ghosts.eq a.links b.links) _ is) in
     let completed = option_same of_outcomes.ghosts.eq outcome_same a.completed b.completed (and_left (same_heard a.completed b.completed) _ second) in
     let compensated = option_same of_outcomes.ghosts.eq outcome_same a.compensated b.compensated (and_left (same_heard a.compensated b.compensated) _ third) in
-    let forgotten = bool_same a.forgotten b.forgotten (and_right (same_heard a.compensated b.compensated) _ third) in
-    let first : ◌≡◌ {A = ParticipantRecord} (record { links = a.links; completed = a.completed; compensated = a.compensated; forgotten = a.forgotten }) (record { links = b.links; completed = a.completed; compensated = a.compensated; forgotten = a.forgotten }) = ap (λ (x : Links). record { links = x; completed = a.completed; compensated = a.compensated; forgotten = a.forgotten }) links in
-    first
-    ∙ ap (λ (x : Option Outcome). record { links = b.links; completed = x; compensated = a.compensated; forgotten = a.forgotten }) completed
-    ∙ ap (λ (x : Option Outcome). record { links = b.links; completed = b.completed; compensated = x; forgotten = a.forgotten }) compensated
-    ∙ ap (λ (x : Bool). record { links = b.links; completed = b.completed; compensated = b.compensated; forgotten = x }) forgotten
+    let forgotten = bool_same a.forgotten b.forgotten (and_left (beq a.forgotten b.forgotten) _ fourth) in
+    let told = bool_same a.told b.told (and_right (beq a.forgotten b.forgotten) _ fourth) in
+    let all : ◌≡◌ {A = ParticipantRecord} (record { links = a.links; completed = a.completed; compensated = a.compensated; forgotten = a.forgotten; told = a.told }) (record { links = b.links; completed = b.completed; compensated = b.compensated; forgotten = b.forgotten; told = b.told }) = rw (links, completed, compensated, forgotten, told) refl in
+    all
 
 participant_own : Own of_participants.ghosts.eq
 participant_own a =
     let known = option_own of_outcomes.ghosts.eq outcome_own in
     participant_is a a
     ∙ all_true (of_links.ghosts.eq a.links a.links) _ (links_own a.links)
-    (all_true (same_heard a.completed a.completed) _ (known a.completed) (all_true (same_heard a.compensated a.compensated) _ (known a.compensated) (bool_own a.forgotten)))
+    (all_true (same_heard a.completed a.completed) _ (known a.completed)
+    (all_true (same_heard a.compensated a.compensated) _ (known a.compensated) (all_true (beq a.forgotten a.forgotten) _ (bool_own a.forgotten) (bool_own a.told))))
 
 both_participants : (a b : ParticipantRecord) → of_members.ghosts.eq (Participant a) (Participant b) ≡ of_participants.ghosts.eq a b
 both_participants a b = refl

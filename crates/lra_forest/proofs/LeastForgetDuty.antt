@@ -1,30 +1,34 @@
--- the least forget duty under a root
+-- the least of what is due under a root
 use Rattle.std.proofs.Common.{◌≡◌, ◌⊎◌, inl, inr, ◌&&◌, ◌<◌, ℕ, suc, List, [], ◌∷◌, refl, sym, ap, subst, ◌∙◌, Bool, true, false, cond, arith, Option, Some, None, find, is_some, slice_get}
 use Rattle.std.specs.List.{AllByRecursion}
 use Rattle.std.proofs.lemmas.Bool.Decides.{nat_tests}
 use Rattle.std.specs.Option.{option_map_or}
 use Rattle.lra_id.specs.Ids.{Id}
 use Rattle.lra_facts.specs.declared.fact.Body.{Body}
-use Rattle.lra_facts.specs.declared.fact.Body.TheVariants.{Begin, Join, Leave, Decide, Report, Forgot, Purge}
+use Rattle.lra_facts.specs.declared.fact.Body.TheVariants.{Begin, Join, Leave, Decide, Report, Forgot, Told, Purge}
 use Rattle.lra_facts.specs.declared.fact.Fact.{Fact}
-use Rattle.lra_facts.specs.declared.links.Links.{Links}
-use Rattle.lra_facts.specs.Duties.{is_forget_duty}
+use Rattle.lra_facts.specs.Links.{Links}
+use Rattle.lra_facts.specs.Duties.{is_forget_duty, is_untold}
 use Rattle.lra_facts.specs.Lists.{In}
 use Rattle.lra_facts.specs.Sets.{is_held, is_participant, is_under, links_of, IsNumbered, NamesEarlier}
 use Rattle.lra_forest.specs.declared.duties.Due.{Due}
 use Rattle.lra_forest.specs.declared.duties.Errand.TheVariants.{Forget}
 use Rattle.lra_forest.specs.declared.record.Record.{Record}
 use Rattle.lra_forest.specs.declared.duties.Owing.{Owing}
-use Rattle.lra_forest.specs.Dues.{AreAll, IsDueAt, IsFirst, IsToForget, forget_by, is_before, least_forget, lesser_due}
+use Rattle.lra_forest.specs.declared.duties.Owing.TheVariants.{Hearing}
+use Rattle.lra_forest.specs.declared.record.Participant.{Participant as ParticipantRecord}
+use Rattle.lra_forest.specs.MembersByNumber.{numbered}
+use Rattle.lra_forest.specs.Participants.{participant_at}
+use Rattle.lra_forest.specs.Dues.{AreAll, IsDueAt, IsDueBelow, IsFirst, due_by, is_before, least_due, least_forget, least_untold, lesser_due}
 use Rattle.lra_forest.specs.Forests.{AreOf, IsAscending, id_of, is_of}
-use Rattle.lra_forest.specs.Owings.{owed_by, owing_of}
+use Rattle.lra_forest.specs.Owings.{owed_by, owes, owing_of}
 use Rattle.lra_forest.specs.Records.{members_of, record_of}
-use Rattle.lra_forest.specs.Said.{first_owed, is_below, least_owed_of, owed_below}
+use Rattle.lra_forest.specs.Said.{first_below, first_member, is_below, is_owed, is_unheard, least_below, least_owed_of, least_unheard_of}
 use Rattle.lra_forest.specs.Shape.{found_at}
 use Rattle.lra_forest.specs.Standing.{IsNested, IsSeated, IsWhole, Stands}
 use Rattle.lra_forest.proofs.Bools.{all_in, and_left, and_right}
-use Rattle.lra_forest.proofs.Climbs.{below_said, first_owed_is, owing_said}
-use Rattle.lra_forest.proofs.DueByRecord.{due_none, due_owes}
+use Rattle.lra_forest.proofs.Climbs.{Agrees, below_said, first_member_is, owed_owes, owing_said}
+use Rattle.lra_forest.proofs.DueByRecord.{due_none, due_owes, untold_none, untold_unheard}
 use Rattle.lra_forest.proofs.Gatherings.{find_in}
 use Rattle.lra_forest.proofs.Overdue.{at, found_in}
 use Rattle.lra_forest.proofs.Owed.{owed_all}
@@ -71,23 +75,23 @@ one_first P (Some x) (Some y) home h k = ap (λ z. Some z) (same_due x y (home x
 
 -- The facts
 
-abbrev TellsOf : List Fact → Id → List Fact → Due → Type 0
-TellsOf S l facts d = (f : Fact) × In f facts × (forget_by S l f.body ≡ Some d)
+abbrev TellsOf : (List Fact → Id → ℕ → Bool) → List Fact → Id → List Fact → Due → Type 0
+TellsOf due S l facts d = (f : Fact) × In f facts × (due_by due S l f.body ≡ Some d)
 
-least_first : (S : List Fact) (l : Id) (facts : List Fact) → IsFirst (TellsOf S l facts) is_before (least_forget S facts l)
-least_first S l [] = λ x p. p.1
-least_first S l (f ∷ facts) = by (forget_by S l f.body) refl (least_forget S facts l) (least_first S l facts)
+least_first : (due : List Fact → Id → ℕ → Bool) (S : List Fact) (l : Id) (facts : List Fact) → IsFirst (TellsOf due S l facts) is_before (least_due due S facts l)
+least_first due S l [] = λ x p. p.1
+least_first due S l (f ∷ facts) = by (due_by due S l f.body) refl (least_due due S facts l) (least_first due S l facts)
   where
-    later : (d : Due) → TellsOf S l facts d → TellsOf S l (f ∷ facts) d
+    later : (d : Due) → TellsOf due S l facts d → TellsOf due S l (f ∷ facts) d
     later d p = (p.0, inr p.1, p.2)
 
-    told : (d : Due) → TellsOf S l (f ∷ facts) d → (forget_by S l f.body ≡ Some d) ⊎ TellsOf S l facts d
-    told d p = elim p.1 [ inl same ↦ inl (ap (λ (g : Fact). forget_by S l g.body) (sym same) ∙ p.2) | inr inside ↦ inr (p.0, inside, p.2) ]
+    told : (d : Due) → TellsOf due S l (f ∷ facts) d → (due_by due S l f.body ≡ Some d) ⊎ TellsOf due S l facts d
+    told d p = elim p.1 [ inl same ↦ inl (ap (λ (g : Fact). due_by due S l g.body) (sym same) ∙ p.2) | inr inside ↦ inr (p.0, inside, p.2) ]
 
     same_some : (x y : Due) → Some x ≡ Some y → y ≡ x
     same_some x y e = cc
 
-    lesser : (x y : Due) → forget_by S l f.body ≡ Some x → IsFirst (TellsOf S l facts) is_before (Some y) → (b : Bool) → is_before y x ≡ b → IsFirst (TellsOf S l (f ∷ facts)) is_before (cond b (Some y) (Some x))
+    lesser : (x y : Due) → due_by due S l f.body ≡ Some x → IsFirst (TellsOf due S l facts) is_before (Some y) → (b : Bool) → is_before y x ≡ b → IsFirst (TellsOf due S l (f ∷ facts)) is_before (cond b (Some y) (Some x))
     lesser x y e h true t = (
       later y h.0,
       λ d p. elim (told d p) [ inl here ↦ ap (λ z. is_before z y) (same_some x d (sym e ∙ here)) ∙ before_asymmetric y x t | inr there ↦ h.1 d there ],
@@ -97,7 +101,7 @@ least_first S l (f ∷ facts) = by (forget_by S l f.body) refl (least_forget S f
       λ d p. elim (told d p) [ inl here ↦ ap (λ z. is_before z x) (same_some x d (sym e ∙ here)) ∙ before_self x | inr there ↦ not_before x y d t (h.1 d there) ],
     )
 
-    by : (o : Option Due) → forget_by S l f.body ≡ o → (rest : Option Due) → IsFirst (TellsOf S l facts) is_before rest → IsFirst (TellsOf S l (f ∷ facts)) is_before (lesser_due o rest)
+    by : (o : Option Due) → due_by due S l f.body ≡ o → (rest : Option Due) → IsFirst (TellsOf due S l facts) is_before rest → IsFirst (TellsOf due S l (f ∷ facts)) is_before (lesser_due o rest)
     by None e None h = λ d p. elim (told d p) [ inl here ↦ (let wrong : None ≡ Some d = sym e ∙ here in cc) | inr there ↦ h d there ]
     by None e (Some y) h = (later y h.0, λ d p. elim (told d p) [ inl here ↦ absurd (let wrong : None ≡ Some d = sym e ∙ here in cc) | inr there ↦ h.1 d there ])
     by (Some x) e None h = (
@@ -106,53 +110,65 @@ least_first S l (f ∷ facts) = by (forget_by S l f.body) refl (least_forget S f
     )
     by (Some x) e (Some y) h = lesser x y e h (is_before y x) refl
 
--- it is under l, and is to be told to forget
-pub record IsUnforgotten (S : List Fact) (l : Id) (d : Due) : Type 0 where
+-- it is under l, and this is due of it
+pub record IsDueBeneath (due : List Fact → Id → ℕ → Bool) (S : List Fact) (l : Id) (d : Due) : Type 0 where
   pub under : is_under S l d.lra ≡ true
-  pub due : is_forget_duty S d.lra d.member ≡ true
+  pub owed : due S d.lra d.member ≡ true
 
-told_is : (S : List Fact) (l : Id) (body : Body) (d : Due) → forget_by S l body ≡ Some d → IsUnforgotten S l d
-told_is S l (Join k m links) d e = by (is_under S l k && is_forget_duty S k m) refl e
+-- of participants alone
+abbrev pub IsOfParticipants : (List Fact → Id → ℕ → Bool) → List Fact → Type 0
+IsOfParticipants due S = (l : Id) (m : ℕ) → due S l m ≡ true → is_participant S l m ≡ true
+
+told_is : (due : List Fact → Id → ℕ → Bool) (S : List Fact) (l : Id) (body : Body) (d : Due) → due_by due S l body ≡ Some d → IsDueBeneath due S l d
+told_is due S l (Join k m links) d e = by (is_under S l k && due S k m) refl e
   where
-    by : (b : Bool) → (is_under S l k && is_forget_duty S k m) ≡ b → cond b (Some (record { lra = k; member = m })) None ≡ Some d → IsUnforgotten S l d
+    by : (b : Bool) → (is_under S l k && due S k m) ≡ b → cond b (Some (record { lra = k; member = m })) None ≡ Some d → IsDueBeneath due S l d
     by false t e = absurd cc
     by true t e =
         let same : record { lra = k; member = m } ≡ d = cc in
-        subst (IsUnforgotten S l) same (record { under = and_left (is_under S l k) _ t; due = and_right (is_under S l k) _ t })
-told_is S l (Begin parent deadline) d e = absurd cc
-told_is S l (Leave id m) d e = absurd cc
-told_is S l (Decide id verdict) d e = absurd cc
-told_is S l (Report id m act outcome) d e = absurd cc
-told_is S l (Forgot id m) d e = absurd cc
-told_is S l (Purge root) d e = absurd cc
+        subst (IsDueBeneath due S l) same (record { under = and_left (is_under S l k) _ t; owed = and_right (is_under S l k) _ t })
+told_is due S l (Begin parent deadline) d e = absurd cc
+told_is due S l (Leave id m) d e = absurd cc
+told_is due S l (Decide id verdict) d e = absurd cc
+told_is due S l (Report id m act outcome) d e = absurd cc
+told_is due S l (Forgot id m) d e = absurd cc
+told_is due S l (Told id m) d e = absurd cc
+told_is due S l (Purge root) d e = absurd cc
 
-tells : (S : List Fact) (l : Id) (d : Due) → IsUnforgotten S l d → TellsOf S l S d
-tells S l d h = joined (links_of S d.lra d.member) refl (and_left (is_some (links_of S d.lra d.member)) _ (and_left (is_participant S d.lra d.member) _ h.due))
+tells : (due : List Fact → Id → ℕ → Bool) (S : List Fact) (l : Id) (d : Due) → IsOfParticipants due S → IsDueBeneath due S l d → TellsOf due S l S d
+tells due S l d known h = joined (links_of S d.lra d.member) refl (and_left (is_some (links_of S d.lra d.member)) _ (known d.lra d.member h.owed))
   where
-    joined : (o : Option Links) → links_of S d.lra d.member ≡ o → is_some o ≡ true → TellsOf S l S d
+    joined : (o : Option Links) → links_of S d.lra d.member ≡ o → is_some o ≡ true → TellsOf due S l S d
     joined None e some = absurd cc
     joined (Some links) e some =
         let f = join_found S d.lra d.member links e in
-        let own : forget_by S l (Join d.lra d.member links) ≡ Some d = rw (h.under, h.due) refl in
-        (f.0, f.1, ap (forget_by S l) f.2 ∙ own)
+        let own : due_by due S l (Join d.lra d.member links) ≡ Some d = rw (h.under, h.owed) refl in
+        (f.0, f.1, ap (due_by due S l) f.2 ∙ own)
 
--- the first that is to be told to forget is the least
-pub least_is : (S : List Fact) → AllByRecursion NamesEarlier S → (l : Id) (o : Option Due) → IsFirst (IsUnforgotten S l) is_before o → o ≡ least_forget S S l
-least_is S nested l o h =
-    one_first (IsUnforgotten S l) o (least_forget S S l) home h
-    (first_alike (TellsOf S l S) (IsUnforgotten S l) (least_forget S S l) (λ d p. told_is S l p.0.body d p.2) (λ d p. tells S l d p) (least_first S l S))
+-- the first of which this is due is the least
+pub least_is : (due : List Fact → Id → ℕ → Bool) (S : List Fact) → AllByRecursion NamesEarlier S → IsOfParticipants due S → (l : Id) (o : Option Due) → IsFirst (IsDueBeneath due S l) is_before o → o ≡ least_due due S S l
+least_is due S nested known l o h =
+    one_first (IsDueBeneath due S l) o (least_due due S S l) home h
+    (first_alike (TellsOf due S l S) (IsDueBeneath due S l) (least_due due S S l) (λ d p. told_is due S l p.0.body d p.2) (λ d p. tells due S l d known p) (least_first due S l S))
   where
-    home : (x y : Due) → IsUnforgotten S l x → IsUnforgotten S l y → x.lra.home ≡ y.lra.home
+    home : (x y : Due) → IsDueBeneath due S l x → IsDueBeneath due S l y → x.lra.home ≡ y.lra.home
     home x y p q = under_home S nested l (suc x.lra.num) x.lra (omega arith) p.under ∙ sym (under_home S nested l (suc y.lra.num) y.lra (omega arith) q.under)
 
 -- One record
 
 -- the first of its members that is to be told
-first_forget : (nodes : ℕ) (S : List Fact) (home : ℕ) (records : List Record) (root : Id) (r : Record) → IsWhole S → IsNested S → IsSeated S → Stands nodes home S records → find (is_of (at home r.num)) records ≡ Some r → root.home ≡ home
-    → is_under S root (at home r.num) ≡ true → IsFirst (IsToForget S root r.num) is_before (first_owed (found_at home records) r 1 r.members)
-first_forget nodes S home records root r whole nest seated stands found own under =
-    subst (IsFirst (IsToForget S root r.num) is_before) (sym first)
-    (first_alike (λ d. IsDueAt home S is_forget_duty d × (d.lra.num ≡ r.num)) (IsToForget S root r.num) (slice_get (owed_by (owing_of Forget S l) l 1 (members_of S l)) 0) there back (first_of_all _ _ share))
+-- the record tells of each participant what the set has due of it
+pub record Tells (due : List Fact → Id → ℕ → Bool) (passes : ParticipantRecord → Bool) (S : List Fact) (l : Id) : Type 0 where
+  pub owing : Owing
+  pub passing : Agrees passes owing
+  pub owed : (m : ℕ) (p : ParticipantRecord) → participant_at (numbered (members_of S l) m) ≡ Some p → due S l m ≡ owes owing p
+  pub none : (m : ℕ) → participant_at (numbered (members_of S l) m) ≡ None → due S l m ≡ false
+
+first_told : (due : List Fact → Id → ℕ → Bool) (passes : ParticipantRecord → Bool) (nodes : ℕ) (S : List Fact) (home : ℕ) (records : List Record) (root : Id) (r : Record) → Tells due passes S (at home r.num) → IsWhole S → Stands nodes home S records → find (is_of (at home r.num)) records ≡ Some r → root.home ≡ home
+    → is_under S root (at home r.num) ≡ true → IsFirst (IsDueBelow due S root r.num) is_before (first_member passes (id_of r) 1 r.members)
+first_told due passes nodes S home records root r tells whole stands found own under =
+    subst (IsFirst (IsDueBelow due S root r.num) is_before) (sym first)
+    (first_alike (λ d. IsDueAt home S due d × (d.lra.num ≡ r.num)) (IsDueBelow due S root r.num) (slice_get (owed_by tells.owing l 1 (members_of S l)) 0) there back (first_of_all _ _ share))
   where
     l : Id
     l = at home r.num
@@ -163,32 +179,31 @@ first_forget nodes S home records root r whole nest seated stands found own unde
     kept : r ≡ record_of nodes S (at home r.num)
     kept = found_is nodes S records (at home r.num) r stands held found
 
-    first : first_owed (found_at home records) r 1 r.members ≡ slice_get (owed_by (owing_of Forget S (at home r.num)) (at home r.num) 1 (members_of S (at home r.num))) 0
+    first : first_member passes (id_of r) 1 r.members ≡ slice_get (owed_by tells.owing (at home r.num) 1 (members_of S (at home r.num))) 0
     first =
-        first_owed_is (found_at home records) r 1 r.members
-        ∙ ap (λ (owing : Owing). slice_get (owed_by owing (id_of r) 1 r.members) 0) (owing_said Forget nodes home S records r whole nest stands found)
-        ∙ ap (λ (q : Record). slice_get (owed_by (owing_of Forget S (at home r.num)) (id_of q) 1 q.members) 0) kept
+        first_member_is passes tells.owing tells.passing (id_of r) 1 r.members
+        ∙ ap (λ (q : Record). slice_get (owed_by tells.owing (id_of q) 1 q.members) 0) kept
 
-    share : AreAll (λ d. IsDueAt home S is_forget_duty d × (d.lra.num ≡ r.num)) is_before (owed_by (owing_of Forget S l) l 1 (members_of S l))
-    share = owed_all (owing_of Forget S l) home r.num S is_forget_duty held (λ m p there. due_owes Forget S l m p seated there) (λ m none. due_none Forget S l m seated none)
+    share : AreAll (λ d. IsDueAt home S due d × (d.lra.num ≡ r.num)) is_before (owed_by tells.owing l 1 (members_of S l))
+    share = owed_all tells.owing home r.num S due held tells.owed tells.none
 
-    there : (d : Due) → IsDueAt home S is_forget_duty d × (d.lra.num ≡ r.num) → IsToForget S root r.num d
+    there : (d : Due) → IsDueAt home S due d × (d.lra.num ≡ r.num) → IsDueBelow due S root r.num d
     there d p =
         let same : d.lra ≡ l = ap (λ (k : ℕ). at k d.lra.num) p.0.own ∙ ap (at home) p.1 in
-        record { number = p.1; under = ap (is_under S root) same ∙ under; due = p.0.owed }
+        record { number = p.1; under = ap (is_under S root) same ∙ under; owed = p.0.owed }
 
-    back : (d : Due) → IsToForget S root r.num d → IsDueAt home S is_forget_duty d × (d.lra.num ≡ r.num)
+    back : (d : Due) → IsDueBelow due S root r.num d → IsDueAt home S due d × (d.lra.num ≡ r.num)
     back d h =
         let here = under_home S whole.nested root (suc d.lra.num) d.lra (omega arith) h.under ∙ own in
         let same : d.lra ≡ l = ap (λ (k : ℕ). at k d.lra.num) here ∙ ap (at home) h.number in
-        (record { own = here; held = ap (is_held S) same ∙ held; owed = h.due }, h.number)
+        (record { own = here; held = ap (is_held S) same ∙ held; owed = h.owed }, h.number)
 
-one_below : (nodes : ℕ) (S : List Fact) (home : ℕ) (records : List Record) (root : Id) (r : Record) → IsWhole S → IsNested S → IsSeated S → AllByRecursion IsNumbered S → Stands nodes home S records → find (is_of (at home r.num)) records ≡ Some r → root.home ≡ home
-    → IsFirst (IsToForget S root r.num) is_before (owed_below (found_at home records) root.num r)
-one_below nodes S home records root r whole nest seated numbers stands found own = by (is_below (found_at home records) root.num r) (below_said nodes home S records root.num r whole nest numbers stands found ∙ ap (λ (k : ℕ). is_under S (at k root.num) (at home r.num)) (sym own))
+one_below : (due : List Fact → Id → ℕ → Bool) (passes : Record → ParticipantRecord → Bool) (nodes : ℕ) (S : List Fact) (home : ℕ) (records : List Record) (root : Id) (r : Record) → Tells due (passes r) S (at home r.num) → IsWhole S → IsNested S → AllByRecursion IsNumbered S → Stands nodes home S records → find (is_of (at home r.num)) records ≡ Some r → root.home ≡ home
+    → IsFirst (IsDueBelow due S root r.num) is_before (first_below passes (found_at home records) root.num r)
+one_below due passes nodes S home records root r tells whole nest numbers stands found own = by (is_below (found_at home records) root.num r) (below_said nodes home S records root.num r whole nest numbers stands found ∙ ap (λ (k : ℕ). is_under S (at k root.num) (at home r.num)) (sym own))
   where
-    by : (b : Bool) → b ≡ is_under S root (at home r.num) → IsFirst (IsToForget S root r.num) is_before (cond b (first_owed (found_at home records) r 1 r.members) None)
-    by true e = first_forget nodes S home records root r whole nest seated stands found own (sym e)
+    by : (b : Bool) → b ≡ is_under S root (at home r.num) → IsFirst (IsDueBelow due S root r.num) is_before (cond b (first_member (passes r) (id_of r) 1 r.members) None)
+    by true e = first_told due (passes r) nodes S home records root r tells whole stands found own (sym e)
     by false e = λ d h.
         let here = under_home S whole.nested root (suc d.lra.num) d.lra (omega arith) h.under ∙ own in
         let same : d.lra ≡ at home r.num = ap (λ (k : ℕ). at k d.lra.num) here ∙ ap (at home) h.number in
@@ -198,20 +213,20 @@ one_below nodes S home records root r whole nest seated numbers stands found own
 -- All records
 
 -- it is one of these records' that is to be told
-abbrev IsAmong : List Fact → Id → List Record → Due → Type 0
-IsAmong S root rs d = (q : Record) × In q rs × IsToForget S root q.num d
+abbrev IsAmong : (List Fact → Id → ℕ → Bool) → List Fact → Id → List Record → Due → Type 0
+IsAmong due S root rs d = (q : Record) × In q rs × IsDueBelow due S root q.num d
 
-first_more : (S : List Fact) (root : Id) (r : Record) (rs : List Record) (o rest : Option Due) → ((q : Record) → In q rs → r.num < q.num) → IsFirst (IsToForget S root r.num) is_before o → IsFirst (IsAmong S root rs) is_before rest
-    → IsFirst (IsAmong S root (r ∷ rs)) is_before (option_map_or (λ due. Some due) o rest)
-first_more S root r rs o rest after = by o rest
+first_more : (due : List Fact → Id → ℕ → Bool) (S : List Fact) (root : Id) (r : Record) (rs : List Record) (o rest : Option Due) → ((q : Record) → In q rs → r.num < q.num) → IsFirst (IsDueBelow due S root r.num) is_before o → IsFirst (IsAmong due S root rs) is_before rest
+    → IsFirst (IsAmong due S root (r ∷ rs)) is_before (option_map_or (λ due. Some due) o rest)
+first_more due S root r rs o rest after = by o rest
   where
-    split : (d : Due) → IsAmong S root (r ∷ rs) d → IsToForget S root r.num d ⊎ IsAmong S root rs d
-    split d p = elim p.1 [ inl same ↦ inl (subst (λ (q : Record). IsToForget S root q.num d) same p.2) | inr inside ↦ inr (p.0, inside, p.2) ]
+    split : (d : Due) → IsAmong due S root (r ∷ rs) d → IsDueBelow due S root r.num d ⊎ IsAmong due S root rs d
+    split d p = elim p.1 [ inl same ↦ inl (subst (λ (q : Record). IsDueBelow due S root q.num d) same p.2) | inr inside ↦ inr (p.0, inside, p.2) ]
 
-    later : (d : Due) → IsAmong S root rs d → IsAmong S root (r ∷ rs) d
+    later : (d : Due) → IsAmong due S root rs d → IsAmong due S root (r ∷ rs) d
     later d p = (p.0, inr p.1, p.2)
 
-    by : (o rest : Option Due) → IsFirst (IsToForget S root r.num) is_before o → IsFirst (IsAmong S root rs) is_before rest → IsFirst (IsAmong S root (r ∷ rs)) is_before (option_map_or (λ due. Some due) o rest)
+    by : (o rest : Option Due) → IsFirst (IsDueBelow due S root r.num) is_before o → IsFirst (IsAmong due S root rs) is_before rest → IsFirst (IsAmong due S root (r ∷ rs)) is_before (option_map_or (λ due. Some due) o rest)
     by None None h k = λ d p. elim (split d p) [ inl here ↦ h d here | inr there ↦ k d there ]
     by None (Some y) h k = (later y k.0, λ d p. elim (split d p) [ inl here ↦ absurd (h d here) | inr there ↦ k.1 d there ])
     by (Some x) rest h k = (
@@ -222,26 +237,60 @@ first_more S root r rs o rest after = by o rest
       ],
     )
 
-firsts : (nodes : ℕ) (S : List Fact) (home : ℕ) (records : List Record) (root : Id) → IsWhole S → IsNested S → IsSeated S → AllByRecursion IsNumbered S → Stands nodes home S records → root.home ≡ home
-    → (rs : List Record) → IsAscending rs → ((q : Record) → In q rs → find (is_of (at home q.num)) records ≡ Some q) → IsFirst (IsAmong S root rs) is_before (least_owed_of (found_at home records) root.num rs)
-firsts nodes S home records root whole nest seated numbers stands own [] order found = λ d p. p.1
-firsts nodes S home records root whole nest seated numbers stands own (r ∷ rs) order found =
-    first_more S root r rs (owed_below (found_at home records) root.num r) (least_owed_of (found_at home records) root.num rs) (λ q i. all_in (λ x. r.num < x.num) rs order.0 q i)
-    (one_below nodes S home records root r whole nest seated numbers stands (found r (inl refl)) own)
-    (firsts nodes S home records root whole nest seated numbers stands own rs order.1 (λ q i. found q (inr i)))
+-- each record tells what is due, whichever the records are
+abbrev pub EachTells : (List Fact → Id → ℕ → Bool) → (Record → ParticipantRecord → Bool) → List Fact → ℕ → List Record → Type 0
+EachTells due passes S home records = (r : Record) → find (is_of (at home r.num)) records ≡ Some r → Tells due (passes r) S (at home r.num)
+
+firsts : (due : List Fact → Id → ℕ → Bool) (passes : Record → ParticipantRecord → Bool) (nodes : ℕ) (S : List Fact) (home : ℕ) (records : List Record) (root : Id) → EachTells due passes S home records → IsWhole S → IsNested S → AllByRecursion IsNumbered S → Stands nodes home S records → root.home ≡ home
+    → (rs : List Record) → IsAscending rs → ((q : Record) → In q rs → find (is_of (at home q.num)) records ≡ Some q) → IsFirst (IsAmong due S root rs) is_before (least_below passes (found_at home records) root.num rs)
+firsts due passes nodes S home records root tells whole nest numbers stands own [] order found = λ d p. p.1
+firsts due passes nodes S home records root tells whole nest numbers stands own (r ∷ rs) order found =
+    first_more due S root r rs (first_below passes (found_at home records) root.num r) (least_below passes (found_at home records) root.num rs) (λ q i. all_in (λ x. r.num < x.num) rs order.0 q i)
+    (one_below due passes nodes S home records root r (tells r (found r (inl refl))) whole nest numbers stands (found r (inl refl)) own)
+    (firsts due passes nodes S home records root tells whole nest numbers stands own rs order.1 (λ q i. found q (inr i)))
 
 -- the first of the records in order is the least of the facts
-pub least_said : (nodes home : ℕ) (S : List Fact) (records : List Record) (root : Id) → IsWhole S → IsNested S → IsSeated S → AllByRecursion IsNumbered S → AreOf home records → Stands nodes home S records → root.home ≡ home → is_held S root ≡ true
-    → least_owed_of (found_at home records) root.num records ≡ least_forget S S root
-least_said nodes home S records root whole nest seated numbers order stands own held =
-    least_is S whole.nested root (least_owed_of (found_at home records) root.num records)
-    (first_alike (IsAmong S root records) (IsUnforgotten S root) (least_owed_of (found_at home records) root.num records) (λ d p. record { under = p.2.under; due = p.2.due }) back
-    (firsts nodes S home records root whole nest seated numbers stands own records order.ascending (λ q i. found_in home records q order i)))
+least_of_all : (due : List Fact → Id → ℕ → Bool) (passes : Record → ParticipantRecord → Bool) (nodes home : ℕ) (S : List Fact) (records : List Record) (root : Id) → EachTells due passes S home records → IsOfParticipants due S → IsWhole S → IsNested S → AllByRecursion IsNumbered S → AreOf home records → Stands nodes home S records → root.home ≡ home → is_held S root ≡ true
+    → least_below passes (found_at home records) root.num records ≡ least_due due S S root
+least_of_all due passes nodes home S records root tells known whole nest numbers order stands own held =
+    least_is due S whole.nested known root (least_below passes (found_at home records) root.num records)
+    (first_alike (IsAmong due S root records) (IsDueBeneath due S root) (least_below passes (found_at home records) root.num records) (λ d p. record { under = p.2.under; owed = p.2.owed }) back
+    (firsts due passes nodes S home records root tells whole nest numbers stands own records order.ascending (λ q i. found_in home records q order i)))
   where
-    back : (d : Due) → IsUnforgotten S root d → IsAmong S root records d
+    back : (d : Due) → IsDueBeneath due S root d → IsAmong due S root records d
     back d h =
         let here = under_home S whole.nested root (suc d.lra.num) d.lra (omega arith) h.under ∙ own in
         let kept = held_below S whole root held (suc d.lra.num) d.lra (omega arith) h.under in
         let found = stands_at nodes home S records d.lra stands here kept in
         let inside = find_in (is_of d.lra) records (record_of nodes S d.lra) found in
-        (record_of nodes S d.lra, inside.0, record { number = refl; under = h.under; due = h.due })
+        (record_of nodes S d.lra, inside.0, record { number = refl; under = h.under; owed = h.owed })
+
+-- the least that is to be told to forget
+pub least_said : (nodes home : ℕ) (S : List Fact) (records : List Record) (root : Id) → IsWhole S → IsNested S → IsSeated S → AllByRecursion IsNumbered S → AreOf home records → Stands nodes home S records → root.home ≡ home → is_held S root ≡ true
+    → least_owed_of (found_at home records) root.num records ≡ least_forget S root
+least_said nodes home S records root whole nest seated numbers order stands own held =
+    least_of_all is_forget_duty (is_owed (found_at home records)) nodes home S records root tells (λ l m e. and_left (is_participant S l m) _ e) whole nest numbers order stands own held
+  where
+    tells : EachTells is_forget_duty (is_owed (found_at home records)) S home records
+    tells r found =
+        record {
+          owing = owing_of Forget S (at home r.num);
+          passing = λ p. owed_owes (found_at home records) r p ∙ ap (λ (owing : Owing). owes owing p) (owing_said Forget nodes home S records r whole nest stands found);
+          owed = λ m p there. due_owes Forget S (at home r.num) m p seated there;
+          none = λ m none. due_none Forget S (at home r.num) m seated none;
+        }
+
+-- the least that is to be told that its LRA has ended, now or later
+pub least_untold_said : (nodes home : ℕ) (S : List Fact) (records : List Record) (root : Id) → IsWhole S → IsNested S → IsSeated S → AllByRecursion IsNumbered S → AreOf home records → Stands nodes home S records → root.home ≡ home → is_held S root ≡ true
+    → least_unheard_of (found_at home records) root.num records ≡ least_untold S root
+least_untold_said nodes home S records root whole nest seated numbers order stands own held =
+    least_of_all is_untold (λ r p. is_unheard p) nodes home S records root tells (λ l m e. and_left (is_participant S l m) _ e) whole nest numbers order stands own held
+  where
+    tells : EachTells is_untold (λ r p. is_unheard p) S home records
+    tells r found =
+        record {
+          owing = Hearing;
+          passing = λ p. refl;
+          owed = λ m p there. untold_unheard S (at home r.num) m p seated there;
+          none = λ m none. untold_none S (at home r.num) m seated none;
+        }

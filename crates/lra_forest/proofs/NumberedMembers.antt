@@ -6,9 +6,9 @@ use Rattle.std.proofs.lemmas.Bool.Decides.{nat_tests}
 use Rattle.lra_id.specs.Ids.{Id, same_id}
 use Rattle.lra_states.specs.declared.status.MemberStatus.{MemberStatus}
 use Rattle.lra_states.specs.declared.outcome.Verdict.{Verdict}
-use Rattle.lra_facts.specs.declared.links.Links.{Links}
+use Rattle.lra_facts.specs.Links.{Links}
 use Rattle.lra_facts.specs.declared.fact.Body.{Body}
-use Rattle.lra_facts.specs.declared.fact.Body.TheVariants.{Begin, Join, Leave, Decide, Report, Forgot, Purge}
+use Rattle.lra_facts.specs.declared.fact.Body.TheVariants.{Begin, Join, Leave, Decide, Report, Forgot, Told, Purge}
 use Rattle.lra_facts.specs.declared.fact.Fact.{Fact}
 use Rattle.lra_facts.specs.Sets.{gives_number, member_number, joined_links, links_of, has_left, is_held, member_status, want}
 use Rattle.lra_forest.specs.declared.record.Participant.{Participant as ParticipantRecord}
@@ -45,6 +45,7 @@ joined_at l m (Leave id member) links e = absurd cc
 joined_at l m (Decide id verdict) links e = absurd cc
 joined_at l m (Report id member act outcome) links e = absurd cc
 joined_at l m (Forgot id member) links e = absurd cc
+joined_at l m (Told id member) links e = absurd cc
 joined_at l m (Purge root) links e = absurd cc
 
 -- links are those of a join
@@ -101,6 +102,7 @@ participant_join S l n (Leave id m) p gives e = absurd cc
 participant_join S l n (Decide id verdict) p gives e = absurd cc
 participant_join S l n (Report id m act outcome) p gives e = absurd cc
 participant_join S l n (Forgot id m) p gives e = absurd cc
+participant_join S l n (Told id m) p gives e = absurd cc
 participant_join S l n (Purge root) p gives e = absurd cc
 
 -- a giver stands at the place of its number

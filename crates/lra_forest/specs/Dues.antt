@@ -7,7 +7,7 @@ use Rattle.lra_states.specs.declared.outcome.Act.TheVariants.{Complete}
 use Rattle.lra_facts.specs.declared.fact.Body.{Body}
 use Rattle.lra_facts.specs.declared.fact.Body.TheVariants.{Join}
 use Rattle.lra_facts.specs.declared.fact.Fact.{Fact}
-use Rattle.lra_facts.specs.Duties.{is_compensation_due, is_forget_duty, is_pending, topmost_cancelled}
+use Rattle.lra_facts.specs.Duties.{is_compensation_due, is_forget_duty, is_pending, is_untold, topmost_cancelled}
 use Rattle.lra_facts.specs.Lists.{In}
 use Rattle.lra_facts.specs.Sets.{heard, is_demanded, is_held, is_participant, is_under}
 use Rattle.lra_forest.specs.declared.duties.Due.{Due}
@@ -64,25 +64,33 @@ abbrev pub IsShare : ℕ → List Fact → ℕ → Option Due → Type 0
 IsShare home S num None = (d : Due) → IsDueUnder home S num d → ⊥
 IsShare home S num (Some x) = IsDueUnder home S num x × ((d : Due) → IsDueUnder home S num d → d ≡ x)
 
--- The least forget duty under an LRA
+-- The least of what is due under an LRA
 
--- it is the participant of an LRA with this number under l, and is to be told to forget
-pub record IsToForget (S : List Fact) (l : Id) (num : ℕ) (d : Due) : Type 0 where
+-- it is the participant of an LRA with this number under l, and this is due of it
+pub record IsDueBelow (due : List Fact → Id → ℕ → Bool) (S : List Fact) (l : Id) (num : ℕ) (d : Due) : Type 0 where
   pub number : d.lra.num ≡ num
   pub under : is_under S l d.lra ≡ true
-  pub due : is_forget_duty S d.lra d.member ≡ true
+  pub owed : due S d.lra d.member ≡ true
 
 abbrev pub lesser_due : Option Due → Option Due → Option Due
 lesser_due None b = b
 lesser_due (Some a) None = Some a
 lesser_due (Some a) (Some b) = if is_before b a then Some b else Some a
 
--- it tells of a participant under l that is still to be told to forget
-abbrev pub forget_by : List Fact → Id → Body → Option Due
-forget_by S l (Join d m links) = if is_under S l d && is_forget_duty S d m then Some (record { lra = d; member = m }) else None
-forget_by S l _ = None
+-- it tells of a participant under l of which this is due
+abbrev pub due_by : (List Fact → Id → ℕ → Bool) → List Fact → Id → Body → Option Due
+due_by due S l (Join d m links) = if is_under S l d && due S d m then Some (record { lra = d; member = m }) else None
+due_by due S l _ = None
 
 -- the least of those that the facts of a list tell of
-abbrev pub least_forget : List Fact → List Fact → Id → Option Due
-least_forget S [] l = None
-least_forget S (f ∷ facts) l = lesser_due (forget_by S l f.body) (least_forget S facts l)
+abbrev pub least_due : (List Fact → Id → ℕ → Bool) → List Fact → List Fact → Id → Option Due
+least_due due S [] l = None
+least_due due S (f ∷ facts) l = lesser_due (due_by due S l f.body) (least_due due S facts l)
+
+-- the least that is still to be told to forget
+abbrev pub least_forget : List Fact → Id → Option Due
+least_forget S l = least_due is_forget_duty S S l
+
+-- the least that has a link for the end of its LRA, and was not told of it
+abbrev pub least_untold : List Fact → Id → Option Due
+least_untold S l = least_due is_untold S S l

@@ -1,30 +1,31 @@
--- What the participants of one record owe: to complete, or to forget.
+-- What the participants of one record owe: to complete, to forget, or to hear that the LRA has ended.
 use Rattle.std.specs.Prelude.{◌≡◌, IfSome, ◌+◌, ◌&&◌, ℕ, Bool, false, Option, Some, None, List, [], ◌∷◌, if◌then◌else◌, is_some}
 use mathlib.Core.Bool.{not}
 use Rattle.lra_id.specs.Ids.{Id, is_fact_number}
 use Rattle.lra_states.specs.declared.outcome.Verdict.{Verdict}
 use Rattle.lra_states.specs.declared.outcome.Verdict.TheVariants.{Close, Cancel}
 use Rattle.lra_facts.specs.declared.fact.Fact.{Fact}
-use Rattle.lra_facts.specs.Duties.{has_to_forget, is_forget_duty, is_over, is_pending}
+use Rattle.lra_facts.specs.Duties.{has_to_forget, is_after_duty, is_at_end, is_forget_duty, is_over, is_pending}
 use Rattle.lra_facts.specs.Sets.{is_root, want}
 use Rattle.lra_forest.specs.declared.duties.Due.{Due}
 use Rattle.lra_forest.specs.declared.duties.Errand.{Errand}
 use Rattle.lra_forest.specs.declared.duties.LastRoot.{LastRoot}
-use Rattle.lra_forest.specs.declared.duties.Errand.TheVariants.{Complete, Forget}
+use Rattle.lra_forest.specs.declared.duties.Errand.TheVariants.{Complete, Forget, Tell}
 use Rattle.lra_forest.specs.declared.duties.Owing.{Owing}
-use Rattle.lra_forest.specs.declared.duties.Owing.TheVariants.{Nothing, Completion, Forgetting}
+use Rattle.lra_forest.specs.declared.duties.Owing.TheVariants.{Nothing, Completion, Forgetting, Hearing}
 use Rattle.lra_forest.specs.declared.record.Member.{Member}
 use Rattle.lra_forest.specs.declared.record.Member.TheVariants.{Nested, Participant, Left}
 use Rattle.lra_forest.specs.declared.record.Participant.{Participant as ParticipantRecord}
 use Rattle.lra_forest.specs.declared.record.Record.{Record}
 use Rattle.lra_forest.specs.Dues.{is_complete_duty}
-use Rattle.lra_forest.specs.Said.{is_ended_at, is_over_at, want_at}
+use Rattle.lra_forest.specs.Said.{is_at_end_at, is_ended_at, is_over_at, is_unheard, want_at}
 use Rattle.lra_forest.specs.Statuses.{status_in}
 
 -- the duty of an errand
 abbrev pub duty_of : Errand → List Fact → Id → ℕ → Bool
 duty_of Complete = is_complete_duty
 duty_of Forget = is_forget_duty
+duty_of Tell = is_after_duty
 
 -- by what its LRA wants
 abbrev pub completing_by : Option Verdict → Owing
@@ -36,6 +37,7 @@ completing_by None = Nothing
 abbrev pub owing_of : Errand → List Fact → Id → Owing
 owing_of Complete S l = completing_by (want S l)
 owing_of Forget S l = if is_over S l then Forgetting (want S l) (not (is_root S l)) else Nothing
+owing_of Tell S l = if is_at_end S l then Hearing else Nothing
 
 -- what the participants of the LRA with this record may have to forget once its root is ended
 abbrev pub forgetting_at : (ℕ → Option Record) → Record → Owing
@@ -45,6 +47,7 @@ forgetting_at at r = Forgetting (want_at at r.num) (is_some r.parent)
 abbrev pub owing_at : Errand → (ℕ → Option Record) → Record → Owing
 owing_at Complete at r = completing_by (want_at at r.num)
 owing_at Forget at r = if is_over_at at r.num then forgetting_at at r else Nothing
+owing_at Tell at r = if is_at_end_at at r.num then Hearing else Nothing
 
 -- of the root that was asked last it is told whether it is ended
 abbrev pub IsLastRoot : (ℕ → Option Record) → Option LastRoot → Type 0
@@ -55,6 +58,7 @@ abbrev pub owes : Owing → ParticipantRecord → Bool
 owes Nothing p = false
 owes Completion p = is_some p.links.complete && is_pending p.completed
 owes (Forgetting want nested) p = is_some p.links.forget && (not p.forgotten && has_to_forget nested (status_in want p))
+owes Hearing p = is_unheard p
 
 abbrev pub owes_at : Owing → Member → Bool
 owes_at owing (Nested num) = false

@@ -6,18 +6,17 @@ use Rattle.std.specs.List.{range_with_len}
 use Rattle.std.specs.Option.{option_map_or}
 use Rattle.lra_id.specs.Ids.{is_fact_number}
 use Rattle.lra_states.specs.declared.outcome.Act.TheVariants.{Complete}
-use Rattle.lra_facts.specs.Duties.{is_pending}
+use Rattle.lra_facts.specs.Duties.{is_pending, wants_cancel}
 use Rattle.lra_facts.specs.Sets.{demands}
 use Rattle.lra_forest.specs.declared.duties.Due.{Due}
 use Rattle.lra_forest.specs.declared.record.Participant.{Participant as ParticipantRecord}
 use Rattle.lra_forest.specs.declared.record.Place.{Place}
 use Rattle.lra_forest.specs.declared.record.Record.{Record}
 use Rattle.lra_forest.specs.Forests.{id_of}
-use Rattle.lra_forest.specs.Said.{is_owed_at, participant_of, want_at}
+use Rattle.lra_forest.specs.Said.{is_owed_at, is_to_hear_at, participant_of, want_at}
 use Rattle.lra_forest.specs.Walks.{last_of, pending_within}
-use Rattle.lra_forest.specs.Wants.{wants_cancel}
 
--- To complete, and to forget
+-- To complete, to forget, and to hear of the end
 
 -- the LRA of a record with each of its member numbers
 abbrev pub seats_of : Record → List Due
@@ -36,6 +35,9 @@ due_to_complete at records = filter (λ (d : Due). is_to_complete_at at d.lra.nu
 
 abbrev pub due_to_forget : (ℕ → Option Record) → List Record → List Due
 due_to_forget at records = filter (λ (d : Due). is_owed_at at d.lra.num d.member) (seats records)
+
+abbrev pub due_to_hear : (ℕ → Option Record) → List Record → List Due
+due_to_hear at records = filter (λ (d : Due). is_to_hear_at at d.lra.num d.member) (seats records)
 
 -- To compensate
 

@@ -16,17 +16,19 @@ use Rattle.lra_forest.specs.Places.{put_record}
 
 -- Two records of one LRA
 
--- A participant without what it has no link for: what was heard of its completing, and the mark that it was told to forget
+-- A participant without what it has no link for: what was heard of its completing and compensating, and the marks that it was
+-- told to forget, and that its LRA has ended
 abbrev pub linked : ParticipantRecord → ParticipantRecord
 linked p =
     record {
       links = p.links;
       completed = if is_some p.links.complete then p.completed else None;
-      compensated = p.compensated;
+      compensated = if is_some p.links.compensate then p.compensated else None;
       forgotten = is_some p.links.forget && p.forgotten;
+      told = is_some p.links.after && p.told;
     }
 
--- Of a participant the greater outcomes are kept, and that it was told to forget if either has it. What the kept one has no
+-- Of a participant the greater outcomes are kept, and each mark if either has it. What the kept one has no
 -- link for is dropped
 abbrev pub merged_participant : (kept other : ParticipantRecord) → ParticipantRecord
 merged_participant p q =
@@ -35,6 +37,7 @@ merged_participant p q =
       completed = greater p.completed q.completed;
       compensated = greater p.compensated q.compensated;
       forgotten = p.forgotten || q.forgotten;
+      told = p.told || q.told;
     })
 
 -- A member is what the kept one says. Of a participant the other counts where it has a participant at the place too

@@ -7,9 +7,9 @@ use Rattle.lra_states.specs.declared.outcome.Verdict.{Verdict}
 use Rattle.lra_states.specs.declared.outcome.Verdict.TheVariants.{Close, Cancel}
 use Rattle.lra_states.specs.declared.outcome.Act.TheVariants.{Complete, Compensate}
 use Rattle.lra_facts.specs.declared.fact.Body.{Body}
-use Rattle.lra_facts.specs.declared.fact.Body.TheVariants.{Begin, Join, Leave, Decide, Report, Forgot, Purge}
+use Rattle.lra_facts.specs.declared.fact.Body.TheVariants.{Begin, Join, Leave, Decide, Report, Forgot, Told, Purge}
 use Rattle.lra_facts.specs.declared.fact.Fact.{Fact}
-use Rattle.lra_facts.specs.Duties.{has_forgot}
+use Rattle.lra_facts.specs.Duties.{has_forgot, has_told}
 use Rattle.lra_facts.specs.Sets.{is_decided, has_left, heard, begins, parent_of, gives_number, member_number}
 use Rattle.lra_forest.specs.declared.record.Place.{Place}
 use Rattle.lra_forest.specs.declared.record.Member.{Member}
@@ -27,6 +27,7 @@ is_named l (Leave id m) = same_id id l
 is_named l (Decide id v) = same_id id l
 is_named l (Report id m act outcome) = same_id id l
 is_named l (Forgot id m) = same_id id l
+is_named l (Told id m) = same_id id l
 is_named l (Purge root) = false
 
 -- it is the begin of l, or names it
@@ -63,6 +64,7 @@ member_by S l num (Join id m links) =
       completed = heard S l m Complete;
       compensated = heard S l m Compensate;
       forgotten = has_forgot S l m;
+      told = has_told S l m;
     })
 member_by S l num _ = Nested num
 

@@ -1,6 +1,6 @@
 -- What records say of an LRA, whatever set they stand for, if they stand for one. `at` gives the record of the LRA with a
 -- number, if there is one. Where there is none the LRA has no members and wants nothing.
-use Rattle.std.specs.Prelude.{◌+◌, ◌==◌, ◌&&◌, ℕ, zero, suc, Bool, false, Option, Some, None, List, [], ◌∷◌, filter, find, if◌then◌else◌, is_none, is_some, length, map, nat_le}
+use Rattle.std.specs.Prelude.{◌+◌, ◌==◌, ◌&&◌, ◌||◌, ℕ, zero, suc, Bool, false, Option, Some, None, List, [], ◌∷◌, filter, find, if◌then◌else◌, is_none, is_some, length, map, nat_le}
 use mathlib.Core.Bool.{not}
 use Rattle.std.specs.List.{list_any}
 use Rattle.std.specs.Option.{option_map_or}
@@ -13,7 +13,7 @@ use Rattle.lra_states.specs.declared.outcome.Verdict.TheVariants.{Close, Cancel}
 use Rattle.lra_states.specs.declared.status.LraStatus.{LraStatus}
 use Rattle.lra_states.specs.declared.status.MemberStatus.{MemberStatus}
 use Rattle.lra_states.specs.declared.status.MemberStatus.TheVariants.{FailedToComplete, FailedToCompensate}
-use Rattle.lra_facts.specs.Duties.{has_to_forget}
+use Rattle.lra_facts.specs.Duties.{has_to_forget, wants_cancel}
 use Rattle.lra_facts.specs.Sets.{demands, is_open}
 use Rattle.lra_forest.specs.declared.duties.Due.{Due}
 use Rattle.lra_forest.specs.declared.record.Member.{Member}
@@ -136,26 +136,61 @@ is_owed at r p =
 abbrev pub is_owed_at : (ℕ → Option Record) → ℕ → ℕ → Bool
 is_owed_at at num m = option_map_or (λ (r : Record). option_map_or (is_owed at r) (participant_of at num m) false) (at num) false
 
--- the participant with a member number was told
+-- the participant with a member number was told to forget
 abbrev pub is_forgot_at : (ℕ → Option Record) → ℕ → ℕ → Bool
 is_forgot_at at num m = option_map_or (λ (p : ParticipantRecord). p.forgotten) (participant_of at num m) false
 
--- the member is a participant that is to be told
-abbrev pub is_owed_member : (ℕ → Option Record) → Record → Member → Bool
-is_owed_member at r (Participant p) = is_owed at r p
-is_owed_member at r (Nested num) = false
-is_owed_member at r Left = false
+-- Hearing that an LRA has ended
 
--- the first of these members that is, where they are numbered from k
-abbrev pub first_owed : (ℕ → Option Record) → Record → ℕ → List Member → Option Due
-first_owed at r k [] = None
-first_owed at r k (m ∷ ms) = if is_owed_member at r m then Some (record { lra = id_of r; member = k }) else first_owed at r (k + 1) ms
+-- a root is met among the first 8 of its chain, and that wants something
+abbrev pub is_root_decided_at : (ℕ → Option Record) → ℕ → Bool
+is_root_decided_at at num = list_any (λ (r : Record). is_none r.parent && is_some (want_at at r.num)) (records_up 8 at num)
+
+-- it is ended, and no later decision changes what it shows
+abbrev pub is_at_end_at : (ℕ → Option Record) → ℕ → Bool
+is_at_end_at at num = is_ended_at at num && (wants_cancel (want_at at num) || is_root_decided_at at num)
+
+-- it has a link for the end of its LRA, and was not told of it
+abbrev pub is_unheard : ParticipantRecord → Bool
+is_unheard p = is_some p.links.after && not p.told
+
+-- a participant of the LRA with this record is to be told that this has ended
+abbrev pub is_to_hear : (ℕ → Option Record) → Record → ParticipantRecord → Bool
+is_to_hear at r p = is_at_end_at at r.num && is_unheard p
+
+abbrev pub is_to_hear_at : (ℕ → Option Record) → ℕ → ℕ → Bool
+is_to_hear_at at num m = option_map_or (λ (r : Record). option_map_or (is_to_hear at r) (participant_of at num m) false) (at num) false
+
+-- the participant with a member number was told that its LRA has ended
+abbrev pub is_told_at : (ℕ → Option Record) → ℕ → ℕ → Bool
+is_told_at at num m = option_map_or (λ (p : ParticipantRecord). p.told) (participant_of at num m) false
+
+-- The least that is still to be told something, by a test of the participants of a record
+
+-- the member is a participant that passes
+abbrev pub passes_member : (ParticipantRecord → Bool) → Member → Bool
+passes_member passes (Participant p) = passes p
+passes_member passes (Nested num) = false
+passes_member passes Left = false
+
+-- the first of these members of l that passes, where they are numbered from k
+abbrev pub first_member : (ParticipantRecord → Bool) → Id → ℕ → List Member → Option Due
+first_member passes l k [] = None
+first_member passes l k (m ∷ ms) = if passes_member passes m then Some (record { lra = l; member = k }) else first_member passes l (k + 1) ms
 
 -- of the participants of a record, if its LRA is the one with this number or nested in it
-abbrev pub owed_below : (ℕ → Option Record) → ℕ → Record → Option Due
-owed_below at num r = if is_below at num r then first_owed at r 1 r.members else None
+abbrev pub first_below : (Record → ParticipantRecord → Bool) → (ℕ → Option Record) → ℕ → Record → Option Due
+first_below passes at num r = if is_below at num r then first_member (passes r) (id_of r) 1 r.members else None
 
 -- records are in order of their numbers: the first is the least
+abbrev pub least_below : (Record → ParticipantRecord → Bool) → (ℕ → Option Record) → ℕ → List Record → Option Due
+least_below passes at num [] = None
+least_below passes at num (r ∷ rs) = option_map_or (λ due. Some due) (first_below passes at num r) (least_below passes at num rs)
+
+-- to forget
 abbrev pub least_owed_of : (ℕ → Option Record) → ℕ → List Record → Option Due
-least_owed_of at num [] = None
-least_owed_of at num (r ∷ rs) = option_map_or (λ due. Some due) (owed_below at num r) (least_owed_of at num rs)
+least_owed_of at num records = least_below (is_owed at) at num records
+
+-- to hear that its LRA has ended, now or later
+abbrev pub least_unheard_of : (ℕ → Option Record) → ℕ → List Record → Option Due
+least_unheard_of at num records = least_below (λ r p. is_unheard p) at num records

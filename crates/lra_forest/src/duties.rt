@@ -1,20 +1,20 @@
-// What is due of the participants of a home: to compensate in saga order, to complete, and to forget.
-ghost use Rattle.std.specs.Prelude.{◌≡◌, ◌↔◌, ◌++◌, ℕ, List, Err, None, Some, false, IfOk, OnOk, find, flat_map, is_some, slice_get};
-ghost use Rattle.std.specs.List.{AllByRecursion};
+// What is due of the participants of a home: to compensate in saga order, to complete, to forget, and to hear of the end.
+ghost use Rattle.std.specs.Prelude.{◌≡◌, ◌↔◌, ◌++◌, ◌&&◌, ℕ, Bool, List, Err, None, Some, false, IfOk, OnOk, find, flat_map, is_none, is_some, slice_get};
+ghost use Rattle.std.specs.List.{AllByRecursion, list_any};
 ghost use Rattle.std.specs.Option.{option_map_or};
 ghost use Rattle.lra_facts.specs.declared.fact.Fact.{Fact};
 ghost use Rattle.lra_facts.specs.declared.refusal.Refusal.TheVariants.{NotHeld};
-ghost use Rattle.lra_facts.specs.Duties.{has_to_forget, is_compensation_due, is_forget_duty, is_pending};
+ghost use Rattle.lra_facts.specs.Duties.{has_to_compensate, has_to_forget, is_after_duty, is_compensation_due, is_forget_duty, is_pending, wants_cancel};
 ghost use Rattle.lra_facts.specs.Sets.{IsNumbered};
+ghost use Rattle.lra_forest.specs.declared.record.Record.{Record};
 ghost use Rattle.lra_forest.specs.Dues.{AreAll, IsDueAt, is_before, is_complete_duty, is_topmost_before};
 ghost use Rattle.lra_forest.specs.Forests.{AreOf, is_of};
 ghost use Rattle.lra_forest.specs.Owings.{IsLastRoot, completing_by, forgetting_at, owed_by, owed_of, owes, owes_at, owing_at};
 ghost use Rattle.lra_forest.specs.Participants.{answered_of};
-ghost use Rattle.lra_forest.specs.RecordDues.{compensation_at, due_to_compensate, due_to_complete, due_to_forget, is_topmost_at};
-ghost use Rattle.lra_forest.specs.Said.{is_ended_at, is_over_at, is_owed_at, is_forgot_at, is_under_at, least_owed_of, owed_below, participant_of};
+ghost use Rattle.lra_forest.specs.RecordDues.{compensation_at, due_to_compensate, due_to_complete, due_to_forget, due_to_hear, is_topmost_at};
+ghost use Rattle.lra_forest.specs.Said.{first_below, is_at_end_at, is_ended_at, is_over_at, is_owed, is_owed_at, is_forgot_at, is_root_decided_at, is_to_hear_at, is_told_at, is_under_at, is_unheard, least_owed_of, least_unheard_of, participant_of, records_up, want_at};
 ghost use Rattle.lra_forest.specs.Shape.{found_at};
 ghost use Rattle.lra_forest.specs.Standing.{IsNested, IsSeated, IsWhole, Stands};
-ghost use Rattle.lra_forest.specs.Wants.{wants_cancel};
 ghost use Rattle.lra_forest.specs.Walks.{last_of, pending_within};
 
 use crate::answers::participant_at;
@@ -33,19 +33,22 @@ pub struct Due {
     pub member: u8,
 }
 
-/// What a participant is called for when its LRA did not fail: to complete, or to forget.
+/// What a participant is called for without regard to the saga: to complete, to forget, or to hear that its LRA has ended.
 #[derive(Clone, Copy)]
 enum Errand {
     Complete,
     Forget,
+    Tell,
 }
 
-/// What the participants of an LRA may owe: nothing, to complete, or to forget, by what is wanted and whether it is nested.
+/// What the participants of an LRA may owe: nothing, to complete, to forget, by what is wanted and whether it is nested, or to
+/// hear that it has ended.
 #[derive(Clone, Copy)]
 enum Owing {
     Nothing,
     Completion,
     Forgetting(Option<Verdict>, bool),
+    Hearing,
 }
 
 /// The root that was asked last whether it is ended, and whether it is.
@@ -62,6 +65,18 @@ fn is_pending(heard: Option<Outcome>) -> bool
         None | Some(Outcome::Busy) => true,
         Some(Outcome::Done) | Some(Outcome::Failed) => false,
     }
+}
+
+fn has_to_compensate(participant: &Participant) -> bool
+    ensures { result ≡ has_to_compensate participant.now.links participant.now.compensated }
+{
+    participant.links.compensate().is_some() && is_pending(participant.compensated)
+}
+
+fn is_unheard(participant: &Participant) -> bool
+    ensures { result ≡ is_unheard participant.now }
+{
+    participant.links.after().is_some() && !participant.told
 }
 
 fn is_cancel(want: Option<Verdict>) -> bool
@@ -95,13 +110,14 @@ fn owes(owing: Owing, participant: &Participant) -> bool
     match owing {
         Owing::Nothing => false,
         Owing::Completion => {
-            participant.links.complete.is_some() && is_pending(participant.completed)
+            participant.links.complete().is_some() && is_pending(participant.completed)
         }
         Owing::Forgetting(want, nested) => {
-            participant.links.forget.is_some()
+            participant.links.forget().is_some()
                 && !participant.forgotten
                 && has_to_forget(nested, status_of(want, participant))
         }
+        Owing::Hearing => is_unheard(participant),
     }
 }
 
@@ -162,7 +178,7 @@ impl Forest {
                 self.last_pending(*child, &record.members, levels - 1)
             }
             Member::Participant(participant) => {
-                if is_pending(participant.compensated) {
+                if has_to_compensate(participant) {
                     Some(Place { number, slot })
                 } else {
                     None
@@ -172,7 +188,7 @@ impl Forest {
         }
     }
 
-    /// The last participant whose compensation is pending, of the members of an LRA and those nested in them to this depth.
+    /// The last participant that is still to compensate, of the members of an LRA and those nested in them to this depth.
     /// It goes from the greatest member number down.
     #[cycle(walk)]
     fn last_pending(&self, number: u64, members: &Members, levels: u8) -> Option<Place>
@@ -280,9 +296,10 @@ impl Forest {
         seen.is_ended(want)
     }
 
-    fn root_of(&self, num: u64) -> Option<u64>
-        ensures { let at = found_at self.now.home self.now.records
-            in is_over_at at num ≡ option_map_or (is_ended_at at) result false }
+    fn root_met(&self, num: u64) -> Option<u64>
+        ensures { (passes : ℕ → Bool) → list_any (λ (r : Record). is_none r.parent && passes r.num)
+            (records_up 8 (found_at self.now.home self.now.records) num)
+            ≡ option_map_or passes result false }
     {
         let mut at = num;
         for _ in 0..MAX_DEPTH {
@@ -297,6 +314,15 @@ impl Forest {
         None
     }
 
+    fn root_of(&self, num: u64) -> Option<u64>
+        ensures over { let at = found_at self.now.home self.now.records
+            in is_over_at at num ≡ option_map_or (is_ended_at at) result false }
+        ensures decided { let at = found_at self.now.home self.now.records in is_root_decided_at at num
+            ≡ option_map_or (λ root. is_some (want_at at root)) result false }
+    {
+        self.root_met(num)
+    }
+
     /// Whether the root of the LRA with this number is ended. It looks up the records of the root's whole tree.
     fn is_over(&self, num: u64) -> bool
         ensures { result ≡ is_over_at (found_at self.now.home self.now.records) num }
@@ -305,6 +331,25 @@ impl Forest {
             Some(root) => self.is_ended(root),
             None => false,
         }
+    }
+
+    fn is_root_decided(&self, num: u64) -> bool
+        ensures { result ≡ is_root_decided_at (found_at self.now.home self.now.records) num }
+    {
+        match self.root_of(num) {
+            Some(root) => self.wanted(root).is_some(),
+            None => false,
+        }
+    }
+
+    /// Whether the LRA with this number is ended, and no later decision changes what it shows.
+    fn is_at_end(&self, num: u64) -> bool
+        ensures { result ≡ is_at_end_at (found_at self.now.home self.now.records) num }
+    {
+        if !self.is_ended(num) {
+            return false;
+        }
+        is_cancel(self.wanted(num)) || self.is_root_decided(num)
     }
 
     /// The same, where a root that was asked last is not asked again.
@@ -351,6 +396,22 @@ impl Forest {
         owing
     }
 
+    /// What the participants of the LRA of this record have to hear. Where none is to hear anything, it is not asked whether
+    /// the LRA has ended.
+    fn hearing(&self, lra: LraId, kept: &Record) -> Owing
+        ensures { owed_by result lra 1 kept.now.members ≡ owed_by (owing_at Errand.Tell
+            (found_at self.now.home self.now.records) kept.now) lra 1 kept.now.members }
+    {
+        if first_owed(Owing::Hearing, lra, &kept.members).is_none() {
+            return Owing::Nothing;
+        }
+        if self.is_at_end(kept.num) {
+            Owing::Hearing
+        } else {
+            Owing::Nothing
+        }
+    }
+
     fn owing_since(
         &self,
         errand: Errand,
@@ -366,6 +427,7 @@ impl Forest {
         match errand {
             Errand::Complete => completing(self.wanted(kept.num)),
             Errand::Forget => self.forgetting_since(lra, kept, last),
+            Errand::Tell => self.hearing(lra, kept),
         }
     }
 
@@ -408,6 +470,53 @@ impl Forest {
             (λ dues. AreAll (IsDueAt self.now.home S is_forget_duty) is_before dues.items) }
     {
         self.duties(alloc, Errand::Forget)
+    }
+
+    /// The participants that are to be told that their LRAs have ended, by the numbers of these and their member numbers.
+    pub fn after_duties(&self, alloc: Global) -> Result<Vec<Due>, AllocError>
+        ensures says { IfOk result (λ dues. dues.items
+            ≡ due_to_hear (found_at self.now.home self.now.records) self.now.records) }
+        ensures settled { (nodes : ℕ) (S : List Fact) →
+            IsWhole S → IsSeated S → IsNested S → AllByRecursion IsNumbered S →
+            Stands nodes self.now.home S self.now.records → IfOk result
+            (λ dues. AreAll (IsDueAt self.now.home S is_after_duty) is_before dues.items) }
+    {
+        self.duties(alloc, Errand::Tell)
+    }
+
+    /// Whether the participant of an LRA with this member number is to be told that the LRA has ended.
+    pub fn is_to_hear(&self, id: LraId, member: u8) -> Result<bool, Refusal>
+        ensures says { let at = found_at id.home self.now.records
+            in result ≡ answered_of (is_some (at id.num))
+            (is_some (participant_of at id.num member)) (is_to_hear_at at id.num member) }
+        ensures refused { result ≡ Err NotHeld ↔ (find (is_of id) self.now.records ≡ None) }
+    {
+        let Some(record) = self.get(id) else {
+            return Err(Refusal::NotHeld);
+        };
+        let Some(participant) = participant_at(record.members.get(member)) else {
+            return Err(Refusal::UnknownMember);
+        };
+        if !is_unheard(participant) {
+            return Ok(false);
+        }
+        Ok(self.is_at_end(record.num))
+    }
+
+    /// Whether the participant of an LRA with this member number was told that the LRA has ended.
+    pub fn was_told(&self, id: LraId, member: u8) -> Result<bool, Refusal>
+        ensures says { let at = found_at id.home self.now.records
+            in result ≡ answered_of (is_some (at id.num))
+            (is_some (participant_of at id.num member)) (is_told_at at id.num member) }
+        ensures refused { result ≡ Err NotHeld ↔ (find (is_of id) self.now.records ≡ None) }
+    {
+        let Some(record) = self.get(id) else {
+            return Err(Refusal::NotHeld);
+        };
+        let Some(participant) = participant_at(record.members.get(member)) else {
+            return Err(Refusal::UnknownMember);
+        };
+        Ok(participant.told)
     }
 
     /// Whether the participant of an LRA with this member number is to be told that it may forget.
@@ -453,7 +562,8 @@ impl Forest {
     ) -> Option<Due>
         requires { IsLastRoot (found_at self.now.home self.now.records) last.old }
         ensures due { result
-            ≡ owed_below (found_at self.now.home self.now.records) above.num kept.now }
+            ≡ (let at = found_at self.now.home self.now.records
+            in first_below (is_owed at) at above.num kept.now) }
         ensures last { IsLastRoot (found_at self.now.home self.now.records) last.new }
     {
         if !self.is_under(above.num(), kept.num) {
@@ -474,6 +584,33 @@ impl Forest {
         let mut last = None;
         for kept in self.records() {
             if let Some(due) = self.first_to_forget(above, kept, &mut last) {
+                return Some(due);
+            }
+        }
+        None
+    }
+
+    fn first_unheard(&self, above: LraId, kept: &Record) -> Option<Due>
+        ensures { result ≡ first_below (λ r p. is_unheard p)
+            (found_at self.now.home self.now.records) above.num kept.now }
+    {
+        if !self.is_under(above.num(), kept.num) {
+            return None;
+        }
+        let Ok(lra) = LraId::new(kept.home, kept.num) else {
+            return None;
+        };
+        first_owed(Owing::Hearing, lra, &kept.members)
+    }
+
+    /// Of the participants of an LRA of this home and of what is nested in it, the least that has a link for the end of its LRA
+    /// and was not told of it.
+    pub fn least_unheard(&self, above: LraId) -> Option<Due>
+        ensures { result ≡ least_unheard_of
+            (found_at self.now.home self.now.records) above.num self.now.records }
+    {
+        for kept in self.records() {
+            if let Some(due) = self.first_unheard(above, kept) {
                 return Some(due);
             }
         }

@@ -1,5 +1,5 @@
 // What a home's records become when another node's are taken.
-ghost use Rattle.std.specs.Prelude.{◌≡◌, ◌==◌, ℕ, Some, None, false, IfOk, OnOk, if◌then◌else◌, nat_le};
+ghost use Rattle.std.specs.Prelude.{◌≡◌, ◌==◌, ℕ, Some, None, false, IfOk, OnOk, if◌then◌else◌, is_some, nat_le};
 ghost use Rattle.std.specs.Option.{option_copied};
 ghost use Rattle.lra_id.specs.Ids.{Id};
 ghost use Rattle.lra_forest.specs.Forests.{AreOf, id_of};
@@ -8,6 +8,7 @@ ghost use Rattle.lra_forest.specs.OnlyChanges.{AreOnlyChanges, IsPut, ids_lost, 
 ghost use Rattle.lra_forest.specs.Shape.{found_at};
 
 use crate::{Forest, Member, Members, Participant, Record, Records};
+use lra_facts::Link;
 use lra_id::LraId;
 use lra_states::Outcome;
 use std::alloc::{AllocError, Global};
@@ -29,21 +30,27 @@ pub struct Changes {
     pub records: Forest,
 }
 
+/// What was heard of an act, where there is a link for it.
+fn where_linked(link: Option<&Link>, heard: Option<Outcome>) -> Option<Outcome>
+    ensures { result ≡ (if is_some (option_copied link.entry) then heard else None) }
+{
+    if link.is_some() { heard } else { None }
+}
+
 /// A participant without what it has no link for.
 fn linked(kept: Participant) -> Participant
     ensures { result ≡ linked kept }
 {
-    let completed = if kept.links.complete.is_some() {
-        kept.completed
-    } else {
-        None
-    };
-    let forgotten = kept.links.forget.is_some() && kept.forgotten;
+    let completed = where_linked(kept.links.complete(), kept.completed);
+    let compensated = where_linked(kept.links.compensate(), kept.compensated);
+    let forgotten = kept.links.forget().is_some() && kept.forgotten;
+    let told = kept.links.after().is_some() && kept.told;
     Participant {
         links: kept.links,
         completed,
-        compensated: kept.compensated,
+        compensated,
         forgotten,
+        told,
     }
 }
 
@@ -52,11 +59,13 @@ fn merged_participant(kept: Participant, other: &Participant) -> Participant
     ensures { result ≡ merged_participant kept other.now }
 {
     let forgotten = kept.forgotten || other.forgotten;
+    let told = kept.told || other.told;
     linked(Participant {
         links: kept.links,
         completed: Outcome::or_greater(kept.completed, other.completed),
         compensated: Outcome::or_greater(kept.compensated, other.compensated),
         forgotten,
+        told,
     })
 }
 

@@ -4,7 +4,7 @@ ghost use Rattle.std.specs.List.{AllByRecursion};
 ghost use Rattle.std.specs.Option.{option_copied};
 ghost use Rattle.lra_id.specs.Ids.{Id};
 ghost use Rattle.lra_facts.specs.Sets.{begins, begins_held, begun_by, gives_number, is_begin, member_number, parent_of, IsNumbered, NamesEarlier};
-ghost use Rattle.lra_facts.specs.Duties.{has_forgot, is_forgot};
+ghost use Rattle.lra_facts.specs.Duties.{has_forgot, has_told, is_forgot, is_told_of};
 ghost use Rattle.lra_forest.specs.Records.{deadline_given, deadline_of, decision_of, is_about, is_named, member_by, members_of, nodes_to, place_in, record_of, stamp};
 ghost use Rattle.lra_forest.specs.Gathering.{giver_at, least_above, lesser_number, next_giver, number_above, IsRecordable};
 
@@ -96,6 +96,7 @@ fn names(id: LraId, fact: &Fact) -> bool
         Body::Decide { id: named, .. } => *named == id,
         Body::Report { id: named, .. } => *named == id,
         Body::Forgot { id: named, .. } => *named == id,
+        Body::Told { id: named, .. } => *named == id,
         Body::Purge { .. } => false,
     }
 }
@@ -140,6 +141,24 @@ fn forgotten(facts: &[Fact], id: LraId, member: u8) -> bool
     facts.iter().any(|fact| tells_forgot(id, member, fact))
 }
 
+fn tells_end(id: LraId, member: u8, fact: &Fact) -> bool
+    ensures { result ≡ is_told_of id member fact.now.body }
+{
+    match &fact.body {
+        Body::Told {
+            id: told,
+            member: number,
+        } => *told == id && *number == member,
+        _ => false,
+    }
+}
+
+fn told(facts: &[Fact], id: LraId, member: u8) -> bool
+    ensures { result ≡ has_told facts.now id member }
+{
+    facts.iter().any(|fact| tells_end(id, member, fact))
+}
+
 fn member(facts: &[Fact], id: LraId, fact: &Fact) -> Result<Member, AllocError>
     ensures { IfOk result (λ member. member ≡ member_by facts.now id fact.now.num fact.now.body) }
 {
@@ -154,6 +173,7 @@ fn member(facts: &[Fact], id: LraId, fact: &Fact) -> Result<Member, AllocError>
         completed: plain::greatest_report(facts, id, *member, Act::Complete),
         compensated: plain::greatest_report(facts, id, *member, Act::Compensate),
         forgotten: forgotten(facts, id, *member),
+        told: told(facts, id, *member),
     }))
 }
 

@@ -5,15 +5,15 @@ use Rattle.lra_id.specs.Ids.{Id, last_number}
 use Rattle.lra_id.specs.Fronts.{count, is_covered}
 use Rattle.lra_facts.specs.declared.fact.Fact.{Fact}
 use Rattle.lra_facts.specs.declared.refusal.Refusal.{Refusal}
-use Rattle.lra_facts.specs.declared.refusal.Refusal.TheVariants.{StillToForget}
+use Rattle.lra_facts.specs.declared.refusal.Refusal.TheVariants.{StillToForget, StillToTell}
 use Rattle.lra_facts.specs.Sets.{depth, held_at, is_demanded, is_ended, is_heard, is_held, is_participant, is_root, numbers_given, want}
-use Rattle.lra_facts.specs.Duties.{has_forgot, is_forget_duty}
+use Rattle.lra_facts.specs.Duties.{has_forgot, has_told, is_after_duty, is_forget_duty}
 use Rattle.lra_facts.specs.Refusals.{unknown, away, spent}
 use Rattle.lra_forest.specs.declared.duties.Due.{Due}
-use Rattle.lra_forest.specs.Dues.{least_forget}
+use Rattle.lra_forest.specs.Dues.{least_forget, least_untold}
 use Rattle.lra_history.specs.declared.command.Command.{Command}
-use Rattle.lra_history.specs.declared.command.Command.TheVariants.{Begin as BeginAsked, Join as JoinAsked, Leave as LeaveAsked, Decide as DecideAsked, Report as ReportAsked, Forgot as ForgotAsked, Purge as PurgeAsked}
-use Rattle.lra_history.specs.Replies.{by_facts, gone_by, stranger_by, inactive_by, unasked_by, full_by, deep_by, crowded_by, Accepted, is_known, judge, judged, nested_by, refusal_of, running_by, unforgotten_by, unowed_by}
+use Rattle.lra_history.specs.declared.command.Command.TheVariants.{Begin as BeginAsked, Join as JoinAsked, Leave as LeaveAsked, Decide as DecideAsked, Report as ReportAsked, Forgot as ForgotAsked, Told as ToldAsked, Purge as PurgeAsked}
+use Rattle.lra_history.specs.Replies.{by_facts, gone_by, stranger_by, inactive_by, unasked_by, full_by, deep_by, crowded_by, early_by, Accepted, is_known, judge, judged, nested_by, refusal_of, running_by, unforgotten_by, unowed_by, untold_by}
 use Rattle.lra_history.proofs.Basics.{equal_from, less_by, open_first, passed}
 
 -- the front counts l, and the set holds it
@@ -37,7 +37,8 @@ IsGiven S v node (LeaveAsked l m) = IsActiveHere S v node l × (is_participant S
 IsGiven S v node (DecideAsked l verdict) = IsActiveHere S v node l
 IsGiven S v node (ReportAsked l m act outcome) = IsHere S v l × (is_participant S l m ≡ true) × (is_demanded S l m act ≡ true) × (is_heard S l m act outcome ≡ false)
 IsGiven S v node (ForgotAsked l m) = IsHere S v l × (is_participant S l m ≡ true) × (is_forget_duty S l m ≡ true) × (has_forgot S l m ≡ false)
-IsGiven S v node (PurgeAsked l) = IsHere S v l × (l.home ≡ node) × (is_root S l ≡ true) × (is_ended S l ≡ true) × (least_forget S S l ≡ None)
+IsGiven S v node (ToldAsked l m) = IsHere S v l × (is_participant S l m ≡ true) × (is_after_duty S l m ≡ true) × (has_told S l m ≡ false)
+IsGiven S v node (PurgeAsked l) = IsHere S v l × (l.home ≡ node) × (is_root S l ≡ true) × (is_ended S l ≡ true) × (least_forget S l ≡ None) × (least_untold S l ≡ None)
 
 -- a command that is accepted meets no refusal, is not known, and finds a number left
 accepted_when : (o : Option Refusal) (known : Bool) (limit : Option Refusal) → judged o known limit ≡ Accepted → (o ≡ None) × (known ≡ false) × (limit ≡ None)
@@ -74,16 +75,26 @@ depth_by S l e = less_by (depth S l) 8 (passed (nat_lt (depth S l) 8) _ e)
 few_by : (S : List Fact) (node : ℕ) → crowded_by (by_facts S) node ≡ None → held_at S node < 256
 few_by S node e = less_by (held_at S node) 256 (passed (nat_lt (held_at S node) 256) _ e)
 
-owed_by : (S : List Fact) (l : Id) (m : ℕ) → unowed_by (by_facts S) l m ≡ None → has_forgot S l m ≡ false → is_forget_duty S l m ≡ true
-owed_by S l m e known = by (is_forget_duty S l m) (has_forgot S l m) (passed (is_forget_duty S l m || has_forgot S l m) _ e) known
-  where
-    by : (a b : Bool) → (a || b) ≡ true → b ≡ false → a ≡ true
-    by true b e f = refl
-    by false true e f = absurd cc
-    by false false e f = absurd cc
+first_of : (a b : Bool) → (a || b) ≡ true → b ≡ false → a ≡ true
+first_of true b e f = refl
+first_of false true e f = absurd cc
+first_of false false e f = absurd cc
 
-told_by : (S : List Fact) (l : Id) → unforgotten_by (by_facts S) l ≡ None → least_forget S S l ≡ None
-told_by S l e = by (least_forget S S l) e
+owed_by : (S : List Fact) (l : Id) (m : ℕ) → unowed_by (by_facts S) l m ≡ None → has_forgot S l m ≡ false → is_forget_duty S l m ≡ true
+owed_by S l m e known = first_of (is_forget_duty S l m) (has_forgot S l m) (passed (is_forget_duty S l m || has_forgot S l m) _ e) known
+
+hears_by : (S : List Fact) (l : Id) (m : ℕ) → early_by (by_facts S) l m ≡ None → has_told S l m ≡ false → is_after_duty S l m ≡ true
+hears_by S l m e known = first_of (is_after_duty S l m) (has_told S l m) (passed (is_after_duty S l m || has_told S l m) _ e) known
+
+all_heard : (S : List Fact) (l : Id) → untold_by (by_facts S) l ≡ None → least_untold S l ≡ None
+all_heard S l e = by (least_untold S l) e
+  where
+    by : (o : Option Due) → option_map_or (λ duty. Some (StillToTell duty.lra duty.member)) o None ≡ None → o ≡ None
+    by None e = refl
+    by (Some duty) e = absurd cc
+
+told_by : (S : List Fact) (l : Id) → unforgotten_by (by_facts S) l ≡ None → least_forget S l ≡ None
+told_by S l e = by (least_forget S l) e
   where
     by : (o : Option Due) → option_map_or (λ duty. Some (StillToForget duty.lra duty.member)) o None ≡ None → o ≡ None
     by None e = refl
@@ -134,13 +145,19 @@ given S v node (ForgotAsked l m) e new =
     let b = open_first (gone_by (by_facts S) l) _ a.1 in
     let s = open_first (stranger_by (by_facts S) l m) _ b.1 in
     (is_here S v l a.0 b.0, participant_by S l m s.0, owed_by S l m (open_first (unowed_by (by_facts S) l m) _ s.1).0 new, new)
+given S v node (ToldAsked l m) e new =
+    let a = open_first (unknown v l) _ e in
+    let b = open_first (gone_by (by_facts S) l) _ a.1 in
+    let s = open_first (stranger_by (by_facts S) l m) _ b.1 in
+    (is_here S v l a.0 b.0, participant_by S l m s.0, hears_by S l m (open_first (early_by (by_facts S) l m) _ s.1).0 new, new)
 given S v node (PurgeAsked l) e new =
     let a = open_first (unknown v l) _ e in
     let b = open_first (gone_by (by_facts S) l) _ a.1 in
     let c = open_first (away node l) _ b.1 in
     let n = open_first (nested_by (by_facts S) l) _ c.1 in
     let r = open_first (running_by (by_facts S) l) _ n.1 in
-    (is_here S v l a.0 b.0, home_by node l c.0, passed (is_root S l) _ n.0, passed (is_ended S l) _ r.0, told_by S l (open_first (unforgotten_by (by_facts S) l) _ r.1).0)
+    let u = open_first (unforgotten_by (by_facts S) l) _ r.1 in
+    (is_here S v l a.0 b.0, home_by node l c.0, passed (is_root S l) _ n.0, passed (is_ended S l) _ r.0, told_by S l u.0, all_heard S l (open_first (untold_by (by_facts S) l) _ u.1).0)
 
 -- what a node knows of a command that it accepts
 pub lawful_gives : (S : List Fact) (v : List ℕ) (node : ℕ) (c : Command) → judge S v node c ≡ Accepted → IsGiven S v node c

@@ -8,7 +8,7 @@ use Rattle.lra_states.specs.declared.outcome.Outcome.{Outcome}
 use Rattle.lra_states.specs.declared.outcome.Outcome.TheVariants.{Busy, Done, Failed}
 use Rattle.lra_states.specs.declared.outcome.Verdict.{Verdict}
 use Rattle.lra_facts.specs.declared.fact.Body.{Body}
-use Rattle.lra_facts.specs.declared.fact.Body.TheVariants.{Begin, Join, Leave, Decide, Report, Forgot, Purge}
+use Rattle.lra_facts.specs.declared.fact.Body.TheVariants.{Begin, Join, Leave, Decide, Report, Forgot, Told, Purge}
 use Rattle.lra_facts.specs.declared.fact.Fact.{Fact}
 use Rattle.lra_facts.specs.declared.refusal.Refusal.{Refusal}
 use Rattle.lra_facts.specs.Lists.{In}
@@ -119,6 +119,7 @@ giver_names l (Join q n links) e = e
 giver_names l (Decide q w) e = absurd cc
 giver_names l (Report q n act o) e = absurd cc
 giver_names l (Forgot q n) e = absurd cc
+giver_names l (Told q n) e = absurd cc
 giver_names l (Leave q n) e = absurd cc
 giver_names l (Purge q) e = absurd cc
 
@@ -129,6 +130,7 @@ decision_names l v (Begin p d) e = absurd cc
 decision_names l v (Join q n links) e = absurd cc
 decision_names l v (Report q n act o) e = absurd cc
 decision_names l v (Forgot q n) e = absurd cc
+decision_names l v (Told q n) e = absurd cc
 decision_names l v (Leave q n) e = absurd cc
 decision_names l v (Purge q) e = absurd cc
 

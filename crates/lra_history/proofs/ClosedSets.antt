@@ -7,7 +7,7 @@ use Rattle.lra_id.specs.Fronts.{IsBelow, count}
 use Rattle.lra_facts.specs.declared.fact.Body.{Body}
 use Rattle.lra_facts.specs.declared.fact.Body.TheVariants.{Join}
 use Rattle.lra_facts.specs.declared.fact.Fact.{Fact}
-use Rattle.lra_facts.specs.declared.links.Links.{Links}
+use Rattle.lra_facts.specs.Links.{Links}
 use Rattle.lra_facts.specs.Lists.{In, IsInside}
 use Rattle.lra_facts.specs.Sets.{NamesEarlier, gives_number, member_number, numbers_given}
 use Rattle.lra_facts.proofs.Membership.{filter_in, in_append, in_filter, in_map, map_in}

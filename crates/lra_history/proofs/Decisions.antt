@@ -7,7 +7,7 @@ use Rattle.lra_states.specs.declared.outcome.Verdict.{Verdict}
 use Rattle.lra_states.specs.declared.outcome.Verdict.TheVariants.{Close, Cancel}
 use Rattle.lra_states.specs.States.{same_verdict}
 use Rattle.lra_facts.specs.declared.fact.Body.{Body}
-use Rattle.lra_facts.specs.declared.fact.Body.TheVariants.{Begin, Join, Leave, Decide, Report, Forgot, Purge}
+use Rattle.lra_facts.specs.declared.fact.Body.TheVariants.{Begin, Join, Leave, Decide, Report, Forgot, Told, Purge}
 use Rattle.lra_facts.specs.declared.fact.Fact.{Fact}
 use Rattle.lra_facts.specs.Lists.{In}
 use Rattle.lra_facts.specs.Sets.{begins, chain, is_begun, is_decided, is_decision, parent_named, parent_of, want}
@@ -82,6 +82,7 @@ active_given S v node (Leave l m) d a e = subst (λ (x : Id). IsActiveHere S v n
 active_given S v node (Decide l verdict) d a e = subst (λ (x : Id). IsActiveHere S v node x) (same_is l d e) a
 active_given S v node (Report l m act outcome) d a e = absurd cc
 active_given S v node (Forgot l m) d a e = absurd cc
+active_given S v node (Told l m) d a e = absurd cc
 active_given S v node (Purge l) d a e = absurd cc
 
 -- it is entered by the home of d, over a set that holds d and where d wants nothing
@@ -98,6 +99,7 @@ decision_asks d verdict (Leave l m) e = absurd cc
 decision_asks d verdict (Decide l other) e = and_left (same_id l d) (same_verdict other verdict) e
 decision_asks d verdict (Report l m act outcome) e = absurd cc
 decision_asks d verdict (Forgot l m) e = absurd cc
+decision_asks d verdict (Told l m) e = absurd cc
 decision_asks d verdict (Purge l) e = absurd cc
 
 -- the home of an LRA enters what asks for it

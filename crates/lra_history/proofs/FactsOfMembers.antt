@@ -7,10 +7,10 @@ use Rattle.lra_states.specs.declared.outcome.Act.{Act}
 use Rattle.lra_states.specs.declared.outcome.Act.TheVariants.{Complete, Compensate}
 use Rattle.lra_states.specs.declared.outcome.Outcome.{Outcome}
 use Rattle.lra_facts.specs.declared.fact.Body.{Body}
-use Rattle.lra_facts.specs.declared.fact.Body.TheVariants.{Begin, Join, Leave, Decide, Report, Forgot, Purge}
+use Rattle.lra_facts.specs.declared.fact.Body.TheVariants.{Begin, Join, Leave, Decide, Report, Forgot, Told, Purge}
 use Rattle.lra_facts.specs.declared.fact.Fact.{Fact}
-use Rattle.lra_facts.specs.declared.links.Links.{Links}
-use Rattle.lra_facts.specs.Duties.{is_forgot, has_forgot}
+use Rattle.lra_facts.specs.Links.{Links}
+use Rattle.lra_facts.specs.Duties.{has_forgot, has_told, is_forgot, is_told_of}
 use Rattle.lra_facts.specs.Lists.{In}
 use Rattle.lra_facts.specs.Sets.{is_begun, heard, reported, is_leave, has_left, gives_number, member_number, numbers_given, is_participant, links_of}
 use Rattle.lra_facts.proofs.Heard.{heard_union}
@@ -21,7 +21,7 @@ use Rattle.lra_forest.specs.Standing.{IsSeated}
 use Rattle.lra_forest.proofs.Giving.{get_in, giver_in, givers_ascend, number_is, place_is}
 use Rattle.lra_forest.proofs.Bools.{and_left}
 use Rattle.lra_forest.proofs.NumberedMembers.{same_is, same_self, join_found}
-use Rattle.lra_history.specs.Growth.{IsMore, IsSettled, reporting, leaving, forgetting, member_changed, record_after}
+use Rattle.lra_history.specs.Growth.{IsMore, IsSettled, reporting, leaving, forgetting, member_changed, record_after, hearing}
 use Rattle.lra_history.proofs.LeftAsItWas.{any_kept, any_gained, givers_kept, heard_kept, decision_kept, in_more, in_more_new, in_more_old}
 use Rattle.lra_history.proofs.FactsOfRecords.{record_gained}
 use Rattle.lra_history.proofs.Basics.{greater_none}
@@ -36,6 +36,7 @@ HasNumber k (Leave id m) = Unit {0}
 HasNumber k (Decide id verdict) = Unit {0}
 HasNumber k (Report id m act outcome) = Unit {0}
 HasNumber k (Forgot id m) = Unit {0}
+HasNumber k (Told id m) = Unit {0}
 HasNumber k (Purge root) = Unit {0}
 
 -- the joins are numbered by their places, from k
@@ -52,6 +53,7 @@ number_of S l f k seated i gives at = by f.body refl gives
     by (Decide id verdict) is gives = tt
     by (Report id m act outcome) is gives = tt
     by (Forgot id m) is gives = tt
+    by (Told id m) is gives = tt
     by (Purge root) is gives = tt
 
 -- the givers of an LRA are numbered from 1
@@ -76,6 +78,7 @@ this_member S T l m g changed num (Leave q n) h = sym (changed.nested num)
 this_member S T l m g changed num (Decide q w) h = sym (changed.nested num)
 this_member S T l m g changed num (Report q n act o) h = sym (changed.nested num)
 this_member S T l m g changed num (Forgot q n) h = sym (changed.nested num)
+this_member S T l m g changed num (Told q n) h = sym (changed.nested num)
 this_member S T l m g changed num (Purge q) h = sym (changed.nested num)
 
 other_member : (S T : List Fact) (l : Id) (m : ℕ) (g : Member → Member) → IsChanged S T l m g → (k num : ℕ) (body : Body) → (k ≡ m → ⊥) → HasNumber k body → member_by T l num body ≡ member_by S l num body
@@ -85,6 +88,7 @@ other_member S T l m g changed k num (Leave q j) n h = refl
 other_member S T l m g changed k num (Decide q w) n h = refl
 other_member S T l m g changed k num (Report q j act o) n h = refl
 other_member S T l m g changed k num (Forgot q j) n h = refl
+other_member S T l m g changed k num (Told q j) n h = refl
 other_member S T l m g changed k num (Purge q) n h = refl
 
 first_number : (k : ℕ) (f : Fact) (fs : List Fact) → AreNumberedFrom k (f ∷ fs) → HasNumber k f.body
@@ -137,26 +141,26 @@ number_self m = grind (arith, nat_tests)
 
 -- A report
 
-report_one : (S T : List Fact) (l q : Id) (num m : ℕ) (links : Links) (act : Act) (outcome : Outcome) → ((a : Act) → heard T l m a ≡ greater (heard S l m a) (reported l m a (Report l m act outcome))) → has_left T l m ≡ has_left S l m → has_forgot T l m ≡ has_forgot S l m
+report_one : (S T : List Fact) (l q : Id) (num m : ℕ) (links : Links) (act : Act) (outcome : Outcome) → ((a : Act) → heard T l m a ≡ greater (heard S l m a) (reported l m a (Report l m act outcome))) → has_left T l m ≡ has_left S l m → has_forgot T l m ≡ has_forgot S l m → has_told T l m ≡ has_told S l m
     → member_by T l num (Join q m links) ≡ reporting act outcome (member_by S l num (Join q m links))
-report_one S T l q num m links Complete outcome h left forgot =
+report_one S T l q num m links Complete outcome h left forgot told =
     let own = same_self l in
     let number = number_self m in
     let completed : heard T l m Complete ≡ greater (heard S l m Complete) (Some outcome) = h Complete ∙ rw (own, number) refl in
     let compensated : heard T l m Compensate ≡ heard S l m Compensate = h Compensate ∙ rw (own, number) (greater_none (heard S l m Compensate)) in
-    rw (left, completed, compensated, forgot) (by (has_left S l m))
+    rw (left, completed, compensated, forgot, told) (by (has_left S l m))
   where
-    by : (b : Bool) → cond b Left (Participant (record { links = links; completed = greater (heard S l m Complete) (Some outcome); compensated = heard S l m Compensate; forgotten = has_forgot S l m })) ≡ reporting Complete outcome (cond b Left (Participant (record { links = links; completed = heard S l m Complete; compensated = heard S l m Compensate; forgotten = has_forgot S l m })))
+    by : (b : Bool) → cond b Left (Participant (record { links = links; completed = greater (heard S l m Complete) (Some outcome); compensated = heard S l m Compensate; forgotten = has_forgot S l m; told = has_told S l m })) ≡ reporting Complete outcome (cond b Left (Participant (record { links = links; completed = heard S l m Complete; compensated = heard S l m Compensate; forgotten = has_forgot S l m; told = has_told S l m })))
     by true = refl
     by false = refl
-report_one S T l q num m links Compensate outcome h left forgot =
+report_one S T l q num m links Compensate outcome h left forgot told =
     let own = same_self l in
     let number = number_self m in
     let completed : heard T l m Complete ≡ heard S l m Complete = h Complete ∙ rw (own, number) (greater_none (heard S l m Complete)) in
     let compensated : heard T l m Compensate ≡ greater (heard S l m Compensate) (Some outcome) = h Compensate ∙ rw (own, number) refl in
-    rw (left, completed, compensated, forgot) (by (has_left S l m))
+    rw (left, completed, compensated, forgot, told) (by (has_left S l m))
   where
-    by : (b : Bool) → cond b Left (Participant (record { links = links; completed = heard S l m Complete; compensated = greater (heard S l m Compensate) (Some outcome); forgotten = has_forgot S l m })) ≡ reporting Compensate outcome (cond b Left (Participant (record { links = links; completed = heard S l m Complete; compensated = heard S l m Compensate; forgotten = has_forgot S l m })))
+    by : (b : Bool) → cond b Left (Participant (record { links = links; completed = heard S l m Complete; compensated = greater (heard S l m Compensate) (Some outcome); forgotten = has_forgot S l m; told = has_told S l m })) ≡ reporting Compensate outcome (cond b Left (Participant (record { links = links; completed = heard S l m Complete; compensated = heard S l m Compensate; forgotten = has_forgot S l m; told = has_told S l m })))
     by true = refl
     by false = refl
 
@@ -164,8 +168,8 @@ report_changes : (f : Fact) (S T : List Fact) → IsMore f S T → (l : Id) (m :
 report_changes f S T more l m act outcome body =
     record {
       nested = λ n. still act n;
-      this = λ num q links. report_one S T l q num m links act outcome (λ a. heard_gained f S T more l m a ∙ rw body refl) (left m) (forgot m);
-      others = λ k num q links n. let lk = left k in let fk = forgot k in let c = apart k n Complete in let d = apart k n Compensate in rw (lk, fk, c, d) refl;
+      this = λ num q links. report_one S T l q num m links act outcome (λ a. heard_gained f S T more l m a ∙ rw body refl) (left m) (forgot m) (told m);
+      others = λ k num q links n. let lk = left k in let fk = forgot k in let tk = told k in let c = apart k n Complete in let d = apart k n Compensate in rw (lk, fk, tk, c, d) refl;
     }
   where
     still : (a : Act) (n : ℕ) → reporting a outcome (Nested n) ≡ Nested n
@@ -177,6 +181,9 @@ report_changes f S T more l m act outcome body =
 
     forgot : (k : ℕ) → has_forgot T l k ≡ has_forgot S l k
     forgot k = any_kept f S T more (λ x. is_forgot l k x.body) (rw body refl)
+
+    told : (k : ℕ) → has_told T l k ≡ has_told S l k
+    told k = any_kept f S T more (λ x. is_told_of l k x.body) (rw body refl)
 
     apart : (k : ℕ) → (k ≡ m → ⊥) → (a : Act) → heard T l k a ≡ heard S l k a
     apart k n a = heard_kept f S T more l k a (let e = number_apart k m n in let own = same_self l in rw (body, own, e) refl)
@@ -193,7 +200,7 @@ report_record f S T more settled nodes l m act outcome body some b =
 leave_one : (S T : List Fact) (l q : Id) (num m : ℕ) (links : Links) → has_left T l m ≡ true → member_by T l num (Join q m links) ≡ leaving (member_by S l num (Join q m links))
 leave_one S T l q num m links left = rw left (by (has_left S l m))
   where
-    by : (b : Bool) → Left ≡ leaving (cond b Left (Participant (record { links = links; completed = heard S l m Complete; compensated = heard S l m Compensate; forgotten = has_forgot S l m })))
+    by : (b : Bool) → Left ≡ leaving (cond b Left (Participant (record { links = links; completed = heard S l m Complete; compensated = heard S l m Compensate; forgotten = has_forgot S l m; told = has_told S l m })))
     by true = refl
     by false = refl
 
@@ -202,7 +209,7 @@ leave_changes f S T more l m body =
     record {
       nested = λ n. refl;
       this = λ num q links. leave_one S T l q num m links (any_gained f S T more (λ x. is_leave l m x.body) ∙ (let own = same_self l in let number = number_self m in rw (body, own, number) refl));
-      others = λ k num q links n. let lk = left k n in let fk = forgot k in let c = same k Complete in let d = same k Compensate in rw (lk, fk, c, d) refl;
+      others = λ k num q links n. let lk = left k n in let fk = forgot k in let tk = told k in let c = same k Complete in let d = same k Compensate in rw (lk, fk, tk, c, d) refl;
     }
   where
     left : (k : ℕ) → (k ≡ m → ⊥) → has_left T l k ≡ has_left S l k
@@ -210,6 +217,9 @@ leave_changes f S T more l m body =
 
     forgot : (k : ℕ) → has_forgot T l k ≡ has_forgot S l k
     forgot k = any_kept f S T more (λ x. is_forgot l k x.body) (rw body refl)
+
+    told : (k : ℕ) → has_told T l k ≡ has_told S l k
+    told k = any_kept f S T more (λ x. is_told_of l k x.body) (rw body refl)
 
     same : (k : ℕ) → (a : Act) → heard T l k a ≡ heard S l k a
     same k a = heard_kept f S T more l k a (rw body refl)
@@ -223,10 +233,10 @@ leave_record f S T more settled nodes l m body some b =
 
 -- A forgot
 
-forgot_one : (S T : List Fact) (l q : Id) (num m : ℕ) (links : Links) → has_forgot T l m ≡ true → has_left T l m ≡ has_left S l m → ((a : Act) → heard T l m a ≡ heard S l m a) → member_by T l num (Join q m links) ≡ forgetting (member_by S l num (Join q m links))
-forgot_one S T l q num m links told left h = let c = h Complete in let d = h Compensate in rw (left, c, d, told) (by (has_left S l m))
+forgot_one : (S T : List Fact) (l q : Id) (num m : ℕ) (links : Links) → has_forgot T l m ≡ true → has_told T l m ≡ has_told S l m → has_left T l m ≡ has_left S l m → ((a : Act) → heard T l m a ≡ heard S l m a) → member_by T l num (Join q m links) ≡ forgetting (member_by S l num (Join q m links))
+forgot_one S T l q num m links forgot told left h = let c = h Complete in let d = h Compensate in rw (left, c, d, forgot, told) (by (has_left S l m))
   where
-    by : (b : Bool) → cond b Left (Participant (record { links = links; completed = heard S l m Complete; compensated = heard S l m Compensate; forgotten = true })) ≡ forgetting (cond b Left (Participant (record { links = links; completed = heard S l m Complete; compensated = heard S l m Compensate; forgotten = has_forgot S l m })))
+    by : (b : Bool) → cond b Left (Participant (record { links = links; completed = heard S l m Complete; compensated = heard S l m Compensate; forgotten = true; told = has_told S l m })) ≡ forgetting (cond b Left (Participant (record { links = links; completed = heard S l m Complete; compensated = heard S l m Compensate; forgotten = has_forgot S l m; told = has_told S l m })))
     by true = refl
     by false = refl
 
@@ -234,8 +244,8 @@ forgot_changes : (f : Fact) (S T : List Fact) → IsMore f S T → (l : Id) (m :
 forgot_changes f S T more l m body =
     record {
       nested = λ n. refl;
-      this = λ num q links. forgot_one S T l q num m links (any_gained f S T more (λ x. is_forgot l m x.body) ∙ (let own = same_self l in let number = number_self m in rw (body, own, number) refl)) (left m) (same m);
-      others = λ k num q links n. let lk = left k in let fk = forgot k n in let c = same k Complete in let d = same k Compensate in rw (lk, fk, c, d) refl;
+      this = λ num q links. forgot_one S T l q num m links (any_gained f S T more (λ x. is_forgot l m x.body) ∙ (let own = same_self l in let number = number_self m in rw (body, own, number) refl)) (told m) (left m) (same m);
+      others = λ k num q links n. let lk = left k in let fk = forgot k n in let tk = told k in let c = same k Complete in let d = same k Compensate in rw (lk, fk, tk, c, d) refl;
     }
   where
     left : (k : ℕ) → has_left T l k ≡ has_left S l k
@@ -243,6 +253,9 @@ forgot_changes f S T more l m body =
 
     forgot : (k : ℕ) → (k ≡ m → ⊥) → has_forgot T l k ≡ has_forgot S l k
     forgot k n = any_kept f S T more (λ x. is_forgot l k x.body) (let e = number_apart k m n in let own = same_self l in rw (body, own, e) refl)
+
+    told : (k : ℕ) → has_told T l k ≡ has_told S l k
+    told k = any_kept f S T more (λ x. is_told_of l k x.body) (rw body refl)
 
     same : (k : ℕ) → (a : Act) → heard T l k a ≡ heard S l k a
     same k a = heard_kept f S T more l k a (rw body refl)
@@ -253,6 +266,42 @@ forgot_record f S T more settled nodes l m body some b =
     record_gained f S T more settled (λ p g. absurd (let wrong : gives_number p (Forgot l m) ≡ true = rw body at g in cc)) nodes l b (rw body (same_self l))
     (decision_kept f S T more l (λ v. rw body refl) ∙ rw body refl)
     (members_changed f S T more settled.seated l m forgetting (rw body refl) some (forgot_changes f S T more l m body) ∙ rw body refl)
+
+-- A told
+
+told_one : (S T : List Fact) (l q : Id) (num m : ℕ) (links : Links) → has_told T l m ≡ true → has_forgot T l m ≡ has_forgot S l m → has_left T l m ≡ has_left S l m → ((a : Act) → heard T l m a ≡ heard S l m a) → member_by T l num (Join q m links) ≡ hearing (member_by S l num (Join q m links))
+told_one S T l q num m links told forgot left h = let c = h Complete in let d = h Compensate in rw (left, c, d, told, forgot) (by (has_left S l m))
+  where
+    by : (b : Bool) → cond b Left (Participant (record { links = links; completed = heard S l m Complete; compensated = heard S l m Compensate; forgotten = has_forgot S l m; told = true })) ≡ hearing (cond b Left (Participant (record { links = links; completed = heard S l m Complete; compensated = heard S l m Compensate; forgotten = has_forgot S l m; told = has_told S l m })))
+    by true = refl
+    by false = refl
+
+told_changes : (f : Fact) (S T : List Fact) → IsMore f S T → (l : Id) (m : ℕ) → f.body ≡ Told l m → IsChanged S T l m hearing
+told_changes f S T more l m body =
+    record {
+      nested = λ n. refl;
+      this = λ num q links. told_one S T l q num m links (any_gained f S T more (λ x. is_told_of l m x.body) ∙ (let own = same_self l in let number = number_self m in rw (body, own, number) refl)) (forgot m) (left m) (same m);
+      others = λ k num q links n. let lk = left k in let fk = told k n in let tk = forgot k in let c = same k Complete in let d = same k Compensate in rw (lk, fk, tk, c, d) refl;
+    }
+  where
+    left : (k : ℕ) → has_left T l k ≡ has_left S l k
+    left k = any_kept f S T more (λ x. is_leave l k x.body) (rw body refl)
+
+    told : (k : ℕ) → (k ≡ m → ⊥) → has_told T l k ≡ has_told S l k
+    told k n = any_kept f S T more (λ x. is_told_of l k x.body) (let e = number_apart k m n in let own = same_self l in rw (body, own, e) refl)
+
+    forgot : (k : ℕ) → has_forgot T l k ≡ has_forgot S l k
+    forgot k = any_kept f S T more (λ x. is_forgot l k x.body) (rw body refl)
+
+    same : (k : ℕ) → (a : Act) → heard T l k a ≡ heard S l k a
+    same k a = heard_kept f S T more l k a (rw body refl)
+
+-- a told of a member whose number was given
+pub told_record : (f : Fact) (S T : List Fact) → IsMore f S T → IsSettled S → (nodes : ℕ) (l : Id) (m : ℕ) → f.body ≡ Told l m → 1 ≤ m → is_begun S l ≡ true → record_of nodes T l ≡ record_after f (record_of nodes S l)
+told_record f S T more settled nodes l m body some b =
+    record_gained f S T more settled (λ p g. absurd (let wrong : gives_number p (Told l m) ≡ true = rw body at g in cc)) nodes l b (rw body (same_self l))
+    (decision_kept f S T more l (λ v. rw body refl) ∙ rw body refl)
+    (members_changed f S T more settled.seated l m hearing (rw body refl) some (told_changes f S T more l m body) ∙ rw body refl)
 
 -- Participants
 

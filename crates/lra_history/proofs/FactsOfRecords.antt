@@ -8,10 +8,10 @@ use Rattle.lra_states.specs.declared.outcome.Act.TheVariants.{Complete, Compensa
 use Rattle.lra_states.specs.declared.outcome.Verdict.{Verdict}
 use Rattle.lra_states.specs.declared.outcome.Verdict.TheVariants.{Close, Cancel}
 use Rattle.lra_facts.specs.declared.fact.Body.{Body}
-use Rattle.lra_facts.specs.declared.fact.Body.TheVariants.{Begin, Join, Leave, Decide, Report, Forgot, Purge}
+use Rattle.lra_facts.specs.declared.fact.Body.TheVariants.{Begin, Join, Leave, Decide, Report, Forgot, Told, Purge}
 use Rattle.lra_facts.specs.declared.fact.Fact.{Fact}
-use Rattle.lra_facts.specs.declared.links.Links.{Links}
-use Rattle.lra_facts.specs.Duties.{is_forgot, has_forgot}
+use Rattle.lra_facts.specs.Links.{Links}
+use Rattle.lra_facts.specs.Duties.{is_forgot, has_forgot, has_told, is_told_of}
 use Rattle.lra_facts.specs.Lists.{In}
 use Rattle.lra_facts.specs.Sets.{is_begun, chain, heard, reported, is_decision, is_decided, is_leave, has_left, want, gives_number, numbers_given}
 use Rattle.lra_facts.proofs.Membership.{any_from}
@@ -73,7 +73,7 @@ pub decide_record : (f : Fact) (S T : List Fact) → IsMore f S T → IsSettled 
 decide_record f S T more settled nodes l v body b none =
     record_gained f S T more settled (λ p g. absurd (let wrong : gives_number p (Decide l v) ≡ true = rw body at g in cc)) nodes l b (rw body (same_self l))
     (decided_now f S T more l v body none ∙ rw body refl)
-    (members_kept f S T more l (rw body refl) (rw body (record { leaves = λ m. refl; reports = λ m a. refl; forgets = λ m. refl })) ∙ rw body refl)
+    (members_kept f S T more l (rw body refl) (rw body (record { leaves = λ m. refl; reports = λ m a. refl; forgets = λ m. refl; tells = λ m. refl })) ∙ rw body refl)
 
 -- A join
 
@@ -88,6 +88,7 @@ leave_names l m (Join q n links) e = absurd cc
 leave_names l m (Decide q w) e = absurd cc
 leave_names l m (Report q n act o) e = absurd cc
 leave_names l m (Forgot q n) e = absurd cc
+leave_names l m (Told q n) e = absurd cc
 leave_names l m (Purge q) e = absurd cc
 
 forgot_names : (l : Id) (m : ℕ) (body : Body) → is_forgot l m body ≡ true → names_member l m body ≡ true
@@ -97,7 +98,18 @@ forgot_names l m (Join q n links) e = absurd cc
 forgot_names l m (Decide q w) e = absurd cc
 forgot_names l m (Report q n act o) e = absurd cc
 forgot_names l m (Leave q n) e = absurd cc
+forgot_names l m (Told q n) e = absurd cc
 forgot_names l m (Purge q) e = absurd cc
+
+told_names : (l : Id) (m : ℕ) (body : Body) → is_told_of l m body ≡ true → names_member l m body ≡ true
+told_names l m (Told q n) e = e
+told_names l m (Begin p d) e = absurd cc
+told_names l m (Join q n links) e = absurd cc
+told_names l m (Decide q w) e = absurd cc
+told_names l m (Report q n act o) e = absurd cc
+told_names l m (Leave q n) e = absurd cc
+told_names l m (Forgot q n) e = absurd cc
+told_names l m (Purge q) e = absurd cc
 
 report_silent : (l : Id) (m : ℕ) (a : Act) (body : Body) → (names_member l m body ≡ true → ⊥) → reported l m a body ≡ None
 report_silent l m a (Report q n act o) h = by (same_id q l) (n == m) (same_act act a) h
@@ -110,6 +122,7 @@ report_silent l m a (Begin p d) h = refl
 report_silent l m a (Join q n links) h = refl
 report_silent l m a (Decide q w) h = refl
 report_silent l m a (Forgot q n) h = refl
+report_silent l m a (Told q n) h = refl
 report_silent l m a (Leave q n) h = refl
 report_silent l m a (Purge q) h = refl
 
@@ -124,14 +137,15 @@ new_member S l q num m links h =
     let completed = unheard S l m Complete h in
     let compensated = unheard S l m Compensate h in
     let forgot : has_forgot S l m ≡ false = none_found (λ g. is_forgot l m g.body) S (λ g k. false_from (is_forgot l m g.body) (λ e. h g k (forgot_names l m g.body e))) in
-    rw (left, completed, compensated, forgot) refl
+    let told : has_told S l m ≡ false = none_found (λ g. is_told_of l m g.body) S (λ g k. false_from (is_told_of l m g.body) (λ e. h g k (told_names l m g.body e))) in
+    rw (left, completed, compensated, forgot, told) refl
 
 -- a join under the next member number
 pub join_record : (f : Fact) (S T : List Fact) → IsMore f S T → IsSettled S → (nodes : ℕ) (l : Id) (m : ℕ) (links : Links) → f.body ≡ Join l m links → f.origin ≡ l.home → m ≡ numbers_given S l + 1 → is_begun S l ≡ true → record_of nodes T l ≡ record_after f (record_of nodes S l)
 join_record f S T more settled nodes l m links body at next b =
     record_gained f S T more settled home nodes l b (rw body (same_self l))
     (decision_kept f S T more l (λ v. rw body refl) ∙ rw body refl)
-    (members_gained f S T more settled.seated l at (rw body (same_self l)) (rw body (record { leaves = λ n. refl; reports = λ n a. refl; forgets = λ n. refl }))
+    (members_gained f S T more settled.seated l at (rw body (same_self l)) (rw body (record { leaves = λ n. refl; reports = λ n a. refl; forgets = λ n. refl; tells = λ n. refl }))
     ∙ ap (λ (c : Body). members_of S l ++ member_by T l f.num c ∷ []) body
     ∙ ap (λ (c : Member). members_of S l ++ c ∷ []) (new_member T l l f.num m links silent)
     ∙ rw body refl)
@@ -152,7 +166,7 @@ pub parent_record : (f : Fact) (S T : List Fact) → IsMore f S T → IsSettled 
 parent_record f S T more settled nodes p deadline body at b =
     record_gained f S T more settled home nodes p b (rw body (same_self p))
     (decision_kept f S T more p (λ v. rw body refl) ∙ rw body refl)
-    (members_gained f S T more settled.seated p at (rw body (same_self p)) (rw body (record { leaves = λ n. refl; reports = λ n a. refl; forgets = λ n. refl }))
+    (members_gained f S T more settled.seated p at (rw body (same_self p)) (rw body (record { leaves = λ n. refl; reports = λ n a. refl; forgets = λ n. refl; tells = λ n. refl }))
     ∙ ap (λ (c : Body). members_of S p ++ member_by T p f.num c ∷ []) body ∙ rw body refl)
   where
     home : (q : Id) → gives_number q f.body ≡ true → f.origin ≡ q.home

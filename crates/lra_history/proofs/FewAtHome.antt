@@ -2,7 +2,7 @@
 use Rattle.std.proofs.Common.{◌≡◌, ◌⊎◌, inl, inr, ◌≤◌, ◌<◌, ◌+◌, ◌&&◌, ◌==◌, ℕ, zero, suc, List, [], ◌∷◌, refl, sym, ap, ◌∙◌, Bool, true, false, cond, arith, Some, None, filter, length, map}
 use Rattle.lra_id.specs.Fronts.{IsBelow, count}
 use Rattle.lra_facts.specs.declared.fact.Body.{Body}
-use Rattle.lra_facts.specs.declared.fact.Body.TheVariants.{Begin, Join, Leave, Decide, Report, Forgot, Purge}
+use Rattle.lra_facts.specs.declared.fact.Body.TheVariants.{Begin, Join, Leave, Decide, Report, Forgot, Told, Purge}
 use Rattle.lra_facts.specs.declared.fact.Fact.{Fact}
 use Rattle.lra_facts.specs.Lists.{In}
 use Rattle.lra_facts.specs.Sets.{begins_held, begun_by, held_at, is_begin}
@@ -75,6 +75,7 @@ room_to_begin S v node (Leave l m) lawful e = absurd cc
 room_to_begin S v node (Decide l verdict) lawful e = absurd cc
 room_to_begin S v node (Report l m act outcome) lawful e = absurd cc
 room_to_begin S v node (Forgot l m) lawful e = absurd cc
+room_to_begin S v node (Told l m) lawful e = absurd cc
 room_to_begin S v node (Purge root) lawful e = absurd cc
 
 counted_too : (u v : List ℕ) → IsBelow u v → (f : Fact) → (is_counted v f && is_counted u f) ≡ is_counted u f

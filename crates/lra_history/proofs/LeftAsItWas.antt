@@ -10,9 +10,9 @@ use Rattle.lra_states.specs.declared.outcome.Act.TheVariants.{Complete, Compensa
 use Rattle.lra_states.specs.declared.outcome.Verdict.{Verdict}
 use Rattle.lra_states.specs.declared.outcome.Verdict.TheVariants.{Close, Cancel}
 use Rattle.lra_facts.specs.declared.fact.Body.{Body}
-use Rattle.lra_facts.specs.declared.fact.Body.TheVariants.{Begin, Join, Leave, Decide, Report, Forgot, Purge}
+use Rattle.lra_facts.specs.declared.fact.Body.TheVariants.{Begin, Join, Leave, Decide, Report, Forgot, Told, Purge}
 use Rattle.lra_facts.specs.declared.fact.Fact.{Fact}
-use Rattle.lra_facts.specs.Duties.{is_forgot, has_forgot}
+use Rattle.lra_facts.specs.Duties.{is_forgot, has_forgot, has_told, is_told_of}
 use Rattle.lra_facts.specs.Lists.{In, most}
 use Rattle.lra_facts.specs.Sets.{begins, is_begun, parent_of, chain_within, chain, heard, reported, is_decision, is_decided, is_leave, has_left, is_purge, is_purged_root, is_root, is_held, gives_number, member_number}
 use Rattle.lra_facts.proofs.Chains.{same_rest}
@@ -126,6 +126,7 @@ purges_none (Leave q m) a e = refl
 purges_none (Decide q v) a e = refl
 purges_none (Report q m act o) a e = refl
 purges_none (Forgot q m) a e = refl
+purges_none (Told q m) a e = refl
 purges_none (Purge q) a e = absurd cc
 
 -- whether an LRA that was begun is held stays, where the fact is no purge
@@ -173,6 +174,7 @@ unnamed_decision l v (Leave q m) e = refl
 unnamed_decision l v (Decide q w) e = and_none (same_id q l) _ e
 unnamed_decision l v (Report q m act o) e = refl
 unnamed_decision l v (Forgot q m) e = refl
+unnamed_decision l v (Told q m) e = refl
 unnamed_decision l v (Purge q) e = refl
 
 unnamed_leave : (l : Id) (m : ℕ) (body : Body) → is_named l body ≡ false → is_leave l m body ≡ false
@@ -182,6 +184,7 @@ unnamed_leave l m (Leave q n) e = and_none (same_id q l) _ e
 unnamed_leave l m (Decide q w) e = refl
 unnamed_leave l m (Report q n act o) e = refl
 unnamed_leave l m (Forgot q n) e = refl
+unnamed_leave l m (Told q n) e = refl
 unnamed_leave l m (Purge q) e = refl
 
 unnamed_forgot : (l : Id) (m : ℕ) (body : Body) → is_named l body ≡ false → is_forgot l m body ≡ false
@@ -191,7 +194,18 @@ unnamed_forgot l m (Leave q n) e = refl
 unnamed_forgot l m (Decide q w) e = refl
 unnamed_forgot l m (Report q n act o) e = refl
 unnamed_forgot l m (Forgot q n) e = and_none (same_id q l) _ e
+unnamed_forgot l m (Told q n) e = refl
 unnamed_forgot l m (Purge q) e = refl
+
+unnamed_told : (l : Id) (m : ℕ) (body : Body) → is_named l body ≡ false → is_told_of l m body ≡ false
+unnamed_told l m (Begin p d) e = refl
+unnamed_told l m (Join q n links) e = refl
+unnamed_told l m (Leave q n) e = refl
+unnamed_told l m (Decide q w) e = refl
+unnamed_told l m (Report q n act o) e = refl
+unnamed_told l m (Told q n) e = and_none (same_id q l) _ e
+unnamed_told l m (Forgot q n) e = refl
+unnamed_told l m (Purge q) e = refl
 
 unnamed_report : (l : Id) (m : ℕ) (a : Act) (body : Body) → is_named l body ≡ false → reported l m a body ≡ None
 unnamed_report l m a (Begin p d) e = refl
@@ -200,6 +214,7 @@ unnamed_report l m a (Leave q n) e = refl
 unnamed_report l m a (Decide q w) e = refl
 unnamed_report l m a (Report q n act o) e = rw e refl
 unnamed_report l m a (Forgot q n) e = refl
+unnamed_report l m a (Told q n) e = refl
 unnamed_report l m a (Purge q) e = refl
 
 pub unnamed_giver : (l : Id) (body : Body) → is_named l body ≡ false → gives_number l body ≡ false
@@ -209,17 +224,19 @@ unnamed_giver l (Leave q n) e = refl
 unnamed_giver l (Decide q w) e = refl
 unnamed_giver l (Report q n act o) e = refl
 unnamed_giver l (Forgot q n) e = refl
+unnamed_giver l (Told q n) e = refl
 unnamed_giver l (Purge q) e = refl
 
--- a fact that says nothing of the participants of l: that one leaves, an outcome, or that one was told to forget
+-- a fact that says nothing of the participants of l: that one leaves, an outcome, that one was told to forget, or of the end
 pub record IsMute (l : Id) (body : Body) : Type 0 where
   pub leaves : (m : ℕ) → is_leave l m body ≡ false
   pub reports : (m : ℕ) (a : Act) → reported l m a body ≡ None
   pub forgets : (m : ℕ) → is_forgot l m body ≡ false
+  pub tells : (m : ℕ) → is_told_of l m body ≡ false
 
 pub unnamed_mute : (l : Id) (body : Body) → is_named l body ≡ false → IsMute l body
 unnamed_mute l body e =
-    record { leaves = λ m. unnamed_leave l m body e; reports = λ m a. unnamed_report l m a body e; forgets = λ m. unnamed_forgot l m body e }
+    record { leaves = λ m. unnamed_leave l m body e; reports = λ m a. unnamed_report l m a body e; forgets = λ m. unnamed_forgot l m body e; tells = λ m. unnamed_told l m body e }
 
 -- Members
 
@@ -231,11 +248,13 @@ member_kept f S T more l mute num (Join q m links) =
     let completed = heard_kept f S T more l m Complete (mute.reports m Complete) in
     let compensated = heard_kept f S T more l m Compensate (mute.reports m Compensate) in
     let forgot : has_forgot T l m ≡ has_forgot S l m = any_kept f S T more (λ g. is_forgot l m g.body) (mute.forgets m) in
-    rw (left, completed, compensated, forgot) refl
+    let told : has_told T l m ≡ has_told S l m = any_kept f S T more (λ g. is_told_of l m g.body) (mute.tells m) in
+    rw (left, completed, compensated, forgot, told) refl
 member_kept f S T more l mute num (Leave q m) = refl
 member_kept f S T more l mute num (Decide q w) = refl
 member_kept f S T more l mute num (Report q m act o) = refl
 member_kept f S T more l mute num (Forgot q m) = refl
+member_kept f S T more l mute num (Told q m) = refl
 member_kept f S T more l mute num (Purge q) = refl
 
 -- the givers stay where the fact gives no number

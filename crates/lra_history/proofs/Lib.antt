@@ -5,6 +5,7 @@ pub mod CountedByFronts
 pub mod Covered
 mod Decisions
 pub mod ElementsByHome
+mod EndsStay
 mod Examples
 mod FactsOfMembers
 mod FactsOfRecords

@@ -1,11 +1,11 @@
 -- merges of the views of two nodes, computed: one hears an outcome while the other goes on, and then purges
-use Rattle.std.proofs.Common.{◌≡◌, ℕ, List, [], ◌∷◌, refl, map, None}
+use Rattle.std.proofs.Common.{Some, ◌≡◌, ℕ, List, [], ◌∷◌, refl, map, None}
 use Rattle.lra_id.specs.Ids.{Id}
 use Rattle.lra_states.specs.declared.outcome.Act.TheVariants.{Compensate}
 use Rattle.lra_states.specs.declared.outcome.Outcome.TheVariants.{Done}
 use Rattle.lra_states.specs.declared.outcome.Verdict.TheVariants.{Cancel}
 use Rattle.lra_facts.specs.declared.fact.Body.TheVariants.{Begin, Join, Decide, Report, Purge}
-use Rattle.lra_facts.specs.declared.links.Links.{Links}
+use Rattle.lra_facts.specs.Links.{Links}
 use Rattle.lra_forest.specs.Records.{nodes_to, record_of}
 use Rattle.lra_history.specs.Histories.{Entry, History, facts}
 use Rattle.lra_history.specs.Merging.{merged}
@@ -21,7 +21,7 @@ abbrev third : Id
 third = record { home = 2; num = 2 }
 
 abbrev plain : Links
-plain = record { complete = None; compensate = []; status = None; forget = None }
+plain = record { complete = None; compensate = Some []; status = None; forget = None; after = None }
 
 -- the first LRA is cancelled, and the other node reports that its participant compensated; then it is purged
 abbrev ones : List Entry

@@ -8,10 +8,10 @@ use Rattle.lra_states.specs.declared.outcome.Act.{Act}
 use Rattle.lra_states.specs.declared.outcome.Act.TheVariants.{Complete, Compensate}
 use Rattle.lra_states.specs.declared.outcome.Outcome.{Outcome}
 use Rattle.lra_facts.specs.declared.fact.Body.{Body}
-use Rattle.lra_facts.specs.declared.fact.Body.TheVariants.{Begin, Join, Leave, Decide, Report, Forgot, Purge}
+use Rattle.lra_facts.specs.declared.fact.Body.TheVariants.{Begin, Join, Leave, Decide, Report, Forgot, Told, Purge}
 use Rattle.lra_facts.specs.declared.fact.Fact.{Fact}
-use Rattle.lra_facts.specs.declared.links.Links.{Links}
-use Rattle.lra_facts.specs.Duties.{has_forgot, is_forgot}
+use Rattle.lra_facts.specs.Links.{Links}
+use Rattle.lra_facts.specs.Duties.{has_forgot, is_forgot, has_told, is_told_of}
 use Rattle.lra_facts.specs.Lists.{In}
 use Rattle.lra_facts.specs.Sets.{gives_number, has_left, heard, is_leave, member_number, numbers_given, reported}
 use Rattle.lra_facts.proofs.Heard.{heard_union}
@@ -19,6 +19,7 @@ use Rattle.lra_facts.proofs.Membership.{any_inside, any_union}
 use Rattle.lra_forest.specs.declared.record.Participant.{Participant as ParticipantRecord}
 use Rattle.lra_forest.specs.declared.record.Member.{Member}
 use Rattle.lra_forest.specs.declared.record.Member.TheVariants.{Participant, Left}
+use Rattle.lra_forest.specs.Participants.{joined_as}
 use Rattle.lra_forest.specs.Records.{givers, member_by, members_of, stamp}
 use Rattle.lra_forest.proofs.Giving.{giver_in, number_is}
 use Rattle.lra_forest.proofs.NumberedMembers.{same_is}
@@ -27,7 +28,7 @@ use Rattle.lra_history.specs.Growth.{names_member}
 use Rattle.lra_history.proofs.SettledFacts.{givers_length}
 use Rattle.lra_history.proofs.ListsWithOneMore.{filter_all, filter_append, none_found}
 use Rattle.lra_history.proofs.Prefixes.{IsLonger}
-use Rattle.lra_history.proofs.TwoClosedSets.{AreTogether, givers_longer, givers_union, left_union}
+use Rattle.lra_history.proofs.TwoClosedSets.{AreTogether, givers_longer, givers_union, left_union, link_for}
 use Rattle.lra_history.proofs.Basics.{false_from, greater_none}
 
 -- Facts that say nothing of a participant
@@ -44,6 +45,7 @@ unnamed_report l m a (Join id n links) e = refl
 unnamed_report l m a (Leave id n) e = refl
 unnamed_report l m a (Decide id v) e = refl
 unnamed_report l m a (Forgot id n) e = refl
+unnamed_report l m a (Told id n) e = refl
 unnamed_report l m a (Purge root) e = refl
 
 unnamed_forgot : (l : Id) (m : ℕ) (body : Body) → names_member l m body ≡ false → is_forgot l m body ≡ false
@@ -53,7 +55,18 @@ unnamed_forgot l m (Join id n links) e = refl
 unnamed_forgot l m (Leave id n) e = refl
 unnamed_forgot l m (Decide id v) e = refl
 unnamed_forgot l m (Report id n act outcome) e = refl
+unnamed_forgot l m (Told id n) e = refl
 unnamed_forgot l m (Purge root) e = refl
+
+unnamed_told : (l : Id) (m : ℕ) (body : Body) → names_member l m body ≡ false → is_told_of l m body ≡ false
+unnamed_told l m (Told id n) e = e
+unnamed_told l m (Begin parent deadline) e = refl
+unnamed_told l m (Join id n links) e = refl
+unnamed_told l m (Leave id n) e = refl
+unnamed_told l m (Decide id v) e = refl
+unnamed_told l m (Report id n act outcome) e = refl
+unnamed_told l m (Forgot id n) e = refl
+unnamed_told l m (Purge root) e = refl
 
 -- nothing is heard where nothing is reported
 heard_none : (S : List Fact) (l : Id) (m : ℕ) (a : Act) → ((f : Fact) → In f S → reported l m a f.body ≡ None) → heard S l m a ≡ None
@@ -100,15 +113,18 @@ merge_maps f g k (x ∷ xs) rest a b =
 
 module _ (S T U : List Fact) (v w : List ℕ) (t : AreTogether S T U v w) (l : Id) (le : stamp T l l.home ≤ stamp S l l.home) where
   -- what has no link was not heard or marked
-  unheard : (f : Fact) (m : ℕ) (links : Links) → In f U → f.body ≡ Join l m links → is_some links.complete ≡ false → heard U l m Complete ≡ None
-  unheard f m links k joins off = heard_none U l m Complete (λ g n. by g n (reported l m Complete g.body) refl)
+  unheard : (f : Fact) (m : ℕ) (links : Links) (act : Act) → In f U → f.body ≡ Join l m links → is_some (link_for act links) ≡ false → heard U l m act ≡ None
+  unheard f m links act k joins off = heard_none U l m act (λ g n. by g n (reported l m act g.body) refl)
     where
-      by : (g : Fact) → In g U → (o : Option Outcome) → reported l m Complete g.body ≡ o → o ≡ None
+      by : (g : Fact) → In g U → (o : Option Outcome) → reported l m act g.body ≡ o → o ≡ None
       by g n None e = refl
-      by g n (Some o) e = let on = t.proper.completes g f l m links o n e k joins in absurd cc
+      by g n (Some o) e = let on = t.proper.reports g f l m links act o n e k joins in absurd cc
 
   unmarked : (f : Fact) (m : ℕ) (links : Links) → In f U → f.body ≡ Join l m links → is_some links.forget ≡ false → has_forgot U l m ≡ false
   unmarked f m links k joins off = none_found (λ g. is_forgot l m g.body) U (λ g n. false_from (is_forgot l m g.body) (λ e. let on = t.proper.forgets g f l m links n e k joins in absurd cc))
+
+  untold : (f : Fact) (m : ℕ) (links : Links) → In f U → f.body ≡ Join l m links → is_some links.after ≡ false → has_told U l m ≡ false
+  untold f m links k joins off = none_found (λ g. is_told_of l m g.body) U (λ g n. false_from (is_told_of l m g.body) (λ e. let on = t.proper.tells g f l m links n e k joins in absurd cc))
 
   left_there : (m : ℕ) → has_left T l m ≡ true → has_left S l m ≡ true
   left_there m e = sym (left_union S T U v w t l le m) ∙ any_inside (λ f. is_leave l m f.body) T U t.union.right e
@@ -119,15 +135,17 @@ module _ (S T U : List Fact) (v w : List ℕ) (t : AreTogether S T U v w) (l : I
       let complete = heard_union S T U t.union l m Complete in
       let compensate = heard_union S T U t.union l m Compensate in
       let forgotten : has_forgot U l m ≡ (has_forgot S l m || has_forgot T l m) = any_union (λ g. is_forgot l m g.body) S T U t.union in
+      let told : has_told U l m ≡ (has_told S l m || has_told T l m) = any_union (λ g. is_told_of l m g.body) S T U t.union in
       let kept : cond (is_some links.complete) (greater (heard S l m Complete) (heard T l m Complete)) None ≡ greater (heard S l m Complete) (heard T l m Complete) =
-      masked (is_some links.complete) (greater (heard S l m Complete) (heard T l m Complete)) (λ none. sym complete ∙ unheard f m links k joins none) in
+      masked (is_some links.complete) (greater (heard S l m Complete) (heard T l m Complete)) (λ none. sym complete ∙ unheard f m links Complete k joins none) in
+      let held : cond (is_some links.compensate) (greater (heard S l m Compensate) (heard T l m Compensate)) None ≡ greater (heard S l m Compensate) (heard T l m Compensate) =
+      masked (is_some links.compensate) (greater (heard S l m Compensate) (heard T l m Compensate)) (λ none. sym compensate ∙ unheard f m links Compensate k joins none) in
       let marked : (is_some links.forget && (has_forgot S l m || has_forgot T l m)) ≡ (has_forgot S l m || has_forgot T l m) =
       masked_and (is_some links.forget) (has_forgot S l m || has_forgot T l m) (λ none. sym forgotten ∙ unmarked f m links k joins none) in
-      same_left (has_left U l m) (has_left S l m) (has_left T l m)
-      (record { links = links; completed = heard U l m Complete; compensated = heard U l m Compensate; forgotten = has_forgot U l m })
-      (record { links = links; completed = heard S l m Complete; compensated = heard S l m Compensate; forgotten = has_forgot S l m })
-      (record { links = links; completed = heard T l m Complete; compensated = heard T l m Compensate; forgotten = has_forgot T l m })
-      (left_union S T U v w t l le m) (left_there m) (rw (complete, compensate, forgotten, kept, marked) refl)
+      let noted : (is_some links.after && (has_told S l m || has_told T l m)) ≡ (has_told S l m || has_told T l m) =
+      masked_and (is_some links.after) (has_told S l m || has_told T l m) (λ none. sym told ∙ untold f m links k joins none) in
+      same_left (has_left U l m) (has_left S l m) (has_left T l m) (joined_as U l m links) (joined_as S l m links) (joined_as T l m links)
+      (left_union S T U v w t l le m) (left_there m) (rw (complete, compensate, forgotten, told, kept, held, marked, noted) refl)
 
   -- a participant of which the second set says nothing
   participant_alone : (f : Fact) (m : ℕ) (links : Links) → In f U → f.body ≡ Join l m links → ((g : Fact) → In g T → names_member l m g.body ≡ false) → member_by U l f.num (Join l m links) ≡ merged_member (member_by S l f.num (Join l m links)) None
@@ -135,17 +153,21 @@ module _ (S T U : List Fact) (v w : List ℕ) (t : AreTogether S T U v w) (l : I
       let no_complete = heard_none T l m Complete (λ g k. unnamed_report l m Complete g.body (silent g k)) in
       let no_compensate = heard_none T l m Compensate (λ g k. unnamed_report l m Compensate g.body (silent g k)) in
       let no_mark : has_forgot T l m ≡ false = none_found (λ g. is_forgot l m g.body) T (λ g k. unnamed_forgot l m g.body (silent g k)) in
+      let no_note : has_told T l m ≡ false = none_found (λ g. is_told_of l m g.body) T (λ g k. unnamed_told l m g.body (silent g k)) in
       let complete : heard U l m Complete ≡ heard S l m Complete = heard_union S T U t.union l m Complete ∙ ap (greater (heard S l m Complete)) no_complete ∙ greater_none (heard S l m Complete) in
       let compensate : heard U l m Compensate ≡ heard S l m Compensate = heard_union S T U t.union l m Compensate ∙ ap (greater (heard S l m Compensate)) no_compensate ∙ greater_none (heard S l m Compensate) in
       let mark : has_forgot U l m ≡ has_forgot S l m = any_union (λ g. is_forgot l m g.body) S T U t.union ∙ ap (λ b. has_forgot S l m || b) no_mark ∙ none_or (has_forgot S l m) in
+      let note : has_told U l m ≡ has_told S l m = any_union (λ g. is_told_of l m g.body) S T U t.union ∙ ap (λ b. has_told S l m || b) no_note ∙ none_or (has_told S l m) in
       let kept : cond (is_some links.complete) (heard S l m Complete) None ≡ heard S l m Complete =
-      masked (is_some links.complete) (heard S l m Complete) (λ none. sym complete ∙ unheard f m links k joins none) in
+      masked (is_some links.complete) (heard S l m Complete) (λ none. sym complete ∙ unheard f m links Complete k joins none) in
+      let held : cond (is_some links.compensate) (heard S l m Compensate) None ≡ heard S l m Compensate =
+      masked (is_some links.compensate) (heard S l m Compensate) (λ none. sym compensate ∙ unheard f m links Compensate k joins none) in
       let marked : (is_some links.forget && has_forgot S l m) ≡ has_forgot S l m =
       masked_and (is_some links.forget) (has_forgot S l m) (λ none. sym mark ∙ unmarked f m links k joins none) in
-      same_alone (has_left U l m) (has_left S l m)
-      (record { links = links; completed = heard U l m Complete; compensated = heard U l m Compensate; forgotten = has_forgot U l m })
-      (record { links = links; completed = heard S l m Complete; compensated = heard S l m Compensate; forgotten = has_forgot S l m })
-      (left_union S T U v w t l le m) (rw (complete, compensate, mark, kept, marked) refl)
+      let noted : (is_some links.after && has_told S l m) ≡ has_told S l m =
+      masked_and (is_some links.after) (has_told S l m) (λ none. sym note ∙ untold f m links k joins none) in
+      same_alone (has_left U l m) (has_left S l m) (joined_as U l m links) (joined_as S l m links)
+      (left_union S T U v w t l le m) (rw (complete, compensate, mark, note, kept, held, marked, noted) refl)
 
   -- what a set gave numbers to before a fact has lesser numbers than that fact's
   beyond_number : (longer : IsLonger (givers S l) (givers T l)) (f : Fact) → In f longer.rest → numbers_given T l < member_number S l f.num
@@ -175,6 +197,7 @@ module _ (S T U : List Fact) (v w : List ℕ) (t : AreTogether S T U v w) (l : I
   by_giver P (Decide id u) e begins joins = absurd cc
   by_giver P (Report id m act outcome) e begins joins = absurd cc
   by_giver P (Forgot id m) e begins joins = absurd cc
+  by_giver P (Told id m) e begins joins = absurd cc
   by_giver P (Purge root) e begins joins = absurd cc
 
   -- where the first set has the greater home stamp, its members are kept

@@ -11,9 +11,9 @@ use Rattle.lra_states.specs.declared.outcome.Act.{Act}
 use Rattle.lra_states.specs.declared.outcome.Act.TheVariants.{Complete, Compensate}
 use Rattle.lra_states.specs.declared.outcome.Outcome.{Outcome}
 use Rattle.lra_facts.specs.declared.fact.Body.{Body}
-use Rattle.lra_facts.specs.declared.fact.Body.TheVariants.{Begin, Join, Leave, Decide, Report, Forgot, Purge}
+use Rattle.lra_facts.specs.declared.fact.Body.TheVariants.{Begin, Join, Leave, Decide, Report, Forgot, Told, Purge}
 use Rattle.lra_facts.specs.declared.fact.Fact.{Fact}
-use Rattle.lra_facts.specs.Duties.{has_forgot, is_forgot}
+use Rattle.lra_facts.specs.Duties.{has_forgot, is_forgot, has_told, is_told_of}
 use Rattle.lra_facts.specs.Lists.{In}
 use Rattle.lra_facts.specs.Sets.{begins, has_left, heard, is_begun, is_leave, member_number, parent_of, reported}
 use Rattle.lra_facts.proofs.Heard.{heard_inside, level_heard, same_level}
@@ -134,6 +134,7 @@ named_report l m a (Join id n links) o e = absurd cc
 named_report l m a (Leave id n) o e = absurd cc
 named_report l m a (Decide id u) o e = absurd cc
 named_report l m a (Forgot id n) o e = absurd cc
+named_report l m a (Told id n) o e = absurd cc
 named_report l m a (Purge root) o e = absurd cc
 
 named_forgot : (l : Id) (m : ℕ) (body : Body) → is_forgot l m body ≡ true → is_named l body ≡ true
@@ -143,7 +144,18 @@ named_forgot l m (Join id n links) e = absurd cc
 named_forgot l m (Leave id n) e = absurd cc
 named_forgot l m (Decide id u) e = absurd cc
 named_forgot l m (Report id n act outcome) e = absurd cc
+named_forgot l m (Told id n) e = absurd cc
 named_forgot l m (Purge root) e = absurd cc
+
+named_told : (l : Id) (m : ℕ) (body : Body) → is_told_of l m body ≡ true → is_named l body ≡ true
+named_told l m (Told id n) e = and_left (same_id id l) (n == m) e
+named_told l m (Begin parent deadline) e = absurd cc
+named_told l m (Join id n links) e = absurd cc
+named_told l m (Leave id n) e = absurd cc
+named_told l m (Decide id u) e = absurd cc
+named_told l m (Report id n act outcome) e = absurd cc
+named_told l m (Forgot id n) e = absurd cc
+named_told l m (Purge root) e = absurd cc
 
 module _ (S T U : List Fact) (v w : List ℕ) (t : AreTogether S T U v w) (l : Id) (begun : is_begun S l ≡ true) where
   -- the member number of a nested LRA goes by what its home did before
@@ -263,10 +275,12 @@ module _ (S T U : List Fact) (v w : List ℕ) (t : AreTogether S T U v w) (l : I
           let compensate = heard_known m Compensate in
           let mark : has_forgot U l m ≡ has_forgot S l m = told (λ f. is_forgot l m f.body) (λ f e. named_forgot l m f.body e) in
           let gone : has_left U l m ≡ has_left S l m = told (λ f. is_leave l m f.body) (λ f e. named_leave l m f.body e) in
-          rw (gone, complete, compensate, mark) refl
+          let note : has_told U l m ≡ has_told S l m = told (λ f. is_told_of l m f.body) (λ f e. named_told l m f.body e) in
+          rw (gone, complete, compensate, mark, note) refl
       member_known num (Begin parent deadline) = refl
       member_known num (Leave id m) = refl
       member_known num (Decide id u) = refl
       member_known num (Report id m act outcome) = refl
       member_known num (Forgot id m) = refl
+      member_known num (Told id m) = refl
       member_known num (Purge root) = refl

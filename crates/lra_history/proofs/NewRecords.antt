@@ -135,7 +135,7 @@ new_decision f S T more settled parent deadline body =
 
 new_members : (f : Fact) (S T : List Fact) → IsMore f S T → IsSettled S → (parent : Option Id) (deadline : ℕ) → f.body ≡ Begin parent deadline → IsAbove f S parent → members_of T (begun_by f) ≡ []
 new_members f S T more settled parent deadline body up =
-    members_kept f S T more (begun_by f) (not_own f S T more parent deadline body up) (rw body (record { leaves = λ n. refl; reports = λ n a. refl; forgets = λ n. refl }))
+    members_kept f S T more (begun_by f) (not_own f S T more parent deadline body up) (rw body (record { leaves = λ n. refl; reports = λ n a. refl; forgets = λ n. refl; tells = λ n. refl }))
     ∙ ap (map (λ (g : Fact). member_by S (begun_by f) g.num g.body)) (no_givers f S T more settled)
 
 new_stamps : (f : Fact) (S T : List Fact) → IsMore f S T → IsSettled S → (nodes : ℕ) (parent : Option Id) (deadline : ℕ) → f.body ≡ Begin parent deadline → map (stamp T (begun_by f)) (nodes_to nodes) ≡ slice_set (replicate nodes 0) (f.origin - 1) f.num

@@ -9,7 +9,7 @@ use Rattle.lra_states.specs.declared.outcome.Act.{Act}
 use Rattle.lra_states.specs.declared.outcome.Outcome.{Outcome}
 use Rattle.lra_states.specs.declared.outcome.Verdict.{Verdict}
 use Rattle.lra_facts.specs.declared.fact.Fact.{Fact}
-use Rattle.lra_facts.specs.declared.links.Links.{Links}
+use Rattle.lra_facts.specs.Links.{Links}
 use Rattle.lra_facts.specs.Lists.{In}
 use Rattle.lra_facts.specs.Sets.{begins, is_held, is_under, numbers_given}
 use Rattle.lra_facts.proofs.Membership.{any_from, any_gives, same_bools}
@@ -27,13 +27,13 @@ use Rattle.lra_history.specs.Changes.{AddsFact, IsRemoval, one_change, purge_cha
 use Rattle.lra_history.specs.Replies.{Accepted, body_for, entered, judge, next_fact}
 use Rattle.lra_history.specs.Views.{AreRecords, StandsFor, View, is_purge_fact, purge_number, record_at, records_at}
 use Rattle.lra_history.specs.declared.command.Command.{Command}
-use Rattle.lra_history.specs.declared.command.Command.TheVariants.{Begin as BeginAsked, Join as JoinAsked, Leave as LeaveAsked, Decide as DecideAsked, Report as ReportAsked, Forgot as ForgotAsked, Purge as PurgeAsked}
+use Rattle.lra_history.specs.declared.command.Command.TheVariants.{Begin as BeginAsked, Join as JoinAsked, Leave as LeaveAsked, Decide as DecideAsked, Report as ReportAsked, Forgot as ForgotAsked, Told as ToldAsked, Purge as PurgeAsked}
 use Rattle.lra_history.proofs.AcceptedCommands.{lawful_gives}
 use Rattle.lra_history.proofs.CountedByFronts.{counted_with, more_entered}
 use Rattle.lra_history.proofs.SettledFacts.{body_gives, filter_agree, givers_length}
 use Rattle.lra_history.proofs.LeftAsItWas.{held_stays}
 use Rattle.lra_history.proofs.ListsWithOneMore.{filter_all}
-use Rattle.lra_history.proofs.RecordsWithOneMore.{decide_stands, forgot_stands, join_stands, leave_stands, nested_stands, other_home_stands, report_stands, root_stands, touched_home}
+use Rattle.lra_history.proofs.RecordsWithOneMore.{decide_stands, forgot_stands, told_stands, join_stands, leave_stands, nested_stands, other_home_stands, report_stands, root_stands, touched_home}
 use Rattle.lra_history.proofs.Purges.{purge_elsewhere_stands, purge_stands, purges_gained, purges_kept, without_tree}
 use Rattle.lra_history.proofs.StaysSettled.{settled_with}
 use Rattle.lra_history.proofs.FactsOfMembers.{participant_given}
@@ -199,6 +199,15 @@ forgot_adds S view me l m old next settled stands some there taken at is =
     let number = participant_given S l m settled.seated given.1 in
     one_adds S view me (ForgotAsked l m) l old next settled stands some there taken refl refl given.0.held at is (λ T more records are.
     forgot_stands (next_fact S view.front me (ForgotAsked l m)) S T more settled (length view.front) l m records refl number.0 given.0.held are)
+
+-- a told's fact by a change of the record of the LRA whose participant heard of its end
+pub told_adds : (S : List Fact) (view : View) (me : ℕ) (l : Id) (m : ℕ) (old next : Record) → IsSettled S → StandsFor S view → 1 ≤ me → me ≤ length view.front → judge S view.front me (ToldAsked l m) ≡ Accepted
+    → record_at view l ≡ Some old → next ≡ record_after (next_fact S view.front me (ToldAsked l m)) old → AddsFact S view me (ToldAsked l m) (Some (one_change view me next))
+told_adds S view me l m old next settled stands some there taken at is =
+    let given = lawful_gives S view.front me (ToldAsked l m) taken in
+    let number = participant_given S l m settled.seated given.1 in
+    one_adds S view me (ToldAsked l m) l old next settled stands some there taken refl refl given.0.held at is (λ T more records are.
+    told_stands (next_fact S view.front me (ToldAsked l m)) S T more settled (length view.front) l m records refl number.0 given.0.held are)
 
 -- Begins
 

@@ -17,7 +17,7 @@ use Rattle.lra_forest.specs.Shape.{found_at}
 use Rattle.lra_forest.proofs.Chained.{begins_at}
 use Rattle.lra_forest.proofs.OnlyChanges.{ids_alone, some_same}
 use Rattle.lra_history.specs.declared.command.Command.{Command}
-use Rattle.lra_history.specs.declared.command.Command.TheVariants.{Begin, Join, Leave, Decide, Report, Forgot, Purge}
+use Rattle.lra_history.specs.declared.command.Command.TheVariants.{Begin, Join, Leave, Decide, Report, Forgot, Told, Purge}
 use Rattle.lra_history.specs.Growth.{IsSettled, record_after, stamped}
 use Rattle.lra_history.specs.Next.{change_on, change_record, judge_on, next_fact_on, no_change}
 use Rattle.lra_history.specs.Changes.{fresh_record, HoldsOnlyChanges, ids_of, one_change, records_of, two_changes}
@@ -166,6 +166,7 @@ module _ (S : List Fact) (view : View) (me : ℕ) (settled : IsSettled S) (stand
   by_set (Decide l verdict) taken = one_only (Decide l verdict) l (held_home S view l stands (lawful_gives S view.front me (Decide l verdict) taken).held)
   by_set (Report l m act outcome) taken = one_only (Report l m act outcome) l (held_home S view l stands (lawful_gives S view.front me (Report l m act outcome) taken).0.held)
   by_set (Forgot l m) taken = one_only (Forgot l m) l (held_home S view l stands (lawful_gives S view.front me (Forgot l m) taken).0.held)
+  by_set (Told l m) taken = one_only (Told l m) l (held_home S view l stands (lawful_gives S view.front me (Told l m) taken).0.held)
   by_set (Purge root) taken =
       let held = (lawful_gives S view.front me (Purge root) taken).0.held in
       removed_only root (held_home S view root stands held) (held_within S view root stands held)

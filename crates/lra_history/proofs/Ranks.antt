@@ -1,15 +1,15 @@
 -- ranks of statuses, by what is wanted and by tests
 use mathlib.Core.Bool.{not}
 use Rattle.std.proofs.Common.{◌≡◌, ◌⊎◌, inl, inr, ◌≤◌, ◌&&◌, ℕ, refl, Bool, true, false, cond, arith, Option, Some, None, is_some}
-use Rattle.lra_states.specs.States.{completing, level, rank, rank_of, same_member_status, shown}
+use Rattle.lra_states.specs.States.{compensating, completing, level, rank, rank_of, same_member_status, shown}
 use Rattle.lra_states.specs.declared.status.LraStatus.{LraStatus}
 use Rattle.lra_states.specs.declared.status.LraStatus.TheVariants.{Active, Closing, Closed, FailedToClose, Cancelling, Cancelled, FailedToCancel}
-use Rattle.lra_states.specs.declared.status.MemberStatus.TheVariants.{Completed, FailedToComplete, FailedToCompensate}
+use Rattle.lra_states.specs.declared.status.MemberStatus.TheVariants.{Compensated, Completed, FailedToComplete, FailedToCompensate}
 use Rattle.lra_states.specs.declared.outcome.Outcome.{Outcome}
 use Rattle.lra_states.specs.declared.outcome.Outcome.TheVariants.{Busy, Done, Failed}
 use Rattle.lra_states.specs.declared.outcome.Verdict.{Verdict}
 use Rattle.lra_states.specs.declared.outcome.Verdict.TheVariants.{Close, Cancel}
-use Rattle.lra_facts.specs.declared.links.Links.{Links}
+use Rattle.lra_facts.specs.Links.{Links}
 use Rattle.lra_facts.specs.Sets.{is_open, status_by}
 
 -- Participants, with more heard of them
@@ -31,16 +31,20 @@ stays_final (Some Close) links a b c d p q e = closing (is_some links.complete) 
     closing true (Some Failed) (Some Busy) p e = absurd (omega arith)
     closing true (Some Failed) (Some Done) p e = absurd (omega arith)
     closing true (Some Failed) (Some Failed) p e = e
-stays_final (Some Cancel) links a None c d p q e = refl
-stays_final (Some Cancel) links a (Some Busy) c d p q e = refl
-stays_final (Some Cancel) links a (Some Done) c None p q e = absurd (omega arith)
-stays_final (Some Cancel) links a (Some Done) c (Some Busy) p q e = absurd (omega arith)
-stays_final (Some Cancel) links a (Some Done) c (Some Done) p q e = e
-stays_final (Some Cancel) links a (Some Done) c (Some Failed) p q e = absurd cc
-stays_final (Some Cancel) links a (Some Failed) c None p q e = absurd (omega arith)
-stays_final (Some Cancel) links a (Some Failed) c (Some Busy) p q e = absurd (omega arith)
-stays_final (Some Cancel) links a (Some Failed) c (Some Done) p q e = absurd (omega arith)
-stays_final (Some Cancel) links a (Some Failed) c (Some Failed) p q e = e
+stays_final (Some Cancel) links a b c d p q e = cancelling (is_some links.compensate) b d q e
+  where
+    cancelling : (given : Bool) (b d : Option Outcome) → level b ≤ level d → is_open (cond given (compensating d) Compensated) ≡ true → is_open (cond given (compensating b) Compensated) ≡ true
+    cancelling false b d q e = e
+    cancelling true None d q e = refl
+    cancelling true (Some Busy) d q e = refl
+    cancelling true (Some Done) None q e = absurd (omega arith)
+    cancelling true (Some Done) (Some Busy) q e = absurd (omega arith)
+    cancelling true (Some Done) (Some Done) q e = e
+    cancelling true (Some Done) (Some Failed) q e = absurd cc
+    cancelling true (Some Failed) None q e = absurd (omega arith)
+    cancelling true (Some Failed) (Some Busy) q e = absurd (omega arith)
+    cancelling true (Some Failed) (Some Done) q e = absurd (omega arith)
+    cancelling true (Some Failed) (Some Failed) q e = e
 
 -- one that failed to complete stays so
 pub stays_incomplete : (x : Option Verdict) (links : Links) (a b c d : Option Outcome) → level a ≤ level c → same_member_status FailedToComplete (status_by x links a b) ≡ true → same_member_status FailedToComplete (status_by x links c d) ≡ true
@@ -56,10 +60,14 @@ stays_incomplete (Some Close) links a b c d p e = closing (is_some links.complet
     closing true (Some Failed) (Some Busy) p e = absurd (omega arith)
     closing true (Some Failed) (Some Done) p e = absurd (omega arith)
     closing true (Some Failed) (Some Failed) p e = e
-stays_incomplete (Some Cancel) links a None c d p e = absurd cc
-stays_incomplete (Some Cancel) links a (Some Busy) c d p e = absurd cc
-stays_incomplete (Some Cancel) links a (Some Done) c d p e = absurd cc
-stays_incomplete (Some Cancel) links a (Some Failed) c d p e = absurd cc
+stays_incomplete (Some Cancel) links a b c d p e = absurd (never (is_some links.compensate) b e)
+  where
+    never : (given : Bool) (b : Option Outcome) → same_member_status FailedToComplete (cond given (compensating b) Compensated) ≡ true → ⊥
+    never false b e = cc
+    never true None e = cc
+    never true (Some Busy) e = cc
+    never true (Some Done) e = cc
+    never true (Some Failed) e = cc
 
 -- and so does one that failed to compensate
 pub stays_uncompensated : (x : Option Verdict) (links : Links) (a b c d : Option Outcome) → level b ≤ level d → same_member_status FailedToCompensate (status_by x links a b) ≡ true → same_member_status FailedToCompensate (status_by x links c d) ≡ true
@@ -72,13 +80,17 @@ stays_uncompensated (Some Close) links a b c d p e = closing (is_some links.comp
     closing true (Some Busy) e = absurd cc
     closing true (Some Done) e = absurd cc
     closing true (Some Failed) e = absurd cc
-stays_uncompensated (Some Cancel) links a None c d p e = absurd cc
-stays_uncompensated (Some Cancel) links a (Some Busy) c d p e = absurd cc
-stays_uncompensated (Some Cancel) links a (Some Done) c d p e = absurd cc
-stays_uncompensated (Some Cancel) links a (Some Failed) c None p e = absurd (omega arith)
-stays_uncompensated (Some Cancel) links a (Some Failed) c (Some Busy) p e = absurd (omega arith)
-stays_uncompensated (Some Cancel) links a (Some Failed) c (Some Done) p e = absurd (omega arith)
-stays_uncompensated (Some Cancel) links a (Some Failed) c (Some Failed) p e = e
+stays_uncompensated (Some Cancel) links a b c d p e = cancelling (is_some links.compensate) b d p e
+  where
+    cancelling : (given : Bool) (b d : Option Outcome) → level b ≤ level d → same_member_status FailedToCompensate (cond given (compensating b) Compensated) ≡ true → same_member_status FailedToCompensate (cond given (compensating d) Compensated) ≡ true
+    cancelling false b d p e = e
+    cancelling true None d p e = absurd cc
+    cancelling true (Some Busy) d p e = absurd cc
+    cancelling true (Some Done) d p e = absurd cc
+    cancelling true (Some Failed) None p e = absurd (omega arith)
+    cancelling true (Some Failed) (Some Busy) p e = absurd (omega arith)
+    cancelling true (Some Failed) (Some Done) p e = absurd (omega arith)
+    cancelling true (Some Failed) (Some Failed) p e = e
 
 -- What is wanted, by tests for a Cancel and a Close
 

@@ -12,9 +12,9 @@ use Rattle.lra_states.specs.declared.outcome.Outcome.{Outcome}
 use Rattle.lra_states.specs.declared.outcome.Verdict.{Verdict}
 use Rattle.lra_states.specs.declared.outcome.Verdict.TheVariants.{Close, Cancel}
 use Rattle.lra_facts.specs.declared.fact.Body.{Body}
-use Rattle.lra_facts.specs.declared.fact.Body.TheVariants.{Begin, Join, Leave, Decide, Report, Forgot, Purge}
+use Rattle.lra_facts.specs.declared.fact.Body.TheVariants.{Begin, Join, Leave, Decide, Report, Forgot, Told, Purge}
 use Rattle.lra_facts.specs.declared.fact.Fact.{Fact}
-use Rattle.lra_facts.specs.declared.links.Links.{Links}
+use Rattle.lra_facts.specs.Links.{Links}
 use Rattle.lra_facts.specs.Lists.{In, IsInside}
 use Rattle.lra_facts.specs.Sets.{begins, chain, has_left, heard, is_begun, is_decided, is_decision, is_held, is_leave, is_open, is_purge, is_purged_root, is_root, is_under, shows, shows_now, some_shows, status_by, want}
 use Rattle.lra_facts.proofs.Heard.{heard_inside}
@@ -34,7 +34,7 @@ use Rattle.lra_history.proofs.Basics.{both_true, covered_le, false_from}
 
 -- Tests
 
-true_not : (b : Bool) → (b ≡ true → ⊥) → not b ≡ true
+pub true_not : (b : Bool) → (b ≡ true → ⊥) → not b ≡ true
 true_not true never = absurd (never refl)
 true_not false never = refl
 
@@ -48,6 +48,7 @@ leave_asks d m (Leave l n) e = and_left (same_id l d) _ e
 leave_asks d m (Decide l verdict) e = absurd cc
 leave_asks d m (Report l n act outcome) e = absurd cc
 leave_asks d m (Forgot l n) e = absurd cc
+leave_asks d m (Told l n) e = absurd cc
 leave_asks d m (Purge l) e = absurd cc
 
 -- What is under an LRA
@@ -77,11 +78,11 @@ pub record IsGrown (h : History) (v w : List ℕ) : Type 0 where
 grown_inside : (h : History) (v w : List ℕ) → IsGrown h v w → IsInside (facts h v) (facts h w)
 grown_inside h v w g = facts_inside h v w g.below
 
-begun_later : (h : History) (v w : List ℕ) → IsGrown h v w → (d : Id) → is_begun (facts h v) d ≡ true → is_begun (facts h w) d ≡ true
+pub begun_later : (h : History) (v w : List ℕ) → IsGrown h v w → (d : Id) → is_begun (facts h v) d ≡ true → is_begun (facts h w) d ≡ true
 begun_later h v w g d b = begun_inside (facts h v) (facts h w) (grown_inside h v w g) d b
 
 -- the chain of what the lesser set has begun
-kept_chain : (h : History) (v w : List ℕ) → IsGrown h v w → (d : Id) → is_begun (facts h v) d ≡ true → chain (facts h v) d ≡ chain (facts h w) d
+pub kept_chain : (h : History) (v w : List ℕ) → IsGrown h v w → (d : Id) → is_begun (facts h v) d ≡ true → chain (facts h v) d ≡ chain (facts h w) d
 kept_chain h v w g d b = same_chain h g.lawful v w g.before g.after d b (begun_later h v w g d b)
 
 kept_decided : (h : History) (v w : List ℕ) → IsGrown h v w → (x : Verdict) (a : Id) → is_decided (facts h v) x a ≡ true → is_decided (facts h w) x a ≡ true
@@ -118,7 +119,7 @@ cancelled_before h v w g l x wanted later d begun under e =
     ]
 
 -- where l wants the same in both sets, so does an LRA under it
-kept_want : (h : History) (v w : List ℕ) → IsGrown h v w → (l : Id) (x : Verdict) → want (facts h v) l ≡ Some x → want (facts h w) l ≡ Some x → (d : Id) → is_begun (facts h v) d ≡ true → In l (chain (facts h w) d) → want (facts h v) d ≡ want (facts h w) d
+pub kept_want : (h : History) (v w : List ℕ) → IsGrown h v w → (l : Id) (x : Verdict) → want (facts h v) l ≡ Some x → want (facts h w) l ≡ Some x → (d : Id) → is_begun (facts h v) d ≡ true → In l (chain (facts h w) d) → want (facts h v) d ≡ want (facts h w) d
 kept_want h v w g l x wanted later d begun under =
     let S = facts h v in
     let T = facts h w in
@@ -139,7 +140,7 @@ left_before h v w g l x wanted d m under left =
     any_from (λ (f : Fact). is_leave d m f.body) (facts h v) leave.0 had leave.2
 
 -- where one under l is open in the greater set, one is in the lesser
-kept_open : (h : History) (v w : List ℕ) → IsGrown h v w → (l : Id) (x : Verdict) → want (facts h v) l ≡ Some x → want (facts h w) l ≡ Some x → some_shows is_open (facts h w) l ≡ true → some_shows is_open (facts h v) l ≡ true
+pub kept_open : (h : History) (v w : List ℕ) → IsGrown h v w → (l : Id) (x : Verdict) → want (facts h v) l ≡ Some x → want (facts h w) l ≡ Some x → some_shows is_open (facts h w) l ≡ true → some_shows is_open (facts h v) l ≡ true
 kept_open h v w g l x wanted later e =
     let S = facts h v in
     let T = facts h w in
@@ -229,7 +230,7 @@ held_before h v w g l covered e =
 -- Ranks
 
 -- no less is wanted
-wants_more : (h : History) (v w : List ℕ) → IsGrown h v w → (l : Id) → is_begun (facts h v) l ≡ true → force (want (facts h v) l) ≤ force (want (facts h w) l)
+pub wants_more : (h : History) (v w : List ℕ) → IsGrown h v w → (l : Id) → is_begun (facts h v) l ≡ true → force (want (facts h v) l) ≤ force (want (facts h w) l)
 wants_more h v w g l b =
     let S = facts h v in
     let T = facts h w in

@@ -5,9 +5,9 @@ use Rattle.lra_states.specs.declared.outcome.Act.{Act}
 use Rattle.lra_states.specs.declared.outcome.Outcome.{Outcome}
 use Rattle.lra_states.specs.declared.outcome.Verdict.{Verdict}
 use Rattle.lra_facts.specs.declared.fact.Body.{Body}
-use Rattle.lra_facts.specs.declared.fact.Body.TheVariants.{Begin, Join, Leave, Decide, Report, Forgot, Purge}
+use Rattle.lra_facts.specs.declared.fact.Body.TheVariants.{Begin, Join, Leave, Decide, Report, Forgot, Told, Purge}
 use Rattle.lra_facts.specs.declared.fact.Fact.{Fact}
-use Rattle.lra_facts.specs.declared.links.Links.{Links}
+use Rattle.lra_facts.specs.Links.{Links}
 use Rattle.lra_facts.specs.Sets.{begins, begun_by, is_begin, is_held, want, gives_number, numbers_given}
 use Rattle.lra_forest.specs.declared.record.Record.{Record}
 use Rattle.lra_forest.specs.Forests.{AreOf, is_of}
@@ -21,7 +21,7 @@ use Rattle.lra_history.specs.Growth.{IsMore, IsSettled, record_after, new_record
 use Rattle.lra_history.specs.Views.{AreRecords, is_purge_fact}
 use Rattle.lra_history.proofs.LeftAsItWas.{held_kept, held_stays, record_kept}
 use Rattle.lra_history.proofs.FactsOfRecords.{decide_record, join_record, parent_record}
-use Rattle.lra_history.proofs.FactsOfMembers.{leave_record, report_record, forgot_record}
+use Rattle.lra_history.proofs.FactsOfMembers.{leave_record, report_record, forgot_record, told_record}
 use Rattle.lra_history.proofs.NewRecords.{IsHeldAbove, above_begun, begin_record, new_held}
 use Rattle.lra_history.proofs.Basics.{false_from, held_begun}
 
@@ -145,6 +145,19 @@ forgot_stands f S T more settled nodes l m records body some held are =
     })
     held (forgot_record f S T more settled nodes l m body some (held_begun S l held)) are
 
+-- a told of a member, at whatever node
+pub told_stands : (f : Fact) (S T : List Fact) → IsMore f S T → IsSettled S → (nodes : ℕ) (l : Id) (m : ℕ) (records : List Record) → f.body ≡ Told l m → 1 ≤ m → is_held S l ≡ true
+    → AreRecords nodes S l.home records → AreRecords nodes T l.home (put_record (record_after f (record_of nodes S l)) records)
+told_stands f S T more settled nodes l m records body some held are =
+    named_stands f S T more settled nodes l records
+    (record {
+      no_begin = rw body refl;
+      plain = rw body refl;
+      only = λ x n. let e : same_id l x ≡ true = rw body at n in same_is l x e;
+      home = λ p g. absurd (let wrong : gives_number p (Told l m) ≡ true = rw body at g in cc);
+    })
+    held (told_record f S T more settled nodes l m body some (held_begun S l held)) are
+
 -- Begins
 
 -- the record of a new LRA goes among those that stand for all others
@@ -208,6 +221,7 @@ touched_home node (Leave id m) = id.home
 touched_home node (Decide id verdict) = id.home
 touched_home node (Report id m act outcome) = id.home
 touched_home node (Forgot id m) = id.home
+touched_home node (Told id m) = id.home
 touched_home node (Purge root) = root.home
 
 named_home : (node : ℕ) (body : Body) (x : Id) → ((p : Id) → gives_number p body ≡ true → node ≡ p.home) → is_named x body ≡ true → touched_home node body ≡ x.home
@@ -217,6 +231,7 @@ named_home node (Leave id m) x home n = ap (λ (y : Id). y.home) (same_is id x n
 named_home node (Decide id verdict) x home n = ap (λ (y : Id). y.home) (same_is id x n)
 named_home node (Report id m act outcome) x home n = ap (λ (y : Id). y.home) (same_is id x n)
 named_home node (Forgot id m) x home n = ap (λ (y : Id). y.home) (same_is id x n)
+named_home node (Told id m) x home n = ap (λ (y : Id). y.home) (same_is id x n)
 named_home node (Purge root) x home n = absurd cc
 
 begun_home : (node : ℕ) (body : Body) → is_begin body ≡ true → touched_home node body ≡ node
@@ -226,6 +241,7 @@ begun_home node (Leave id m) b = absurd cc
 begun_home node (Decide id verdict) b = absurd cc
 begun_home node (Report id m act outcome) b = absurd cc
 begun_home node (Forgot id m) b = absurd cc
+begun_home node (Told id m) b = absurd cc
 begun_home node (Purge root) b = absurd cc
 
 -- the records of other homes stay, where the fact is no purge

@@ -9,7 +9,7 @@ use Rattle.lra_states.specs.declared.outcome.Verdict.{Verdict}
 use Rattle.lra_states.specs.declared.status.LraStatus.{LraStatus}
 use Rattle.lra_facts.specs.declared.fact.Fact.{Fact}
 use Rattle.lra_facts.specs.declared.refusal.Refusal.{Refusal}
-use Rattle.lra_facts.specs.declared.refusal.Refusal.TheVariants.{DepthFull, LrasFull, MembersFull, NotActive, NotDue, NotEnded, NotHeld, NotRoot, StillToForget, UnknownMember}
+use Rattle.lra_facts.specs.declared.refusal.Refusal.TheVariants.{DepthFull, LrasFull, MembersFull, NotActive, NotDue, NotEnded, NotHeld, NotRoot, StillToForget, StillToTell, UnknownMember}
 use Rattle.lra_facts.specs.Refusals.{unless, first, unknown, away, spent}
 use Rattle.lra_facts.specs.Sets.{IsNumbered, is_held, want}
 use Rattle.lra_forest.specs.declared.duties.Due.{Due}
@@ -17,17 +17,17 @@ use Rattle.lra_forest.specs.declared.record.Record.{Record}
 use Rattle.lra_forest.specs.Forests.{is_of}
 use Rattle.lra_forest.specs.Standing.{Stands, answered}
 use Rattle.lra_forest.proofs.Bools.{all_from, all_in}
-use Rattle.lra_forest.proofs.Climbs.{owed_said, root_said, told_said}
-use Rattle.lra_forest.proofs.LeastForgetDuty.{least_said}
+use Rattle.lra_forest.proofs.Climbs.{end_told_said, hear_said, owed_said, root_said, told_said}
+use Rattle.lra_forest.proofs.LeastForgetDuty.{least_said, least_untold_said}
 use Rattle.lra_forest.proofs.RecordCounts.{held_count}
 use Rattle.lra_forest.proofs.Gatherings.{find_in}
 use Rattle.lra_forest.proofs.Sayings.{demanded_said, depth_said, ended_said, heard_said, member_shown_said, numbers_said, participant_said, shown_said, want_said}
 use Rattle.lra_history.specs.declared.command.Command.{Command}
-use Rattle.lra_history.specs.declared.command.Command.TheVariants.{Begin, Join, Leave, Decide, Report, Forgot, Purge}
+use Rattle.lra_history.specs.declared.command.Command.TheVariants.{Begin, Join, Leave, Decide, Report, Forgot, Told, Purge}
 use Rattle.lra_history.specs.Growth.{IsSettled}
 use Rattle.lra_history.specs.Next.{judge_on}
 use Rattle.lra_history.specs.Readings.{by_view}
-use Rattle.lra_history.specs.Replies.{Reading, by_facts, full_by, deep_by, crowded_by, is_known_by, judge_by, refusal_by, running_by, inactive_by, unasked_by, unforgotten_by, unowed_by, judge, judged}
+use Rattle.lra_history.specs.Replies.{Reading, by_facts, full_by, deep_by, crowded_by, is_known_by, judge_by, refusal_by, running_by, inactive_by, unasked_by, unforgotten_by, untold_by, unowed_by, early_by, judge, judged}
 use Rattle.lra_history.specs.Views.{StandsFor, View, record_at, records_at}
 use Rattle.lra_history.proofs.PatchesAddFacts.{found_record, held_home}
 use Rattle.lra_history.proofs.Covered.{found_of, nested_settled}
@@ -51,6 +51,9 @@ pub record AreAlike (nodes : ℕ) (t u : Reading) : Type 0 where
   pub owed : (l : Id) (m : ℕ) → u.held l ≡ true → t.owed l m ≡ u.owed l m
   pub forgot : (l : Id) (m : ℕ) → u.held l ≡ true → u.participant l m ≡ true → t.forgot l m ≡ u.forgot l m
   pub least_owed : (l : Id) → u.held l ≡ true → t.least_owed l ≡ u.least_owed l
+  pub to_hear : (l : Id) (m : ℕ) → u.held l ≡ true → t.to_hear l m ≡ u.to_hear l m
+  pub told : (l : Id) (m : ℕ) → u.held l ≡ true → u.participant l m ≡ true → t.told l m ≡ u.told l m
+  pub least_untold : (l : Id) → u.held l ≡ true → t.least_untold l ≡ u.least_untold l
 
 -- First refusals
 
@@ -94,6 +97,12 @@ unowed_alike nodes t u l m alike held some =
     ∙ ap (λ (b : Bool). unless (u.owed l m || b) (NotDue (t.shows l))) (alike.forgot l m held some)
     ∙ ap (λ (s : LraStatus). unless (u.owed l m || u.forgot l m) (NotDue s)) (alike.shows l held)
 
+early_alike : (nodes : ℕ) (t u : Reading) (l : Id) (m : ℕ) → AreAlike nodes t u → u.held l ≡ true → u.participant l m ≡ true → early_by t l m ≡ early_by u l m
+early_alike nodes t u l m alike held some =
+    ap (λ (b : Bool). unless (b || t.told l m) (NotDue (t.shows l))) (alike.to_hear l m held)
+    ∙ ap (λ (b : Bool). unless (u.to_hear l m || b) (NotDue (t.shows l))) (alike.told l m held some)
+    ∙ ap (λ (s : LraStatus). unless (u.to_hear l m || u.told l m) (NotDue s)) (alike.shows l held)
+
 running_alike : (nodes : ℕ) (t u : Reading) (l : Id) → AreAlike nodes t u → u.held l ≡ true → running_by t l ≡ running_by u l
 running_alike nodes t u l alike held =
     ap (λ (b : Bool). unless b (NotEnded (t.shows l))) (alike.ended l held)
@@ -101,6 +110,9 @@ running_alike nodes t u l alike held =
 
 unforgotten_alike : (nodes : ℕ) (t u : Reading) (l : Id) → AreAlike nodes t u → u.held l ≡ true → unforgotten_by t l ≡ unforgotten_by u l
 unforgotten_alike nodes t u l alike held = ap (λ (o : Option Due). option_map_or (λ due. Some (StillToForget due.lra due.member)) o None) (alike.least_owed l held)
+
+untold_alike : (nodes : ℕ) (t u : Reading) (l : Id) → AreAlike nodes t u → u.held l ≡ true → untold_by t l ≡ untold_by u l
+untold_alike nodes t u l alike held = ap (λ (o : Option Due). option_map_or (λ due. Some (StillToTell due.lra due.member)) o None) (alike.least_untold l held)
 
 -- Commands
 
@@ -140,12 +152,17 @@ refusal_alike nodes t u v node (Forgot l m) plain alike =
     first_both (unknown v l) (unknown v l) _ _ refl (first_past (t.held l) (u.held l) NotHeld _ _ (alike.held l) (λ held.
     first_past (t.participant l m) (u.participant l m) UnknownMember _ _ (alike.participant l m held) (λ joined.
     first_both _ _ [] [] (unowed_alike nodes t u l m alike held joined) refl)))
+refusal_alike nodes t u v node (Told l m) plain alike =
+    first_both (unknown v l) (unknown v l) _ _ refl (first_past (t.held l) (u.held l) NotHeld _ _ (alike.held l) (λ held.
+    first_past (t.participant l m) (u.participant l m) UnknownMember _ _ (alike.participant l m held) (λ joined.
+    first_both _ _ [] [] (early_alike nodes t u l m alike held joined) refl)))
 refusal_alike nodes t u v node (Purge root) plain alike =
     first_both (unknown v root) (unknown v root) _ _ refl (first_past (t.held root) (u.held root) NotHeld _ _ (alike.held root) (λ held.
     first_both (away node root) (away node root) _ _ refl
     (first_past (t.root root) (u.root root) NotRoot _ _ (alike.root root held) (λ is_root.
     first_both _ _ _ _ (running_alike nodes t u root alike held)
-    (first_both _ _ [] [] (unforgotten_alike nodes t u root alike held) refl)))))
+    (first_both _ _ _ _ (unforgotten_alike nodes t u root alike held)
+    (first_both _ _ [] [] (untold_alike nodes t u root alike held) refl))))))
 
 -- The set's reading is the definitions
 
@@ -157,6 +174,7 @@ judge_facts S v node (Leave l m) = refl
 judge_facts S v node (Decide l verdict) = refl
 judge_facts S v node (Report l m act outcome) = refl
 judge_facts S v node (Forgot l m) = refl
+judge_facts S v node (Told l m) = refl
 judge_facts S v node (Purge root) = refl
 
 -- A view tells what its set does
@@ -216,6 +234,11 @@ view_alike S view settled stands =
       least_owed = λ l held.
           let are = stands.records l.home (held_home S view l stands held) (held_within S view l stands held) in
           least_said nodes l.home S (records_at view.records l.home) l settled.whole nest settled.seated (all_from IsNumbered S settled.numbered) are.order are.stands refl held;
+      to_hear = λ l m held. hear_said nodes S (records_at view.records l.home) l m settled.whole nest settled.seated (stands_at S view l stands held) held;
+      told = λ l m held some. end_told_said nodes S (records_at view.records l.home) l m settled.seated (stands_at S view l stands held) held some;
+      least_untold = λ l held.
+          let are = stands.records l.home (held_home S view l stands held) (held_within S view l stands held) in
+          least_untold_said nodes l.home S (records_at view.records l.home) l settled.whole nest settled.seated (all_from IsNumbered S settled.numbered) are.order are.stands refl held;
     }
 
 -- what a report that is not refused goes by
@@ -234,6 +257,14 @@ forgot_passed u v node l m none =
     let after_stranger = open_first (unless (u.participant l m) UnknownMember) _ after_gone.1 in
     (passed (u.held l) NotHeld after_gone.0, passed (u.participant l m) UnknownMember after_stranger.0)
 
+-- and what a told does
+pub told_passed : (u : Reading) (v : List ℕ) (node : ℕ) (l : Id) (m : ℕ) → refusal_by u v node (Told l m) ≡ None → (u.held l ≡ true) × (u.participant l m ≡ true)
+told_passed u v node l m none =
+    let after_unknown = open_first (unknown v l) _ none in
+    let after_gone = open_first (unless (u.held l) NotHeld) _ after_unknown.1 in
+    let after_stranger = open_first (unless (u.participant l m) UnknownMember) _ after_gone.1 in
+    (passed (u.held l) NotHeld after_gone.0, passed (u.participant l m) UnknownMember after_stranger.0)
+
 known_alike : (nodes : ℕ) (t u : Reading) (v : List ℕ) (node : ℕ) (c : Command) → IsPlain nodes node c → AreAlike nodes t u → refusal_by u v node c ≡ None → is_known_by t c ≡ is_known_by u c
 known_alike nodes t u v node (Begin None deadline) plain alike none = refl
 known_alike nodes t u v node (Begin (Some p) deadline) plain alike none = refl
@@ -244,6 +275,8 @@ known_alike nodes t u v node (Report l m act outcome) plain alike none =
     let gone = report_passed u v node l m act outcome none in alike.heard l m act outcome gone.0 gone.1
 known_alike nodes t u v node (Forgot l m) plain alike none =
     let gone = forgot_passed u v node l m none in alike.forgot l m gone.0 gone.1
+known_alike nodes t u v node (Told l m) plain alike none =
+    let gone = told_passed u v node l m none in alike.told l m gone.0 gone.1
 known_alike nodes t u v node (Purge root) plain alike none = refl
 
 pub judge_alike : (nodes : ℕ) (t u : Reading) (v : List ℕ) (node : ℕ) (c : Command) → IsPlain nodes node c → AreAlike nodes t u → judge_by t v node c ≡ judge_by u v node c

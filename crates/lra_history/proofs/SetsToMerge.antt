@@ -11,10 +11,10 @@ use Rattle.lra_states.specs.declared.outcome.Outcome.{Outcome}
 use Rattle.lra_states.specs.declared.outcome.Verdict.{Verdict}
 use Rattle.lra_states.specs.declared.outcome.Verdict.TheVariants.{Close, Cancel}
 use Rattle.lra_facts.specs.declared.fact.Body.{Body}
-use Rattle.lra_facts.specs.declared.fact.Body.TheVariants.{Begin, Join, Leave, Decide, Report, Forgot, Purge}
+use Rattle.lra_facts.specs.declared.fact.Body.TheVariants.{Begin, Join, Leave, Decide, Report, Forgot, Told, Purge}
 use Rattle.lra_facts.specs.declared.fact.Fact.{Fact}
-use Rattle.lra_facts.specs.declared.links.Links.{Links}
-use Rattle.lra_facts.specs.Duties.{is_forget_duty, is_forgot, owes_forget}
+use Rattle.lra_facts.specs.Links.{Links}
+use Rattle.lra_facts.specs.Duties.{is_forget_duty, is_forgot, owes_forget, is_after_duty, is_told_of, owes_after}
 use Rattle.lra_facts.specs.Lists.{In}
 use Rattle.lra_facts.specs.Sets.{demands, is_decision, is_demanded, is_leave, is_participant, is_purge, links_of, reported, want}
 use Rattle.lra_forest.specs.Standing.{IsSeated}
@@ -25,7 +25,7 @@ use Rattle.lra_history.specs.Replies.{command_of}
 use Rattle.lra_history.proofs.SettledFacts.{join_gives}
 use Rattle.lra_history.proofs.ClosedSets.{closed_settled, entry_of, facts_inside}
 use Rattle.lra_history.proofs.AcceptedCommands.{IsGiven, lawful_gives}
-use Rattle.lra_history.proofs.TwoClosedSets.{IsProper}
+use Rattle.lra_history.proofs.TwoClosedSets.{IsProper, link_for}
 
 -- What an accepted command says of its body
 
@@ -39,6 +39,7 @@ leave_home J v node (Join id n links) l m given e = absurd cc
 leave_home J v node (Decide id u) l m given e = absurd cc
 leave_home J v node (Report id n act outcome) l m given e = absurd cc
 leave_home J v node (Forgot id n) l m given e = absurd cc
+leave_home J v node (Told id n) l m given e = absurd cc
 leave_home J v node (Purge root) l m given e = absurd cc
 
 decision_home : (J : List Fact) (v : List ℕ) (node : ℕ) (body : Body) (l : Id) (u : Verdict) → IsGiven J v node (command_of body) → is_decision l u body ≡ true → node ≡ l.home
@@ -51,6 +52,7 @@ decision_home J v node (Join id n links) l u given e = absurd cc
 decision_home J v node (Leave id n) l u given e = absurd cc
 decision_home J v node (Report id n act outcome) l u given e = absurd cc
 decision_home J v node (Forgot id n) l u given e = absurd cc
+decision_home J v node (Told id n) l u given e = absurd cc
 decision_home J v node (Purge root) l u given e = absurd cc
 
 purge_home : (J : List Fact) (v : List ℕ) (node : ℕ) (body : Body) (a : Id) → IsGiven J v node (command_of body) → is_purge a body ≡ true → node ≡ a.home
@@ -61,6 +63,7 @@ purge_home J v node (Leave id n) a given e = absurd cc
 purge_home J v node (Decide id u) a given e = absurd cc
 purge_home J v node (Report id n act outcome) a given e = absurd cc
 purge_home J v node (Forgot id n) a given e = absurd cc
+purge_home J v node (Told id n) a given e = absurd cc
 
 -- Links that ask
 
@@ -70,20 +73,25 @@ record HasLinks (J : List Fact) (l : Id) (m : ℕ) (test : Links → Bool) : Typ
   there : links_of J l m ≡ Some links
   asks : test links ≡ true
 
-complete_asked : (wanted : Option Verdict) (links : Links) → demands wanted links Complete ≡ true → is_some links.complete ≡ true
-complete_asked (Some Close) links e = e
-complete_asked (Some Cancel) links e = absurd cc
-complete_asked None links e = absurd cc
+asked : (wanted : Option Verdict) (links : Links) (act : Act) → demands wanted links act ≡ true → is_some (link_for act links) ≡ true
+asked (Some Close) links Complete e = e
+asked (Some Cancel) links Complete e = absurd cc
+asked None links Complete e = absurd cc
+asked (Some Close) links Compensate e = absurd cc
+asked (Some Cancel) links Compensate e = e
+asked None links Compensate e = absurd cc
 
-act_is : (a : Act) → same_act a Complete ≡ true → a ≡ Complete
-act_is Complete e = refl
-act_is Compensate e = absurd cc
+act_is : (a b : Act) → same_act a b ≡ true → a ≡ b
+act_is Complete Complete e = refl
+act_is Complete Compensate e = absurd cc
+act_is Compensate Complete e = absurd cc
+act_is Compensate Compensate e = refl
 
-demanded_link : (J : List Fact) (l : Id) (m : ℕ) → is_demanded J l m Complete ≡ true → HasLinks J l m (λ links. is_some links.complete)
-demanded_link J l m e = by (links_of J l m) refl e
+demanded_link : (J : List Fact) (l : Id) (m : ℕ) (act : Act) → is_demanded J l m act ≡ true → HasLinks J l m (λ links. is_some (link_for act links))
+demanded_link J l m act e = by (links_of J l m) refl e
   where
-    by : (o : Option Links) → links_of J l m ≡ o → option_map_or (λ links. demands (want J l) links Complete) o false ≡ true → HasLinks J l m (λ links. is_some links.complete)
-    by (Some links) t e = record { links = links; there = t; asks = complete_asked (want J l) links e }
+    by : (o : Option Links) → links_of J l m ≡ o → option_map_or (λ links. demands (want J l) links act) o false ≡ true → HasLinks J l m (λ links. is_some (link_for act links))
+    by (Some links) t e = record { links = links; there = t; asks = asked (want J l) links act e }
     by None t e = absurd cc
 
 forget_link : (J : List Fact) (l : Id) (m : ℕ) → is_forget_duty J l m ≡ true → HasLinks J l m (λ links. is_some links.forget)
@@ -98,22 +106,35 @@ forget_link J l m e = by (links_of J l m) refl (and_right (is_participant J l m)
     by (Some links) t e = record { links = links; there = t; asks = second _ (is_some links.forget) _ e }
     by None t e = absurd cc
 
-report_link : (J : List Fact) (v : List ℕ) (node : ℕ) (body : Body) (l : Id) (m : ℕ) (o : Outcome) → IsGiven J v node (command_of body) → reported l m Complete body ≡ Some o → HasLinks J l m (λ links. is_some links.complete)
-report_link J v node (Report id n act outcome) l m o given e = by (same_id id l) (n == m) (same_act act Complete) refl refl refl e
+after_link : (J : List Fact) (l : Id) (m : ℕ) → is_after_duty J l m ≡ true → HasLinks J l m (λ links. is_some links.after)
+after_link J l m e = by (links_of J l m) refl (and_right (is_participant J l m) (option_map_or (owes_after J l m) (links_of J l m) false) e)
   where
-    by : (b c d : Bool) → same_id id l ≡ b → (n == m) ≡ c → same_act act Complete ≡ d → cond (b && (c && d)) (Some outcome) None ≡ Some o → HasLinks J l m (λ links. is_some links.complete)
+    second : (a b c : Bool) → (a && (b && c)) ≡ true → b ≡ true
+    second true true c e = refl
+    second true false c e = absurd cc
+    second false b c e = absurd cc
+
+    by : (o : Option Links) → links_of J l m ≡ o → option_map_or (owes_after J l m) o false ≡ true → HasLinks J l m (λ links. is_some links.after)
+    by (Some links) t e = record { links = links; there = t; asks = second _ (is_some links.after) _ e }
+    by None t e = absurd cc
+
+report_link : (J : List Fact) (v : List ℕ) (node : ℕ) (body : Body) (l : Id) (m : ℕ) (asked_of : Act) (o : Outcome) → IsGiven J v node (command_of body) → reported l m asked_of body ≡ Some o → HasLinks J l m (λ links. is_some (link_for asked_of links))
+report_link J v node (Report id n act outcome) l m asked_of o given e = by (same_id id l) (n == m) (same_act act asked_of) refl refl refl e
+  where
+    by : (b c d : Bool) → same_id id l ≡ b → (n == m) ≡ c → same_act act asked_of ≡ d → cond (b && (c && d)) (Some outcome) None ≡ Some o → HasLinks J l m (λ links. is_some (link_for asked_of links))
     by true true true x y z e =
         let number : n ≡ m = grind (arith, nat_tests, y) in
-        demanded_link J l m (ap (λ i. is_demanded J i m Complete) (sym (same_is id l x)) ∙ ap (λ k. is_demanded J id k Complete) (sym number) ∙ ap (is_demanded J id n) (sym (act_is act z)) ∙ given.2)
+        demanded_link J l m asked_of (ap (λ i. is_demanded J i m asked_of) (sym (same_is id l x)) ∙ ap (λ k. is_demanded J id k asked_of) (sym number) ∙ ap (is_demanded J id n) (sym (act_is act asked_of z)) ∙ given.2)
     by true true false x y z e = absurd cc
     by true false d x y z e = absurd cc
     by false c d x y z e = absurd cc
-report_link J v node (Begin parent deadline) l m o given e = absurd cc
-report_link J v node (Join id n links) l m o given e = absurd cc
-report_link J v node (Leave id n) l m o given e = absurd cc
-report_link J v node (Decide id u) l m o given e = absurd cc
-report_link J v node (Forgot id n) l m o given e = absurd cc
-report_link J v node (Purge root) l m o given e = absurd cc
+report_link J v node (Begin parent deadline) l m asked_of o given e = absurd cc
+report_link J v node (Join id n links) l m asked_of o given e = absurd cc
+report_link J v node (Leave id n) l m asked_of o given e = absurd cc
+report_link J v node (Decide id u) l m asked_of o given e = absurd cc
+report_link J v node (Forgot id n) l m asked_of o given e = absurd cc
+report_link J v node (Told id n) l m asked_of o given e = absurd cc
+report_link J v node (Purge root) l m asked_of o given e = absurd cc
 
 forgot_link : (J : List Fact) (v : List ℕ) (node : ℕ) (body : Body) (l : Id) (m : ℕ) → IsGiven J v node (command_of body) → is_forgot l m body ≡ true → HasLinks J l m (λ links. is_some links.forget)
 forgot_link J v node (Forgot id n) l m given e =
@@ -127,7 +148,23 @@ forgot_link J v node (Join id n links) l m given e = absurd cc
 forgot_link J v node (Leave id n) l m given e = absurd cc
 forgot_link J v node (Decide id u) l m given e = absurd cc
 forgot_link J v node (Report id n act outcome) l m given e = absurd cc
+forgot_link J v node (Told id n) l m given e = absurd cc
 forgot_link J v node (Purge root) l m given e = absurd cc
+
+told_link : (J : List Fact) (v : List ℕ) (node : ℕ) (body : Body) (l : Id) (m : ℕ) → IsGiven J v node (command_of body) → is_told_of l m body ≡ true → HasLinks J l m (λ links. is_some links.after)
+told_link J v node (Told id n) l m given e =
+    let number : n ≡ m = number_is n m (and_right (same_id id l) (n == m) e) in
+    after_link J l m (ap (λ i. is_after_duty J i m) (sym (same_is id l (and_left (same_id id l) (n == m) e))) ∙ ap (is_after_duty J id) (sym number) ∙ given.2)
+  where
+    number_is : (a b : ℕ) → (a == b) ≡ true → a ≡ b
+    number_is a b e = grind (arith, nat_tests)
+told_link J v node (Begin parent deadline) l m given e = absurd cc
+told_link J v node (Join id n links) l m given e = absurd cc
+told_link J v node (Leave id n) l m given e = absurd cc
+told_link J v node (Decide id u) l m given e = absurd cc
+told_link J v node (Report id n act outcome) l m given e = absurd cc
+told_link J v node (Forgot id n) l m given e = absurd cc
+told_link J v node (Purge root) l m given e = absurd cc
 
 -- two joins of one member are one
 joins_once : (S : List Fact) (f g : Fact) (l : Id) (m : ℕ) (a b : Links) → IsSeated S → In f S → f.body ≡ Join l m a → In g S → g.body ≡ Join l m b → a ≡ b
@@ -166,14 +203,19 @@ module _ (h : History) (law : IsLawful h) (v : List ℕ) (closed : IsClosed h v)
         purges = λ f a k e.
             let x = entry_of h v f k in
             ap (λ (y : Fact). y.origin) x.2 ∙ purge_home (facts h x.0.front) x.0.front x.0.fact.origin x.0.fact.body a (given_at x.0 x.1) (subst (λ (y : Fact). is_purge a y.body ≡ true) x.2 e);
-        completes = λ f g l m links o k e n joins.
+        reports = λ f g l m links act o k e n joins.
             let x = entry_of h v f k in
             let bound : x.0.fact.num ≤ count v x.0.fact.origin = subst (λ (y : Fact). y.num ≤ count v y.origin) x.2 x.3 in
-            links_here (λ z. is_some z.complete) x.0 l m g links x.1 bound
-            (report_link (facts h x.0.front) x.0.front x.0.fact.origin x.0.fact.body l m o (given_at x.0 x.1) (subst (λ (y : Fact). reported l m Complete y.body ≡ Some o) x.2 e)) n joins;
+            links_here (λ z. is_some (link_for act z)) x.0 l m g links x.1 bound
+            (report_link (facts h x.0.front) x.0.front x.0.fact.origin x.0.fact.body l m act o (given_at x.0 x.1) (subst (λ (y : Fact). reported l m act y.body ≡ Some o) x.2 e)) n joins;
         forgets = λ f g l m links k e n joins.
             let x = entry_of h v f k in
             let bound : x.0.fact.num ≤ count v x.0.fact.origin = subst (λ (y : Fact). y.num ≤ count v y.origin) x.2 x.3 in
             links_here (λ z. is_some z.forget) x.0 l m g links x.1 bound
             (forgot_link (facts h x.0.front) x.0.front x.0.fact.origin x.0.fact.body l m (given_at x.0 x.1) (subst (λ (y : Fact). is_forgot l m y.body ≡ true) x.2 e)) n joins;
+        tells = λ f g l m links k e n joins.
+            let x = entry_of h v f k in
+            let bound : x.0.fact.num ≤ count v x.0.fact.origin = subst (λ (y : Fact). y.num ≤ count v y.origin) x.2 x.3 in
+            links_here (λ z. is_some z.after) x.0 l m g links x.1 bound
+            (told_link (facts h x.0.front) x.0.front x.0.fact.origin x.0.fact.body l m (given_at x.0 x.1) (subst (λ (y : Fact). is_told_of l m y.body ≡ true) x.2 e)) n joins;
       }

@@ -5,9 +5,9 @@ use Rattle.std.proofs.lemmas.Bool.Decides.{nat_tests}
 use Rattle.lra_id.specs.Ids.{Id, IsFactNumber, same_id, last_number}
 use Rattle.lra_id.specs.Fronts.{count}
 use Rattle.lra_facts.specs.declared.fact.Body.{Body}
-use Rattle.lra_facts.specs.declared.fact.Body.TheVariants.{Begin, Join, Leave, Decide, Report, Forgot, Purge}
+use Rattle.lra_facts.specs.declared.fact.Body.TheVariants.{Begin, Join, Leave, Decide, Report, Forgot, Told, Purge}
 use Rattle.lra_facts.specs.declared.fact.Fact.{Fact}
-use Rattle.lra_facts.specs.declared.links.Links.{Links}
+use Rattle.lra_facts.specs.Links.{Links}
 use Rattle.lra_facts.specs.Lists.{In, IsInside}
 use Rattle.lra_facts.specs.Sets.{IsNumbered, NamesEarlier, begins, begun_by, chain, chain_within, depth, gives_number, is_begin, is_begun, is_held, is_participant, is_purge, links_of, member_number, numbers_given, parent_named, parent_of}
 use Rattle.lra_facts.proofs.Membership.{any_gives, any_inside}
@@ -23,7 +23,7 @@ use Rattle.lra_history.specs.Growth.{IsSettled, names_member}
 use Rattle.lra_history.specs.Views.{IsCounted}
 use Rattle.lra_history.specs.Replies.{Accepted, body_for, judge, next_fact}
 use Rattle.lra_history.specs.declared.command.Command.{Command}
-use Rattle.lra_history.specs.declared.command.Command.TheVariants.{Begin as BeginAsked, Join as JoinAsked, Leave as LeaveAsked, Decide as DecideAsked, Report as ReportAsked, Forgot as ForgotAsked, Purge as PurgeAsked}
+use Rattle.lra_history.specs.declared.command.Command.TheVariants.{Begin as BeginAsked, Join as JoinAsked, Leave as LeaveAsked, Decide as DecideAsked, Report as ReportAsked, Forgot as ForgotAsked, Told as ToldAsked, Purge as PurgeAsked}
 use Rattle.lra_history.proofs.AcceptedCommands.{IsGiven, lawful_gives, number_left}
 use Rattle.lra_history.proofs.Basics.{held_begun}
 
@@ -123,6 +123,7 @@ named_parent (Leave id m) p e = absurd cc
 named_parent (Decide id verdict) p e = absurd cc
 named_parent (Report id m act outcome) p e = absurd cc
 named_parent (Forgot id m) p e = absurd cc
+named_parent (Told id m) p e = absurd cc
 named_parent (Purge root) p e = absurd cc
 
 -- a set is whole where each fact names earlier LRAs that are begun in it
@@ -202,6 +203,7 @@ body_named S v node (LeaveAsked id m) l given e = subst (λ (x : Id). is_held S 
 body_named S v node (DecideAsked id verdict) l given e = subst (λ (x : Id). is_held S x ≡ true) (same_is id l e) given.held
 body_named S v node (ReportAsked id m act outcome) l given e = subst (λ (x : Id). is_held S x ≡ true) (same_is id l e) given.0.held
 body_named S v node (ForgotAsked id m) l given e = subst (λ (x : Id). is_held S x ≡ true) (same_is id l e) given.0.held
+body_named S v node (ToldAsked id m) l given e = subst (λ (x : Id). is_held S x ≡ true) (same_is id l e) given.0.held
 body_named S v node (PurgeAsked root) l given e = absurd cc
 
 body_purged : (S : List Fact) (v : List ℕ) (node : ℕ) (c : Command) (l : Id) → IsGiven S v node c → is_purge l (body_for S c) ≡ true → is_held S l ≡ true
@@ -212,6 +214,7 @@ body_purged S v node (LeaveAsked id m) l given e = absurd cc
 body_purged S v node (DecideAsked id verdict) l given e = absurd cc
 body_purged S v node (ReportAsked id m act outcome) l given e = absurd cc
 body_purged S v node (ForgotAsked id m) l given e = absurd cc
+body_purged S v node (ToldAsked id m) l given e = absurd cc
 
 -- it gives a number at home only, and while there is one
 pub body_gives : (S : List Fact) (v : List ℕ) (node : ℕ) (c : Command) (l : Id) → IsGiven S v node c → gives_number l (body_for S c) ≡ true → (l.home ≡ node) × (numbers_given S l < 32)
@@ -222,6 +225,7 @@ body_gives S v node (LeaveAsked id m) l given e = absurd cc
 body_gives S v node (DecideAsked id verdict) l given e = absurd cc
 body_gives S v node (ReportAsked id m act outcome) l given e = absurd cc
 body_gives S v node (ForgotAsked id m) l given e = absurd cc
+body_gives S v node (ToldAsked id m) l given e = absurd cc
 body_gives S v node (PurgeAsked root) l given e = absurd cc
 
 -- a parent has room below it
@@ -234,6 +238,7 @@ body_parent S v node (LeaveAsked id m) p given e = absurd cc
 body_parent S v node (DecideAsked id verdict) p given e = absurd cc
 body_parent S v node (ReportAsked id m act outcome) p given e = absurd cc
 body_parent S v node (ForgotAsked id m) p given e = absurd cc
+body_parent S v node (ToldAsked id m) p given e = absurd cc
 body_parent S v node (PurgeAsked root) p given e = absurd cc
 
 -- a join has the next member number
@@ -247,6 +252,7 @@ joined_as S v (LeaveAsked id n) l m links e = absurd cc
 joined_as S v (DecideAsked id verdict) l m links e = absurd cc
 joined_as S v (ReportAsked id n act outcome) l m links e = absurd cc
 joined_as S v (ForgotAsked id n) l m links e = absurd cc
+joined_as S v (ToldAsked id n) l m links e = absurd cc
 joined_as S v (PurgeAsked root) l m links e = absurd cc
 
 same_participant : (S : List Fact) (id l : Id) (n m : ℕ) → is_participant S id n ≡ true → (same_id id l && (n == m)) ≡ true → is_participant S l m ≡ true
@@ -263,6 +269,7 @@ body_member : (S : List Fact) (v : List ℕ) (node : ℕ) (c : Command) (l : Id)
 body_member S v node (LeaveAsked id n) l m given e = same_participant S id l n m given.1 e
 body_member S v node (ReportAsked id n act outcome) l m given e = same_participant S id l n m given.1 e
 body_member S v node (ForgotAsked id n) l m given e = same_participant S id l n m given.1 e
+body_member S v node (ToldAsked id n) l m given e = same_participant S id l n m given.1 e
 body_member S v node (BeginAsked parent deadline) l m given e = absurd cc
 body_member S v node (JoinAsked id links) l m given e = absurd cc
 body_member S v node (DecideAsked id verdict) l m given e = absurd cc

@@ -6,7 +6,7 @@ use Rattle.lra_states.specs.declared.status.LraStatus.TheVariants.{Cancelled, Cl
 use Rattle.lra_states.specs.declared.outcome.Verdict.{Verdict}
 use Rattle.lra_states.specs.declared.outcome.Verdict.TheVariants.{Close, Cancel}
 use Rattle.lra_facts.specs.declared.fact.Body.{Body}
-use Rattle.lra_facts.specs.declared.fact.Body.TheVariants.{Begin, Join, Leave, Decide, Report, Forgot, Purge}
+use Rattle.lra_facts.specs.declared.fact.Body.TheVariants.{Begin, Join, Leave, Decide, Report, Forgot, Told, Purge}
 use Rattle.lra_facts.specs.declared.fact.Fact.{Fact}
 use Rattle.lra_facts.specs.Lists.{In}
 use Rattle.lra_facts.specs.Sets.{chain, is_decided, is_decision, is_held, is_root, parent_of, want}
@@ -37,6 +37,7 @@ decision_is l x (Decide id y) e =
     ∙ ap (λ (v : Verdict). Decide l v) (verdict_is y x (and_right (same_id id l) _ e))
 decision_is l x (Report id m act outcome) e = absurd cc
 decision_is l x (Forgot id m) e = absurd cc
+decision_is l x (Told id m) e = absurd cc
 decision_is l x (Purge id) e = absurd cc
 
 -- what wants Close in one closed set is itself cancelled in none

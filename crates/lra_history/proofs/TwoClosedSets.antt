@@ -1,18 +1,19 @@
 -- two closed sets of one history, their fronts, and the union
-use Rattle.std.proofs.Common.{◌≡◌, inl, inr, ◌≤◌, ◌==◌, ◌&&◌, ℕ, List, refl, sym, ap, subst, ◌∙◌, Bool, true, false, cond, arith, Some, is_some}
+use Rattle.std.proofs.Common.{◌≡◌, inl, inr, ◌≤◌, ◌==◌, ◌&&◌, ℕ, List, refl, sym, ap, subst, ◌∙◌, Bool, true, false, cond, arith, Option, Some, is_some}
 use Rattle.std.proofs.lemmas.Bool.Decides.{nat_tests}
 use Rattle.std.specs.List.{list_any}
 use Rattle.lra_id.specs.Ids.{Id}
 use Rattle.lra_id.specs.Fronts.{count}
-use Rattle.lra_states.specs.declared.outcome.Act.TheVariants.{Complete}
+use Rattle.lra_states.specs.declared.outcome.Act.{Act}
+use Rattle.lra_states.specs.declared.outcome.Act.TheVariants.{Complete, Compensate}
 use Rattle.lra_states.specs.declared.outcome.Outcome.{Outcome}
 use Rattle.lra_states.specs.declared.outcome.Verdict.{Verdict}
 use Rattle.lra_states.specs.declared.outcome.Verdict.TheVariants.{Close, Cancel}
 use Rattle.lra_facts.specs.declared.fact.Body.{Body}
-use Rattle.lra_facts.specs.declared.fact.Body.TheVariants.{Begin, Join, Leave, Decide, Report, Forgot, Purge}
+use Rattle.lra_facts.specs.declared.fact.Body.TheVariants.{Begin, Join, Leave, Decide, Report, Forgot, Told, Purge}
 use Rattle.lra_facts.specs.declared.fact.Fact.{Fact}
-use Rattle.lra_facts.specs.declared.links.Links.{Links}
-use Rattle.lra_facts.specs.Duties.{is_forgot}
+use Rattle.lra_facts.specs.Links.{Links}
+use Rattle.lra_facts.specs.Duties.{is_forgot, is_told_of}
 use Rattle.lra_facts.specs.Lists.{In, IsInside, IsUnion}
 use Rattle.lra_facts.specs.Sets.{reported, is_decision, is_decided, is_leave, is_purge}
 use Rattle.lra_facts.proofs.Membership.{any_from, any_gives, most_bounds, most_least, same_bools}
@@ -24,14 +25,20 @@ use Rattle.lra_history.specs.Views.{IsCounted}
 use Rattle.lra_history.proofs.Prefixes.{IsLonger, longer, same_ascending}
 use Rattle.lra_history.proofs.Basics.{about_named, at_most, decision_names, giver_names}
 
+-- where a participant is asked for an act
+abbrev pub link_for : Act → Links → Option (List ℕ)
+link_for Complete links = links.complete
+link_for Compensate links = links.compensate
+
 -- what the facts of closed sets keep besides: decisions, leaves and purges are their home's, and what is reported or marked
 -- of a participant was asked by a link of its
 pub record IsProper (U : List Fact) : Type 0 where
   pub leaves : (f : Fact) (l : Id) (m : ℕ) → In f U → is_leave l m f.body ≡ true → f.origin ≡ l.home
   pub decisions : (f : Fact) (l : Id) (v : Verdict) → In f U → is_decision l v f.body ≡ true → f.origin ≡ l.home
   pub purges : (f : Fact) (a : Id) → In f U → is_purge a f.body ≡ true → f.origin ≡ a.home
-  pub completes : (f g : Fact) (l : Id) (m : ℕ) (links : Links) (o : Outcome) → In f U → reported l m Complete f.body ≡ Some o → In g U → g.body ≡ Join l m links → is_some links.complete ≡ true
+  pub reports : (f g : Fact) (l : Id) (m : ℕ) (links : Links) (act : Act) (o : Outcome) → In f U → reported l m act f.body ≡ Some o → In g U → g.body ≡ Join l m links → is_some (link_for act links) ≡ true
   pub forgets : (f g : Fact) (l : Id) (m : ℕ) (links : Links) → In f U → is_forgot l m f.body ≡ true → In g U → g.body ≡ Join l m links → is_some links.forget ≡ true
+  pub tells : (f g : Fact) (l : Id) (m : ℕ) (links : Links) → In f U → is_told_of l m f.body ≡ true → In g U → g.body ≡ Join l m links → is_some links.after ≡ true
 
 -- two sets that fronts count, and their union
 pub record AreTogether (S T U : List Fact) (v w : List ℕ) : Type 0 where
@@ -65,6 +72,7 @@ named_leave l m (Leave id n) e = grind (arith, e)
 named_leave l m (Decide id v) e = absurd cc
 named_leave l m (Report id n act outcome) e = absurd cc
 named_leave l m (Forgot id n) e = absurd cc
+named_leave l m (Told id n) e = absurd cc
 named_leave l m (Purge root) e = absurd cc
 
 -- Stamps

@@ -8,7 +8,7 @@ use Rattle.lra_id.specs.Fronts.{count}
 use Rattle.lra_states.specs.declared.outcome.Verdict.{Verdict}
 use Rattle.lra_states.specs.declared.status.LraStatus.{LraStatus}
 use Rattle.lra_facts.specs.declared.fact.Fact.{Fact}
-use Rattle.lra_facts.specs.declared.links.Links.{Links}
+use Rattle.lra_facts.specs.Links.{Links}
 use Rattle.lra_facts.specs.declared.refusal.Refusal.{Refusal}
 use Rattle.lra_facts.specs.declared.refusal.Refusal.TheVariants.{MembersFull, NotHeld, NotHome, UnknownMember}
 use Rattle.lra_facts.specs.Refusals.{unless, unknown, away, spent}
@@ -21,7 +21,7 @@ use Rattle.lra_forest.specs.Shape.{found_at}
 use Rattle.lra_forest.proofs.Gatherings.{find_in}
 use Rattle.lra_forest.proofs.Sayings.{shown_said}
 use Rattle.lra_history.specs.declared.command.Command.{Command}
-use Rattle.lra_history.specs.declared.command.Command.TheVariants.{Begin, Join, Leave, Decide, Report, Forgot, Purge}
+use Rattle.lra_history.specs.declared.command.Command.TheVariants.{Begin, Join, Leave, Decide, Report, Forgot, Told, Purge}
 use Rattle.lra_history.specs.declared.command.CommandReply.TheVariants.{Began, Decided, Joined}
 use Rattle.lra_history.specs.Growth.{IsSettled, record_after}
 use Rattle.lra_history.specs.Next.{accepted_on, change_on, change_record, changed, judge_on, next_fact_on, next_view, no_change, reply_on, view_by}
@@ -29,7 +29,7 @@ use Rattle.lra_history.specs.Changes.{AddsFact, fresh_record, Change, one_change
 use Rattle.lra_history.specs.Readings.{by_view}
 use Rattle.lra_history.specs.Replies.{full_by, refusal_by, inactive_by, Denied, Judgement, AlreadyKnown, Accepted, accepted, after, after_by, entered, judge, judged, reply_by, reply_of}
 use Rattle.lra_history.specs.Views.{StandsFor, View, record_at, records_at}
-use Rattle.lra_history.proofs.PatchesAddFacts.{after_decide, decide_adds, forgot_adds, join_adds, leave_adds, nested_adds, plain_root_adds, purge_adds, put_changes, report_adds}
+use Rattle.lra_history.proofs.PatchesAddFacts.{after_decide, decide_adds, forgot_adds, told_adds, join_adds, leave_adds, nested_adds, plain_root_adds, purge_adds, put_changes, report_adds}
 use Rattle.lra_history.proofs.SameReadings.{IsPlain, judge_view, view_alike}
 use Rattle.lra_history.proofs.Basics.{at_most, equal_from, less_by, open_first, passed}
 use Rattle.lra_history.proofs.CountedByFronts.{more_entered}
@@ -188,6 +188,13 @@ is_added S view me (Forgot l m) plain one there settled stands taken =
       refl,
       changed_adds S view me c l found.0 found.1 (forgot_adds S view me l m found.0 (record_after (next_fact_on view me c) found.0) settled stands one there taken found.1 refl),
     )
+is_added S view me (Told l m) plain one there settled stands taken =
+    let c : Command = Told l m in
+    let held = (lawful_gives S view.front me c taken).0.held in
+    let found = some_record (record_at view l) ((view_alike S view settled stands).held l ∙ held) in (
+      refl,
+      changed_adds S view me c l found.0 found.1 (told_adds S view me l m found.0 (record_after (next_fact_on view me c) found.0) settled stands one there taken found.1 refl),
+    )
 is_added S view me (Purge root) plain one there settled stands taken =
     let held = (lawful_gives S view.front me (Purge root) taken).0.held in
     (refl, purge_adds S view me root _ settled stands one there taken (removal_said S view root settled stands held))
@@ -223,6 +230,7 @@ is_plain nodes me (Leave l m) one there = tt
 is_plain nodes me (Decide l verdict) one there = tt
 is_plain nodes me (Report l m act outcome) one there = tt
 is_plain nodes me (Forgot l m) one there = tt
+is_plain nodes me (Told l m) one there = tt
 is_plain nodes me (Purge root) one there = tt
 
 pub view_law : (S : List Fact) (view : View) (me : ℕ) (c : Command) → 1 ≤ me → me ≤ length view.front → IsSettled S → StandsFor S view

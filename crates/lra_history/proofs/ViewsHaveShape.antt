@@ -6,7 +6,7 @@ use Rattle.std.specs.Option.{option_map_or}
 use Rattle.lra_id.specs.Ids.{Id}
 use Rattle.lra_id.specs.Fronts.{IsBelow, count, join_fronts}
 use Rattle.lra_facts.specs.declared.fact.Body.{Body}
-use Rattle.lra_facts.specs.declared.fact.Body.TheVariants.{Begin, Join, Leave, Decide, Report, Forgot, Purge}
+use Rattle.lra_facts.specs.declared.fact.Body.TheVariants.{Begin, Join, Leave, Decide, Report, Forgot, Told, Purge}
 use Rattle.lra_facts.specs.declared.fact.Fact.{Fact}
 use Rattle.lra_facts.specs.Lists.{In, most}
 use Rattle.lra_facts.specs.Sets.{chain, depth, is_begun, is_held, is_purged_root, member_number, parent_named, parent_of}
@@ -86,6 +86,7 @@ nested_by S l p num (Leave id m) e = refl
 nested_by S l p num (Decide id verdict) e = refl
 nested_by S l p num (Report id m act outcome) e = refl
 nested_by S l p num (Forgot id m) e = refl
+nested_by S l p num (Told id m) e = refl
 nested_by S l p num (Purge root) e = refl
 
 -- the place that a record names

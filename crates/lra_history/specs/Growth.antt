@@ -7,9 +7,9 @@ use Rattle.lra_states.specs.declared.outcome.Act.TheVariants.{Complete, Compensa
 use Rattle.lra_states.specs.declared.outcome.Outcome.{Outcome}
 use Rattle.lra_states.specs.declared.outcome.Verdict.{Verdict}
 use Rattle.lra_facts.specs.declared.fact.Body.{Body}
-use Rattle.lra_facts.specs.declared.fact.Body.TheVariants.{Begin, Join, Leave, Decide, Report, Forgot, Purge}
+use Rattle.lra_facts.specs.declared.fact.Body.TheVariants.{Begin, Join, Leave, Decide, Report, Forgot, Told, Purge}
 use Rattle.lra_facts.specs.declared.fact.Fact.{Fact}
-use Rattle.lra_facts.specs.declared.links.Links.{Links}
+use Rattle.lra_facts.specs.Links.{Links}
 use Rattle.lra_facts.specs.Sets.{IsNumbered, depth, is_begun, is_purge, numbers_given}
 use Rattle.lra_facts.specs.Lists.{In}
 use Rattle.lra_forest.specs.declared.record.Member.{Member}
@@ -33,6 +33,7 @@ abbrev pub names_member : Id → ℕ → Body → Bool
 names_member l m (Leave id member) = same_id id l && (member == m)
 names_member l m (Report id member act outcome) = same_id id l && (member == m)
 names_member l m (Forgot id member) = same_id id l && (member == m)
+names_member l m (Told id member) = same_id id l && (member == m)
 names_member l m _ = false
 
 -- What the sets keep that nodes of a lawful history hold: records are made of such sets
@@ -50,7 +51,7 @@ pub record IsSettled (S : List Fact) : Type 0 where
 
 -- one that has just joined
 abbrev pub joined : Links → Member
-joined links = Participant (record { links = links; completed = None; compensated = None; forgotten = false })
+joined links = Participant (record { links = links; completed = None; compensated = None; forgotten = false; told = false })
 
 -- the greater outcome is kept
 abbrev pub reporting : Act → Outcome → Member → Member
@@ -63,6 +64,11 @@ abbrev pub forgetting : Member → Member
 forgetting (Participant p) = Participant (record p { forgotten = true })
 forgetting (Nested num) = Nested num
 forgetting Left = Left
+
+abbrev pub hearing : Member → Member
+hearing (Participant p) = Participant (record p { told = true })
+hearing (Nested num) = Nested num
+hearing Left = Left
 
 abbrev pub leaving : Member → Member
 leaving (Participant p) = Left
@@ -82,6 +88,7 @@ members_after num (Leave id m) ms = member_changed leaving (m - 1) ms
 members_after num (Decide id verdict) ms = ms
 members_after num (Report id m act outcome) ms = member_changed (reporting act outcome) (m - 1) ms
 members_after num (Forgot id m) ms = member_changed forgetting (m - 1) ms
+members_after num (Told id m) ms = member_changed hearing (m - 1) ms
 members_after num (Purge root) ms = ms
 
 abbrev pub decision_after : Body → Option Verdict → Option Verdict

@@ -11,7 +11,7 @@ use Rattle.lra_facts.specs.Refusals.{first, unknown}
 use Rattle.lra_forest.specs.declared.record.Record.{Record}
 use Rattle.lra_forest.specs.Said.{first_overdue, ids_below}
 use Rattle.lra_history.specs.declared.command.Command.{Command}
-use Rattle.lra_history.specs.declared.command.Command.TheVariants.{Begin, Join, Leave, Decide, Report, Forgot, Purge}
+use Rattle.lra_history.specs.declared.command.Command.TheVariants.{Begin, Join, Leave, Decide, Report, Forgot, Told, Purge}
 use Rattle.lra_history.specs.declared.command.CommandReply.{CommandReply}
 use Rattle.lra_history.specs.Growth.{record_after}
 use Rattle.lra_history.specs.Changes.{fresh_record, Change, one_change, patched, purge_change, two_changes}
@@ -48,6 +48,7 @@ change_on view me (Leave l m) = change_record view me (Leave l m) l
 change_on view me (Decide l verdict) = change_record view me (Decide l verdict) l
 change_on view me (Report l m act outcome) = change_record view me (Report l m act outcome) l
 change_on view me (Forgot l m) = change_record view me (Forgot l m) l
+change_on view me (Told l m) = change_record view me (Told l m) l
 change_on view me (Purge root) = purge_change view me (ids_below (at_home view root.home) root.num (records_at view.records root.home))
 
 abbrev pub changed : View → ℕ → Command → View

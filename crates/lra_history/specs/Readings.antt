@@ -1,7 +1,7 @@
 -- What a view tells of LRAs: a reading by its records.
 use Rattle.std.specs.Prelude.{ℕ, Option, is_some, length}
 use Rattle.lra_forest.specs.declared.record.Record.{Record}
-use Rattle.lra_forest.specs.Said.{depth_at, is_demanded_at, is_ended_at, is_heard_at, is_owed_at, is_root_at, is_forgot_at, least_owed_of, member_shown_at, members_at, participant_of, shown_at, want_at}
+use Rattle.lra_forest.specs.Said.{depth_at, is_demanded_at, is_ended_at, is_heard_at, is_owed_at, is_root_at, is_forgot_at, is_to_hear_at, is_told_at, least_owed_of, least_unheard_of, member_shown_at, members_at, participant_of, shown_at, want_at}
 use Rattle.lra_forest.specs.Shape.{found_at}
 use Rattle.lra_history.specs.Replies.{Reading}
 use Rattle.lra_history.specs.Views.{View, record_at, records_at}
@@ -28,4 +28,7 @@ by_view view =
       owed = λ l m. is_owed_at (at_home view l.home) l.num m;
       forgot = λ l m. is_forgot_at (at_home view l.home) l.num m;
       least_owed = λ l. least_owed_of (at_home view l.home) l.num (records_at view.records l.home);
+      to_hear = λ l m. is_to_hear_at (at_home view l.home) l.num m;
+      told = λ l m. is_told_at (at_home view l.home) l.num m;
+      least_untold = λ l. least_unheard_of (at_home view l.home) l.num (records_at view.records l.home);
     }

@@ -10,19 +10,19 @@ use Rattle.lra_states.specs.declared.outcome.Verdict.{Verdict}
 use Rattle.lra_states.specs.declared.status.LraStatus.{LraStatus}
 use Rattle.lra_states.specs.declared.status.MemberStatus.{MemberStatus}
 use Rattle.lra_facts.specs.declared.fact.Body.{Body}
-use Rattle.lra_facts.specs.declared.fact.Body.TheVariants.{Begin, Join, Leave, Decide, Report, Forgot, Purge}
+use Rattle.lra_facts.specs.declared.fact.Body.TheVariants.{Begin, Join, Leave, Decide, Report, Forgot, Told, Purge}
 use Rattle.lra_facts.specs.declared.fact.Fact.{Fact}
 use Rattle.lra_facts.specs.declared.refusal.Refusal.{Refusal}
-use Rattle.lra_facts.specs.declared.refusal.Refusal.TheVariants.{DepthFull, LrasFull, MembersFull, NotActive, NotDue, NotEnded, NotHeld, NotRoot, StillToForget, UnknownMember}
-use Rattle.lra_facts.specs.Duties.{has_forgot, is_forget_duty}
+use Rattle.lra_facts.specs.declared.refusal.Refusal.TheVariants.{DepthFull, LrasFull, MembersFull, NotActive, NotDue, NotEnded, NotHeld, NotRoot, StillToForget, StillToTell, UnknownMember}
+use Rattle.lra_facts.specs.Duties.{has_forgot, has_told, is_after_duty, is_forget_duty}
 use Rattle.lra_facts.specs.Refusals.{unless, first, unknown, away, spent}
 use Rattle.lra_facts.specs.Sets.{begun_by, depth, held_at, is_demanded, is_ended, is_heard, is_held, is_participant, is_root, member_status, numbers_given, shows_now, want}
 use Rattle.lra_forest.specs.declared.duties.Due.{Due}
-use Rattle.lra_forest.specs.Dues.{least_forget}
+use Rattle.lra_forest.specs.Dues.{least_forget, least_untold}
 use Rattle.lra_history.specs.declared.command.Command.{Command}
-use Rattle.lra_history.specs.declared.command.Command.TheVariants.{Begin as BeginAsked, Join as JoinAsked, Leave as LeaveAsked, Decide as DecideAsked, Report as ReportAsked, Forgot as ForgotAsked, Purge as PurgeAsked}
+use Rattle.lra_history.specs.declared.command.Command.TheVariants.{Begin as BeginAsked, Join as JoinAsked, Leave as LeaveAsked, Decide as DecideAsked, Report as ReportAsked, Forgot as ForgotAsked, Told as ToldAsked, Purge as PurgeAsked}
 use Rattle.lra_history.specs.declared.command.CommandReply.{CommandReply}
-use Rattle.lra_history.specs.declared.command.CommandReply.TheVariants.{Began, Joined, Left as LeftReply, Decided, Reported, Forgotten, Purged, Known, Refused}
+use Rattle.lra_history.specs.declared.command.CommandReply.TheVariants.{Began, Joined, Left as LeftReply, Decided, Reported, Forgotten, Told as ToldReply, Purged, Known, Refused}
 
 -- Readings
 
@@ -43,6 +43,9 @@ pub record Reading : Type 0 where
   pub owed : Id → ℕ → Bool
   pub forgot : Id → ℕ → Bool
   pub least_owed : Id → Option Due
+  pub to_hear : Id → ℕ → Bool
+  pub told : Id → ℕ → Bool
+  pub least_untold : Id → Option Due
 
 -- what a set of facts tells
 abbrev pub by_facts : List Fact → Reading
@@ -62,7 +65,10 @@ by_facts S =
       ended = is_ended S;
       owed = is_forget_duty S;
       forgot = has_forgot S;
-      least_owed = least_forget S S;
+      least_owed = least_forget S;
+      to_hear = is_after_duty S;
+      told = has_told S;
+      least_untold = least_untold S;
     }
 
 -- Refusals
@@ -99,6 +105,10 @@ crowded_by t node = unless (nat_lt (t.held_at node) 256) LrasFull
 abbrev pub unowed_by : Reading → Id → ℕ → Option Refusal
 unowed_by t l m = unless (t.owed l m || t.forgot l m) (NotDue (t.shows l))
 
+-- it is not to be told that its LRA has ended, and was not told
+abbrev pub early_by : Reading → Id → ℕ → Option Refusal
+early_by t l m = unless (t.to_hear l m || t.told l m) (NotDue (t.shows l))
+
 -- it is nested in another
 abbrev pub nested_by : Reading → Id → Option Refusal
 nested_by t l = unless (t.root l) NotRoot
@@ -111,6 +121,10 @@ running_by t l = unless (t.ended l) (NotEnded (t.shows l))
 abbrev pub unforgotten_by : Reading → Id → Option Refusal
 unforgotten_by t l = option_map_or (λ due. Some (StillToForget due.lra due.member)) (t.least_owed l) None
 
+-- a participant under it has a link for the end of its LRA, and was not told of it: the least of these is named
+abbrev pub untold_by : Reading → Id → Option Refusal
+untold_by t l = option_map_or (λ due. Some (StillToTell due.lra due.member)) (t.least_untold l) None
+
 -- the refusals that a command may meet at a node, in their order, all but the want of numbers
 abbrev pub refusal_by : Reading → List ℕ → ℕ → Command → Option Refusal
 refusal_by t v node (BeginAsked None deadline) = first (crowded_by t node ∷ [])
@@ -121,12 +135,15 @@ refusal_by t v node (LeaveAsked l m) = first (unknown v l ∷ gone_by t l ∷ aw
 refusal_by t v node (DecideAsked l verdict) = first (unknown v l ∷ gone_by t l ∷ away node l ∷ inactive_by t l ∷ [])
 refusal_by t v node (ReportAsked l m act outcome) = first (unknown v l ∷ gone_by t l ∷ stranger_by t l m ∷ unasked_by t l m act ∷ [])
 refusal_by t v node (ForgotAsked l m) = first (unknown v l ∷ gone_by t l ∷ stranger_by t l m ∷ unowed_by t l m ∷ [])
-refusal_by t v node (PurgeAsked l) = first (unknown v l ∷ gone_by t l ∷ away node l ∷ nested_by t l ∷ running_by t l ∷ unforgotten_by t l ∷ [])
+refusal_by t v node (ToldAsked l m) = first (unknown v l ∷ gone_by t l ∷ stranger_by t l m ∷ early_by t l m ∷ [])
+refusal_by t v node (PurgeAsked l) =
+    first (unknown v l ∷ gone_by t l ∷ away node l ∷ nested_by t l ∷ running_by t l ∷ unforgotten_by t l ∷ untold_by t l ∷ [])
 
 -- it brings nothing new
 abbrev pub is_known_by : Reading → Command → Bool
 is_known_by t (ReportAsked l m act outcome) = t.heard l m act outcome
 is_known_by t (ForgotAsked l m) = t.forgot l m
+is_known_by t (ToldAsked l m) = t.told l m
 is_known_by t _ = false
 
 -- The fact
@@ -139,6 +156,7 @@ body_by t (LeaveAsked l m) = Leave l m
 body_by t (DecideAsked l verdict) = Decide l verdict
 body_by t (ReportAsked l m act outcome) = Report l m act outcome
 body_by t (ForgotAsked l m) = Forgot l m
+body_by t (ToldAsked l m) = Told l m
 body_by t (PurgeAsked l) = Purge l
 
 -- as the node's next fact
@@ -154,6 +172,7 @@ accepted_by t u v node (LeaveAsked l m) = LeftReply
 accepted_by t u v node (DecideAsked l verdict) = Decided l (u.shows l)
 accepted_by t u v node (ReportAsked l m act outcome) = Reported
 accepted_by t u v node (ForgotAsked l m) = Forgotten
+accepted_by t u v node (ToldAsked l m) = ToldReply
 accepted_by t u v node (PurgeAsked l) = Purged
 
 -- By a set of facts
@@ -236,6 +255,7 @@ command_of (Leave l m) = LeaveAsked l m
 command_of (Decide l verdict) = DecideAsked l verdict
 command_of (Report l m act outcome) = ReportAsked l m act outcome
 command_of (Forgot l m) = ForgotAsked l m
+command_of (Told l m) = ToldAsked l m
 command_of (Purge l) = PurgeAsked l
 
 -- it is what the node would enter

@@ -39,6 +39,11 @@ pub enum Command {
         id: LraId,
         member: u8,
     },
+    /// Enter that a participant was told that its LRA has ended.
+    Told {
+        id: LraId,
+        member: u8,
+    },
     /// Remove a root and all that is nested in it.
     Purge {
         root: LraId,
@@ -83,6 +88,10 @@ impl Clone for Command {
                 id: *id,
                 member: *member,
             }),
+            Command::Told { id, member } => Ok(Command::Told {
+                id: *id,
+                member: *member,
+            }),
             Command::Purge { root } => Ok(Command::Purge { root: *root }),
         }
     }
@@ -105,6 +114,8 @@ pub enum CommandReply {
     Known,
     /// That it was told to forget was entered.
     Forgotten,
+    /// That it was told of the end of its LRA was entered.
+    Told,
     /// The root was removed, with all that was nested in it.
     Purged,
     /// Nothing was entered.

@@ -10,29 +10,37 @@ use Rattle.lra_forest.specs.Shape.{AreInShape}
 use Rattle.lra_history.proofs.Covered.{beyond_front}
 use Rattle.lra_history.specs.Views.{View, empty_view}
 use Rattle.lra_history.specs.ViewShape.{HasShape}
+use Rattle.lra_delta.specs.declared.version.Version.{Version}
+use Rattle.lra_delta.specs.declared.version.Version.TheVariants.{One, Two}
+use Rattle.lra_delta.proofs.FirstVersion.{record_first}
 use Rattle.lra_journal.specs.FrontRows.{AreFronts}
 use Rattle.lra_journal.specs.Listings.{AreLraRows}
 use Rattle.lra_journal.specs.Reads.{AreRowsOf}
-use Rattle.lra_journal.specs.Ruled.{KeepsRules}
+use Rattle.lra_journal.specs.Ruled.{KeepsRules, KeepsRulesAs}
 use Rattle.lra_journal.specs.Tables.{IsFormed}
 use Rattle.lra_journal.proofs.EmptyTables.{empty_at, none_held}
 use Rattle.lra_journal.proofs.RowsStand.{number_is, ruled}
 use Rattle.lra_journal.proofs.ToldViews.{no_count}
 
 -- the counts that rows tell have 48 bits
-small_in : (me : ℕ) (rows : List Row) (front purges : List ℕ) → AreFronts me rows front purges → (place : ℕ) → count front (suc place) < 2 ^ 48
-small_in me rows front purges are place = elim (cases_lt place (length front)) [
+small_in : (v : Version) (me : ℕ) (rows : List Row) (front purges : List ℕ) → AreFronts v me rows front purges → (place : ℕ) → count front (suc place) < 2 ^ 48
+small_in v me rows front purges are place = elim (cases_lt place (length front)) [
   | inl within ↦ let said = are.each (suc place) (omega arith) (omega (arith, within)) in omega (arith, (number_is (column said.0 1) (count front (suc place)) said.2.first).1)
   | inr past ↦ let none : count front (suc place) ≡ 0 = beyond_front front (suc place - 1) (omega (arith, past)) in omega (arith, none)
 ]
 
-pub small : (me : ℕ) (rows : List Row) (front purges : List ℕ) → AreFronts me rows front purges → (node : ℕ) → count front node < 2 ^ 48
-small me rows front purges are zero = small_in me rows front purges are 0
-small me rows front purges are (suc place) = small_in me rows front purges are place
+pub small : (v : Version) (me : ℕ) (rows : List Row) (front purges : List ℕ) → AreFronts v me rows front purges → (node : ℕ) → count front node < 2 ^ 48
+small v me rows front purges are zero = small_in v me rows front purges are 0
+small v me rows front purges are (suc place) = small_in v me rows front purges are place
 
-pub keeps_rules : (me : ℕ) (db : Trees) (rows lra_rows : List Row) (view : View) → IsFormed db → AreLraRows db lra_rows → AreRowsOf me rows lra_rows view → length view.front ≤ 8 → HasShape view → KeepsRules view
-keeps_rules me db rows lra_rows view formed lras are few shape =
-    record { few = few; small = small me rows view.front view.purges are.fronts; records = ruled me db rows lra_rows view formed lras are; shape = shape }
+pub keeps_rules : (v : Version) (me : ℕ) (db : Trees) (rows lra_rows : List Row) (view : View) → IsFormed db → AreLraRows db lra_rows → AreRowsOf v me rows lra_rows view → length view.front ≤ 8 → HasShape view → KeepsRulesAs v view
+keeps_rules v me db rows lra_rows view formed lras are few shape =
+    record { few = few; small = small v me rows view.front view.purges are.fronts; records = ruled v me db rows lra_rows view formed lras are; shape = shape }
+
+-- what keeps the rules of either version keeps those of version 2
+pub rules_of_two : (v : Version) (view : View) → KeepsRulesAs v view → KeepsRules view
+rules_of_two One view rules = record { few = rules.few; small = rules.small; records = λ r held. record_first view.front r (rules.records r held); shape = rules.shape }
+rules_of_two Two view rules = rules
 
 -- ---- the view of no facts
 

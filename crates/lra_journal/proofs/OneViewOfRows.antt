@@ -11,16 +11,19 @@ use Rattle.lra_forest.proofs.Gatherings.{find_in}
 use Rattle.lra_forest.proofs.OneListOfRecords.{same_records}
 use Rattle.lra_history.specs.Views.{View, record_at, records_at}
 use Rattle.lra_history.proofs.OneViewOfASet.{same_homes, same_views}
-use Rattle.lra_delta.specs.OneRecord.{IsRecordUnder}
-use Rattle.lra_delta.specs.Encoding.{record_text}
+use Rattle.lra_delta.specs.declared.version.Version.{Version}
+use Rattle.lra_delta.specs.declared.version.Version.TheVariants.{One, Two}
+use Rattle.lra_delta.specs.OneRecord.{IsRecordUnderAs}
+use Rattle.lra_delta.specs.Encoding.{record_text_as}
+use Rattle.lra_delta.specs.Versions.{version_mark}
 use Rattle.lra_delta.proofs.FrameCodes.{one_record}
 use Rattle.lra_journal.specs.FrontRows.{AreFronts, IsSaid, SaysOf}
-use Rattle.lra_journal.specs.Stands.{IsHeld, Stands}
+use Rattle.lra_journal.specs.Stands.{IsHeld, StandsAs}
 use Rattle.lra_journal.specs.Tables.{signed, HasLra}
 
 -- ---- the counts
 
-one_said : (rows : List Row) (n held purged held' purged' : ℕ) → IsSaid rows n held purged → IsSaid rows n held' purged' → (held ≡ held') × (purged ≡ purged')
+pub one_said : (rows : List Row) (n held purged held' purged' : ℕ) → IsSaid rows n held purged → IsSaid rows n held' purged' → (held ≡ held') × (purged ≡ purged')
 one_said rows n held purged held' purged' a b =
     let both = sym a.1 ∙ b.1 in
     let row : a.0 ≡ b.0 = cc in
@@ -29,7 +32,18 @@ one_said rows n held purged held' purged' a b =
     let second = sym says.second ∙ b.2.second in
     (cc, cc)
 
-module _ (me : ℕ) (rows : List Row) (front purges front' purges' : List ℕ) (left : AreFronts me rows front purges) (right : AreFronts me rows front' purges') (nodes : length front ≡ length front') where
+-- a number is that of one version
+pub same_mark : (v w : Version) → version_mark v ≡ version_mark w → v ≡ w
+same_mark One One e = refl
+same_mark Two Two e = refl
+same_mark One Two e = absurd (omega (arith, e))
+same_mark Two One e = absurd (omega (arith, e))
+
+-- the first row says one version
+pub one_version : (v w : Version) (me : ℕ) (rows : List Row) (front purges front' purges' : List ℕ) → AreFronts v me rows front purges → AreFronts w me rows front' purges' → v ≡ w
+one_version v w me rows front purges front' purges' left right = same_mark v w (one_said rows 0 me (version_mark v) me (version_mark w) left.own right.own).1
+
+module _ (v w : Version) (me : ℕ) (rows : List Row) (front purges front' purges' : List ℕ) (left : AreFronts v me rows front purges) (right : AreFronts w me rows front' purges') (nodes : length front ≡ length front') where
   one_at : (k : ℕ) → k < length front → (get_or front k 0 ≡ get_or front' k 0) × (get_or purges k 0 ≡ get_or purges' k 0)
   one_at k within =
       let back : k + 1 - 1 ≡ k = omega arith in
@@ -44,15 +58,15 @@ module _ (me : ℕ) (rows : List Row) (front purges front' purges' : List ℕ) (
 
 -- ---- the records
 
-abbrev AreUnder : List ℕ → View → Type 0
-AreUnder front view = (r : Record) → IsHeld view r → IsRecordUnder front r
+abbrev AreUnder : Version → List ℕ → View → Type 0
+AreUnder v front view = (r : Record) → IsHeld view r → IsRecordUnderAs v front r
 
 -- a record of one is one of the other
-carried : (me : ℕ) (db : Trees) (front : List ℕ) (a b : View) → Stands me db a → Stands me db b → AreUnder front a → AreUnder front b → (r : Record) → IsHeld a r → IsHeld b r
-carried me db front a b left right under_a under_b r held =
-    let has : HasLra db r.home (signed r.num) (record_text r) = (left.lra r.home (signed r.num) (record_text r)).1 (record { kept = r; held = held; at_home = refl; numbered = refl; encoded = refl }) in
-    let it = (right.lra r.home (signed r.num) (record_text r)).0 has in
-    let same = one_record front r it.kept [] [] (under_a r held) (under_b it.kept it.held) (ap (λ bytes. bytes ++ []) it.encoded) in
+carried : (v : Version) (me : ℕ) (db : Trees) (front : List ℕ) (a b : View) → StandsAs v me db a → StandsAs v me db b → AreUnder v front a → AreUnder v front b → (r : Record) → IsHeld a r → IsHeld b r
+carried v me db front a b left right under_a under_b r held =
+    let has : HasLra db r.home (signed r.num) (record_text_as v r) = (left.lra r.home (signed r.num) (record_text_as v r)).1 (record { kept = r; held = held; at_home = refl; numbered = refl; encoded = refl }) in
+    let it = (right.lra r.home (signed r.num) (record_text_as v r)).0 has in
+    let same = one_record v front r it.kept [] [] (under_a r held) (under_b it.kept it.held) (ap (λ bytes. bytes ++ []) it.encoded) in
     subst (IsHeld b) (sym same.0) it.held
 
 home_is : (l : Id) (r : Record) → is_of l r ≡ true → r.home ≡ l.home
@@ -77,12 +91,12 @@ same_option None (Some r) f g = g r refl
 same_option (Some r) y f g = sym (f r refl)
 
 -- rows stand for one view, where records keep the rules under its front
-pub one_view : (me : ℕ) (db : Trees) (a b : View) → a.front ≡ b.front → a.purges ≡ b.purges → Stands me db a → Stands me db b
-    → ((r : Record) → IsHeld a r → IsRecordUnder a.front r) → ((r : Record) → IsHeld b r → IsRecordUnder b.front r) → a ≡ b
-one_view me db a b fronts purges left right under_a under_b =
-    let under : AreUnder a.front b = subst (λ front. AreUnder front b) (sym fronts) under_b in
-    let there = carried me db a.front a b left right under_a under in
-    let back = carried me db a.front b a right left under under_a in
+pub one_view : (v : Version) (me : ℕ) (db : Trees) (a b : View) → a.front ≡ b.front → a.purges ≡ b.purges → StandsAs v me db a → StandsAs v me db b
+    → ((r : Record) → IsHeld a r → IsRecordUnderAs v a.front r) → ((r : Record) → IsHeld b r → IsRecordUnderAs v b.front r) → a ≡ b
+one_view v me db a b fronts purges left right under_a under_b =
+    let under : AreUnder v a.front b = subst (λ front. AreUnder v front b) (sym fronts) under_b in
+    let there = carried v me db a.front a b left right under_a under in
+    let back = carried v me db a.front b a right left under under_a in
     let long = ap length fronts in
     same_views a b fronts purges (same_homes (length a.front) a.records b.records left.whole.homes (right.whole.homes ∙ sym long) (λ home some high.
     let own = left.whole.order home some high in

@@ -14,12 +14,15 @@ use Rattle.sqlite_sql.proofs.QueryLemmas.{key_cmp_total}
 use Rattle.lra_id.specs.Ids.{last_number}
 use Rattle.lra_id.specs.Fronts.{count}
 use Rattle.lra_history.specs.Views.{View}
+use Rattle.lra_delta.specs.declared.version.Version.{Version}
+use Rattle.lra_delta.specs.declared.version.Version.TheVariants.{One, Two}
+use Rattle.lra_delta.specs.Versions.{version_mark}
 use Rattle.lra_journal.specs.Schema.{front_tree}
 use Rattle.lra_journal.specs.Tables.{front_row, HasFront, signed}
 use Rattle.lra_journal.specs.Listings.{AreFrontRows, front_shown}
 use Rattle.lra_journal.specs.FrontRows.{AreFronts, IsFrontRight, IsSaid}
-use Rattle.lra_journal.specs.Ruled.{AreTables, KeepsRules}
-use Rattle.lra_journal.specs.Stands.{IsFrontOf, Stands}
+use Rattle.lra_journal.specs.Ruled.{AreTables, KeepsRulesAs}
+use Rattle.lra_journal.specs.Stands.{IsFrontOf, StandsAs}
 use Rattle.lra_journal.proofs.KeptNumbers.{by_one, int_below, number_back, then_less}
 use Rattle.lra_journal.proofs.Members.{has_mapped, has_permuted, mapped_has}
 use Rattle.lra_journal.proofs.Numbered.{AreNumberedFrom, IsWith, at_place, count_is}
@@ -38,7 +41,11 @@ number_of (Blob b) = 0
 abbrev origin_of : Row → ℕ
 origin_of cells = number_of (column cells 0)
 
-module _ (me : ℕ) (db : Trees) (rows : List Row) (view : View) (low : me ≤ 8) (tables : AreTables db) (stands : Stands me db view) (rules : KeepsRules view) (listed : AreFrontRows db rows) where
+mark_small : (v : Version) → version_mark v ≤ 2
+mark_small One = omega arith
+mark_small Two = omega arith
+
+module _ (v : Version) (me : ℕ) (db : Trees) (rows : List Row) (view : View) (low : me ≤ 8) (tables : AreTables db) (stands : StandsAs v me db view) (rules : KeepsRulesAs v view) (listed : AreFrontRows db rows) where
   -- a row that is listed is that of a row of the table
   record IsOf (row : Row) : Type 0 where
     pub origin : ℕ
@@ -63,12 +70,12 @@ module _ (me : ℕ) (db : Trees) (rows : List Row) (view : View) (low : me ≤ 8
   rise : IsAscending (λ a b. origin_of a < origin_of b) rows
   rise = ascends (key_cmp 0 by_one) (key_cmp_total by_one 0) (λ a b. origin_of a < origin_of b) rows strict (λ a b p q less.
       let u = of_row a p in
-      let v = of_row b q in
-      rw (u.is, v.is) (int_below u.origin v.origin (then_less _ (rw (u.is, v.is) at less))))
+      let w = of_row b q in
+      rw (u.is, w.is) (int_below u.origin w.origin (then_less _ (rw (u.is, w.is) at less))))
 
   -- each origin from 0 to the count of the nodes has its row
   has_origin : (n : ℕ) → n ≤ length view.front → (held : ℤ) × (purged : ℤ) × HasFront db n held purged
-  has_origin zero within = (pos me, pos 1, (stands.front 0 (pos me) (pos 1)).1 (refl, refl))
+  has_origin zero within = (pos me, pos (version_mark v), (stands.front 0 (pos me) (pos (version_mark v))).1 (refl, refl))
   has_origin (suc i) within =
       let held = signed (count view.front (suc i)) in
       let purged = signed (count view.purges (suc i)) in
@@ -83,7 +90,7 @@ module _ (me : ℕ) (db : Trees) (rows : List Row) (view : View) (low : me ≤ 8
         is = refl;
       }
 
-  origin_small : (o : ℕ) (h p : ℤ) → IsFrontOf me view o h p → o ≤ length view.front
+  origin_small : (o : ℕ) (h p : ℤ) → IsFrontOf v me view o h p → o ≤ length view.front
   origin_small zero h p is = omega arith
   origin_small (suc i) h p is = is.0
 
@@ -98,12 +105,12 @@ module _ (me : ℕ) (db : Trees) (rows : List Row) (view : View) (low : me ≤ 8
   }
 
   -- what the row of an origin says stands at its place
-  said_at : (n held purged : ℕ) → n ≤ length view.front → held ≤ last_number → purged ≤ last_number → ((h p : ℤ) → IsFrontOf me view n h p → (h ≡ pos held) × (p ≡ pos purged)) → IsSaid rows n held purged
+  said_at : (n held purged : ℕ) → n ≤ length view.front → held ≤ last_number → purged ≤ last_number → ((h p : ℤ) → IsFrontOf v me view n h p → (h ≡ pos held) × (p ≡ pos purged)) → IsSaid rows n held purged
   said_at n held purged within first second says =
       let it = at_place origin_of 0 (length view.front + 1) rows numbered n (omega (arith, within)) in
       let u = of_row it.x it.has in
       let own : u.origin ≡ n = omega (arith, it.is, ap origin_of u.is) in
-      let is = says u.held u.purged (subst (λ o. IsFrontOf me view o u.held u.purged) own ((stands.front u.origin u.held u.purged).0 u.has)) in
+      let is = says u.held u.purged (subst (λ o. IsFrontOf v me view o u.held u.purged) own ((stands.front u.origin u.held u.purged).0 u.has)) in
       let row : it.x ≡ front_shown (front_row n (pos held) (pos purged)) =
       u.is ∙ ap (λ o. front_shown (front_row o u.held u.purged)) own ∙ ap (λ h. front_shown (front_row n h u.purged)) is.0 ∙ ap (λ p. front_shown (front_row n (pos held) p)) is.1 in
       (it.x, it.there, rw row (record { key = number_back n (omega (arith, within, rules.few)); first = number_back held first; second = number_back purged second }))
@@ -119,18 +126,18 @@ module _ (me : ℕ) (db : Trees) (rows : List Row) (view : View) (low : me ≤ 8
   said_of (suc i) some within =
       said_at (suc i) _ _ within (count_small (suc i)) (purge_small (suc i)) (λ h p is. (is.1 ∙ signed_is _ (count_small (suc i)), is.2 ∙ signed_is _ (purge_small (suc i))))
 
-  pub fronts_right : AreFronts me rows view.front view.purges
+  pub fronts_right : AreFronts v me rows view.front view.purges
   fronts_right = record {
-    own = said_at 0 me 1 (omega arith) (omega (arith, low)) (omega arith) (λ h p is. is);
+    own = said_at 0 me (version_mark v) (omega arith) (omega (arith, low)) (omega (arith, mark_small v)) (λ h p is. is);
     nodes = stands.whole.purges;
     each = said_of;
     all = count_is origin_of 0 (length view.front + 1) rows numbered;
   }
 
 -- rows that are those of the nodes are right at each place
-pub right_at : (me : ℕ) (rows : List Row) (front purges : List ℕ) → AreFronts me rows front purges → (place : ℕ) → IsFrontRight me (length front) rows place
-right_at me rows front purges are place = record {
-  own = λ first. are.own;
+pub right_at : (v : Version) (me : ℕ) (rows : List Row) (front purges : List ℕ) → AreFronts v me rows front purges → (place : ℕ) → IsFrontRight me (length front) rows place
+right_at v me rows front purges are place = record {
+  own = λ first. (v, are.own);
   of_node = λ some within. (count front place, count purges place, are.each place some within);
   no_more = λ past. slice_get_past rows place (omega (arith, past, are.all));
 }

@@ -19,14 +19,15 @@ use Rattle.lra_id.specs.Ids.{last_number}
 use Rattle.lra_id.specs.Fronts.{count}
 use Rattle.lra_forest.specs.declared.record.Record.{Record}
 use Rattle.lra_history.specs.Views.{View}
-use Rattle.lra_delta.specs.Encoding.{record_text}
-use Rattle.lra_delta.specs.OneRecord.{IsRecordUnder}
+use Rattle.lra_delta.specs.declared.version.Version.{Version}
+use Rattle.lra_delta.specs.Encoding.{record_text_as}
+use Rattle.lra_delta.specs.OneRecord.{IsRecordUnderAs}
 use Rattle.lra_journal.specs.Schema.{lra_tree}
 use Rattle.lra_journal.specs.Tables.{IsFormed, IsLraRow}
 use Rattle.lra_journal.specs.Listings.{AreLraRows, lra_shown}
 use Rattle.lra_journal.specs.LraRows.{IsRecordRight, IsRowAt, IsRowOf}
-use Rattle.lra_journal.specs.Ruled.{AreTables, KeepsRules}
-use Rattle.lra_journal.specs.Stands.{Stands}
+use Rattle.lra_journal.specs.Ruled.{AreTables, KeepsRulesAs}
+use Rattle.lra_journal.specs.Stands.{StandsAs}
 use Rattle.lra_journal.proofs.KeptNumbers.{by_two, number_back, second_below}
 use Rattle.lra_journal.proofs.LraDelete.{tied_int}
 use Rattle.lra_journal.proofs.Members.{has_mapped, has_permuted}
@@ -60,7 +61,7 @@ module _ (db : Trees) (formed : IsFormed db) where
       let tied : value_cmp (rowid a) (rowid b) ≡ Equal = ap (λ x. value_cmp (rowid a) (rowid x)) (sym one) ∙ tied_itself value_cmp_total (rowid a) in
       absurd (let both = sym less ∙ tied in cc)
 
-module _ (me : ℕ) (db : Trees) (rows : List Row) (view : View) (tables : AreTables db) (stands : Stands me db view) (rules : KeepsRules view) (listed : AreLraRows db rows) where
+module _ (v : Version) (me : ℕ) (db : Trees) (rows : List Row) (view : View) (tables : AreTables db) (stands : StandsAs v me db view) (rules : KeepsRulesAs v view) (listed : AreLraRows db rows) where
   strict : IsStrictlySortedBy (key_cmp 0 by_two) rows
   strict =
       let total = key_cmp_total by_two 0 in
@@ -70,15 +71,15 @@ module _ (me : ℕ) (db : Trees) (rows : List Row) (view : View) (tables : AreTa
 
   record IsOfRecord (row : Row) : Type 0 where
     pub kept : Record
-    pub is : IsRowOf view.front row kept
+    pub is : IsRowOf v view.front row kept
 
-  home_small : (kept : Record) → IsRecordUnder view.front kept → kept.home ≤ last_number
+  home_small : (kept : Record) → IsRecordUnderAs v view.front kept → kept.home ≤ last_number
   home_small kept rule = omega (arith, rule.small)
 
-  num_small : (kept : Record) → IsRecordUnder view.front kept → kept.num ≤ last_number
+  num_small : (kept : Record) → IsRecordUnderAs v view.front kept → kept.num ≤ last_number
   num_small kept rule = let within = rule.num in let low : kept.num ≤ count view.front kept.home = grind (arith, nat_tests, within) in omega (arith, low, rules.small kept.home)
 
-  row_of : (row : Row) (kept : Record) → IsRecordUnder view.front kept → row ≡ Int (pos kept.home) ∷ Int (pos kept.num) ∷ Blob (record_text kept) ∷ [] → IsRowOf view.front row kept
+  row_of : (row : Row) (kept : Record) → IsRecordUnderAs v view.front kept → row ≡ Int (pos kept.home) ∷ Int (pos kept.num) ∷ Blob (record_text_as v kept) ∷ [] → IsRowOf v view.front row kept
   row_of row kept rule shown =
       rw shown (record { key = record { home = number_back kept.home (home_small kept rule); num = number_back kept.num (num_small kept rule) }; body = refl; rules = rule })
 
@@ -90,12 +91,12 @@ module _ (me : ℕ) (db : Trees) (rows : List Row) (view : View) (tables : AreTa
       let it = (stands.lra form.home form.num form.body).0 (form.id, subst (Has (db lra_tree)) form.is r.1) in
       let rule = rules.records it.kept it.held in
       let num : form.num ≡ pos it.kept.num = it.numbered ∙ signed_is it.kept.num (num_small it.kept rule) in
-      let shown : row ≡ Int (pos it.kept.home) ∷ Int (pos it.kept.num) ∷ Blob (record_text it.kept) ∷ [] =
+      let shown : row ≡ Int (pos it.kept.home) ∷ Int (pos it.kept.num) ∷ Blob (record_text_as v it.kept) ∷ [] =
       r.2 ∙ ap lra_shown form.is ∙ ap (λ h. Int (pos h) ∷ Int form.num ∷ Blob form.body ∷ []) it.at_home ∙ ap (λ n. Int (pos it.kept.home) ∷ Int n ∷ Blob form.body ∷ []) num ∙ ap (λ b. Int (pos it.kept.home) ∷ Int (pos it.kept.num) ∷ Blob b ∷ []) it.encoded in
       record { kept = it.kept; is = row_of row it.kept rule shown }
 
   -- those before it have lesser numbers
-  in_order : (i place : ℕ) (row : Row) (kept other : Record) → i < place → slice_get rows place ≡ Some row → IsRowOf view.front row kept → IsRowAt view.front rows i other → other.home ≡ kept.home → other.num < kept.num
+  in_order : (i place : ℕ) (row : Row) (kept other : Record) → i < place → slice_get rows place ≡ Some row → IsRowOf v view.front row kept → IsRowAt v view.front rows i other → other.home ≡ kept.home → other.num < kept.num
   in_order i place row kept other before there is at same =
       let less = Less-from_sorted (key_cmp 0 by_two) rows i place [] strict before (slice_get_within rows place row there) in
       let first = get_or_from_slice_get rows i at.row [] at.there in
@@ -103,7 +104,7 @@ module _ (me : ℕ) (db : Trees) (rows : List Row) (view : View) (tables : AreTa
       let below : key_cmp 0 by_two at.row row ≡ Less = rw (first, second) at less in
       second_below at.row row kept.home other.num kept.num ((number_is _ _ at.is.key.home).0 ∙ ap (λ h. Int (pos h)) same) (number_is _ _ is.key.home).0 (number_is _ _ at.is.key.num).0 (number_is _ _ is.key.num).0 below
 
-  pub record_right : (place : ℕ) → place < length rows → IsRecordRight view.front rows place
+  pub record_right : (place : ℕ) → place < length rows → IsRecordRight v view.front rows place
   record_right place within =
       let there = slice_get-get_or rows place [] within in
       let it = of_row (get_or rows place []) (has_got rows place _ there) in

@@ -15,15 +15,27 @@ use Rattle.lra_forest.proofs.Gatherings.{find_in}
 use Rattle.lra_history.specs.Histories.{History, IsClosed, IsLawful, facts}
 use Rattle.lra_history.specs.Views.{StandsFor, View, records_at}
 use Rattle.lra_history.specs.ViewShape.{HasShape}
+use Rattle.lra_delta.specs.declared.version.Version.{Version}
 use Rattle.lra_delta.specs.Frames.{frame_of}
+use Rattle.lra_delta.specs.Versions.{version_mark}
 use Rattle.lra_delta.specs.Grammar.{IsOfGrammar}
 use Rattle.lra_delta.specs.OneRecord.{IsRecordUnder, KeepsRulesUnder}
 use Rattle.lra_delta.specs.Typed.{IsTypedRecord}
-use Rattle.lra_journal.specs.Ruled.{AreTyped, KeepsRules}
-use Rattle.lra_journal.specs.Stands.{IsHeld, Stands}
+use Rattle.lra_journal.specs.Ruled.{AreTyped, KeepsRules, KeepsRulesAs}
+use Rattle.lra_journal.specs.Stands.{IsHeld, StandsAs}
 use Rattle.lra_journal.specs.Tables.{HasFront, signed}
-use Rattle.lra_journal.proofs.OneViewOfRows.{one_view}
+use Rattle.lra_journal.proofs.OneViewOfRows.{one_view, same_mark}
 use Rattle.lra_journal.proofs.ToldViews.{no_count}
+
+-- ---- one version
+
+pos_is : (a b : ℕ) → pos a ≡ pos b → a ≡ b
+pos_is a b e = cc
+
+pub rows_of_one_version : (v w : Version) (me : ℕ) (db : Trees) (a b : View) → StandsAs v me db a → StandsAs w me db b → v ≡ w
+rows_of_one_version v w me db a b left right =
+    let has : HasFront db 0 (pos me) (pos (version_mark v)) = (left.front 0 _ _).1 (refl, refl) in
+    same_mark v w (pos_is _ _ ((right.front 0 _ _).0 has).1)
 
 -- ---- one view
 
@@ -33,22 +45,22 @@ signed_is n low = to_z_pos w64 (omega (arith, low))
 one_signed : (m n : ℕ) → m < 2 ^ 48 → n < 2 ^ 48 → signed m ≡ signed n → m ≡ n
 one_signed m n low other same = let both : pos m ≡ pos n = sym (signed_is m low) ∙ same ∙ signed_is n other in cc
 
-low_purge : (view : View) → KeepsRules view → (node : ℕ) → count view.purges node < 2 ^ 48
-low_purge view rules node = let below = rules.shape.purges node in let low = rules.small node in omega (arith, below, low)
+low_purge : (v : Version) (view : View) → KeepsRulesAs v view → (node : ℕ) → count view.purges node < 2 ^ 48
+low_purge v view rules node = let below = rules.shape.purges node in let low = rules.small node in omega (arith, below, low)
 
 record IsCountedIn (a b : View) (i : ℕ) : Type 0 where
   pub high : i < length b.front
   pub held : get_or a.front i 0 ≡ get_or b.front i 0
   pub purged : get_or a.purges i 0 ≡ get_or b.purges i 0
 
-module _ (me : ℕ) (db : Trees) (a b : View) (left : Stands me db a) (right : Stands me db b) (rules : KeepsRules a) (others : KeepsRules b) where
+module _ (v : Version) (me : ℕ) (db : Trees) (a b : View) (left : StandsAs v me db a) (right : StandsAs v me db b) (rules : KeepsRulesAs v a) (others : KeepsRulesAs v b) where
   counted_in : (i : ℕ) → i < length a.front → IsCountedIn a b i
   counted_in i within =
       let has : HasFront db (suc i) (signed (count a.front (suc i))) (signed (count a.purges (suc i))) = (left.front (suc i) _ _).1 (omega (arith, within), refl, refl) in
       let is = (right.front (suc i) _ _).0 has in
       let back : suc i - 1 ≡ i = omega arith in
       let held : count a.front (suc i) ≡ count b.front (suc i) = one_signed _ _ (rules.small (suc i)) (others.small (suc i)) is.1 in
-      let purged : count a.purges (suc i) ≡ count b.purges (suc i) = one_signed _ _ (low_purge a rules (suc i)) (low_purge b others (suc i)) is.2 in
+      let purged : count a.purges (suc i) ≡ count b.purges (suc i) = one_signed _ _ (low_purge v a rules (suc i)) (low_purge v b others (suc i)) is.2 in
       record { high = omega (arith, is.0); held = rw back at held; purged = rw back at purged }
 
   no_more : length a.front ≤ length b.front
@@ -58,15 +70,15 @@ module _ (me : ℕ) (db : Trees) (a b : View) (left : Stands me db a) (right : S
       by zero is = omega arith
       by (suc n) is = let it = counted_in n (omega (arith, is)) in omega (arith, it.high)
 
-pub one_ruled_view : (me : ℕ) (db : Trees) (a b : View) → Stands me db a → Stands me db b → KeepsRules a → KeepsRules b → a ≡ b
-one_ruled_view me db a b left right rules others =
-    let first = no_more me db a b left right rules others in
-    let second = no_more me db b a right left others rules in
+pub one_ruled_view : (v : Version) (me : ℕ) (db : Trees) (a b : View) → StandsAs v me db a → StandsAs v me db b → KeepsRulesAs v a → KeepsRulesAs v b → a ≡ b
+one_ruled_view v me db a b left right rules others =
+    let first = no_more v me db a b left right rules others in
+    let second = no_more v me db b a right left others rules in
     let long : length a.front ≡ length b.front = omega (arith, first, second) in
-    let fronts = same_number_lists a.front b.front long (λ k within. (counted_in me db a b left right rules others k within).held) in
+    let fronts = same_number_lists a.front b.front long (λ k within. (counted_in v me db a b left right rules others k within).held) in
     let size = left.whole.purges in
-    let purges = same_number_lists a.purges b.purges (size ∙ long ∙ sym right.whole.purges) (λ k within. (counted_in me db a b left right rules others k (omega (arith, within, size))).purged) in
-    one_view me db a b fronts purges left right rules.records others.records
+    let purges = same_number_lists a.purges b.purges (size ∙ long ∙ sym right.whole.purges) (λ k within. (counted_in v me db a b left right rules others k (omega (arith, within, size))).purged) in
+    one_view v me db a b fronts purges left right rules.records others.records
 
 -- ---- the views of a history
 

@@ -5,7 +5,9 @@ use Rattle.lra_id.specs.Fronts.{count}
 use Rattle.lra_forest.specs.declared.record.Record.{Record}
 use Rattle.lra_history.specs.Views.{View}
 use Rattle.lra_history.specs.ViewShape.{HasShape}
-use Rattle.lra_delta.specs.OneRecord.{IsRecordUnder}
+use Rattle.lra_delta.specs.declared.version.Version.{Version}
+use Rattle.lra_delta.specs.declared.version.Version.TheVariants.{Two}
+use Rattle.lra_delta.specs.OneRecord.{IsRecordUnderAs}
 use Rattle.lra_delta.specs.Typed.{IsTypedRecord}
 use Rattle.lra_journal.specs.Schema.{front_tree, lra_tree}
 use Rattle.lra_journal.specs.Stands.{IsHeld}
@@ -15,13 +17,17 @@ pub record AreTables (db : Trees) : Type 0 where
   pub front : IsTable (db front_tree)
   pub lra : IsTable (db lra_tree)
 
--- The view keeps the rules by which rows are read: it is of at most 8 nodes and has counts of 48 bits, each of its records
--- keeps those of records under its front, and it has the shape
-pub record KeepsRules (view : View) : Type 0 where
+-- The view keeps the rules by which rows of a version are read: it is of at most 8 nodes and has counts of 48 bits, each of its
+-- records keeps those of records under its front, and it has the shape
+pub record KeepsRulesAs (v : Version) (view : View) : Type 0 where
   pub few : length view.front ≤ 8
   pub small : (node : ℕ) → count view.front node < 2 ^ 48
-  pub records : (r : Record) → IsHeld view r → IsRecordUnder view.front r
+  pub records : (r : Record) → IsHeld view r → IsRecordUnderAs v view.front r
   pub shape : HasShape view
+
+-- those of version 2
+abbrev pub KeepsRules : View → Type 0
+KeepsRules view = KeepsRulesAs Two view
 
 -- each of its records has the types of one: a deadline of 64 bits, and kept links
 abbrev pub AreTyped : View → Type 0

@@ -7,11 +7,12 @@ ghost use Rattle.sqlite.specs.Tree.{Trees};
 ghost use Rattle.lra_facts.specs.declared.refusal.Refusal.TheVariants.{BadFrame, JournalFailed, NoMemory};
 ghost use Rattle.lra_history.specs.Changes.{patched};
 ghost use Rattle.lra_history.specs.Views.{View, empty_view};
+ghost use Rattle.lra_delta.specs.declared.version.Version.{Version};
 ghost use Rattle.lra_journal.specs.Broken.{IsBrokenAt};
 ghost use Rattle.lra_journal.specs.Keeping.{IsCounted, IsOwn, Keeps};
-ghost use Rattle.lra_journal.specs.NewStores.{IsNew, MayLeaveNew};
+ghost use Rattle.lra_journal.specs.NewStores.{IsFirst, IsNew, MayLeaveOpened};
 ghost use Rattle.lra_journal.specs.Ruled.{KeepsRules};
-ghost use Rattle.lra_journal.specs.Stands.{IsPatchOf, Stands};
+ghost use Rattle.lra_journal.specs.Stands.{IsPatchOf, Stands, StandsAs};
 ghost use Rattle.lra_journal.specs.Tables.{IsJournal};
 ghost use Rattle.lra_replica.specs.Replicas.{view_of};
 
@@ -52,7 +53,7 @@ impl<S: Alter> Model for Journal<S> {
 
 impl<S: Alter> Journal<S> {
     /// Opens the journal of a node of so many. A store without tables gets them, with the rows of a node that has no facts; else
-    /// the replica is read from the rows. E16 at the place of the first row that breaks the format, of another node, count of
+    /// the replica is read from the rows, and rows of version 1 are written anew in version 2, in one transaction. E16 at the place of the first row that breaks the format, of another node, count of
     /// nodes or version too; E17, which leaves a new store as it was; E18 where a transaction is on or the rows can't be read.
     /// Each refusal gives the connection back.
     pub fn open(
@@ -69,14 +70,14 @@ impl<S: Alter> Journal<S> {
         ensures made { IfOk result (λ r. HasCleanDisk (state S.Store r.0.connection) →
             IsNew (state S.Store connection) → (view_of r.1 ≡ empty_view nodes)
             × Stands me (state S.Store r.0.connection).now.trees (empty_view nodes)) }
-        // Of a journal's rows it is the replica that they stand for.
+        // Of a journal's rows it is the replica that they stand for, in version 1 or 2.
         ensures reads { IfOk result (λ r. HasCleanDisk (state S.Store r.0.connection) →
-            IsJournal (state S.Store connection) →
-            Stands me (state S.Store connection).now.trees (view_of r.1)) }
+            IsJournal (state S.Store connection) → (version : Version)
+            × StandsAs version me (state S.Store connection).now.trees (view_of r.1)) }
         // The replica keeps the rules by which rows are read. So rows that break them aren't opened, where none stands twice.
         ensures ruled { IfOk result (λ r. HasCleanDisk (state S.Store r.0.connection) →
             IsOwn (state S.Store connection) → KeepsRules (view_of r.1)) }
-        // So much for a book: the journal keeps the replica's view.
+        // So much for a book: the journal keeps the replica's view, in version 2.
         ensures keeps { IfOk result (λ r. Keeps S.Store me r.0 (view_of r.1)) }
         // Where the rows break the format.
         ensures place { IfErr result (λ e. HasCleanDisk (state S.Store e.1) →
@@ -92,20 +93,22 @@ impl<S: Alter> Journal<S> {
         // A connection whose transaction is on is refused, before all else, and comes back as it was.
         ensures busy { connection.in_transaction ≡ true →
             MatchResult result (λ _. ⊥) (λ e. (e.0 ≡ JournalFailed) × (e.1 ≡ connection)) }
-        // Of a journal E18 else comes only where the disk failed.
+        // Of a journal E18 else comes only where the disk failed, or where rows of version 1 were to be written anew.
         ensures failed { IfErr result (λ e. HasCleanDisk (state S.Store e.1) →
             IsJournal (state S.Store connection) → connection.in_transaction ≡ false →
             connection.step_limit ≡ None → e.0 ≡ JournalFailed →
-            MoreFaults (state S.Store connection).faults (state S.Store e.1).faults) }
+            MoreFaults (state S.Store connection).faults (state S.Store e.1).faults
+            ⊎ IsFirst me (state S.Store connection).now.trees) }
         ensures cause { IfErr result (λ e. (e.0 ≡ NoMemory)
             ⊎ ((e.0 ≡ JournalFailed) ⊎ ((k : ℕ) × (e.0 ≡ BadFrame k)))) }
-        // Of a journal a stop leaves what it left before. Of a new store it may also leave the rows of a view of no facts.
+        // Of a journal of version 2 a stop leaves what it left before. Of one of version 1 it may also leave its rows in version 2,
+        // and of a new store the rows of a view of no facts.
         ensures crash { IfOk result
             (λ r. Survives (state S.Store connection) (state S.Store r.0.connection)
-            (MayLeaveNew (state S.Store connection) me nodes)) }
+            (MayLeaveOpened (state S.Store connection) me nodes)) }
         ensures crash_refused { IfErr result
             (λ e. Survives (state S.Store connection) (state S.Store e.1)
-            (MayLeaveNew (state S.Store connection) me nodes)) }
+            (MayLeaveOpened (state S.Store connection) me nodes)) }
     {
         let first = First::of(&connection);
         match opened(alloc, &mut connection, me, nodes) {

@@ -9,6 +9,7 @@ mod lra_rows;
 mod open;
 mod patches;
 mod rebuilding;
+mod rewriting;
 mod rows;
 mod schema;
 mod selects;

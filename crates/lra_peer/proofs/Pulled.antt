@@ -11,7 +11,7 @@ use Rattle.lra_delta.specs.Sources.{OnReadFault as OnReadStop, Says}
 use Rattle.lra_delta.specs.declared.input.Stop.{Stop}
 use Rattle.lra_delta.specs.declared.input.Stop.TheVariants.{Fault as FaultAt, Cut as CutShort, ReadFault as ReadFailed, Memory}
 use Rattle.lra_delta.proofs.FrameCodes.{frame_again}
-use Rattle.lra_delta.specs.Encoding.{encoding}
+use Rattle.lra_delta.specs.Encoding.{encoding_as}
 use Rattle.lra_http.specs.Faults.{Stops}
 use Rattle.lra_http.specs.Responses.{HasFinal, IsHeadRead, IsResponse, Shows, ShowsNoHead, head_room, stated}
 use Rattle.lra_http.specs.Streams.{AllWell, Calls, GivenBytes, GivesWhat, IsFlushed, IsLost, OnReadFault, OnWriteFault, TakenBytes, Takes, TakesPart, Writes}
@@ -146,15 +146,15 @@ found_body : (left after : Option (List ℕ)) (given : List ℕ) (status size : 
     → IfSome left (λ input. IsFound input result)
 found_body None after given status size result took h body = tt
 found_body (Some input) None given status size result took h body = absurd took
-found_body (Some input) (Some more) given status size result took h body = λ bytes rest frame split rules stands.
-    let whole = stands_in input bytes rest (encoding frame) stands.head split stands.whole in
+found_body (Some input) (Some more) given status size result took h body = λ bytes rest version frame split rules stands.
+    let whole = stands_in input bytes rest (encoding_as version frame) stands.head split stands.whole in
     let mine : HasFinal head_room input h.head more = subst (λ (l : List ℕ). HasFinal head_room l h.head more) (sym took) (h.first more) in
-    let same = unique_final head_room input h.head more stands.head (encoding frame ++ rest) mine whole.0 in
-    let size_is : size ≡ length (encoding frame) = ok_size size (length (encoding frame)) (sym h.states ∙ ap (stated max_frame_bytes) same.0 ∙ whole.1) in
+    let same = unique_final head_room input h.head more stands.head (encoding_as version frame ++ rest) mine whole.0 in
+    let size_is : size ≡ length (encoding_as version frame) = ok_size size (length (encoding_as version frame)) (sym h.states ∙ ap (stated max_frame_bytes) same.0 ∙ whole.1) in
     let told = body (h.status ∙ ap status_code same.0 ∙ stands.status_is) in
-    let ahead : take size more ≡ encoding frame = ap (take size) same.1 ∙ take_at (encoding frame) rest size (sym size_is) in
+    let ahead : take size more ≡ encoding_as version frame = ap (take size) same.1 ∙ take_at (encoding_as version frame) rest size (sym size_is) in
     let read : read_of size (take size more) ≡ Ok frame =
-    ap (read_of size) ahead ∙ ap (λ (n : ℕ). read_of n (encoding frame)) size_is ∙ frame_again frame rules in
+    ap (read_of size) ahead ∙ ap (λ (n : ℕ). read_of n (encoding_as version frame)) size_is ∙ frame_again version frame rules in
     subst (λ (r : Result Frame PullError). MatchResult r (λ delta. delta ≡ frame) IsOfStreams) (sym told.1)
     (says_found frame told.0 (subst (Says told.0) read told.2))
 
@@ -168,15 +168,19 @@ module _ {R : Type 0} (stream : R → GivenBytes) (calls : R → Calls) (r0 r1 r
 
   told_message : status ≡ 200 → (read : Result Frame Stop) → IsBodyRead size count (stream r1) (stream r2) (calls r1) (calls r2) read → IfOk (told_by read) (TellsDelta (stream r0) (stream r2) (calls r0) (calls r2))
   told_message ok (Err stop) is = tt
-  told_message ok (Ok delta) is = (
-    is.frame.0,
-    (
-      head.0 ++ encoding delta,
-      gives_more (stream r0) (stream r1) (stream r2) head.0 (encoding delta) head.1 is.frame.2,
-      whole_answer head.0 (encoding delta) size (offered ok) is.frame.1,
-    ),
-    all_calls (calls r0) (calls r1) (calls r2) size count fits counted well is.calls,
-  )
+  told_message ok (Ok delta) is =
+      let text = encoding_as is.frame.0 delta in (
+        (
+          is.frame.0,
+          is.frame.1,
+          (
+            head.0 ++ text,
+            gives_more (stream r0) (stream r1) (stream r2) head.0 text head.1 is.frame.3,
+            whole_answer head.0 text size (offered ok) is.frame.2,
+          ),
+        ),
+        all_calls (calls r0) (calls r1) (calls r2) size count fits counted well is.calls,
+      )
 
   told_error : status ≡ 200 → (read : Result Frame Stop) → IsBodyRead size count (stream r1) (stream r2) (calls r1) (calls r2) read → IfErr (told_by read) (StopsPull (stream r0) (stream r2) (calls r0) (calls r2))
   told_error ok (Ok delta) is = tt
@@ -250,8 +254,8 @@ found_stopped : (left : Option (List ℕ)) (fault : HttpFault)
     → IfSome left (λ input. (h : ResponseHead) (body rest : List ℕ) → IsResponse head_room max_frame_bytes input h body rest → (fault ≡ ReadFault) ⊎ (fault ≡ NoMemory))
     → IfSome left (λ input. IsFound input (stopped (Fault fault)))
 found_stopped None fault found = tt
-found_stopped (Some input) fault found = λ bytes rest frame split rules stands.
-    settle (found stands.head (encoding frame) rest (stands_in input bytes rest (encoding frame) stands.head split stands.whole))
+found_stopped (Some input) fault found = λ bytes rest version frame split rules stands.
+    settle (found stands.head (encoding_as version frame) rest (stands_in input bytes rest (encoding_as version frame) stands.head split stands.whole))
   where
     settle : (fault ≡ ReadFault) ⊎ (fault ≡ NoMemory) → IsOfStreams (Fault fault)
     settle (inl read) = inr (inl (ap (λ (f : HttpFault). Fault f) read))
@@ -263,4 +267,4 @@ found_head old new fault s = found_stopped old.left fault (response_found max_fr
 pub found_unsent : (left : Option (List ℕ)) (old new : TakenBytes) (before after : Calls) (text : List ℕ) (unread untouched : Type 0) (fault : HttpFault)
     → IsUnsent old new before after text unread untouched fault → IfSome left (λ input. IsFound input (stopped (Fault fault)))
 found_unsent left old new before after text unread untouched fault u =
-    anywhere left _ (λ input bytes rest frame split rules stands. of_unsent old new before after text unread untouched fault u)
+    anywhere left _ (λ input bytes rest version frame split rules stands. of_unsent old new before after text unread untouched fault u)

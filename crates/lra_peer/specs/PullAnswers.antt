@@ -1,11 +1,12 @@
 -- What comes of a pull.
 use Rattle.std.specs.Prelude.{◌≡◌, ◌≢◌, ◌⊎◌, ℕ, ◌+◌, ◌≤◌, List, [], ◌++◌, length, take, Result, Ok, Err, IfErr, IfOk, IfSome, MatchResult}
 use Rattle.httparse.specs.Grammar.{ResponseHead, status_code}
+use Rattle.lra_delta.specs.declared.version.Version.{Version}
 use Rattle.lra_delta.specs.Frames.{Frame}
 use Rattle.lra_delta.specs.Reading.{read_of}
 use Rattle.lra_delta.specs.Sources.{ReadsCalls, Refuses, Says, StopsReading}
-use Rattle.lra_delta.specs.Rules.{IsDelta}
-use Rattle.lra_delta.specs.Encoding.{encoding}
+use Rattle.lra_delta.specs.Rules.{IsDeltaAs}
+use Rattle.lra_delta.specs.Encoding.{encoding_as}
 use Rattle.lra_delta.specs.declared.input.Stop.{Stop}
 use Rattle.lra_delta.specs.declared.input.Stop.TheVariants.{Fault as FaultAt, Cut as CutShort, ReadFault as ReadFailed, Memory}
 use Rattle.lra_http.specs.Heads.{max_head_bytes}
@@ -93,10 +94,10 @@ pub record StopsPull (old new : GivenBytes) (before after : Calls) (error : Pull
   pub ended : error ≡ Fault Cut → FoundEnd new
   pub reads : Reads before after error
 
--- what was given is a whole response with status 200, whose body encodes the delta, and no byte more
+-- what was given is a whole response with status 200, whose body encodes the delta in a version, and no byte more
 abbrev pub TellsDelta : (old new : GivenBytes) (before after : Calls) → Frame → Type 0
 TellsDelta old new before after delta =
-    IsDelta delta × GivesWhat old new (λ bytes. IsAnswer bytes 200 (encoding delta)) × AllWell pull_reads 0 before after
+    ((version : Version) × IsDeltaAs version delta × GivesWhat old new (λ bytes. IsAnswer bytes 200 (encoding_as version delta))) × AllWell pull_reads 0 before after
 
 -- it lies in a call or in the memory, and not in the bytes that came
 abbrev pub IsOfStreams : PullError → Type 0
@@ -109,7 +110,7 @@ told_by (Err stop) = Err (error_of stop)
 
 -- what reading a body of so many bytes gave
 pub record IsBodyRead (size before : ℕ) (old new : GivenBytes) (calls_before calls_after : Calls) (read : Result Frame Stop) : Type 0 where
-  pub frame : IfOk read (λ delta. IsDelta delta × (length (encoding delta) ≡ size) × Gives old new (encoding delta))
+  pub frame : IfOk read (λ delta. (version : Version) × IsDeltaAs version delta × (length (encoding_as version delta) ≡ size) × Gives old new (encoding_as version delta))
   pub stop : IfErr read (StopsReading size old new)
   pub known : IfSome old.left (λ ahead. Says read (read_of size (take size ahead)))
   pub calls : ReadsCalls size before calls_before calls_after read
@@ -117,4 +118,4 @@ pub record IsBodyRead (size before : ℕ) (old new : GivenBytes) (calls_before c
 -- a frame that stands whole at the start of the input is the result, unless a call fails or memory runs out
 abbrev pub IsFound : List ℕ → Result Frame PullError → Type 0
 IsFound input result =
-    (bytes rest : List ℕ) (frame : Frame) → input ≡ bytes ++ rest → IsDelta frame → IsAnswer bytes 200 (encoding frame) → MatchResult result (λ delta. delta ≡ frame) IsOfStreams
+    (bytes rest : List ℕ) (version : Version) (frame : Frame) → input ≡ bytes ++ rest → IsDeltaAs version frame → IsAnswer bytes 200 (encoding_as version frame) → MatchResult result (λ delta. delta ≡ frame) IsOfStreams

@@ -1,8 +1,9 @@
 // Asking another node for what is lacked here.
 ghost use Rattle.std.specs.Prelude.{◌≡◌, ◌⊎◌, ◌++◌, ⊤, List, ℕ, IfErr, IfOk, IfSome, MatchResult, OnOk};
 ghost use Rattle.lra_delta.specs.Frames.{Frame};
-ghost use Rattle.lra_delta.specs.Rules.{IsDelta};
-ghost use Rattle.lra_delta.specs.Encoding.{encoding};
+ghost use Rattle.lra_delta.specs.declared.version.Version.{Version};
+ghost use Rattle.lra_delta.specs.Rules.{IsDeltaAs};
+ghost use Rattle.lra_delta.specs.Encoding.{encoding_as};
 ghost use Rattle.lra_peer.specs.PullAnswers.{IsAnswer, IsOfStreams, IsSent, IsUnsent, IsUnsentBy, StopsPull, TellsDelta};
 ghost use Rattle.lra_peer.specs.Texts.{pull_text};
 
@@ -54,8 +55,8 @@ pub fn pull<R: Source, W: Sink>(
     // Where the bytes that are left are known, and a whole response with status 200 and a frame stands at their start, that frame
     // is taken, unless a call fails or memory runs out.
     ensures found { IfSome (R.stream reader.old).left
-        (λ input. (bytes rest : List ℕ) (frame : Frame) →
-        input ≡ bytes ++ rest → IsDelta frame → IsAnswer bytes 200 (encoding frame) →
+        (λ input. (bytes rest : List ℕ) (version : Version) (frame : Frame) → input ≡ bytes ++ rest →
+        IsDeltaAs version frame → IsAnswer bytes 200 (encoding_as version frame) →
         MatchResult result (λ delta. delta ≡ frame) IsOfStreams) }
 {
     match ask(alloc, writer, front) {

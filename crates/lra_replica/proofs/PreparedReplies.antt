@@ -9,7 +9,7 @@ use Rattle.lra_states.specs.declared.outcome.Verdict.{Verdict}
 use Rattle.lra_states.specs.declared.status.LraStatus.{LraStatus}
 use Rattle.lra_states.specs.declared.status.MemberStatus.{MemberStatus}
 use Rattle.lra_facts.specs.declared.fact.Fact.{Fact}
-use Rattle.lra_facts.specs.declared.links.Links.{Links}
+use Rattle.lra_facts.specs.Links.{Links}
 use Rattle.lra_facts.specs.declared.refusal.Refusal.{Refusal}
 use Rattle.lra_facts.specs.declared.refusal.Refusal.TheVariants.{NoMemory, NotHeld, UnknownMember}
 use Rattle.lra_facts.specs.Refusals.{unless, first, unknown, spent}
@@ -24,16 +24,16 @@ use Rattle.lra_forest.specs.Places.{put_record}
 use Rattle.lra_forest.specs.Said.{members_at, shown_at}
 use Rattle.lra_forest.specs.Shape.{found_at}
 use Rattle.lra_history.specs.declared.command.Command.{Command}
-use Rattle.lra_history.specs.declared.command.Command.TheVariants.{Begin, Join, Leave, Decide, Report, Forgot}
+use Rattle.lra_history.specs.declared.command.Command.TheVariants.{Begin, Join, Leave, Decide, Report, Forgot, Told}
 use Rattle.lra_history.specs.declared.command.CommandReply.{CommandReply}
-use Rattle.lra_history.specs.declared.command.CommandReply.TheVariants.{Began, Decided, Forgotten, Joined, Left, Reported}
-use Rattle.lra_history.specs.Growth.{IsSettled, member_changed, forgetting, joined, leaving, record_after, reporting}
+use Rattle.lra_history.specs.declared.command.CommandReply.TheVariants.{Began, Decided, Forgotten, Joined, Left, Reported, Told as ToldReply}
+use Rattle.lra_history.specs.Growth.{IsSettled, member_changed, forgetting, hearing, joined, leaving, record_after, reporting}
 use Rattle.lra_history.specs.Next.{accepted_on, change_on, changed, judge_on, next_fact_on, member_shown_on, no_change, shown_on}
 use Rattle.lra_history.specs.Changes.{fresh_record, with_stamp, Change, one_change, patched, two_changes}
 use Rattle.lra_history.specs.Replies.{member_shown, shown_of, refusal_by, Denied, Judgement, AlreadyKnown, Accepted, accepted, judge, reply_by}
 use Rattle.lra_history.specs.Readings.{at_home, by_view}
 use Rattle.lra_history.specs.Views.{StandsFor, View, record_at, records_at}
-use Rattle.lra_history.proofs.SameReadings.{IsPlain, forgot_passed, judge_view, report_passed, view_alike}
+use Rattle.lra_history.proofs.SameReadings.{IsPlain, forgot_passed, judge_view, report_passed, told_passed, view_alike}
 use Rattle.lra_history.proofs.AcceptedCommands.{lawful_gives}
 use Rattle.lra_history.proofs.ReplyOrRefusal.{held_within, never_lost, reply_denied, reply_accepted}
 use Rattle.lra_history.proofs.ViewReplies.{accepted_open, leave_passed, decide_passed, found_id, found_there, changed_records, join_passed, nest_passed, numbers_on, is_added}
@@ -252,6 +252,27 @@ forgot_next view me l m copy members change ready is change_is =
     answer_accepted (judge_on view me c) (accepted_on view me c) Forgotten (change_on view me c) change ready.0 refl
     (change_is ∙ ap (one_change view me) next ∙ ap (λ (o : Option Record). option_map_or (λ (r : Record). one_change view me (record_after (next_fact_on view me c) r)) o (no_change view)) (sym ready.1.1))
 
+-- That a participant was told that its LRA has ended
+
+pub told_some : (view : View) (me : ℕ) (l : Id) (m : ℕ) → judge_on view me (Told l m) ≡ Accepted → 1 ≤ m
+told_some view me l m taken =
+    let t = by_view view in
+    let none = accepted_open (refusal_by t view.front me (Told l m)) (t.told l m) (spent view.front me) taken in
+    some_number (at_home view l.home) l.num m (told_passed t view.front me l m none).1
+
+pub told_next : (view : View) (me : ℕ) (l : Id) (m : ℕ) (copy : Record) (members : List Member) (change : Change) → IsReadyNext view me (Told l m) l (Ok copy)
+    → (1 ≤ m → members ≡ member_changed hearing (m - 1) copy.members) → change ≡ one_change view me (record copy { members = members })
+    → IsNext view me (Told l m) (Ok (record { reply = ToldReply; patch = Some change }))
+told_next view me l m copy members change ready is change_is =
+    let c : Command = Told l m in
+    let old = ready.1.0 in
+    let same : copy.members ≡ old.members = ap (λ (r : Record). r.members) ready.1.2 in
+    let next : record copy { members = members } ≡ record_after (next_fact_on view me c) old =
+    ap (λ (r : Record). record r { members = members }) ready.1.2
+    ∙ ap (λ (ms : List Member). record (with_stamp me (count view.front me + 1) old) { members = ms }) (is (told_some view me l m ready.0) ∙ ap (member_changed hearing (m - 1)) same) in
+    answer_accepted (judge_on view me c) (accepted_on view me c) ToldReply (change_on view me c) change ready.0 refl
+    (change_is ∙ ap (one_change view me) next ∙ ap (λ (o : Option Record). option_map_or (λ (r : Record). one_change view me (record_after (next_fact_on view me c) r)) o (no_change view)) (sym ready.1.1))
+
 pub ok_any : {X : Type 0} (P : Type 0) (r : Result X Refusal) → P → IfOk r (λ _. P)
 ok_any P (Ok x) p = p
 ok_any P (Err e) p = tt
@@ -295,3 +316,8 @@ pub forgot_unready : (S : List Fact) (view : View) (me : ℕ) (l : Id) (m : ℕ)
     → (refusal ≡ NoMemory) ⊎ (record_at view l ≡ None) → IsPrepared S view me (Forgot l m) (Err refusal)
 forgot_unready S view me l m refusal settled stands taken lost =
     unready S view me (Forgot l m) l refusal stands (λ e. (lawful_gives S view.front me (Forgot l m) e).0.held) (sym (judge_view S view me (Forgot l m) tt settled stands) ∙ taken) lost
+
+pub told_unready : (S : List Fact) (view : View) (me : ℕ) (l : Id) (m : ℕ) (refusal : Refusal) → IsSettled S → StandsFor S view → judge_on view me (Told l m) ≡ Accepted
+    → (refusal ≡ NoMemory) ⊎ (record_at view l ≡ None) → IsPrepared S view me (Told l m) (Err refusal)
+told_unready S view me l m refusal settled stands taken lost =
+    unready S view me (Told l m) l refusal stands (λ e. (lawful_gives S view.front me (Told l m) e).0.held) (sym (judge_view S view me (Told l m) tt settled stands) ∙ taken) lost

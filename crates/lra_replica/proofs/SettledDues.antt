@@ -3,7 +3,7 @@ use Rattle.std.proofs.Common.{◌≡◌, ◌≤◌, ◌∙◌, [], ℕ, List, re
 use Rattle.std.specs.Option.{option_map_or}
 use Rattle.lra_id.specs.Ids.{Id, is_fact_number}
 use Rattle.lra_facts.specs.declared.fact.Fact.{Fact}
-use Rattle.lra_facts.specs.Duties.{is_compensation_due, is_forget_duty}
+use Rattle.lra_facts.specs.Duties.{is_after_duty, is_compensation_due, is_forget_duty}
 use Rattle.lra_facts.specs.Sets.{is_held, parent_of, IsNumbered}
 use Rattle.lra_forest.specs.declared.record.Place.{Place}
 use Rattle.lra_forest.specs.declared.record.Record.{Record}
@@ -17,12 +17,12 @@ use Rattle.lra_forest.proofs.Asked.{parent_known, participant_held, participant_
 use Rattle.lra_forest.proofs.Bools.{all_from}
 use Rattle.lra_forest.proofs.Compensated.{compensations_settled}
 use Rattle.lra_forest.proofs.Overdue.{at, held_number, number_passes}
-use Rattle.lra_forest.proofs.Seats.{completions_settled, forgets_settled}
+use Rattle.lra_forest.proofs.Seats.{completions_settled, forgets_settled, hearings_settled}
 use Rattle.lra_forest.proofs.Standings.{found_parent, found_root, held_parent, stands_at}
 use Rattle.lra_history.specs.Growth.{IsSettled}
 use Rattle.lra_history.specs.Views.{StandsFor, View, records_at}
 use Rattle.lra_history.proofs.Covered.{nested_settled}
-use Rattle.lra_replica.specs.ViewDues.{compensations_of, completions_of, forgets_of, parent_in, participant_in}
+use Rattle.lra_replica.specs.ViewDues.{compensations_of, completions_of, forgets_of, hearings_of, parent_in, participant_in}
 
 pub all_completions : (S : List Fact) (view : View) (me : ℕ) → IsSettled S → StandsFor S view → 1 ≤ me → me ≤ length view.front → AreAll (IsDueAt me S is_complete_duty) is_before (completions_of view me)
 all_completions S view me settled stands low high =
@@ -38,6 +38,11 @@ pub all_forgets : (S : List Fact) (view : View) (me : ℕ) → IsSettled S → S
 all_forgets S view me settled stands low high =
     let own = stands.records me low high in
     forgets_settled (length view.front) me S (records_at view.records me) settled.whole settled.seated (nested_settled S settled) (all_from IsNumbered S settled.numbered) own.order own.stands
+
+pub all_hearings : (S : List Fact) (view : View) (me : ℕ) → IsSettled S → StandsFor S view → 1 ≤ me → me ≤ length view.front → AreAll (IsDueAt me S is_after_duty) is_before (hearings_of view me)
+all_hearings S view me settled stands low high =
+    let own = stands.records me low high in
+    hearings_settled (length view.front) me S (records_at view.records me) settled.whole settled.seated (nested_settled S settled) (all_from IsNumbered S settled.numbered) own.order own.stands
 
 -- of an LRA that the set holds
 pub same_participant : (S : List Fact) (view : View) (l : Id) (m : ℕ) → IsSettled S → StandsFor S view → 1 ≤ l.home → l.home ≤ length view.front → is_held S l ≡ true → participant_in view l m ≡ participant_of S l m

@@ -3,7 +3,7 @@ use Rattle.std.specs.Prelude.{ℕ, List, Option}
 use Rattle.lra_id.specs.Ids.{Id}
 use Rattle.lra_forest.specs.declared.duties.Due.{Due}
 use Rattle.lra_forest.specs.declared.record.Participant.{Participant}
-use Rattle.lra_forest.specs.RecordDues.{due_to_compensate, due_to_complete, due_to_forget}
+use Rattle.lra_forest.specs.RecordDues.{due_to_compensate, due_to_complete, due_to_forget, due_to_hear}
 use Rattle.lra_forest.specs.Said.{parent_at, participant_of}
 use Rattle.lra_history.specs.Readings.{at_home}
 use Rattle.lra_history.specs.Views.{View, records_at}
@@ -16,6 +16,9 @@ compensations_of view me = due_to_compensate me (at_home view me) (records_at vi
 
 abbrev pub forgets_of : View → ℕ → List Due
 forgets_of view me = due_to_forget (at_home view me) (records_at view.records me)
+
+abbrev pub hearings_of : View → ℕ → List Due
+hearings_of view me = due_to_hear (at_home view me) (records_at view.records me)
 
 -- the participant m of l, if there is one
 abbrev pub participant_in : View → Id → ℕ → Option Participant

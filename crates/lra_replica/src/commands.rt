@@ -1,4 +1,4 @@
-// The seven commands, one file each with its refusals: each is prepared as a patch that adds its fact.
+// The eight commands, one file each with its refusals: each is prepared as a patch that adds its fact.
 mod begin;
 mod decide;
 mod fact;
@@ -8,3 +8,4 @@ mod leave;
 mod purge;
 mod refusals;
 mod report;
+mod told;

@@ -1,11 +1,11 @@
 // What is due of the participants of the LRAs of a home.
 ghost use Rattle.std.specs.Prelude.{◌≡◌, ◌≤◌, IfOk, length};
 ghost use Rattle.std.specs.Option.{option_copied};
-ghost use Rattle.lra_facts.specs.Duties.{is_compensation_due, is_forget_duty};
+ghost use Rattle.lra_facts.specs.Duties.{is_after_duty, is_compensation_due, is_forget_duty};
 ghost use Rattle.lra_forest.specs.Dues.{AreAll, IsDueAt, is_before, is_complete_duty, is_topmost_before};
 ghost use Rattle.lra_forest.specs.Participants.{parent_held, participant_of};
 ghost use Rattle.lra_replica.specs.Replicas.{view_of};
-ghost use Rattle.lra_replica.specs.ViewDues.{compensations_of, completions_of, forgets_of, parent_in, participant_in};
+ghost use Rattle.lra_replica.specs.ViewDues.{compensations_of, completions_of, forgets_of, hearings_of, parent_in, participant_in};
 ghost use Rattle.lra_history.specs.Readings.{by_view};
 ghost use Rattle.lra_history.specs.Views.{OfItsSet};
 
@@ -51,6 +51,30 @@ impl Replica {
         match self.home(me) {
             Some(records) => records.forget_duties(alloc),
             None => Ok(Vec::new(alloc)),
+        }
+    }
+
+    /// The participants in LRAs of a home that are to be told that these have ended, by LRA and member number.
+    pub fn after_duties(&self, alloc: Global, me: NodeId) -> Result<Vec<Due>, AllocError>
+        requires { me ≤ length self.now.front }
+        ensures says { IfOk result (λ dues. dues.items ≡ hearings_of (view_of self.now) me) }
+        ensures settled { OfItsSet (view_of self.now)
+            (λ S. IfOk result (λ dues. AreAll (IsDueAt me S is_after_duty) is_before dues.items)) }
+    {
+        match self.home(me) {
+            Some(records) => records.after_duties(alloc),
+            None => Ok(Vec::new(alloc)),
+        }
+    }
+
+    /// Of the participants under a root, the least that has a link for the end of its LRA and was not told of it.
+    pub(crate) fn least_unheard(&self, root: LraId) -> Option<Due>
+        requires { root.home ≤ length self.now.front }
+        ensures { result ≡ (by_view (view_of self.now)).least_untold root }
+    {
+        match self.home(root.home()) {
+            Some(records) => records.least_unheard(root),
+            None => None,
         }
     }
 

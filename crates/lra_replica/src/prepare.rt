@@ -38,6 +38,7 @@ impl Replica {
                 outcome,
             } => self.report(alloc, me, id, member, act, outcome),
             Command::Forgot { id, member } => self.forgot(alloc, me, id, member),
+            Command::Told { id, member } => self.told(alloc, me, id, member),
             Command::Purge { root } => self.purge(alloc, me, root),
         }
     }

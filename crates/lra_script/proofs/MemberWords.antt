@@ -5,9 +5,9 @@ use Rattle.lra_id.specs.Ids.{Id, IsId, id_text}
 use Rattle.lra_states.specs.Names.{act_name, outcome_name}
 use Rattle.lra_states.specs.declared.outcome.Verdict.TheVariants.{Close, Cancel}
 use Rattle.lra_script.specs.declared.ask.Ask.{Ask}
-use Rattle.lra_script.specs.declared.ask.Ask.TheVariants.{Enter, Tick, Send, Deliver, Restart, Show, Member, Duties, Hear, Front, Same, Text, Read}
-use Rattle.lra_history.specs.declared.command.Command.TheVariants.{Begin, Join, Leave, Decide, Report, Forgot, Purge}
-use Rattle.lra_facts.specs.declared.links.Links.{Links}
+use Rattle.lra_script.specs.declared.ask.Ask.TheVariants.{Enter, Tick, Send, SendOld, Deliver, Restart, Show, Member, Duties, Hear, Front, Same, Text, Read}
+use Rattle.lra_history.specs.declared.command.Command.TheVariants.{Begin, Join, Leave, Decide, Report, Forgot, Told, Purge}
+use Rattle.lra_facts.specs.Links.{Links}
 use Rattle.lra_script.specs.Joins.{GivesLinks}
 use Rattle.lra_script.specs.Asks.{IsInRange, HasArguments, IsMemberNumber, IsNodeOf, verb_of}
 
@@ -27,9 +27,11 @@ none_reported nodes words none (Enter node (Decide id Cancel)) verb _ _ = absurd
 none_reported nodes words none (Enter node (Report id m act outcome)) _ has fits =
     none node id m (act_name act ∷ outcome_name outcome ∷ []) fits.0 fits.1.0 fits.1.1 has
 none_reported nodes words none (Enter node (Forgot id m)) verb _ _ = absurd (omega (arith, third _ _ verb))
+none_reported nodes words none (Enter node (Told id m)) verb _ _ = absurd (omega (arith, third _ _ verb))
 none_reported nodes words none (Enter node (Purge root)) verb _ _ = absurd (omega (arith, third _ _ verb))
 none_reported nodes words none (Tick node now) verb _ _ = absurd (omega (arith, third _ _ verb))
 none_reported nodes words none (Send node base) verb _ _ = absurd (omega (arith, third _ _ verb))
+none_reported nodes words none (SendOld node base) verb _ _ = absurd (omega (arith, third _ _ verb))
 none_reported nodes words none (Deliver frame node kept) verb _ _ = absurd (omega (arith, third _ _ verb))
 none_reported nodes words none (Restart node) verb _ _ = absurd (omega (arith, third _ _ verb))
 none_reported nodes words none (Show node id) verb _ _ = absurd (omega (arith, third _ _ verb))
@@ -56,9 +58,11 @@ none_joined nodes words rest a b is none (Enter node (Decide id Close)) verb _ _
 none_joined nodes words rest a b is none (Enter node (Decide id Cancel)) verb _ _ = absurd (omega (arith, third _ _ verb))
 none_joined nodes words rest a b is none (Enter node (Report id m act outcome)) verb _ _ = absurd (omega (arith, third _ _ verb))
 none_joined nodes words rest a b is none (Enter node (Forgot id m)) verb _ _ = absurd (omega (arith, third _ _ verb))
+none_joined nodes words rest a b is none (Enter node (Told id m)) verb _ _ = absurd (omega (arith, third _ _ verb))
 none_joined nodes words rest a b is none (Enter node (Purge root)) verb _ _ = absurd (omega (arith, third _ _ verb))
 none_joined nodes words rest a b is none (Tick node now) verb _ _ = absurd (omega (arith, third _ _ verb))
 none_joined nodes words rest a b is none (Send node base) verb _ _ = absurd (omega (arith, third _ _ verb))
+none_joined nodes words rest a b is none (SendOld node base) verb _ _ = absurd (omega (arith, third _ _ verb))
 none_joined nodes words rest a b is none (Deliver frame node kept) verb _ _ = absurd (omega (arith, third _ _ verb))
 none_joined nodes words rest a b is none (Restart node) verb _ _ = absurd (omega (arith, third _ _ verb))
 none_joined nodes words rest a b is none (Show node id) verb _ _ = absurd (omega (arith, third _ _ verb))

@@ -14,15 +14,15 @@ use Rattle.lra_states.specs.declared.outcome.Act.TheVariants.{Complete as Comple
 use Rattle.lra_states.specs.declared.outcome.Outcome.{Outcome}
 use Rattle.lra_states.specs.declared.outcome.Outcome.TheVariants.{Busy, Done, Failed}
 use Rattle.lra_states.specs.declared.outcome.Verdict.TheVariants.{Close, Cancel}
-use Rattle.lra_facts.specs.declared.links.Links.{Links}
-use Rattle.lra_history.specs.declared.command.Command.TheVariants.{Begin, Join, Leave, Decide, Report, Forgot, Purge}
+use Rattle.lra_facts.specs.Links.{Links}
+use Rattle.lra_history.specs.declared.command.Command.TheVariants.{Begin, Join, Leave, Decide, Report, Forgot, Told, Purge}
 use Rattle.lra_callback.specs.declared.answer.Answer.{Answer}
 use Rattle.lra_callback.specs.declared.answer.Answer.TheVariants.{Code, Broken}
 use Rattle.lra_callback.specs.declared.answer.Kind.{Kind}
-use Rattle.lra_callback.specs.declared.answer.Kind.TheVariants.{Complete, Compensate, Status, Forget}
+use Rattle.lra_callback.specs.declared.answer.Kind.TheVariants.{Complete, Compensate, Status, Forget, After}
 use Rattle.lra_callback.specs.CallWords.{kind_name}
 use Rattle.lra_script.specs.declared.ask.Ask.{Ask}
-use Rattle.lra_script.specs.declared.ask.Ask.TheVariants.{Enter, Tick, Send, Deliver, Restart, Show, Member, Duties, Hear, Front, Same, Text, Read}
+use Rattle.lra_script.specs.declared.ask.Ask.TheVariants.{Enter, Tick, Send, SendOld, Deliver, Restart, Show, Member, Duties, Hear, Front, Same, Text, Read}
 use Rattle.lra_script.specs.Asks.{IsInRange, HasArguments, IsMemberNumber, IsNodeOf, IsNumber, Spells, kept_words, parent_words, verb_of}
 use Rattle.lra_script.specs.CallLines.{IsAnswerInRange, GivesAnswer, IsRestOf}
 use Rattle.lra_script.specs.Joins.{GivesLinks}
@@ -135,7 +135,7 @@ outcome_same Failed Done e = absurd (omega (arith, at_place _ _ 0 e))
 outcome_same Failed Failed e = refl
 
 abbrev kind_at : ℕ → Kind
-kind_at n = if n == 220 then Complete else if n == 213 then Compensate else if n == 233 then Status else Forget
+kind_at n = if n == 220 then Complete else if n == 213 then Compensate else if n == 233 then Status else if n == 215 then After else Forget
 
 -- two bytes tell a kind
 abbrev kind_mark : List ℕ → ℕ
@@ -146,6 +146,7 @@ kind_told Complete = refl
 kind_told Compensate = refl
 kind_told Status = refl
 kind_told Forget = refl
+kind_told After = refl
 
 kind_same : (a b : Kind) → kind_name a ≡ kind_name b → a ≡ b
 kind_same a b e = sym (kind_told a) ∙ ap (λ (l : List ℕ). kind_at (kind_mark l)) e ∙ kind_told b
@@ -206,9 +207,11 @@ data Form : Type 0 where
   OfCancel : Form
   OfReport : Form
   OfForgot : Form
+  OfTold : Form
   OfPurge : Form
   OfTick : Form
   OfSend : Form
+  OfSendOld : Form
   OfDeliver : Form
   OfRestart : Form
   OfShow : Form
@@ -228,9 +231,11 @@ form_of (Enter node (Decide id Close)) = OfClose
 form_of (Enter node (Decide id Cancel)) = OfCancel
 form_of (Enter node (Report id m act outcome)) = OfReport
 form_of (Enter node (Forgot id m)) = OfForgot
+form_of (Enter node (Told id m)) = OfTold
 form_of (Enter node (Purge root)) = OfPurge
 form_of (Tick node now) = OfTick
 form_of (Send node base) = OfSend
+form_of (SendOld node base) = OfSendOld
 form_of (Deliver frame node kept) = OfDeliver
 form_of (Restart node) = OfRestart
 form_of (Show node id) = OfShow
@@ -242,16 +247,17 @@ form_of (Same node other) = OfSame
 form_of (Text id) = OfText
 form_of (Read id) = OfRead
 
--- two bytes tell a verb
+-- three bytes tell a verb
 abbrev verb_mark : List ℕ → ℕ
-verb_mark verb = get_or verb 0 0 + 4 * get_or verb 2 0
+verb_mark verb = get_or verb 0 0 + 4 * get_or verb 2 0 + get_or verb 6 0
 
 abbrev form_at : ℕ → Form
 form_at n =
     if n == 510 then OfBegin else if n == 526 then OfJoin else if n == 496 then OfLeave else if n == 543 then OfClose else if n == 539 then OfCancel else
     if n == 562 then OfReport else if n == 558 then OfForgot else if n == 568 then OfPurge else if n == 512 then OfTick else if n == 555 then OfSend else
-    if n == 532 then OfDeliver else if n == 574 then OfRestart else if n == 559 then OfShow else if n == 545 then OfMember else if n == 564 then OfDuties else
-    if n == 557 then OfHear else if n == 546 then OfFront else if n == 551 then OfSame else if n == 596 then OfText else OfRead
+    if n == 646 then OfDeliver else if n == 690 then OfRestart else if n == 559 then OfShow else if n == 545 then OfMember else if n == 564 then OfDuties else
+    if n == 557 then OfHear else if n == 546 then OfFront else if n == 551 then OfSame else if n == 596 then OfText else
+    if n == 548 then OfTold else if n == 655 then OfSendOld else OfRead
 
 form_told : (a : Ask) → form_at (verb_mark (verb_of a)) ≡ form_of a
 form_told (Enter node (Begin parent deadline)) = refl
@@ -261,9 +267,11 @@ form_told (Enter node (Decide id Close)) = refl
 form_told (Enter node (Decide id Cancel)) = refl
 form_told (Enter node (Report id m act outcome)) = refl
 form_told (Enter node (Forgot id m)) = refl
+form_told (Enter node (Told id m)) = refl
 form_told (Enter node (Purge root)) = refl
 form_told (Tick node now) = refl
 form_told (Send node base) = refl
+form_told (SendOld node base) = refl
 form_told (Deliver frame node kept) = refl
 form_told (Restart node) = refl
 form_told (Show node id) = refl
@@ -287,9 +295,11 @@ IsLike OfClose b = (node : ℕ) × (id : Id) × (b ≡ Enter node (Decide id Clo
 IsLike OfCancel b = (node : ℕ) × (id : Id) × (b ≡ Enter node (Decide id Cancel))
 IsLike OfReport b = (node : ℕ) × (id : Id) × (m : ℕ) × (act : Act) × (outcome : Outcome) × (b ≡ Enter node (Report id m act outcome))
 IsLike OfForgot b = (node : ℕ) × (id : Id) × (m : ℕ) × (b ≡ Enter node (Forgot id m))
+IsLike OfTold b = (node : ℕ) × (id : Id) × (m : ℕ) × (b ≡ Enter node (Told id m))
 IsLike OfPurge b = (node : ℕ) × (root : Id) × (b ≡ Enter node (Purge root))
 IsLike OfTick b = (node : ℕ) × (now : ℕ) × (b ≡ Tick node now)
 IsLike OfSend b = (node : ℕ) × (base : List ℕ) × (b ≡ Send node base)
+IsLike OfSendOld b = (node : ℕ) × (base : List ℕ) × (b ≡ SendOld node base)
 IsLike OfDeliver b = (frame : ℕ) × (node : ℕ) × (kept : Option ℕ) × (b ≡ Deliver frame node kept)
 IsLike OfRestart b = (node : ℕ) × (b ≡ Restart node)
 IsLike OfShow b = (node : ℕ) × (id : Id) × (b ≡ Show node id)
@@ -309,9 +319,11 @@ like (Enter node (Decide id Close)) = (node, id, refl)
 like (Enter node (Decide id Cancel)) = (node, id, refl)
 like (Enter node (Report id m act outcome)) = (node, id, m, act, outcome, refl)
 like (Enter node (Forgot id m)) = (node, id, m, refl)
+like (Enter node (Told id m)) = (node, id, m, refl)
 like (Enter node (Purge root)) = (node, root, refl)
 like (Tick node now) = (node, now, refl)
 like (Send node base) = (node, base, refl)
+like (SendOld node base) = (node, base, refl)
 like (Deliver frame node kept) = (frame, node, kept, refl)
 like (Restart node) = (node, refl)
 like (Show node id) = (node, id, refl)
@@ -350,12 +362,16 @@ same_asked nodes words (Enter node (Report id m act outcome)) b few (nodez, ids,
     by_form nodes words (Enter node (Report id m act outcome)) b (Enter nodez (Report ids ms acts outcomes)) is (λ are fit. let e = sym has ∙ are in five (λ (x : ℕ) (i : Id) (k : ℕ) (a : Act) (o : Outcome). Enter x (Report i k a o)) (node_same nodes node nodez few fits.0 fit.0 (word 0 _ _ e)) (id_same id ids fits.1.0 fit.1.0 (word 1 _ _ e)) (member_same m ms fits.1.1 fit.1.1 (word 2 _ _ e)) (act_same act acts (word 3 _ _ e)) (outcome_same outcome outcomes (word 4 _ _ e))) also small
 same_asked nodes words (Enter node (Forgot id m)) b few (nodez, ids, ms, is) has fits also small =
     by_form nodes words (Enter node (Forgot id m)) b (Enter nodez (Forgot ids ms)) is (λ are fit. let e = sym has ∙ are in three (λ (x : ℕ) (i : Id) (k : ℕ). Enter x (Forgot i k)) (node_same nodes node nodez few fits.0 fit.0 (word 0 _ _ e)) (id_same id ids fits.1.0 fit.1.0 (word 1 _ _ e)) (member_same m ms fits.1.1 fit.1.1 (word 2 _ _ e))) also small
+same_asked nodes words (Enter node (Told id m)) b few (nodez, ids, ms, is) has fits also small =
+    by_form nodes words (Enter node (Told id m)) b (Enter nodez (Told ids ms)) is (λ are fit. let e = sym has ∙ are in three (λ (x : ℕ) (i : Id) (k : ℕ). Enter x (Told i k)) (node_same nodes node nodez few fits.0 fit.0 (word 0 _ _ e)) (id_same id ids fits.1.0 fit.1.0 (word 1 _ _ e)) (member_same m ms fits.1.1 fit.1.1 (word 2 _ _ e))) also small
 same_asked nodes words (Enter node (Purge root)) b few (nodez, roots, is) has fits also small =
     by_form nodes words (Enter node (Purge root)) b (Enter nodez (Purge roots)) is (λ are fit. let e = sym has ∙ are in two (λ (x : ℕ) (i : Id). Enter x (Purge i)) (node_same nodes node nodez few fits.0 fit.0 (word 0 _ _ e)) (id_same root roots fits.1 fit.1 (word 1 _ _ e))) also small
 same_asked nodes words (Tick node now) b few (nodez, nows, is) has fits also small =
     by_form nodes words (Tick node now) b (Tick nodez nows) is (λ are fit. let e = sym has ∙ are in two Tick (node_same nodes node nodez few fits.0 fit.0 (word 0 _ _ e)) (number_same now nows fits.1 fit.1 (word 1 _ _ e))) also small
 same_asked nodes words (Send node base) b few (nodez, bases, is) has fits also small =
     by_form nodes words (Send node base) b (Send nodez bases) is (λ are fit. let e = sym has ∙ are in two Send (node_same nodes node nodez few fits.0 fit.0 (word 0 _ _ e)) (counts_same base bases fits.1.1 fit.1.1 (ap (drop 1) e))) also small
+same_asked nodes words (SendOld node base) b few (nodez, bases, is) has fits also small =
+    by_form nodes words (SendOld node base) b (SendOld nodez bases) is (λ are fit. let e = sym has ∙ are in two SendOld (node_same nodes node nodez few fits.0 fit.0 (word 0 _ _ e)) (counts_same base bases fits.1.1 fit.1.1 (ap (drop 1) e))) also small
 same_asked nodes words (Deliver frame node kept) b few (frames, nodez, keeps, is) has fits also small =
     by_form nodes words (Deliver frame node kept) b (Deliver frames nodez keeps) is (λ are fit. let e = sym has ∙ are in three Deliver (number_same frame frames fits.0 fit.0 (word 0 _ _ e)) (node_same nodes node nodez few fits.1 fit.1 (word 1 _ _ e)) (kept_same kept keeps fits.2 fit.2 (ap (drop 2) e))) also small
 same_asked nodes words (Restart node) b few (nodez, is) has fits also small =

@@ -11,14 +11,14 @@ use Rattle.lra_callback.specs.declared.answer.Answer.{Answer}
 use Rattle.lra_callback.specs.declared.answer.Kind.{Kind}
 use Rattle.lra_callback.specs.Answers.{heard_of}
 use Rattle.lra_world.specs.declared.event.Event.{Event}
-use Rattle.lra_world.specs.declared.event.Event.TheVariants.{Act as ActEvent, Deliver as DeliverEvent, Restart as RestartEvent, Send as SendEvent, Tick as TickEvent}
+use Rattle.lra_world.specs.declared.event.Event.TheVariants.{Act as ActEvent, Deliver as DeliverEvent, Restart as RestartEvent, Send as SendEvent, SendOld as SendOldEvent, Tick as TickEvent}
 use Rattle.lra_world.specs.declared.event.Reply.{Reply}
 use Rattle.lra_world.specs.declared.event.Reply.TheVariants.{Answered}
 use Rattle.lra_world.specs.Worlds.{Acts, IfNode, IsWorld, Leads, State, Steps, after_command, front_of, is_node, nodes_of, reply_at, set_of, start}
 use Rattle.lra_world.proofs.Converging.{led_converges, leads_none, leads_on, one_step}
 use Rattle.lra_world.proofs.Moving.{run_keeps, start_is}
 use Rattle.lra_script.specs.declared.ask.Ask.{Ask}
-use Rattle.lra_script.specs.declared.ask.Ask.TheVariants.{Enter, Tick, Send, Deliver, Restart, Show, Member, Duties, Hear, Front, Same, Text, Read}
+use Rattle.lra_script.specs.declared.ask.Ask.TheVariants.{Enter, Tick, Send, SendOld, Deliver, Restart, Show, Member, Duties, Hear, Front, Same, Text, Read}
 use Rattle.lra_script.specs.Asks.{IsInRange, IsNodeOf}
 use Rattle.lra_script.specs.CallLines.{act_asked, command_of}
 use Rattle.lra_script.specs.Scripts.{Answers, AreOneRun, Does, Plays, PrintsReply, ScriptText, after_answer, after_heard}
@@ -55,6 +55,7 @@ does_lead : (s t : State) (ask : Ask) (out : List ℕ) → IsWorld s → IsInRan
 does_lead s t (Enter node command) out w range h = prints_lead s t (ActEvent node command) out w h
 does_lead s t (Tick node now) out w range h = prints_lead s t (TickEvent node now) out w h
 does_lead s t (Send node base) out w range h = prints_lead s t (SendEvent node base) out w h
+does_lead s t (SendOld node base) out w range h = prints_lead s t (SendOldEvent node base) out w h
 does_lead s t (Deliver frame node kept) out w range (count, coming, prints) = prints_lead s t (DeliverEvent frame node count) out w prints
 does_lead s t (Restart node) out w range h = prints_lead s t (RestartEvent node) out w h
 does_lead s t (Show node id) out w range h = stays_lead s t w h.1

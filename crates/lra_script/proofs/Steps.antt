@@ -8,19 +8,19 @@ use Rattle.lra_facts.specs.declared.refusal.Refusal.{Refusal}
 use Rattle.lra_id.specs.Ids.{Id}
 use Rattle.lra_states.specs.declared.outcome.Verdict.TheVariants.{Cancel}
 use Rattle.lra_history.specs.declared.command.Command.{Command}
-use Rattle.lra_history.specs.declared.command.Command.TheVariants.{Begin, Join, Leave, Decide, Report, Forgot, Purge}
+use Rattle.lra_history.specs.declared.command.Command.TheVariants.{Begin, Join, Leave, Decide, Report, Forgot, Told, Purge}
 use Rattle.lra_history.specs.declared.command.CommandReply.{CommandReply}
-use Rattle.lra_history.specs.declared.command.CommandReply.TheVariants.{Began, Joined, Left, Decided, Reported, Known, Forgotten, Purged, Refused as NotEntered}
+use Rattle.lra_history.specs.declared.command.CommandReply.TheVariants.{Began, Joined, Left, Decided, Reported, Known, Forgotten, Told as ToldReply, Purged, Refused as NotEntered}
 use Rattle.lra_replica.specs.Replicas.{ReplicaState, view_of}
 use Rattle.lra_history.specs.Replies.{Judgement, Denied, AlreadyKnown, Accepted, accepted, judge, reply_by}
 use Rattle.lra_history.specs.Views.{View}
 use Rattle.lra_history.proofs.ClosedSets.{closed_settled}
 use Rattle.lra_world.specs.declared.event.Event.{Event}
-use Rattle.lra_world.specs.declared.event.Event.TheVariants.{Act as ActEvent, Deliver as DeliverEvent, Restart as RestartEvent, Send as SendEvent, Tick as TickEvent}
+use Rattle.lra_world.specs.declared.event.Event.TheVariants.{Act as ActEvent, Deliver as DeliverEvent, Restart as RestartEvent, Send as SendEvent, SendOld as SendOldEvent, Tick as TickEvent}
 use Rattle.lra_world.specs.declared.event.Reply.{Reply}
 use Rattle.lra_world.specs.declared.event.Reply.TheVariants.{Answered}
 use Rattle.lra_world.specs.Machines.{Happens, IsWorldOf, Machine}
-use Rattle.lra_world.specs.Worlds.{Acts, Comes, Expires, IfNode, IsEncoded, IsViewOf, SentFrame, Sends, State, Steps, Takes, Ticks, after_command, expired, frame_at, front_of, if_taken, is_node, nodes_of, reply_at, set_of, with_command}
+use Rattle.lra_world.specs.Worlds.{Acts, Comes, Expires, IfNode, IsEncoded, IsViewOf, SentFrame, Sends, SendsOld, State, Steps, Takes, Ticks, after_command, expired, frame_at, front_of, if_taken, is_node, nodes_of, reply_at, set_of, with_command}
 use Rattle.lra_world.proofs.Agreeing.{same_view}
 use Rattle.lra_world.proofs.OneReplicaChanged.{get_some}
 use Rattle.lra_script.specs.Asks.{IsNodeOf}
@@ -36,6 +36,7 @@ never_refused S v node (Leave id m) r e = absurd cc
 never_refused S v node (Decide id verdict) r e = absurd cc
 never_refused S v node (Report id m act outcome) r e = absurd cc
 never_refused S v node (Forgot id m) r e = absurd cc
+never_refused S v node (Told id m) r e = absurd cc
 never_refused S v node (Purge root) r e = absurd cc
 
 refused_by : (j : Judgement) (s t : State) (node : ℕ) (c : Command) (r : Refusal) → reply_by j (accepted (set_of s node) (front_of s node) node c) ≡ NotEntered r → if_taken j s t ≡ s
@@ -56,6 +57,7 @@ not_expired l (Decided id status) h = absurd h
 not_expired l Reported h = absurd h
 not_expired l Known h = absurd h
 not_expired l Forgotten h = absurd h
+not_expired l ToldReply h = absurd h
 not_expired l Purged h = absurd h
 not_expired l (NotEntered r) h = (r, refl)
 
@@ -70,6 +72,12 @@ sends_nothing : (s t : State) (node : ℕ) (base : List ℕ) (reply : Reply) →
 sends_nothing s t node base reply none (inl h) = h.1.1
 sends_nothing s t node base reply none (inr (inl h)) = h.2.1
 sends_nothing s t node base reply none (inr (inr h)) = absurd (subst IsNothing h.2 none)
+
+sends_old_nothing : (s t : State) (node : ℕ) (base : List ℕ) (reply : Reply) → IsNothing reply → SendsOld s node base reply t → t ≡ s
+sends_old_nothing s t node base reply none (inl h) = h.1.1
+sends_old_nothing s t node base reply none (inr (inl h)) = h.2.1
+sends_old_nothing s t node base reply none (inr (inr (inl h))) = h.3.1
+sends_old_nothing s t node base reply none (inr (inr (inr h))) = absurd (subst IsNothing h.3 none)
 
 takes_nothing : (s t : State) (node : ℕ) (frame : SentFrame) (bytes : List ℕ) (kept : ℕ) (reply : Reply) → IsNothing reply → Takes s node frame bytes kept reply t → t ≡ s
 takes_nothing s t node frame bytes kept reply none (inl h) = h.1.1
@@ -90,6 +98,7 @@ expires_nothing s t node (Some l) reply none h =
 nothing_stays : (s t : State) (event : Event) (reply : Reply) → IsNothing reply → Steps s event reply t → t ≡ s
 nothing_stays s t (ActEvent node c) reply none h = if_node_stays (is_node s node) s t _ reply (λ k. acts_nothing s t node c reply none k) h
 nothing_stays s t (SendEvent node base) reply none h = if_node_stays (is_node s node) s t (Sends s node base reply t) reply (λ k. sends_nothing s t node base reply none k) h
+nothing_stays s t (SendOldEvent node base) reply none h = if_node_stays (is_node s node) s t (SendsOld s node base reply t) reply (λ k. sends_old_nothing s t node base reply none k) h
 nothing_stays s t (DeliverEvent number node kept) reply none h =
     if_node_stays (is_node s node) s t (Comes s node (frame_at s number) kept reply t) reply (λ k. comes_nothing s t node (frame_at s number) kept reply none k) h
 nothing_stays s t (RestartEvent node) reply none h = if_node_stays (is_node s node) s t _ reply (λ k. k.1) h

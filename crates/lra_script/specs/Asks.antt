@@ -5,9 +5,9 @@ use Rattle.lra_id.specs.Ids.{Id, IsId, IsTextOf, id_text}
 use Rattle.lra_states.specs.Names.{verdict_name, act_name, outcome_name}
 use Rattle.lra_callback.specs.CallWords.{kind_name}
 use Rattle.lra_script.specs.declared.ask.Ask.{Ask}
-use Rattle.lra_script.specs.declared.ask.Ask.TheVariants.{Enter, Tick, Send, Deliver, Restart, Show, Member, Duties, Hear, Front, Same, Text, Read}
+use Rattle.lra_script.specs.declared.ask.Ask.TheVariants.{Enter, Tick, Send, SendOld, Deliver, Restart, Show, Member, Duties, Hear, Front, Same, Text, Read}
 use Rattle.lra_history.specs.declared.command.Command.{Command}
-use Rattle.lra_history.specs.declared.command.Command.TheVariants.{Begin, Join, Leave, Decide, Report, Forgot, Purge}
+use Rattle.lra_history.specs.declared.command.Command.TheVariants.{Begin, Join, Leave, Decide, Report, Forgot, Told, Purge}
 use Rattle.lra_script.specs.CallLines.{IsAnswerInRange, GivesAnswer}
 use Rattle.lra_script.specs.Joins.{GivesLinks}
 use Rattle.lra_script.specs.LineParts.{words_of}
@@ -35,6 +35,7 @@ IsCommandInRange (Leave id member) = IsId id × IsMemberNumber member
 IsCommandInRange (Decide id verdict) = IsId id
 IsCommandInRange (Report id member act outcome) = IsId id × IsMemberNumber member
 IsCommandInRange (Forgot id member) = IsId id × IsMemberNumber member
+IsCommandInRange (Told id member) = IsId id × IsMemberNumber member
 IsCommandInRange (Purge root) = IsId root
 
 -- the values of what is asked are in their ranges
@@ -42,6 +43,7 @@ abbrev pub IsInRange : ℕ → Ask → Type 0
 IsInRange nodes (Enter node command) = IsNodeOf nodes node × IsCommandInRange command
 IsInRange nodes (Tick node now) = IsNodeOf nodes node × (now < 2 ^ 64)
 IsInRange nodes (Send node base) = IsNodeOf nodes node × IsBaseOf nodes base
+IsInRange nodes (SendOld node base) = IsNodeOf nodes node × IsBaseOf nodes base
 IsInRange nodes (Deliver frame node kept) = IsNumber frame × IsNodeOf nodes node × IfSome kept IsNumber
 IsInRange nodes (Restart node) = IsNodeOf nodes node
 IsInRange nodes (Show node id) = IsNodeOf nodes node × IsId id
@@ -61,9 +63,11 @@ verb_of (Enter node (Leave id member)) = codes "leave"
 verb_of (Enter node (Decide id verdict)) = verdict_name verdict
 verb_of (Enter node (Report id member act outcome)) = codes "report"
 verb_of (Enter node (Forgot id member)) = codes "forgot"
+verb_of (Enter node (Told id member)) = codes "told"
 verb_of (Enter node (Purge root)) = codes "purge"
 verb_of (Tick node now) = codes "tick"
 verb_of (Send node base) = codes "send"
+verb_of (SendOld node base) = codes "sendold"
 verb_of (Deliver frame node kept) = codes "deliver"
 verb_of (Restart node) = codes "restart"
 verb_of (Show node id) = codes "show"
@@ -95,9 +99,11 @@ HasArguments words (Enter node (Decide id verdict)) = words ≡ decimal node ∷
 HasArguments words (Enter node (Report id member act outcome)) =
     words ≡ decimal node ∷ id_text id ∷ decimal member ∷ act_name act ∷ outcome_name outcome ∷ []
 HasArguments words (Enter node (Forgot id member)) = words ≡ decimal node ∷ id_text id ∷ decimal member ∷ []
+HasArguments words (Enter node (Told id member)) = words ≡ decimal node ∷ id_text id ∷ decimal member ∷ []
 HasArguments words (Enter node (Purge root)) = words ≡ decimal node ∷ id_text root ∷ []
 HasArguments words (Tick node now) = words ≡ decimal node ∷ decimal now ∷ []
 HasArguments words (Send node base) = words ≡ decimal node ∷ map decimal base
+HasArguments words (SendOld node base) = words ≡ decimal node ∷ map decimal base
 HasArguments words (Deliver frame node kept) = words ≡ decimal frame ∷ decimal node ∷ kept_words kept
 HasArguments words (Restart node) = words ≡ decimal node ∷ []
 HasArguments words (Show node id) = words ≡ decimal node ∷ id_text id ∷ []

@@ -13,9 +13,9 @@ use Rattle.lra_facts.specs.declared.refusal.Refusal.TheVariants.{BadText, NoMemo
 use Rattle.lra_forest.specs.Dues.{AreAll}
 use Rattle.lra_history.specs.declared.command.Command.{Command}
 use Rattle.lra_history.specs.declared.command.CommandReply.{CommandReply}
-use Rattle.lra_history.specs.declared.command.CommandReply.TheVariants.{Began, Joined, Left, Decided, Reported, Known, Forgotten, Purged, Refused as NotEntered}
+use Rattle.lra_history.specs.declared.command.CommandReply.TheVariants.{Began, Joined, Left, Decided, Reported, Known, Forgotten, Told, Purged, Refused as NotEntered}
 use Rattle.lra_world.specs.declared.event.Event.{Event}
-use Rattle.lra_world.specs.declared.event.Event.TheVariants.{Act as ActEvent, Deliver as DeliverEvent, Restart as RestartEvent, Send as SendEvent, Tick as TickEvent}
+use Rattle.lra_world.specs.declared.event.Event.TheVariants.{Act as ActEvent, Deliver as DeliverEvent, Restart as RestartEvent, Send as SendEvent, SendOld as SendOldEvent, Tick as TickEvent}
 use Rattle.lra_world.specs.declared.event.Reply.{Reply}
 use Rattle.lra_world.specs.declared.event.Reply.TheVariants.{Answered, Sent, Took, Restarted, Expired, Quiet, Refused}
 use Rattle.lra_world.specs.Headline.{Converges, member_at, shown_at}
@@ -29,7 +29,7 @@ use Rattle.lra_callback.specs.Answers.{heard_of}
 use Rattle.lra_callback.specs.CallDuties.{IsDuty, comes_first}
 use Rattle.lra_callback.specs.CallWords.{heard_name}
 use Rattle.lra_script.specs.declared.ask.Ask.{Ask}
-use Rattle.lra_script.specs.declared.ask.Ask.TheVariants.{Enter, Tick, Send, Deliver, Restart, Show, Member, Duties, Hear, Front, Same, Text, Read}
+use Rattle.lra_script.specs.declared.ask.Ask.TheVariants.{Enter, Tick, Send, SendOld, Deliver, Restart, Show, Member, Duties, Hear, Front, Same, Text, Read}
 use Rattle.lra_script.specs.Asks.{Spells}
 use Rattle.lra_script.specs.CallLines.{act_asked, command_of, duties_text}
 use Rattle.lra_script.specs.NodeHoldings.{AreComing}
@@ -58,6 +58,7 @@ reply_line (Decided id status) = printed (lra_name status)
 reply_line Reported = printed (codes "reported")
 reply_line Known = printed (codes "known")
 reply_line Forgotten = printed (codes "forgot")
+reply_line Told = printed (codes "told")
 reply_line Purged = printed (codes "purged")
 reply_line (NotEntered r) = refused r
 
@@ -98,6 +99,7 @@ abbrev pub heard_reply_line : Heard → Reply → List ℕ
 heard_reply_line heard (Answered Reported) = printed (heard_name heard ++ codes " reported")
 heard_reply_line heard (Answered Known) = printed (heard_name heard ++ codes " known")
 heard_reply_line heard (Answered Forgotten) = printed (heard_name heard ++ codes " forgot")
+heard_reply_line heard (Answered Told) = printed (heard_name heard ++ codes " told")
 heard_reply_line heard reply = event_line reply
 
 -- the line of an answer of which a node heard this, and that enters a command, or nothing
@@ -133,6 +135,7 @@ abbrev pub Does : State → Ask → List ℕ → State → Type 0
 Does s (Enter node command) out t = PrintsReply s (ActEvent node command) out t
 Does s (Tick node now) out t = PrintsReply s (TickEvent node now) out t
 Does s (Send node base) out t = PrintsReply s (SendEvent node base) out t
+Does s (SendOld node base) out t = PrintsReply s (SendOldEvent node base) out t
 Does s (Deliver frame node kept) out t = (count : ℕ) × AreComing s frame kept count × PrintsReply s (DeliverEvent frame node count) out t
 Does s (Restart node) out t = PrintsReply s (RestartEvent node) out t
 Does s (Show node id) out t = (out ≡ status_line (shown_at s node id)) × (t ≡ s)

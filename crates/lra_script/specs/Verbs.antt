@@ -1,7 +1,7 @@
 -- The words that lines begin with.
 use Rattle.std.specs.Prelude.{ℕ, List, codes}
 use Rattle.lra_script.specs.declared.verb.Verb.{Verb}
-use Rattle.lra_script.specs.declared.verb.Verb.TheVariants.{Answer, Begin, Cancel, Close, Deliver, Duties, Forgot, Front, Join, Leave, Member, Purge, Read, Report, Restart, Same, Send, Show, Text, Tick}
+use Rattle.lra_script.specs.declared.verb.Verb.TheVariants.{Answer, Begin, Cancel, Close, Deliver, Duties, Forgot, Front, Join, Leave, Member, Purge, Read, Report, Restart, Same, Send, SendOld, Show, Text, Tick, Told}
 
 abbrev pub verb_name : Verb → List ℕ
 verb_name Answer = codes "answer"
@@ -21,6 +21,8 @@ verb_name Report = codes "report"
 verb_name Restart = codes "restart"
 verb_name Same = codes "same"
 verb_name Send = codes "send"
+verb_name SendOld = codes "sendold"
 verb_name Show = codes "show"
 verb_name Text = codes "text"
 verb_name Tick = codes "tick"
+verb_name Told = codes "told"

@@ -58,6 +58,7 @@ fn obey(alloc: Global, world: &mut World, ask: Ask) -> Result<String, AllocError
         Ask::Enter { node, command } => happen(alloc, world, Event::Act { node, command }),
         Ask::Tick { node, now } => happen(alloc, world, Event::Tick { node, now }),
         Ask::Send { node, base } => happen(alloc, world, Event::Send { node, base }),
+        Ask::SendOld { node, base } => happen(alloc, world, Event::SendOld { node, base }),
         Ask::Deliver { frame, node, kept } => deliver(alloc, world, frame, node, kept),
         Ask::Restart { node } => happen(alloc, world, Event::Restart { node }),
         Ask::Hear {

@@ -7,7 +7,7 @@ use lra_id::{Front, LraId, NodeId};
 #[derive(Debug, Drop)]
 pub enum Ask {
     /// `begin NODE DEADLINE`, `begin NODE DEADLINE PARENT`, `join NODE ID WORD=LINK ..`, `leave NODE ID M`, `close NODE ID`, `cancel NODE ID`,
-    /// `report NODE ID M ACT OUTCOME`, `forgot NODE ID M`, `purge NODE ID`: a node is asked to enter something.
+    /// `report NODE ID M ACT OUTCOME`, `forgot NODE ID M`, `told NODE ID M`, `purge NODE ID`: a node is asked to enter something.
     Enter {
         node: NodeId,
         command: Command,
@@ -19,6 +19,11 @@ pub enum Ask {
     },
     /// `send NODE COUNT ..`, a count for each node: a node sends what it has since a base.
     Send {
+        node: NodeId,
+        base: Front,
+    },
+    /// `sendold NODE COUNT ..`: it sends the same in version 1 of frames.
+    SendOld {
         node: NodeId,
         base: Front,
     },

@@ -17,8 +17,8 @@ use answers::hear_of;
 use joins::join_of;
 use lra_states::Verdict;
 use lras::{begin_of, decide_of, purge_of, read_of, show_of, text_of};
-use members::{forgot_of, leave_of, member_of, report_of};
-use nodes::{deliver_of, duties_of, front_of, restart_of, same_of, send_of, tick_of};
+use members::{forgot_of, leave_of, member_of, report_of, told_of};
+use nodes::{deliver_of, duties_of, front_of, restart_of, same_of, send_of, send_old_of, tick_of};
 use std::alloc::{AllocError, Global};
 
 /// What a line asks of a world of so many nodes. Only the links of a join and the body of an answer take memory.
@@ -60,8 +60,10 @@ fn asked(alloc: Global, verb: Verb, words: Words<'_>, nodes: u8) -> Result<Optio
         Verb::Restart => Ok(restart_of(words, nodes)),
         Verb::Same => Ok(same_of(words, nodes)),
         Verb::Send => Ok(send_of(words, nodes)),
+        Verb::SendOld => Ok(send_old_of(words, nodes)),
         Verb::Show => Ok(show_of(words, nodes)),
         Verb::Text => Ok(text_of(words)),
         Verb::Tick => Ok(tick_of(words, nodes)),
+        Verb::Told => Ok(told_of(words, nodes)),
     }
 }

@@ -106,13 +106,13 @@ pub fn hear_answer(
 }
 
 /// The act that an answer to a call of this kind is heard for: of a status the one that the LRA's want demands, or why
-/// there is none. What is heard of a forget is the same for either.
+/// there is none. What is heard of a forget, or of the end, is the same for either.
 fn act_asked(replica: &Replica, kind: Kind, id: LraId, member: u8) -> Result<Act, Refusal>
     ensures { (S : List Fact) (front : List ℕ) →
         Holds S front replica.now → result ≡ act_asked S front kind id member }
 {
     match kind {
-        Kind::Complete | Kind::Forget => Ok(Act::Complete),
+        Kind::Complete | Kind::Forget | Kind::After => Ok(Act::Complete),
         Kind::Compensate => Ok(Act::Compensate),
         Kind::Status => act_of_status(replica, id, member),
     }
@@ -149,6 +149,7 @@ fn command_of(id: LraId, member: u8, act: Act, heard: Heard) -> Option<Command>
             outcome,
         }),
         Heard::Forgotten => Some(Command::Forgot { id, member }),
+        Heard::Informed => Some(Command::Told { id, member }),
         Heard::Again => None,
     }
 }
@@ -188,6 +189,7 @@ fn tell_heard(alloc: Global, room: Room, heard: Heard, reply: Reply) -> Result<S
         Reply::Answered(CommandReply::Reported) => Ok(heard_word_line(room, heard, " reported")),
         Reply::Answered(CommandReply::Known) => Ok(heard_word_line(room, heard, " known")),
         Reply::Answered(CommandReply::Forgotten) => Ok(heard_word_line(room, heard, " forgot")),
+        Reply::Answered(CommandReply::Told) => Ok(heard_word_line(room, heard, " told")),
         other => tell(alloc, room, other),
     }
 }

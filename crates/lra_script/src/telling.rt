@@ -41,6 +41,7 @@ fn tell_answered(alloc: Global, room: Room, reply: CommandReply) -> Result<Strin
         CommandReply::Reported => Ok(word_line(room, "reported")),
         CommandReply::Known => Ok(word_line(room, "known")),
         CommandReply::Forgotten => Ok(word_line(room, "forgot")),
+        CommandReply::Told => Ok(word_line(room, "told")),
         CommandReply::Purged => Ok(word_line(room, "purged")),
         CommandReply::Refused(refusal) => refusal_line(alloc, refusal),
     }

@@ -23,9 +23,11 @@ pub enum Verb {
     Restart,
     Same,
     Send,
+    SendOld,
     Show,
     Text,
     Tick,
+    Told,
 }
 
 impl Verb {
@@ -52,9 +54,11 @@ impl Verb {
             b"restart" => Some(Verb::Restart),
             b"same" => Some(Verb::Same),
             b"send" => Some(Verb::Send),
+            b"sendold" => Some(Verb::SendOld),
             b"show" => Some(Verb::Show),
             b"text" => Some(Verb::Text),
             b"tick" => Some(Verb::Tick),
+            b"told" => Some(Verb::Told),
             _ => None,
         }
     }

@@ -29,6 +29,7 @@ fn command_of(letter: &Letter) -> Option<Command> {
             outcome,
         }),
         Heard::Forgotten => Some(Command::Forgot { id, member }),
+        Heard::Informed => Some(Command::Told { id, member }),
         Heard::Again => None,
     }
 }

@@ -47,11 +47,13 @@ pub enum Task {
     Rest,
 }
 
-/// A participant that is being called, or is called again only after a pause.
+/// A participant that is being called, or is called again only after a pause. It is told of the end apart from the rest, so that a
+/// link to forget that never answers doesn't hold that up.
 #[derive(Drop)]
 struct Slip {
     id: LraId,
     member: u8,
+    of_end: bool,
     pause: u64,
     /// When it may be called again; none while it is called.
     until: Option<Duration>,
@@ -65,6 +67,7 @@ impl Slip {
         Slip {
             id: duty.id,
             member: duty.member,
+            of_end: duty.kind == Kind::After,
             pause: 0,
             until: None,
             due: true,
@@ -79,7 +82,9 @@ impl Slip {
     }
 
     fn is_of(&self, duty: &Duty) -> bool {
-        self.id == duty.id && self.member == duty.member
+        self.id == duty.id
+            && self.member == duty.member
+            && self.of_end == (duty.kind == Kind::After)
     }
 
     /// Whether it may be called again.
@@ -88,6 +93,15 @@ impl Slip {
             Some(until) => until <= now,
             None => false,
         }
+    }
+}
+
+/// Whether nobody else is to be called behind this duty while others wait: it is a completion, or told of an end.
+fn calls_nobody(duty: &Duty) -> bool {
+    match duty.kind {
+        Kind::After => true,
+        Kind::Forget => false,
+        Kind::Complete | Kind::Compensate | Kind::Status => duty.act == Act::Complete,
     }
 }
 
@@ -126,10 +140,10 @@ impl Mail {
         self.stirred || self.slips.iter().any(|slip| slip.is_over(now))
     }
 
-    /// Has it asked who is to be called: at once, or, behind a completion, when those have been called that wait. Nobody else is to be
-    /// called before, and a list of all that is due may be long.
-    fn stir(&mut self, is_completion: bool) {
-        if is_completion && !self.due.is_empty() {
+    /// Has it asked who is to be called: at once, or, where nobody else is to be called before, when those have been called that wait.
+    /// A list of all that is due may be long.
+    fn stir(&mut self, is_last: bool) {
+        if is_last && !self.due.is_empty() {
             self.later = true;
         } else {
             self.stirred = true;
@@ -245,7 +259,9 @@ impl Mail {
         self.hosts.end(&duty, pace);
         match heard {
             Heard::Again => self.pause(&duty, now),
-            Heard::Told(_) | Heard::Forgotten => self.put_letter(Letter { duty, heard }),
+            Heard::Told(_) | Heard::Forgotten | Heard::Informed => {
+                self.put_letter(Letter { duty, heard });
+            }
         }
         self.due.len()
     }
@@ -426,7 +442,7 @@ impl Post {
             Heard::Told(Outcome::Busy) => mail.pause(&letter.duty, now),
             _ => mail.drop_slip(&letter.duty),
         }
-        mail.stir(letter.duty.kind != Kind::Forget && letter.duty.act == Act::Complete);
+        mail.stir(calls_nobody(&letter.duty));
     }
 
     /// Hands over what another node told, unless something waits already. It says whether it did.

@@ -14,14 +14,16 @@ use Rattle.lra_forest.proofs.Overdue.{overdue_said}
 use Rattle.lra_history.specs.declared.command.Command.{Command}
 use Rattle.lra_history.specs.declared.command.Command.TheVariants.{Decide}
 use Rattle.lra_history.specs.declared.command.CommandReply.{CommandReply}
-use Rattle.lra_history.specs.declared.command.CommandReply.TheVariants.{Began, Joined, Left, Decided, Reported, Known, Forgotten, Purged, Refused as NotEntered}
+use Rattle.lra_history.specs.declared.command.CommandReply.TheVariants.{Began, Joined, Left, Decided, Reported, Known, Forgotten, Told, Purged, Refused as NotEntered}
 use Rattle.lra_history.specs.Histories.{IsClosed, facts}
 use Rattle.lra_history.specs.Next.{next_view, overdue_on, reply_on}
 use Rattle.lra_history.specs.Views.{StandsFor, View, records_at}
 use Rattle.lra_history.proofs.Covered.{nested_settled}
 use Rattle.lra_delta.specs.Frames.{Frame, IsFrame, frame_of}
-use Rattle.lra_delta.specs.Rules.{IsDelta, are_counts}
-use Rattle.lra_delta.specs.Encoding.{encoding}
+use Rattle.lra_delta.specs.Rules.{IsDelta, IsDeltaAs, are_counts}
+use Rattle.lra_delta.specs.Encoding.{encoding, encoding_as}
+use Rattle.lra_delta.specs.declared.version.Version.{Version}
+use Rattle.lra_delta.specs.declared.version.Version.TheVariants.{Two}
 use Rattle.lra_delta.proofs.FramesOfHistories.{take_law}
 use Rattle.lra_delta.proofs.OfSets.{frame_stands}
 use Rattle.lra_peer.specs.PullBodies.{asked, counts_in}
@@ -99,6 +101,7 @@ expired_means me s frame now a b l served least next = by
     by (Decided id status) e = Something (Tick me now) (DidExpire l) t refl refl (ticks (Decided id status) e refl) refl holds
     by Reported e = Something (Tick me now) (DidExpire l) t refl refl (ticks Reported e refl) refl holds
     by Forgotten e = Something (Tick me now) (DidExpire l) t refl refl (ticks Forgotten e refl) refl holds
+    by Told e = Something (Tick me now) (DidExpire l) t refl refl (ticks Told e refl) refl holds
     by Purged e = Something (Tick me now) (DidExpire l) t refl refl (ticks Purged e refl) refl holds
 
 expiry_means : (me : ℕ) (s : State) (frame now : ℕ) (a b : View) (late : Option Id) → IsServed me s a → IsLeastOverdue (set_of s me) me now late → b ≡ view_expired a me late
@@ -109,6 +112,16 @@ expiry_means me s frame now a b (Some l) served least next =
     (expired_means me s frame now a b l served least next (reply_at s me (Decide l Cancel)) refl)
 
 -- Frames that are taken
+
+-- what a frame tells is what its bytes encode
+pub encoded_in_two : (s : State) (number : ℕ) (delta : Frame) (told : IsTold s number delta) → IsDelta delta → IsEncoded s.history told.sent (encoding delta)
+encoded_in_two s number delta told rules =
+    record {
+      view = told.view;
+      sender = told.sender;
+      rules = subst (λ (v : Version). IsDeltaAs v (frame_of told.view told.sent.base)) (sym told.version) (subst IsDelta told.told rules);
+      encodes = ap encoding told.told ∙ ap (λ (v : Version). encoding_as v (frame_of told.view told.sent.base)) (sym told.version);
+    }
 
 took_means : (me : ℕ) (s : State) (frame now : ℕ) (a b : View) (delta : Frame) → IsServed me s a → Takes a delta b → IsTold s frame delta → IsDelta delta → Means me s frame now (Take delta) Took b
 took_means me s frame now a b delta served takes told spelt =
@@ -137,7 +150,7 @@ took_means me s frame now a b delta served takes told spelt =
     below = subst (λ (u : List ℕ). IsBelow sent.base u) served.holds.counts (subst (λ (u : List ℕ). IsBelow u a.front) base takes.reached)
 
     encoded : IsEncoded s.history sent (encoding delta)
-    encoded = record { view = told.view; sender = told.sender; rules = subst IsDelta told.told spelt; encodes = ap encoding told.told }
+    encoded = encoded_in_two s frame delta told spelt
 
     comes : Comes s me (frame_at s frame) (length (encoding delta)) DidTake t
     comes =
@@ -211,7 +224,7 @@ gave_means me s frame now a b body asker served nodes same =
     number = length s.sent + 1
 
     added : SentFrame
-    added = record { base = base; front = front_of s me }
+    added = record { version = Two; base = base; front = front_of s me }
 
     t : State
     t = record s { sent = s.sent ++ added ∷ [] }
@@ -226,7 +239,7 @@ gave_means me s frame now a b body asker served nodes same =
         ))
 
     told : IsTold t number (frame_of a base)
-    told = record { sent = added; numbered = last_numbered s.sent added number refl; view = a; sender = served.holds; told = refl }
+    told = record { sent = added; numbered = last_numbered s.sent added number refl; version = refl; view = a; sender = served.holds; told = refl }
 
 pull_means : (me : ℕ) (s : State) (frame now : ℕ) (a b : View) (body : List ℕ) (o : Result (List ℕ) Refusal) → IsServed me s a → asked (length a.front) body ≡ o → b ≡ a
     → Means me s frame now (Pull body) (pull_reply a o) b

@@ -9,6 +9,7 @@ use Rattle.lra_delta.specs.Grammar.{IsOfGrammar}
 use Rattle.lra_delta.specs.Rules.{IsDelta}
 use Rattle.lra_delta.specs.Encoding.{encoding}
 use Rattle.lra_delta.specs.Typed.{IsTyped}
+use Rattle.lra_delta.specs.declared.version.Version.TheVariants.{Two}
 use Rattle.lra_delta.proofs.FrameCodes.{one_delta}
 use Rattle.lra_delta.proofs.Grammar.{grammar_law}
 use Rattle.lra_delta.proofs.HaveEncodings.{is_delta}
@@ -19,7 +20,7 @@ use Rattle.lra_book.specs.declared.calls.Reply.{Reply}
 use Rattle.lra_book.specs.declared.calls.Reply.TheVariants.{Gave}
 use Rattle.lra_book.specs.Next.{IsNext, pull_reply}
 use Rattle.lra_trail.specs.NodeTrails.{IsServed, IsTold}
-use Rattle.lra_trail.proofs.Entries.{asked_nodes, meet_nodes}
+use Rattle.lra_trail.proofs.Entries.{asked_nodes, encoded_in_two, meet_nodes}
 use Rattle.lra_trail.proofs.OwnCommands.{current_of}
 
 -- what a frame tells is what its bytes encode
@@ -27,16 +28,18 @@ use Rattle.lra_trail.proofs.OwnCommands.{current_of}
 pub told_encoded : (s : State) (number : ℕ) (delta : Frame) → IsDelta delta → IsTold s number delta
     → (sent : SentFrame) × (frame_at s number ≡ Some sent) × IsEncoded s.history sent (encoding delta)
 told_encoded s number delta rules told =
-    (told.sent, told.numbered, record { view = told.view; sender = told.sender; rules = subst IsDelta told.told rules; encodes = ap encoding told.told })
+    (told.sent, told.numbered, encoded_in_two s number delta told rules)
 
 pub encoded_told : (s : State) (number : ℕ) (sent : SentFrame) (delta : Frame) → IsDelta delta → frame_at s number ≡ Some sent → IsEncoded s.history sent (encoding delta) → IsTold s number delta
 encoded_told s number sent delta rules numbered encoded =
+    let one = one_delta Two sent.version delta (frame_of encoded.view sent.base) [] [] rules encoded.rules (ap (λ (bytes : List ℕ). bytes ++ []) encoded.encodes) in
     record {
       sent = sent;
       numbered = numbered;
+      version = sym one.0;
       view = encoded.view;
       sender = encoded.sender;
-      told = (one_delta delta (frame_of encoded.view sent.base) [] [] rules encoded.rules (ap (λ (bytes : List ℕ). bytes ++ []) encoded.encodes)).0;
+      told = one.1;
     }
 
 -- what is given keeps the rules of frames

@@ -38,7 +38,7 @@ move_numbered : (s t : State) (number : ℕ) (frame : SentFrame) → IsMove s t 
 move_numbered s t number frame (Still e) at = ap (λ (u : State). frame_at u number) e ∙ at
 move_numbered s t number frame (Entered node c is taken e) at = ap (λ (u : State). frame_at u number) e ∙ at
 move_numbered s t number frame (Joined node from is m e) at = ap (λ (u : State). frame_at u number) e ∙ at
-move_numbered s t number frame (Posted node base is nodes below e) at =
+move_numbered s t number frame (Posted version node base is nodes below e) at =
     ap (λ (u : State). frame_at u number) e ∙ numbered_still (number == 0) s.sent _ (number - 1) frame at
 
 pub step_told : (s t : State) (event : Event) (reply : Reply) (number : ℕ) (delta : Frame) → IsWorld s → Steps s event reply t → IsTold s number delta → IsTold t number delta
@@ -48,6 +48,7 @@ step_told s t event reply number delta world steps told =
     record {
       sent = told.sent;
       numbered = move_numbered s t number told.sent (step_moves s t event reply steps) told.numbered;
+      version = told.version;
       view = told.view;
       sender = record {
         stands = subst (λ (S : List Fact). StandsFor S told.view) (sym (kept.grown.same told.sent.front closed)) told.sender.stands;

@@ -3,7 +3,7 @@ use Rattle.std.proofs.Common.{◌≡◌, ◌≤◌, ◌<◌, ◌-◌, ◌&&◌, 
 use Rattle.std.proofs.lemmas.Bool.Decides.{nat_tests}
 use Rattle.lra_facts.specs.declared.fact.Fact.{Fact}
 use Rattle.lra_history.specs.declared.command.Command.{Command}
-use Rattle.lra_history.specs.declared.command.Command.TheVariants.{Begin, Join, Leave, Decide, Report, Forgot, Purge}
+use Rattle.lra_history.specs.declared.command.Command.TheVariants.{Begin, Join, Leave, Decide, Report, Forgot, Told, Purge}
 use Rattle.lra_history.specs.Changes.{AddsFact, raised}
 use Rattle.lra_history.specs.Growth.{IsSettled}
 use Rattle.lra_history.specs.Histories.{facts}
@@ -55,6 +55,7 @@ accepted_is S v node (Leave l m) = refl
 accepted_is S v node (Decide l verdict) = refl
 accepted_is S v node (Report l m act outcome) = refl
 accepted_is S v node (Forgot l m) = refl
+accepted_is S v node (Told l m) = refl
 accepted_is S v node (Purge root) = refl
 
 never_both : (b : Bool) → b ≡ true → b ≡ false → ⊥

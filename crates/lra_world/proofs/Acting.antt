@@ -4,7 +4,7 @@ use Rattle.lra_facts.specs.declared.fact.Fact.{Fact}
 use Rattle.lra_facts.specs.declared.refusal.Refusal.{Refusal}
 use Rattle.lra_facts.specs.declared.refusal.Refusal.TheVariants.{NoMemory}
 use Rattle.lra_history.specs.declared.command.Command.{Command}
-use Rattle.lra_history.specs.declared.command.Command.TheVariants.{Begin, Join, Leave, Decide, Report, Forgot, Purge}
+use Rattle.lra_history.specs.declared.command.Command.TheVariants.{Begin, Join, Leave, Decide, Report, Forgot, Told, Purge}
 use Rattle.lra_history.specs.declared.command.CommandReply.TheVariants.{Refused}
 use Rattle.lra_replica.specs.declared.patch.Prepared.{Prepared}
 use Rattle.lra_history.specs.Changes.{AddsFact, Change}
@@ -34,6 +34,7 @@ never_refused S v node (Leave id m) r e = absurd cc
 never_refused S v node (Decide id verdict) r e = absurd cc
 never_refused S v node (Report id m act outcome) r e = absurd cc
 never_refused S v node (Forgot id m) r e = absurd cc
+never_refused S v node (Told id m) r e = absurd cc
 never_refused S v node (Purge root) r e = absurd cc
 
 unchanged : (j : Judgement) (S : List Fact) (old new : View) (me : ℕ) (c : Command) (r : Refusal) → reply_by j (accepted S old.front me c) ≡ Refused r → new ≡ old → Becomes j S old me c new

@@ -13,8 +13,9 @@ use Rattle.lra_delta.specs.declared.input.Stop.{Stop}
 use Rattle.lra_delta.specs.declared.input.Stop.TheVariants.{Fault}
 use Rattle.lra_delta.specs.Frames.{Frame, frame_of}
 use Rattle.lra_delta.specs.Reading.{frame_in}
-use Rattle.lra_delta.specs.Rules.{IsDelta}
-use Rattle.lra_delta.specs.Encoding.{encoding}
+use Rattle.lra_delta.specs.Rules.{IsDeltaAs}
+use Rattle.lra_delta.specs.Encoding.{encoding_as}
+use Rattle.lra_delta.specs.declared.version.Version.{Version}
 use Rattle.lra_delta.proofs.FrameCodes.{frame_again, one_delta}
 use Rattle.lra_delta.proofs.OfSets.{frame_stands}
 use Rattle.lra_world.specs.declared.event.Event.TheVariants.{Deliver}
@@ -52,8 +53,10 @@ is_from s node frame bytes a coming =
     }
 
 -- what is read of all bytes is the frame, and of fewer nothing is read
-is_frame : (frame read : Frame) (bytes rest : List ℕ) → IsDelta frame → IsDelta read → bytes ≡ encoding frame → encoding read ++ rest ≡ bytes → (read ≡ frame) × (rest ≡ [])
-is_frame frame read bytes rest rules also encodes e = one_delta read frame rest [] also rules (e ∙ encodes ∙ sym (append-nil (encoding frame)))
+is_frame : (v w : Version) (frame read : Frame) (bytes rest : List ℕ) → IsDeltaAs v frame → IsDeltaAs w read → bytes ≡ encoding_as v frame → encoding_as w read ++ rest ≡ bytes → (read ≡ frame) × (rest ≡ [])
+is_frame v w frame read bytes rest rules also encodes e =
+    let one = one_delta w v read frame rest [] also rules (e ∙ encodes ∙ sym (append-nil (encoding_as v frame))) in
+    (one.1, one.2)
 
 -- either nothing changes, or the view is that of the joined front
 data Taken (s : State) (node : ℕ) (frame : SentFrame) (bytes : List ℕ) (kept : ℕ) (reply : Reply) (a c : View) : Type 0 where
@@ -73,17 +76,18 @@ takes_frame s node frame bytes kept reply a c coming all takes = elim (below_or_
     is = takes s.history (front_of s node) frame.front (is_from s node frame bytes a coming)
 
 -- all bytes of a frame: what they encode is that frame
-pub all_read : (f : Frame) (bytes : List ℕ) (reply : Reply) (a c : View) → IsDelta f → bytes ≡ encoding f → TakesBytes a bytes (length bytes) reply c → TakesFrame a f reply c
-all_read f bytes reply a c rules encodes (inl more) = absurd (omega (arith, more.0))
-all_read f bytes reply a c rules encodes (inr (inl cut)) =
-    let read : frame_in (take (length bytes) bytes) ≡ Ok f = ap frame_in (take-length bytes ∙ encodes) ∙ frame_again f rules in
+pub all_read : (v : Version) (f : Frame) (bytes : List ℕ) (reply : Reply) (a c : View) → IsDeltaAs v f → bytes ≡ encoding_as v f → TakesBytes a bytes (length bytes) reply c → TakesFrame a f reply c
+all_read v f bytes reply a c rules encodes (inl more) = absurd (omega (arith, more.0))
+all_read v f bytes reply a c rules encodes (inr (inl cut)) =
+    let read : frame_in (take (length bytes) bytes) ≡ Ok f = ap frame_in (take-length bytes ∙ encodes) ∙ frame_again v f rules in
     absurd (not_both cut.1.0 (sym read ∙ cut.1.1))
   where
     not_both : (place : ℕ) → ◌≡◌ {A = Result Frame Stop} (Ok f) (Err (Fault place)) → ⊥
     not_both place e = absurd cc
-all_read f bytes reply a c rules encodes (inr (inr read)) =
-    let whole : encoding read.1.0 ++ [] ≡ bytes = append-nil (encoding read.1.0) ∙ sym read.1.2 ∙ take-length bytes in
-    subst (λ (d : Frame). TakesFrame a d reply c) (is_frame f read.1.0 bytes [] rules read.1.1 encodes whole).0 read.1.3
+all_read v f bytes reply a c rules encodes (inr (inr read)) =
+    let is = read.1.1 in
+    let whole : encoding_as is.0 read.1.0 ++ [] ≡ bytes = append-nil (encoding_as is.0 read.1.0) ∙ sym is.2 ∙ take-length bytes in
+    subst (λ (d : Frame). TakesFrame a d reply c) (is_frame v is.0 f read.1.0 bytes [] rules is.1 encodes whole).0 read.1.2
 
 -- more bytes than there are, fewer, or all
 less_or_all : (count kept : ℕ) → (count < kept) ⊎ ((kept < count) ⊎ (kept ≡ count))
@@ -98,8 +102,9 @@ takes_some : (s : State) (node : ℕ) (frame : SentFrame) (bytes : List ℕ) (ke
 takes_some s node frame bytes kept reply a c coming less (inl more) = absurd (omega (arith, less, more.0))
 takes_some s node frame bytes kept reply a c coming less (inr (inl cut)) = Unchanged cut.1.3 (inr (inl (less, (cut.1.0, cut.1.1, (cut.1.2, refl)))))
 takes_some s node frame bytes kept reply a c coming less (inr (inr read)) =
-    let one = is_frame (frame_from s node frame bytes a coming) read.1.0 bytes (drop kept bytes) coming.encoded.rules read.1.1 coming.encoded.encodes
-    (ap (λ (b : List ℕ). b ++ drop kept bytes) (sym read.1.2) ∙ take-append-drop kept bytes) in
+    let is = read.1.1 in
+    let one = is_frame frame.version is.0 (frame_from s node frame bytes a coming) read.1.0 bytes (drop kept bytes) coming.encoded.rules is.1 coming.encoded.encodes
+    (ap (λ (b : List ℕ). b ++ drop kept bytes) (sym is.2) ∙ take-append-drop kept bytes) in
     absurd (left_over kept bytes less one.1)
   where
     left_over : (n : ℕ) (xs : List ℕ) → n < length xs → drop n xs ≡ [] → ⊥
@@ -113,7 +118,7 @@ takes_bytes s node frame bytes kept reply a c coming takes = elim (less_or_all (
   | inr within ↦ elim within [
     | inl less ↦ takes_some s node frame bytes kept reply a c coming less takes
     | inr all ↦ takes_frame s node frame bytes kept reply a c coming all
-        (all_read (frame_from s node frame bytes a coming) bytes reply a c coming.encoded.rules coming.encoded.encodes
+        (all_read frame.version (frame_from s node frame bytes a coming) bytes reply a c coming.encoded.rules coming.encoded.encodes
         (subst (λ (n : ℕ). TakesBytes a bytes n reply c) all takes))
   ]
 ]

@@ -7,7 +7,7 @@ use Rattle.lra_forest.specs.Overdue.{IsLeastOverdue, is_overdue}
 use Rattle.lra_history.specs.Histories.{History}
 use Rattle.lra_history.specs.Views.{View}
 use Rattle.lra_world.specs.declared.event.Event.{Event}
-use Rattle.lra_world.specs.declared.event.Event.TheVariants.{Act, Deliver, Restart, Send, Tick}
+use Rattle.lra_world.specs.declared.event.Event.TheVariants.{Act, Deliver, Restart, Send, SendOld, Tick}
 use Rattle.lra_world.specs.declared.event.Reply.{Reply}
 use Rattle.lra_world.specs.declared.event.Reply.TheVariants.{Refused}
 use Rattle.lra_facts.specs.declared.refusal.Refusal.TheVariants.{BadFrame}
@@ -15,8 +15,8 @@ use Rattle.lra_delta.specs.declared.input.Stop.{Stop}
 use Rattle.lra_delta.specs.declared.input.Stop.TheVariants.{Fault}
 use Rattle.lra_delta.specs.Frames.{Frame, frame_of}
 use Rattle.lra_delta.specs.Reading.{frame_in}
-use Rattle.lra_delta.specs.Encoding.{encoding}
-use Rattle.lra_world.specs.Worlds.{Comes, Expires, SentFrame, IfNode, IsEncoded, Sends, State, Stays, Steps, Takes, Ticks, frame_at, is_node, set_of}
+use Rattle.lra_delta.specs.Encoding.{encoding_as}
+use Rattle.lra_world.specs.Worlds.{Comes, Expires, SentFrame, IfNode, IsEncoded, Sends, SendsOld, State, Stays, Steps, Takes, Ticks, frame_at, is_node, set_of}
 use Rattle.lra_world.proofs.Agreeing.{same_view}
 
 pub record AreOne (t u : State) (reply other : Reply) : Type 0 where
@@ -36,6 +36,24 @@ sends_once s t u node base reply other (inr (inl h)) (inr (inr k)) = absurd (h.1
 sends_once s t u node base reply other (inr (inr h)) (inl k) = absurd (k.0 h.0)
 sends_once s t u node base reply other (inr (inr h)) (inr (inl k)) = absurd (k.1 h.1)
 sends_once s t u node base reply other (inr (inr h)) (inr (inr k)) = record { reply_is = h.2 ∙ sym k.2; state_is = h.3 ∙ sym k.3 }
+
+sends_old_once : (s t u : State) (node : ℕ) (base : List ℕ) (reply other : Reply) → SendsOld s node base reply t → SendsOld s node base other u → AreOne t u reply other
+sends_old_once s t u node base reply other (inl h) (inl k) = stays_once s t u _ reply other h.1 k.1
+sends_old_once s t u node base reply other (inl h) (inr (inl k)) = absurd (h.0 k.0)
+sends_old_once s t u node base reply other (inl h) (inr (inr (inl k))) = absurd (h.0 k.0)
+sends_old_once s t u node base reply other (inl h) (inr (inr (inr k))) = absurd (h.0 k.0)
+sends_old_once s t u node base reply other (inr (inl h)) (inl k) = absurd (k.0 h.0)
+sends_old_once s t u node base reply other (inr (inl h)) (inr (inl k)) = stays_once s t u _ reply other h.2 k.2
+sends_old_once s t u node base reply other (inr (inl h)) (inr (inr (inl k))) = absurd (h.1 k.1)
+sends_old_once s t u node base reply other (inr (inl h)) (inr (inr (inr k))) = absurd (h.1 k.1)
+sends_old_once s t u node base reply other (inr (inr (inl h))) (inl k) = absurd (k.0 h.0)
+sends_old_once s t u node base reply other (inr (inr (inl h))) (inr (inl k)) = absurd (k.1 h.1)
+sends_old_once s t u node base reply other (inr (inr (inl h))) (inr (inr (inl k))) = stays_once s t u _ reply other h.3 k.3
+sends_old_once s t u node base reply other (inr (inr (inl h))) (inr (inr (inr k))) = absurd (k.2 h.2)
+sends_old_once s t u node base reply other (inr (inr (inr h))) (inl k) = absurd (k.0 h.0)
+sends_old_once s t u node base reply other (inr (inr (inr h))) (inr (inl k)) = absurd (k.1 h.1)
+sends_old_once s t u node base reply other (inr (inr (inr h))) (inr (inr (inl k))) = absurd (h.2 k.2)
+sends_old_once s t u node base reply other (inr (inr (inr h))) (inr (inr (inr k))) = record { reply_is = h.3 ∙ sym k.3; state_is = h.4 ∙ sym k.4 }
 
 -- bytes break a rule at one place
 one_place : (bytes : List ℕ) (place other : ℕ) → frame_in bytes ≡ Err (Fault place) → frame_in bytes ≡ Err (Fault other) → place ≡ other
@@ -66,10 +84,10 @@ takes_once s t u node frame bytes kept reply other (inr (inr (inr h))) (inr (inl
 takes_once s t u node frame bytes kept reply other (inr (inr (inr h))) (inr (inr (inl k))) = absurd (k.1 h.1)
 takes_once s t u node frame bytes kept reply other (inr (inr (inr h))) (inr (inr (inr k))) = record { reply_is = h.2 ∙ sym k.2; state_is = h.3 ∙ sym k.3 }
 
--- a frame is encoded in one way
+-- a frame is encoded in one way, in its version
 pub one_encoding : (h : History) (frame : SentFrame) (b c : List ℕ) → IsEncoded h frame b → IsEncoded h frame c → b ≡ c
 one_encoding h frame b c one other =
-    one.encodes ∙ ap (λ (v : View). encoding (frame_of v frame.base)) (same_view h frame.front frame.front one.view other.view refl one.sender other.sender) ∙ sym other.encodes
+    one.encodes ∙ ap (λ (v : View). encoding_as frame.version (frame_of v frame.base)) (same_view h frame.front frame.front one.view other.view refl one.sender other.sender) ∙ sym other.encodes
 
 comes_once : (s t u : State) (node : ℕ) (found : Option SentFrame) (kept : ℕ) (reply other : Reply) → Comes s node found kept reply t → Comes s node found kept other u → AreOne t u reply other
 comes_once s t u node None kept reply other h k = stays_once s t u _ reply other h k
@@ -89,7 +107,7 @@ less_or_more a b = by (nat_lt a b) (nat_lt b a) refl refl
 same_id_by : (l k : Id) → l.home ≡ k.home → l.num ≡ k.num → l ≡ k
 same_id_by l k e f = ap (λ (h : ℕ). record { home = h; num = l.num }) e ∙ ap (λ (n : ℕ). record { home = k.home; num = n }) f
 
-never_both : (b : Bool) → b ≡ true → b ≡ false → ⊥
+pub never_both : (b : Bool) → b ≡ true → b ≡ false → ⊥
 never_both true e f = absurd cc
 never_both false e f = absurd cc
 
@@ -121,6 +139,8 @@ step_once s t u (Act node c) reply other h k =
     if_node_once (is_node s node) s t u _ _ reply other (λ x y. record { reply_is = x.0 ∙ sym y.0; state_is = x.1 ∙ sym y.1 }) h k
 step_once s t u (Send node base) reply other h k =
     if_node_once (is_node s node) s t u (Sends s node base reply t) (Sends s node base other u) reply other (λ x y. sends_once s t u node base reply other x y) h k
+step_once s t u (SendOld node base) reply other h k =
+    if_node_once (is_node s node) s t u (SendsOld s node base reply t) (SendsOld s node base other u) reply other (λ x y. sends_old_once s t u node base reply other x y) h k
 step_once s t u (Deliver number node kept) reply other h k =
     if_node_once (is_node s node) s t u (Comes s node (frame_at s number) kept reply t) (Comes s node (frame_at s number) kept other u) reply other
     (λ x y. comes_once s t u node (frame_at s number) kept reply other x y) h k

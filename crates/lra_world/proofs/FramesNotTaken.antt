@@ -1,11 +1,17 @@
 -- What a node makes of a frame that is not taken, and of the bytes of one that it sends.
-use Rattle.std.proofs.Common.{◌≡◌, ◌∙◌, ℕ, List, Result, Err, ap, length, subst, sym}
+use Rattle.std.proofs.Common.{◌≡◌, ◌⊎◌, ◌↔◌, inl, inr, ◌∙◌, ℕ, List, Result, Ok, Err, Bool, true, false, Vec, ap, length, refl, subst, sym}
+use Rattle.std.specs.Prelude.{IfErr, IfOk}
+use Rattle.std.specs.declared.alloc.Global.{Global}
 use Rattle.lra_id.specs.Fronts.{IsBelow}
 use Rattle.lra_facts.specs.declared.refusal.Refusal.{Refusal}
-use Rattle.lra_facts.specs.declared.refusal.Refusal.TheVariants.{Gap, NoMemory}
+use Rattle.lra_facts.specs.declared.refusal.Refusal.TheVariants.{Gap, NeedsVersion2, NoMemory}
 use Rattle.lra_history.specs.Histories.{History, IsClosed, IsLawful, facts}
 use Rattle.lra_history.specs.Views.{StandsFor, View}
+use Rattle.lra_delta.specs.Encoding.{encoding_as}
 use Rattle.lra_delta.specs.Frames.{Frame, IsFrame}
+use Rattle.lra_delta.specs.Rules.{IsDeltaAs}
+use Rattle.lra_delta.specs.Versions.{needs_two}
+use Rattle.lra_delta.specs.declared.version.Version.TheVariants.{One}
 use Rattle.lra_world.specs.declared.event.Reply.TheVariants.{Refused}
 use Rattle.lra_world.specs.Machines.{TakesFrame}
 
@@ -29,3 +35,23 @@ refused_frame {X} old new frame r gap union other same h v w from = (
   where
     nodes : length frame.front ≡ length old.front
     nodes = ap (λ (u : List ℕ). length u) from.counts ∙ from.sender.nodes ∙ sym from.receiver.nodes ∙ ap (λ (u : List ℕ). length u) (sym from.own.counts)
+
+-- what is written in version 1 needs no other
+pub written_first : (r : Result (Vec ℕ Global) Refusal) (f : Frame) → IfOk r (λ bytes. bytes.items ≡ encoding_as One f) → ((r ≡ Err NeedsVersion2) ↔ (needs_two f ≡ true)) → (needs_two f ≡ false → IsDeltaAs One f)
+    → IfOk r (λ bytes. (needs_two f ≡ false) × IsDeltaAs One f × (bytes.items ≡ encoding_as One f))
+written_first (Err q) f text needs rules = tt
+written_first (Ok bytes) f text needs rules = by (needs_two f) refl
+  where
+    never : (x : Vec ℕ Global) (q : Refusal) → ◌≡◌ {A = Result (Vec ℕ Global) Refusal} (Ok x) (Err q) → ⊥
+    never x q e = absurd cc
+
+    by : (b : Bool) → needs_two f ≡ b → (needs_two f ≡ false) × IsDeltaAs One f × (bytes.items ≡ encoding_as One f)
+    by false e = (e, rules e, text)
+    by true e = absurd (never bytes NeedsVersion2 (needs.1 e))
+
+-- and what is refused for its version needs the second
+pub refused_first : {X : Type 0} (r : Result X Refusal) (f : Frame) → IfErr r (λ q. (q ≡ NoMemory) ⊎ (q ≡ NeedsVersion2)) → ((r ≡ Err NeedsVersion2) ↔ (needs_two f ≡ true))
+    → IfErr r (λ q. (q ≡ NoMemory) ⊎ ((q ≡ NeedsVersion2) × (needs_two f ≡ true)))
+refused_first (Ok x) f cause needs = tt
+refused_first (Err q) f (inl none) needs = inl none
+refused_first (Err q) f (inr is) needs = inr (is, needs.0 (ap Err is))

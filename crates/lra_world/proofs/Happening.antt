@@ -17,13 +17,19 @@ use Rattle.lra_history.proofs.ClosedSets.{closed_settled}
 use Rattle.lra_history.specs.Histories.{History, IsClosed, IsLawful, facts}
 use Rattle.lra_replica.specs.Replicas.{ReplicaState, view_of}
 use Rattle.lra_history.specs.Views.{OfItsSet, StandsFor, View}
+use Rattle.lra_delta.specs.declared.version.Version.{Version}
+use Rattle.lra_delta.specs.declared.version.Version.TheVariants.{One, Two}
 use Rattle.lra_world.specs.declared.event.Event.{Event}
-use Rattle.lra_world.specs.declared.event.Event.TheVariants.{Act, Restart, Send, Tick}
+use Rattle.lra_world.specs.declared.event.Event.TheVariants.{Act, Restart, Send, SendOld, Tick}
 use Rattle.lra_world.specs.declared.event.Reply.{Reply}
 use Rattle.lra_world.specs.declared.event.Reply.TheVariants.{Answered, Refused, Restarted, Sent}
 use Rattle.lra_world.specs.Headline.{IsNode}
 use Rattle.lra_world.specs.Machines.{Happens, IsChanged, IsExpired, IsWorldOf, LeadsTo, Machine, StopsIn}
-use Rattle.lra_world.specs.Worlds.{Acts, SentFrame, IfNode, IsEncoded, IsViewOf, IsWorld, Runs, Sends, State, Stays, Ticks, after_command, expired, front_of, is_node, nodes_of, set_of}
+use Rattle.lra_world.specs.Worlds.{Acts, SentFrame, IfNode, IsEncoded, IsViewOf, IsWorld, NeedsTwo, Runs, Sends, SendsOld, State, Stays, Ticks, after_command, expired, front_of, is_node, nodes_of, set_of, with_frame}
+use Rattle.lra_delta.specs.Frames.{frame_of}
+use Rattle.lra_delta.specs.Versions.{needs_two}
+use Rattle.lra_world.proofs.Agreeing.{same_view}
+use Rattle.lra_world.proofs.Determined.{never_both}
 use Rattle.lra_world.proofs.Delivering.{at_node}
 use Rattle.lra_world.proofs.Converging.{converged, one_step, run_on}
 use Rattle.lra_world.proofs.Moving.{kept_posted}
@@ -151,25 +157,49 @@ last_or_old (x ∷ fs) [] f b place frame bytes same at spelt = absurd (omega (a
 last_or_old (x ∷ fs) (y ∷ bs) f b zero frame bytes same at spelt = inl (at, spelt)
 last_or_old (x ∷ fs) (y ∷ bs) f b (suc place) frame bytes same at spelt = last_or_old fs bs f b place frame bytes (omega (arith, same)) at spelt
 
+-- a frame that has no such record is one that version 1 can write
+pub needs_none : (s : State) (node : ℕ) (base : List ℕ) (view : View) → IsViewOf s.history (front_of s node) view → needs_two (frame_of view base) ≡ false → NeedsTwo s node base → ⊥
+needs_none s node base view own none two =
+    let same : two.view ≡ view = same_view s.history (front_of s node) (front_of s node) two.view view refl two.own own in
+    never_both (needs_two (frame_of view base)) (subst (λ (v : View). needs_two (frame_of v base) ≡ true) same two.needs) none
+
+-- the world with the frame's bytes stands for the state with the frame
+posted_world : (s : State) (m : Machine) (version : Version) (node : ℕ) (base bytes : List ℕ) → IsWorldOf s m → IsNode s node → length base ≡ nodes_of s → IsBelow base (front_of s node)
+    → IsEncoded s.history (record { version = version; base = base; front = front_of s node }) bytes
+    → IsWorldOf (with_frame s version node base) (record { replicas = m.replicas; sent = m.sent ++ bytes ∷ [] })
+posted_world s m version node base bytes w is counts below encoded =
+    let frame : SentFrame = record { version = version; base = base; front = front_of s node } in
+    record {
+      world = (kept_posted s version node base w.world is counts below).world;
+      nodes = w.nodes;
+      views = w.views;
+      count = length-append m.sent (bytes ∷ []) ∙ ap (λ (n : ℕ). n + 1) w.count ∙ sym (length-append s.sent (frame ∷ []));
+      frames = λ place f b at spelt. elim (last_or_old s.sent m.sent frame bytes place f b w.count at spelt) [
+        | inl old ↦ w.frames place f b old.0 old.1
+        | inr new ↦ subst (λ (x : SentFrame). IsEncoded s.history x b) new.0 (subst (λ (x : List ℕ). IsEncoded s.history frame x) new.1 encoded)
+      ];
+    }
+
 pub send_happens : (s : State) (m : Machine) (node : ℕ) (base bytes : List ℕ) → IsWorldOf s m → IsNode s node → length base ≡ length m.replicas → IsBelow base (front_of s node)
-    → IsEncoded s.history (record { base = base; front = front_of s node }) bytes
+    → IsEncoded s.history (record { version = Two; base = base; front = front_of s node }) bytes
     → Happens s (Send node base) (Sent (length m.sent + 1)) (record { replicas = m.replicas; sent = m.sent ++ bytes ∷ [] })
 send_happens s m node base bytes w is nodes below encoded =
-    let frame : SentFrame = record { base = base; front = front_of s node } in
-    let t : State = record s { sent = s.sent ++ frame ∷ [] } in
-    let counts : length base ≡ nodes_of s = nodes ∙ w.nodes in
-    let kept = kept_posted s node base w.world is counts below in (
+    let t : State = with_frame s Two node base in
+    let counts : length base ≡ nodes_of s = nodes ∙ w.nodes in (
       t,
       at_node s t node (Sends s node base (Sent (length m.sent + 1)) t) (Sent (length m.sent + 1)) is
           (inr (inr (counts, below, ap (λ (n : ℕ). Sent (n + 1)) w.count, refl))),
-      record {
-        world = kept.world;
-        nodes = w.nodes;
-        views = w.views;
-        count = length-append m.sent (bytes ∷ []) ∙ ap (λ (n : ℕ). n + 1) w.count ∙ sym (length-append s.sent (frame ∷ []));
-        frames = λ place f b at spelt. elim (last_or_old s.sent m.sent frame bytes place f b w.count at spelt) [
-          | inl old ↦ w.frames place f b old.0 old.1
-          | inr new ↦ subst (λ (x : SentFrame). IsEncoded s.history x b) new.0 (subst (λ (x : List ℕ). IsEncoded s.history frame x) new.1 encoded)
-        ];
-      },
+      posted_world s m Two node base bytes w is counts below encoded,
+    )
+
+pub send_old_happens : (s : State) (m : Machine) (node : ℕ) (base bytes : List ℕ) → IsWorldOf s m → IsNode s node → length base ≡ length m.replicas → IsBelow base (front_of s node)
+    → (NeedsTwo s node base → ⊥) → IsEncoded s.history (record { version = One; base = base; front = front_of s node }) bytes
+    → Happens s (SendOld node base) (Sent (length m.sent + 1)) (record { replicas = m.replicas; sent = m.sent ++ bytes ∷ [] })
+send_old_happens s m node base bytes w is nodes below first encoded =
+    let t : State = with_frame s One node base in
+    let counts : length base ≡ nodes_of s = nodes ∙ w.nodes in (
+      t,
+      at_node s t node (SendsOld s node base (Sent (length m.sent + 1)) t) (Sent (length m.sent + 1)) is
+          (inr (inr (inr (counts, below, first, ap (λ (n : ℕ). Sent (n + 1)) w.count, refl)))),
+      posted_world s m One node base bytes w is counts below encoded,
     )

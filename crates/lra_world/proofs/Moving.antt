@@ -19,11 +19,13 @@ use Rattle.lra_history.proofs.Basics.{same_or_not}
 use Rattle.lra_history.proofs.OneMoreEntry.{below_raised, closed_with, lawful_with, length_with, own_with, accepted_lawful}
 use Rattle.lra_history.proofs.PatchedHistories.{empty_view_in}
 use Rattle.lra_history.proofs.JoinedFronts.{closed_join, count_join}
+use Rattle.lra_delta.specs.declared.version.Version.{Version}
+use Rattle.lra_delta.specs.declared.version.Version.TheVariants.{One, Two}
 use Rattle.lra_world.specs.declared.event.Event.{Event}
-use Rattle.lra_world.specs.declared.event.Event.TheVariants.{Act, Deliver, Restart, Send, Tick}
+use Rattle.lra_world.specs.declared.event.Event.TheVariants.{Act, Deliver, Restart, Send, SendOld, Tick}
 use Rattle.lra_world.specs.declared.event.Reply.{Reply}
 use Rattle.lra_world.specs.Headline.{IsNode}
-use Rattle.lra_world.specs.Worlds.{Acts, Comes, Expires, SentFrame, IfNode, IsSent, IsWorld, Runs, Sends, State, Steps, Takes, Ticks, after_command, frame_at, front_of, if_taken, is_node, nodes_of, set_of, start, with_command, with_front}
+use Rattle.lra_world.specs.Worlds.{Acts, Comes, Expires, SentFrame, IfNode, IsSent, IsWorld, Runs, Sends, SendsOld, State, Steps, Takes, Ticks, after_command, frame_at, front_of, if_taken, is_node, nodes_of, set_of, start, with_command, with_frame, with_front}
 use Rattle.lra_world.proofs.GrowingHistories.{IsGrown, grown_more, grown_none, grown_with, sent_still}
 
 -- nothing changes, a node enters a command that it accepts, a node joins the front of a frame, or a node sends a frame
@@ -31,8 +33,8 @@ pub data IsMove (s t : State) : Type 0 where
   Still : t ≡ s → IsMove s t
   Entered : (node : ℕ) (c : Command) → IsNode s node → judge (set_of s node) (front_of s node) node c ≡ Accepted → t ≡ with_command s node c → IsMove s t
   Joined : (node : ℕ) (frame : SentFrame) → IsNode s node → In frame s.sent → t ≡ with_front s node (join_fronts (front_of s node) frame.front) → IsMove s t
-  Posted : (node : ℕ) (base : List ℕ) → IsNode s node → length base ≡ nodes_of s → IsBelow base (front_of s node)
-      → t ≡ record s { sent = s.sent ++ record { base = base; front = front_of s node } ∷ [] } → IsMove s t
+  Posted : (version : Version) (node : ℕ) (base : List ℕ) → IsNode s node → length base ≡ nodes_of s → IsBelow base (front_of s node)
+      → t ≡ with_frame s version node base → IsMove s t
 
 -- Each step is such a move
 
@@ -61,7 +63,13 @@ after_moves s t node c is e = by (judge (set_of s node) (front_of s node) node c
 sends_move : (s t : State) (node : ℕ) (base : List ℕ) (reply : Reply) → IsNode s node → Sends s node base reply t → IsMove s t
 sends_move s t node base reply is (inl h) = Still h.1.1
 sends_move s t node base reply is (inr (inl h)) = Still h.2.1
-sends_move s t node base reply is (inr (inr h)) = Posted node base is h.0 h.1 h.3
+sends_move s t node base reply is (inr (inr h)) = Posted Two node base is h.0 h.1 h.3
+
+sends_old_move : (s t : State) (node : ℕ) (base : List ℕ) (reply : Reply) → IsNode s node → SendsOld s node base reply t → IsMove s t
+sends_old_move s t node base reply is (inl h) = Still h.1.1
+sends_old_move s t node base reply is (inr (inl h)) = Still h.2.1
+sends_old_move s t node base reply is (inr (inr (inl h))) = Still h.3.1
+sends_old_move s t node base reply is (inr (inr (inr h))) = Posted One node base is h.0 h.1 h.4
 
 takes_move : (s t : State) (node : ℕ) (frame : SentFrame) (bytes : List ℕ) (kept : ℕ) (reply : Reply) → IsNode s node → In frame s.sent → Takes s node frame bytes kept reply t → IsMove s t
 takes_move s t node frame bytes kept reply is m (inl h) = Still h.1.1
@@ -89,6 +97,8 @@ step_moves s t (Act node c) reply h =
     if_node_moves (is_node s node) s t node (Acts s node c reply t) reply refl (λ is k. after_moves s t node c is k.1) h
 step_moves s t (Send node base) reply h =
     if_node_moves (is_node s node) s t node (Sends s node base reply t) reply refl (λ is k. sends_move s t node base reply is k) h
+step_moves s t (SendOld node base) reply h =
+    if_node_moves (is_node s node) s t node (SendsOld s node base reply t) reply refl (λ is k. sends_old_move s t node base reply is k) h
 step_moves s t (Deliver number node kept) reply h =
     if_node_moves (is_node s node) s t node (Comes s node (frame_at s number) kept reply t) reply refl
     (λ is k. comes_move s t node number kept (frame_at s number) reply is refl k) h
@@ -231,9 +241,9 @@ kept_joined s node frame w is m =
     ]
 
 -- a node that sends a frame
-pub kept_posted : (s : State) (node : ℕ) (base : List ℕ) → IsWorld s → IsNode s node → length base ≡ nodes_of s → IsBelow base (front_of s node)
-    → IsKeptBy s (record s { sent = s.sent ++ record { base = base; front = front_of s node } ∷ [] })
-kept_posted s node base w is nodes below =
+pub kept_posted : (s : State) (version : Version) (node : ℕ) (base : List ℕ) → IsWorld s → IsNode s node → length base ≡ nodes_of s → IsBelow base (front_of s node)
+    → IsKeptBy s (with_frame s version node base)
+kept_posted s version node base w is nodes below =
     record {
       world = record {
         lawful = w.lawful;
@@ -250,7 +260,7 @@ kept_posted s node base w is nodes below =
     }
   where
     added : SentFrame
-    added = record { base = base; front = front_of s node }
+    added = record { version = version; base = base; front = front_of s node }
 
     fresh : IsSent s.history added
     fresh = record { closed = (w.current node is.some is.there).closed; below = below; nodes = nodes }
@@ -259,7 +269,7 @@ pub move_keeps : (s t : State) → IsWorld s → IsMove s t → IsKeptBy s t
 move_keeps s t w (Still e) = subst (IsKeptBy s) (sym e) (kept_still s w)
 move_keeps s t w (Entered node c is taken e) = subst (IsKeptBy s) (sym e) (kept_entered s node c w is taken)
 move_keeps s t w (Joined node frame is m e) = subst (IsKeptBy s) (sym e) (kept_joined s node frame w is m)
-move_keeps s t w (Posted node base is nodes below e) = subst (IsKeptBy s) (sym e) (kept_posted s node base w is nodes below)
+move_keeps s t w (Posted version node base is nodes below e) = subst (IsKeptBy s) (sym e) (kept_posted s version node base w is nodes below)
 
 pub step_keeps : (s t : State) (event : Event) (reply : Reply) → IsWorld s → Steps s event reply t → IsKeptBy s t
 step_keeps s t event reply w h = move_keeps s t w (step_moves s t event reply h)

@@ -20,6 +20,7 @@ use Rattle.lra_delta.proofs.FramesOfHistories.{some_view, take_law}
 use Rattle.lra_delta.proofs.Grammar.{grammar_law}
 use Rattle.lra_delta.proofs.HaveEncodings.{is_delta}
 use Rattle.lra_delta.proofs.OfSets.{frame_stands}
+use Rattle.lra_delta.specs.declared.version.Version.TheVariants.{Two}
 use Rattle.lra_world.specs.declared.event.Reply.{Reply}
 use Rattle.lra_world.specs.declared.event.Reply.TheVariants.{Took}
 use Rattle.lra_world.specs.Machines.{IsFrom, TakesBytes, TakesFrame}
@@ -86,7 +87,7 @@ taken_again h v zeros bytes own fresh new n reply lawful closed is nodes none em
     let count : n ≡ length h = nodes ∙ ap (λ (u : List ℕ). length u) is.counts ∙ closed.nodes in
     let zeros_is : zeros ≡ replicate (length h) 0 = none ∙ ap (λ (k : ℕ). replicate k 0) count in
     let fresh_is : fresh ≡ empty_view (length h) = empty ∙ ap empty_view count in
-    let all : TakesFrame fresh (frame_of own zeros) reply new = all_read (frame_of own zeros) bytes reply fresh new rules encodes takes in
+    let all : TakesFrame fresh (frame_of own zeros) reply new = all_read Two (frame_of own zeros) bytes reply fresh new rules encodes takes in
     let whole : TakesFrame (empty_view (length h)) (frame_of own (replicate (length h) 0)) reply new =
     subst (λ (a : View). TakesFrame a (frame_of own (replicate (length h) 0)) reply new) fresh_is
     (subst (λ (z : List ℕ). TakesFrame fresh (frame_of own z) reply new) zeros_is all) in
@@ -109,7 +110,7 @@ retaken zeros items bytes nodes_front own fresh new nodes len vec reply sends co
 pub comes_back : (h : History) (v : List ℕ) (view : View) → IsLawful h → IsClosed h v → IsViewOf h v view → IsTyped (whole_of view) → ComesBack view
 comes_back h v view lawful closed is typed =
     record {
-      read = frame_again (whole_of view) (is_delta (whole_of view) typed (grammar_law h v nothing view lawful closed is.stands (length-replicate {A = ℕ} n 0) below));
+      read = frame_again Two (whole_of view) (is_delta (whole_of view) typed (grammar_law h v nothing view lawful closed is.stands (length-replicate {A = ℕ} n 0) below));
       taken = subst (λ (c : View). IsTaken (empty_view n) (whole_of view) c) (only some.0 some.1) some.1;
       only = only;
     }

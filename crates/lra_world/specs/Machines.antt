@@ -16,8 +16,9 @@ use Rattle.lra_history.specs.Replies.{Judgement, Denied, AlreadyKnown, Accepted,
 use Rattle.lra_delta.specs.declared.input.Stop.TheVariants.{Fault}
 use Rattle.lra_delta.specs.Frames.{Frame, IsFrame}
 use Rattle.lra_delta.specs.Reading.{frame_in}
-use Rattle.lra_delta.specs.Rules.{IsDelta}
-use Rattle.lra_delta.specs.Encoding.{encoding}
+use Rattle.lra_delta.specs.Rules.{IsDeltaAs}
+use Rattle.lra_delta.specs.Encoding.{encoding_as}
+use Rattle.lra_delta.specs.declared.version.Version.{Version}
 use Rattle.lra_world.specs.declared.event.Event.{Event}
 use Rattle.lra_world.specs.declared.event.Reply.{Reply}
 use Rattle.lra_world.specs.declared.event.Reply.TheVariants.{Refused, Took}
@@ -89,12 +90,13 @@ TakesFrame old frame reply new =
     (IsBelow frame.base v → (reply ≡ Took) × IsViewOf h (join_fronts v w) new)
     × ((IsBelow frame.base v → ⊥) → (reply ≡ Refused (Gap v)) × (new ≡ old))
 
--- of the bytes of a frame so many come: more than there are, or some that encode no frame, or some that encode one
+-- of the bytes of a frame so many come: more than there are, or some that encode no frame, or some that encode one, in
+-- whichever version
 abbrev pub TakesBytes : View → List ℕ → ℕ → Reply → View → Type 0
 TakesBytes old bytes kept reply new =
     ((length bytes < kept) × (reply ≡ Refused BadText) × (new ≡ old))
     ⊎ ((kept ≤ length bytes) × ((place : ℕ) × (frame_in (take kept bytes) ≡ Err (Fault place)) × (reply ≡ Refused (BadFrame place)) × (new ≡ old)))
-    ⊎ ((kept ≤ length bytes) × ((frame : Frame) × IsDelta frame × (take kept bytes ≡ encoding frame) × TakesFrame old frame reply new))
+    ⊎ ((kept ≤ length bytes) × ((frame : Frame) × ((version : Version) × IsDeltaAs version frame × (take kept bytes ≡ encoding_as version frame)) × TakesFrame old frame reply new))
 
 -- What happens
 

@@ -1,11 +1,11 @@
 -- The world: what all nodes entered, what each of them counts, and the frames that were sent; what may happen next, and
--- what is replied. No record is spoken of.
+-- what is replied. Of records it speaks only where a frame needs version 2.
 use Rattle.std.specs.Prelude.{◌≡◌, ◌⊎◌, ◌≤◌, ◌<◌, ◌+◌, ◌-◌, ◌==◌, ◌&&◌, ℕ, Bool, true, false, Option, Some, None, List, [], ◌∷◌, ◌++◌, Err, get_or, if◌then◌else◌, length, nat_le, replicate, slice_get, slice_set, take}
 use Rattle.lra_id.specs.Fronts.{IsBelow, join_fronts}
 use Rattle.lra_id.specs.Ids.{Id}
 use Rattle.lra_states.specs.declared.outcome.Verdict.TheVariants.{Cancel}
 use Rattle.lra_facts.specs.declared.fact.Fact.{Fact}
-use Rattle.lra_facts.specs.declared.refusal.Refusal.TheVariants.{BadFrame, BadText, Gap}
+use Rattle.lra_facts.specs.declared.refusal.Refusal.TheVariants.{BadFrame, BadText, Gap, NeedsVersion2}
 use Rattle.lra_facts.specs.Lists.{In}
 use Rattle.lra_forest.specs.Overdue.{IsLeastOverdue}
 use Rattle.lra_history.specs.declared.command.Command.{Command}
@@ -20,17 +20,21 @@ use Rattle.lra_history.specs.Views.{StandsFor, View}
 use Rattle.lra_delta.specs.declared.input.Stop.TheVariants.{Fault}
 use Rattle.lra_delta.specs.Frames.{frame_of}
 use Rattle.lra_delta.specs.Reading.{frame_in}
-use Rattle.lra_delta.specs.Rules.{IsDelta}
-use Rattle.lra_delta.specs.Encoding.{encoding}
+use Rattle.lra_delta.specs.Rules.{IsDeltaAs}
+use Rattle.lra_delta.specs.Encoding.{encoding_as}
+use Rattle.lra_delta.specs.Versions.{needs_two}
+use Rattle.lra_delta.specs.declared.version.Version.{Version}
+use Rattle.lra_delta.specs.declared.version.Version.TheVariants.{One, Two}
 use Rattle.lra_world.specs.declared.event.Event.{Event}
-use Rattle.lra_world.specs.declared.event.Event.TheVariants.{Act, Deliver, Restart, Send, Tick}
+use Rattle.lra_world.specs.declared.event.Event.TheVariants.{Act, Deliver, Restart, Send, SendOld, Tick}
 use Rattle.lra_world.specs.declared.event.Reply.{Reply}
 use Rattle.lra_world.specs.declared.event.Reply.TheVariants.{Answered, Expired, Quiet, Refused, Restarted, Sent, Took}
 
 -- States
 
--- a frame that was sent: the base that it counts from, and the front of its sender then
+-- a frame that was sent: the version in which it is written, the base that it counts from, and the front of its sender then
 pub record SentFrame : Type 0 where
+  pub version : Version
   pub base : List ℕ
   pub front : List ℕ
 
@@ -82,12 +86,12 @@ pub record IsViewOf (h : History) (front : List ℕ) (view : View) : Type 0 wher
   pub stands : StandsFor (facts h front) view
   pub counts : view.front ≡ front
 
--- the bytes encode the frame since its base, of the view of what its sender held
+-- the bytes encode the frame since its base, in its version, of the view of what its sender held
 pub record IsEncoded (h : History) (frame : SentFrame) (bytes : List ℕ) : Type 0 where
   pub view : View
   pub sender : IsViewOf h frame.front view
-  pub rules : IsDelta (frame_of view frame.base)
-  pub encodes : bytes ≡ encoding (frame_of view frame.base)
+  pub rules : IsDeltaAs frame.version (frame_of view frame.base)
+  pub encodes : bytes ≡ encoding_as frame.version (frame_of view frame.base)
 
 -- What happens
 
@@ -98,6 +102,11 @@ Stays s is reply t = (reply ≡ is) × (t ≡ s)
 -- the node's front is another
 abbrev pub with_front : State → ℕ → List ℕ → State
 with_front s node front = record s { fronts = slice_set s.fronts (node - 1) front }
+
+-- one more frame was sent: what the node holds since a base
+abbrev pub with_frame : State → Version → ℕ → List ℕ → State
+with_frame s version node base =
+    record s { sent = s.sent ++ record { version = version; base = base; front = front_of s node } ∷ [] }
 
 -- what a command asks is the node's next entry, with the node's front, which counts it from then on
 abbrev pub with_command : State → ℕ → Command → State
@@ -126,13 +135,28 @@ after_command s node c = if_taken (judge (set_of s node) (front_of s node) node 
 abbrev pub Acts : State → ℕ → Command → Reply → State → Type 0
 Acts s node c reply t = (reply ≡ Answered (reply_at s node c)) × (t ≡ after_command s node c)
 
--- a node sends a frame: its base counts as many nodes, and no more than the node does
+-- a node sends a frame in version 2: its base counts as many nodes, and no more than the node does
 abbrev pub Sends : State → ℕ → List ℕ → Reply → State → Type 0
 Sends s node base reply t =
     ((length base ≡ nodes_of s → ⊥) × Stays s (Refused BadText) reply t)
     ⊎ ((length base ≡ nodes_of s) × (IsBelow base (front_of s node) → ⊥) × Stays s (Refused (Gap (front_of s node))) reply t)
     ⊎ ((length base ≡ nodes_of s) × IsBelow base (front_of s node) × (reply ≡ Sent (length s.sent + 1))
-    × (t ≡ record s { sent = s.sent ++ record { base = base; front = front_of s node } ∷ [] }))
+    × (t ≡ with_frame s Two node base))
+
+-- of what the node holds a record that is told since the base has a link for the end of its LRA, which version 1 doesn't know
+pub record NeedsTwo (s : State) (node : ℕ) (base : List ℕ) : Type 0 where
+  pub view : View
+  pub own : IsViewOf s.history (front_of s node) view
+  pub needs : needs_two (frame_of view base) ≡ true
+
+-- a node sends the same frame in version 1, where it needs no other
+abbrev pub SendsOld : State → ℕ → List ℕ → Reply → State → Type 0
+SendsOld s node base reply t =
+    ((length base ≡ nodes_of s → ⊥) × Stays s (Refused BadText) reply t)
+    ⊎ ((length base ≡ nodes_of s) × (IsBelow base (front_of s node) → ⊥) × Stays s (Refused (Gap (front_of s node))) reply t)
+    ⊎ ((length base ≡ nodes_of s) × IsBelow base (front_of s node) × NeedsTwo s node base × Stays s (Refused NeedsVersion2) reply t)
+    ⊎ ((length base ≡ nodes_of s) × IsBelow base (front_of s node) × (NeedsTwo s node base → ⊥) × (reply ≡ Sent (length s.sent + 1))
+    × (t ≡ with_frame s One node base))
 
 -- Of a frame that is encoded by these bytes so many come to a node: more than there are, or fewer, or all. All are taken
 -- where the node counts the base: then it holds what it held and what the sender held
@@ -172,6 +196,7 @@ IfNode false s happens reply t = Stays s (Refused BadText) reply t
 abbrev pub Steps : State → Event → Reply → State → Type 0
 Steps s (Act node c) reply t = IfNode (is_node s node) s (Acts s node c reply t) reply t
 Steps s (Send node base) reply t = IfNode (is_node s node) s (Sends s node base reply t) reply t
+Steps s (SendOld node base) reply t = IfNode (is_node s node) s (SendsOld s node base reply t) reply t
 Steps s (Deliver number node kept) reply t = IfNode (is_node s node) s (Comes s node (frame_at s number) kept reply t) reply t
 Steps s (Restart node) reply t = IfNode (is_node s node) s (Stays s Restarted reply t) reply t
 Steps s (Tick node now) reply t = IfNode (is_node s node) s (Ticks s node now reply t) reply t

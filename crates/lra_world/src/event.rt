@@ -12,8 +12,13 @@ pub enum Event {
         node: NodeId,
         command: Command,
     },
-    /// A node sends what it has since a base.
+    /// A node sends what it has since a base, in version 2 of frames.
     Send {
+        node: NodeId,
+        base: Front,
+    },
+    /// A node sends the same in version 1, for nodes that know no other.
+    SendOld {
         node: NodeId,
         base: Front,
     },
@@ -46,6 +51,10 @@ impl Clone for Event {
                 command: command.clone()?,
             }),
             Event::Send { node, base } => Ok(Event::Send {
+                node: *node,
+                base: *base,
+            }),
+            Event::SendOld { node, base } => Ok(Event::SendOld {
                 node: *node,
                 base: *base,
             }),

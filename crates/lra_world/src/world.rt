@@ -6,16 +6,17 @@ ghost use Rattle.lra_history.specs.Growth.{IsSettled};
 ghost use Rattle.lra_history.specs.Histories.{History, IsClosed, IsLawful, facts};
 ghost use Rattle.lra_replica.specs.Replicas.{view_of};
 ghost use Rattle.lra_history.specs.Views.{StandsFor};
-ghost use Rattle.lra_world.specs.declared.event.Event.TheVariants.{Act, Deliver, Restart, Send, Tick};
+ghost use Rattle.lra_world.specs.declared.event.Event.TheVariants.{Act, Deliver, Restart, Send, SendOld, Tick};
 ghost use Rattle.lra_world.specs.declared.event.Reply.{Reply as Replies};
 ghost use Rattle.lra_world.specs.declared.event.Reply.TheVariants.{Restarted, Sent};
 ghost use Rattle.lra_world.specs.Headline.{member_at, shown_at};
 ghost use Rattle.lra_world.specs.Machines.{AreEmpty, Happens, IsActed, IsChanged, IsExpired, IsWorldOf, LeadsTo, StepsTo, StopsIn, TakesBytes};
-ghost use Rattle.lra_world.specs.Worlds.{IsEncoded, IsViewOf, Leads, State, expired, front_of, set_of, start};
+ghost use Rattle.lra_world.specs.Worlds.{IsEncoded, IsViewOf, Leads, NeedsTwo, State, expired, front_of, set_of, start};
+ghost use Rattle.lra_delta.specs.declared.version.Version.TheVariants.{One, Two};
 ghost use Rattle.lra_id.specs.Fronts.{IsBelow};
-ghost use Rattle.lra_facts.specs.declared.refusal.Refusal.TheVariants.{BadText, Gap, NoMemory};
+ghost use Rattle.lra_facts.specs.declared.refusal.Refusal.TheVariants.{BadText, Gap, NeedsVersion2, NoMemory};
 
-use crate::node::{act, bytes_since, restart, take_bytes};
+use crate::node::{act, bytes_since, old_bytes_since, restart, take_bytes};
 use crate::{Event, Reply, Stopped};
 use lra_facts::Refusal;
 use lra_history::{Command, CommandReply};
@@ -253,6 +254,7 @@ impl World {
         match event {
             Event::Act { node, command } => self.act(alloc, node, command),
             Event::Send { node, base } => self.send(alloc, node, base),
+            Event::SendOld { node, base } => self.send_old(alloc, node, base),
             Event::Deliver { frame, node, kept } => self.deliver(alloc, frame, node, kept),
             Event::Restart { node } => self.restart(alloc, node),
             Event::Tick { node, now } => self.tick(alloc, node, now),
@@ -326,7 +328,7 @@ impl World {
         }
     }
 
-    /// A node sends what it has since a base.
+    /// A node sends what it has since a base, in version 2 of frames.
     fn send(&mut self, alloc: Global, node: NodeId, base: Front) -> Result<Reply, AllocError>
         ensures step { (s : State) → IsWorldOf s self.old →
             IfOk result (λ reply. Happens s (Send node base) reply self.new) }
@@ -352,13 +354,51 @@ impl World {
         requires base { length base.now ≡ length self.now.replicas }
         ensures sent { (s : State) → IsWorldOf s self.now →
             IfOk result (λ bytes. IsBelow base.now (front_of s node) × IsEncoded s.history
-            (record { base = base.now; front = front_of s node }) bytes.items) }
+            (record { version = Two; base = base.now; front = front_of s node }) bytes.items) }
         ensures refused { (s : State) →
             IsWorldOf s self.now → IfErr result (λ refusal. (refusal ≡ NoMemory)
             ⊎ ((refusal ≡ Gap (front_of s node)) × (IsBelow base.now (front_of s node) → ⊥))) }
     {
         let place = usize::from(node.number()) - 1;
         bytes_since(alloc, &self.replicas[place], base)
+    }
+
+    /// A node sends what it has since a base in version 1 of frames.
+    fn send_old(&mut self, alloc: Global, node: NodeId, base: Front) -> Result<Reply, AllocError>
+        ensures step { (s : State) → IsWorldOf s self.old →
+            IfOk result (λ reply. Happens s (SendOld node base) reply self.new) }
+        ensures err { (s : State) → IsWorldOf s self.old → OnErr result (IsWorldOf s self.new) }
+    {
+        if !self.has(node) || base.nodes() != self.replicas.len() {
+            return Ok(Reply::Refused(Refusal::BadText));
+        }
+        match self.old_frame_since(alloc, node, &base) {
+            Ok(bytes) => self.post(bytes),
+            Err(refusal) => {
+                if refusal == Refusal::NoMemory {
+                    return Err(AllocError);
+                }
+                Ok(Reply::Refused(refusal))
+            }
+        }
+    }
+
+    /// The bytes in version 1 of the frame of a node since a base.
+    fn old_frame_since(&self, alloc: Global, node: NodeId, base: &Front) -> Result<Vec<u8>, Refusal>
+        requires node { node ≤ length self.now.replicas }
+        requires base { length base.now ≡ length self.now.replicas }
+        ensures sent { (s : State) → IsWorldOf s self.now →
+            IfOk result (λ bytes. IsBelow base.now (front_of s node)
+            × (NeedsTwo s node base.now → ⊥) × IsEncoded s.history
+            (record { version = One; base = base.now; front = front_of s node }) bytes.items) }
+        ensures refused { (s : State) →
+            IsWorldOf s self.now → IfErr result (λ refusal. (refusal ≡ NoMemory)
+            ⊎ (((refusal ≡ Gap (front_of s node)) × (IsBelow base.now (front_of s node) → ⊥))
+            ⊎ ((refusal ≡ NeedsVersion2) × IsBelow base.now (front_of s node)
+            × NeedsTwo s node base.now))) }
+    {
+        let place = usize::from(node.number()) - 1;
+        old_bytes_since(alloc, &self.replicas[place], base)
     }
 
     /// Keeps the bytes of a frame that is sent.

@@ -10,6 +10,8 @@ mod frames;
 #[cfg(test)]
 mod limits;
 #[cfg(test)]
+mod listeners;
+#[cfg(test)]
 mod members;
 #[cfg(test)]
 mod nesting;

@@ -120,7 +120,7 @@ fn joins_that_fit_no_form(rt: HostRuntime) {
     let lines: [&[u8]; 12] = [
         b"join 1 1.1 compensate=http://p/c compensate=http://p/c",
         b"join 1 1.1 compensate=http://p/c status=http://p/s status=http://p/t",
-        b"join 1 1.1 compensate=http://p/c after=http://p/a",
+        b"join 1 1.1 compensate=http://p/c before=http://p/a",
         b"join 1 1.1 compensate=http://p/c http://p/k",
         b"join 1 1.1 compensate=http://p/c complete",
         b"join 1 1.1 compensate=http://p/c ",

@@ -4,6 +4,7 @@ ghost use Rattle.lra_id.specs.Fronts.{IsBelow, is_covered};
 ghost use Rattle.lra_id.specs.Ids.{Id};
 ghost use Rattle.lra_states.specs.declared.outcome.Verdict.{Verdict};
 ghost use Rattle.lra_states.specs.declared.outcome.Verdict.TheVariants.{Cancel, Close};
+ghost use Rattle.lra_facts.specs.Duties.{is_at_end};
 ghost use Rattle.lra_facts.specs.Sets.{is_root, want};
 ghost use Rattle.lra_history.specs.Histories.{History, IsClosed, IsLawful, Made, facts};
 ghost use Rattle.lra_history.specs.Rising.{IsCancelledAbove, IsDecision, IsShownCancelled, IsShownClosed, rank_in};
@@ -40,4 +41,16 @@ pub fn no_split_verdict()
     ensures shown_root { (h : History) (v w : List ℕ) (l : Id) →
         IsLawful h → IsClosed h v → IsClosed h w → is_root (facts h v) l ≡ true →
         IsShownClosed (facts h v) l → IsShownCancelled (facts h w) l → ⊥ }
+{}
+
+/// What a listener hears is decided for good: where an LRA is at its end in a closed set of a lawful history, so that its
+/// listeners are to be told, it is so in each closed set with more facts, and wants the same there. So a worse report alone may
+/// still turn Closed into FailedToClose, or Cancelled into FailedToCancel.
+pub fn what_is_at_its_end_stays_there()
+    ensures wants { (h : History) (v w : List ℕ) (l : Id) →
+        IsLawful h → IsClosed h v → IsClosed h w → IsBelow v w →
+        is_at_end (facts h v) l ≡ true → want (facts h w) l ≡ want (facts h v) l }
+    ensures stays { (h : History) (v w : List ℕ) (l : Id) →
+        IsLawful h → IsClosed h v → IsClosed h w → IsBelow v w →
+        is_at_end (facts h v) l ≡ true → is_at_end (facts h w) l ≡ true }
 {}

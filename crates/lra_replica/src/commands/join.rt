@@ -75,6 +75,7 @@ impl Replica {
             completed: None,
             compensated: None,
             forgotten: false,
+            told: false,
         }))?;
         let member = next.members.len() as u8;
         let patch = self.patch_of_one(alloc, me, next)?;

@@ -12,7 +12,7 @@ ghost use Rattle.lra_history.specs.Next.{judge_on};
 ghost use Rattle.lra_history.specs.Readings.{at_home, by_view};
 ghost use Rattle.lra_replica.specs.Replicas.{Fits, KeepsRoom, view_of};
 ghost use Rattle.lra_history.specs.Changes.{purge_change};
-ghost use Rattle.lra_history.specs.Replies.{gone_by, nested_by, running_by, unforgotten_by};
+ghost use Rattle.lra_history.specs.Replies.{gone_by, nested_by, running_by, unforgotten_by, untold_by};
 ghost use Rattle.lra_history.specs.Views.{OfItsSet, records_at};
 
 use crate::{Patch, Prepared, Replica};
@@ -79,11 +79,22 @@ impl Replica {
         }
     }
 
+    fn refusal_of_untold(&self, root: LraId) -> Option<Refusal>
+        requires { root.home ≤ length self.now.front }
+        ensures { let t = by_view (view_of self.now) in result ≡ untold_by t root }
+    {
+        match self.least_unheard(root) {
+            Some(due) => Some(Refusal::StillToTell(due.lra, due.member)),
+            None => None,
+        }
+    }
+
     fn refusal_to_purge(&self, me: NodeId, root: LraId) -> Option<Refusal>
         requires { me ≤ length self.now.front }
         ensures first { let t = by_view (view_of self.now)
             in result ≡ first (unknown self.now.front root ∷ gone_by t root
-            ∷ away me root ∷ nested_by t root ∷ running_by t root ∷ unforgotten_by t root ∷ []) }
+            ∷ away me root ∷ nested_by t root
+            ∷ running_by t root ∷ unforgotten_by t root ∷ untold_by t root ∷ []) }
         ensures home { result ≡ None → root.home ≡ me }
     {
         if let Some(refusal) = self.refusal_at_home(me, root) {
@@ -95,7 +106,10 @@ impl Replica {
         if let Some(refusal) = self.refusal_of_running(root) {
             return Some(refusal);
         }
-        self.refusal_of_unforgotten(root)
+        if let Some(refusal) = self.refusal_of_unforgotten(root) {
+            return Some(refusal);
+        }
+        self.refusal_of_untold(root)
     }
 
     fn refusal_of_purge(&self, me: NodeId, root: LraId) -> Option<Refusal>
@@ -140,7 +154,7 @@ impl Replica {
     }
 
     /// Prepares a purge: a root that is ended is removed, with all that is nested in it. It costs a look at each of the home's
-    /// records. Errors, the first that holds: E2, E3, E4, E9, E8, E10, E14, E17.
+    /// records. Errors, the first that holds: E2, E3, E4, E9, E8, E10, E24, E14, E17.
     pub fn purge(&mut self, alloc: Global, me: NodeId, root: LraId) -> Result<Prepared, Refusal>
         requires { me ≤ length self.old.front }
         ensures view { view_of self.new ≡ view_of self.old }

@@ -58,6 +58,7 @@ fn kind_of(word: &[u8]) -> Option<Kind>
         b"compensate" => Some(Kind::Compensate),
         b"status" => Some(Kind::Status),
         b"forget" => Some(Kind::Forget),
+        b"after" => Some(Kind::After),
         _ => None,
     }
 }

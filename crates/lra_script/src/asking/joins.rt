@@ -2,8 +2,7 @@
 ghost use Rattle.std.specs.Prelude.{◌≡◌, ◌≤◌, codes, drop, length, true, IfOk, MatchOption};
 ghost use Rattle.std.specs.List.{list_all, list_any};
 ghost use Rattle.std.specs.Option.{option_copied};
-ghost use Rattle.lra_facts.specs.declared.links.Links.{Links};
-ghost use Rattle.lra_facts.specs.Links.{kept_links};
+ghost use Rattle.lra_facts.specs.Links.{Links, kept_links};
 ghost use Rattle.lra_script.specs.Asks.{ReadsArguments};
 ghost use Rattle.lra_script.specs.Joins.{GivesLinks, IsTextUnder, are_link_words, gives, is_link_word, is_once, mark_of, text_under};
 
@@ -22,6 +21,7 @@ pub enum LinkName {
     Compensate,
     Status,
     Forget,
+    After,
 }
 
 impl LinkName {
@@ -33,6 +33,7 @@ impl LinkName {
             LinkName::Compensate => "compensate=",
             LinkName::Status => "status=",
             LinkName::Forget => "forget=",
+            LinkName::After => "after=",
         }
     }
 }
@@ -70,7 +71,10 @@ fn links_of(alloc: Global, words: &Words<'_>) -> Result<Option<Links>, AllocErro
     let Some(forget) = text_given(words, LinkName::Forget) else {
         return Ok(None);
     };
-    kept(alloc, complete, compensate, status, forget)
+    let Some(after) = text_given(words, LinkName::After) else {
+        return Ok(None);
+    };
+    kept(alloc, complete, compensate, status, forget, after)
 }
 
 fn kept(
@@ -79,12 +83,13 @@ fn kept(
     compensate: Option<&str>,
     status: Option<&str>,
     forget: Option<&str>,
+    after: Option<&str>,
 ) -> Result<Option<Links>, AllocError>
     ensures { IfOk result
         (λ found. found ≡ kept_links (option_copied complete.entry) (option_copied compensate.entry)
-        (option_copied status.entry) (option_copied forget.entry)) }
+        (option_copied status.entry) (option_copied forget.entry) (option_copied after.entry)) }
 {
-    match Links::read(alloc, complete, compensate, status, forget) {
+    match Links::read(alloc, complete, compensate, status, forget, after) {
         Ok(links) => Ok(Some(links)),
         Err(Refusal::BadText) => Ok(None),
         Err(_) => Err(AllocError),
@@ -99,6 +104,7 @@ fn are_link_words(words: &Words<'_>) -> bool
         && is_once(words, LinkName::Compensate)
         && is_once(words, LinkName::Status)
         && is_once(words, LinkName::Forget)
+        && is_once(words, LinkName::After)
 }
 
 fn each_gives(words: &Words<'_>) -> bool
@@ -122,6 +128,7 @@ fn is_link_word(word: &[u8]) -> bool
         || gives(LinkName::Compensate, word)
         || gives(LinkName::Status, word)
         || gives(LinkName::Forget, word)
+        || gives(LinkName::After, word)
 }
 
 fn gives(name: LinkName, word: &[u8]) -> bool

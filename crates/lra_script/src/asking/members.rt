@@ -33,6 +33,15 @@ pub fn forgot_of(words: Words<'_>, nodes: u8) -> Option<Ask>
     Some(Ask::Enter { node, command })
 }
 
+pub fn told_of(words: Words<'_>, nodes: u8) -> Option<Ask>
+    requires { nodes ≤ 8 }
+    ensures { ReadsArguments nodes (codes "told") words.entry result }
+{
+    let (node, id, member) = participant_of(words, nodes)?;
+    let command = Command::Told { id, member };
+    Some(Ask::Enter { node, command })
+}
+
 pub fn member_of(words: Words<'_>, nodes: u8) -> Option<Ask>
     requires { nodes ≤ 8 }
     ensures { ReadsArguments nodes (codes "member") words.entry result }

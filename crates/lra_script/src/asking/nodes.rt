@@ -99,6 +99,15 @@ pub fn send_of(mut words: Words<'_>, nodes: u8) -> Option<Ask>
     Some(Ask::Send { node, base })
 }
 
+pub fn send_old_of(mut words: Words<'_>, nodes: u8) -> Option<Ask>
+    requires { nodes ≤ 8 }
+    ensures { ReadsArguments nodes (codes "sendold") words.entry result }
+{
+    let node = node_of(words.next()?, nodes)?;
+    let base = base_of(words, nodes)?;
+    Some(Ask::SendOld { node, base })
+}
+
 fn base_of(mut words: Words<'_>, nodes: u8) -> Option<Front>
     requires some { 1 ≤ nodes }
     requires few { nodes ≤ 8 }

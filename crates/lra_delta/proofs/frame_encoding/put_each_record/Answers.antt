@@ -2,7 +2,7 @@ use Rattle.std.proofs.Common.{ℕ, ◌++◌, ◌∙◌, List, ap, append_assoc, 
 use Rattle.std.specs.List.{AllByRecursion, flat_map}
 use Rattle.std.proofs.lemmas.List.Elements.{All-from_recursion}
 use Rattle.lra_forest.specs.declared.record.Record.{Record}
-use Rattle.lra_delta.specs.Encoding.{record_text}
+use Rattle.lra_delta.specs.Encoding.{record_text_as}
 use Rattle.lra_delta.specs.Typed.{IsTypedRecord}
 use Rattle.lra_delta.proofs.frame_encoding.put_each_record.Goals as goal
 
@@ -12,7 +12,7 @@ loop-kept-init g c =
     let is = c.into_iter-kept-iterator.ensures.into_iter_gives in
     record {
       same = refl;
-      text = ap (λ (rs : List Record). put c.args.out.now ++ flat_map record_text rs) is;
+      text = ap (λ (rs : List Record). put c.args.out.now ++ flat_map (record_text_as c.args.version) rs) is;
       typed = λ left. All-from_recursion IsTypedRecord c.args.records (subst (AllByRecursion IsTypedRecord) is left);
     }
 
@@ -24,9 +24,9 @@ loop-kept-preserved g c =
     record {
       same = search rules;
       text =
-          ap (λ (t : List ℕ). t ++ flat_map record_text rest) c.put_record.ensures.text
-          ∙ append_assoc (put c.loop-kept.out) (record_text c.in-Some.kept.now) (flat_map record_text rest)
-          ∙ ap (λ (rs : List Record). put c.loop-kept.out ++ flat_map record_text rs) (sym steps)
+          ap (λ (t : List ℕ). t ++ flat_map (record_text_as c.args.version) rest) c.put_record.ensures.text
+          ∙ append_assoc (put c.loop-kept.out) (record_text_as c.args.version c.in-Some.kept.now) (flat_map (record_text_as c.args.version) rest)
+          ∙ ap (λ (rs : List Record). put c.loop-kept.out ++ flat_map (record_text_as c.args.version) rs) (sym steps)
           ∙ c.loop-kept.invariant.text;
       typed = λ left. c.loop-kept.invariant.typed (subst (AllByRecursion IsTypedRecord) (sym steps) (c.put_record.ensures.typed, left));
     }

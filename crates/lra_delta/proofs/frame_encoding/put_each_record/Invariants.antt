@@ -1,6 +1,6 @@
 use Rattle.std.proofs.Common.{◌≡◌, ◌++◌}
 use Rattle.std.specs.List.{All, AllByRecursion, flat_map}
-use Rattle.lra_delta.specs.Encoding.{record_text}
+use Rattle.lra_delta.specs.Encoding.{record_text_as}
 use Rattle.lra_delta.specs.Typed.{IsTypedRecord}
 use Rattle.lra_delta.proofs.frame_encoding.put_each_record.Given as goal
 
@@ -8,6 +8,6 @@ use Rattle.lra_delta.proofs.frame_encoding.put_each_record.Given as goal
 abbrev pub invariant-loop-kept : goal.invariant-loop-kept
 invariant-loop-kept g l = record {
   same : g.O.Output.start l.out ≡ g.O.Output.start l.fn.out;
-  text : g.O.Output.text l.out ++ flat_map record_text l.kept-iterator ≡ g.O.Output.text l.fn.out ++ flat_map record_text l.fn.records;
+  text : g.O.Output.text l.out ++ flat_map (record_text_as l.fn.version) l.kept-iterator ≡ g.O.Output.text l.fn.out ++ flat_map (record_text_as l.fn.version) l.fn.records;
   typed : AllByRecursion IsTypedRecord l.kept-iterator → All IsTypedRecord l.fn.records;
 }

@@ -17,11 +17,11 @@ next_in_order nodes done last r e order follows = in_order_more nodes start done
 pub returns-in_err-kept : goal.returns-in_err-kept
 returns-in_err-kept g c =
     let seen = g.I.Input.seen in
-    let k : Context = told_context c.args.base.now c.args.front.now c.args.homes.now.items in
+    let k : Context = told_context c.args.version c.args.base.now c.args.front.now c.args.homes.now.items in
     let inv = c.records.invariant in
     let p = err_from_is_err_and c.from_residual.result c.from_residual.ensures.1 in
     let held : lists c.as_slice.result.now ≡ lists c.args.homes.now.items = ap lists c.as_slice.ensures.value ∙ inv.put.held in
-    let read = reads_as_before (seen c.records.input) (seen c.record_of.new.input) (Err c.in_err-kept.field-0.0) c.args.base.now c.args.front.now c.args.homes.now.items c.as_slice.result.now c.records.last held c.in_err-kept.ensures.gives in
+    let read = reads_as_before (seen c.records.input) (seen c.record_of.new.input) (Err c.in_err-kept.field-0.0) c.args.version c.args.base.now c.args.front.now c.args.homes.now.items c.as_slice.result.now c.records.last held c.in_err-kept.ensures.gives in
     rw (p.1, p.2) (inv.done, ends (record_at k) after c.args.count start (seen c.args.input.now) inv.done c.records.counter c.records.last (seen c.records.input) (seen c.record_of.new.input) c.in_err-kept.field-0.0 c.records-test.true inv.so_far read, tt)
 
 pub put_home-requires-clause-there : goal.put_home-requires-clause-there
@@ -39,12 +39,12 @@ put_home-requires-clause-last g c =
 pub records-preserved : goal.records-preserved
 records-preserved g c =
     let seen = g.I.Input.seen in
-    let k : Context = told_context c.args.base.now c.args.front.now c.args.homes.now.items in
+    let k : Context = told_context c.args.version c.args.base.now c.args.front.now c.args.homes.now.items in
     let inv = c.records.invariant in
     let kept = c.in_ok-kept.kept in
     let order = next_in_order (length c.args.front.now) inv.done c.records.last kept inv.last inv.order c.in_ok-kept.ensures.follows in
     let held : lists c.as_slice.result.now ≡ lists c.args.homes.now.items = ap lists c.as_slice.ensures.value ∙ inv.put.held in
-    let read = reads_as_before (seen c.records.input) (seen c.record_of.new.input) (Ok kept) c.args.base.now c.args.front.now c.args.homes.now.items c.as_slice.result.now c.records.last held c.in_ok-kept.ensures.gives in
+    let read = reads_as_before (seen c.records.input) (seen c.record_of.new.input) (Ok kept) c.args.version c.args.base.now c.args.front.now c.args.homes.now.items c.as_slice.result.now c.records.last held c.in_ok-kept.ensures.gives in
     rw c.after-last.ensures (record {
       done = inv.done ++ kept ∷ [];
       so_far = goes_on (record_at k) after c.args.count start (seen c.args.input.now) inv.done c.records.counter c.records.last (seen c.records.input) (seen c.record_of.new.input) (λ (x : Record). x) kept c.records-test.true inv.so_far read;
@@ -57,7 +57,7 @@ records-preserved g c =
 pub returns : goal.returns
 returns g c =
     let seen = g.I.Input.seen in
-    let k : Context = told_context c.args.base.now c.args.front.now c.args.homes.now.items in
+    let k : Context = told_context c.args.version c.args.base.now c.args.front.now c.args.homes.now.items in
     let inv = c.records.invariant in (
       inv.done,
       is_done (record_at k) after c.args.count start (seen c.args.input.now) c.records.counter c.records.last (seen c.records.input) (λ (u : Unit {0}). inv.done) tt c.records-test.false inv.so_far,

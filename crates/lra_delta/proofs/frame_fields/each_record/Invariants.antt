@@ -11,7 +11,7 @@ use Rattle.lra_delta.proofs.frame_fields.each_record.Given as goal
 abbrev pub invariant-records : goal.invariant-records
 invariant-records g l = let seen = g.I.Input.seen in record {
   done : List Record;
-  so_far : SoFar (record_at (told_context l.base l.front l.fn.homes.items)) after l.count start (seen l.fn.input) done (l.count - l.counter) l.last (seen l.input);
+  so_far : SoFar (record_at (told_context l.version l.base l.front l.fn.homes.items)) after l.count start (seen l.fn.input) done (l.count - l.counter) l.last (seen l.input);
   few : l.last.count ≤ l.counter;
   last : l.last ≡ last_of start done;
   order : AreInOrder (length l.front) start done;

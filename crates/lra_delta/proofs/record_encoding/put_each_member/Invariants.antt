@@ -7,6 +7,6 @@ use Rattle.lra_delta.proofs.record_encoding.put_each_member.Given as goal
 abbrev pub invariant-loop-m : goal.invariant-loop-m
 invariant-loop-m g l = record {
   same : g.O.Output.start l.out ≡ g.O.Output.start l.fn.out;
-  text : g.O.Output.text l.out ≡ g.O.Output.text l.fn.out ++ flat_map member (take l.m-index l.ms);
+  text : g.O.Output.text l.out ≡ g.O.Output.text l.fn.out ++ flat_map (member l.version) (take l.m-index l.ms);
   links : All HasLinks (take l.m-index l.ms);
 }

@@ -5,4 +5,4 @@ use Rattle.lra_delta.proofs.Loop.{SoFar}
 use Rattle.lra_delta.proofs.record_fields.each_member.Given as goal
 
 abbrev pub invariant-members : goal.invariant-members
-invariant-members g l = let seen = g.I.Input.seen in SoFar (member_at l.stamp) next_nested l.count l.num (seen l.fn.input) l.list.items (l.count - l.counter) l.last (seen l.input)
+invariant-members g l = let seen = g.I.Input.seen in SoFar (member_at l.version l.stamp) next_nested l.count l.num (seen l.fn.input) l.list.items (l.count - l.counter) l.last (seen l.input)

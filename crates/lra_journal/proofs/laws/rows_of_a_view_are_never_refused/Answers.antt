@@ -2,4 +2,4 @@ use Rattle.lra_journal.proofs.NeverRefused.{never_refused}
 use Rattle.lra_journal.proofs.laws.rows_of_a_view_are_never_refused.Goals as goal
 
 pub returns : goal.returns
-returns c me place db view low tables stands rules broken = never_refused me place db view low tables stands rules broken
+returns c = never_refused

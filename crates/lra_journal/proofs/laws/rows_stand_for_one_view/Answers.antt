@@ -1,5 +1,8 @@
-use Rattle.lra_journal.proofs.RuledViews.{one_ruled_view}
+use Rattle.lra_journal.proofs.RuledViews.{one_ruled_view, rows_of_one_version}
 use Rattle.lra_journal.proofs.laws.rows_stand_for_one_view.Goals as goal
 
-pub returns : goal.returns
-returns c = one_ruled_view
+pub returns-clause-view : goal.returns-clause-view
+returns-clause-view c = one_ruled_view
+
+pub returns-clause-version : goal.returns-clause-version
+returns-clause-version c = rows_of_one_version

@@ -1,10 +1,11 @@
 use Rattle.std.proofs.Common.{◌≡◌, length, rules, arith, subst}
 use Rattle.std.specs.Prelude.{IfErr, IfOk}
 use Rattle.std.proofs.lemmas.Grind.{common_steps}
+use Rattle.lra_delta.specs.declared.version.Version.{Version}
 use Rattle.lra_delta.specs.Seen.{Seen, Standing}
 use Rattle.lra_http.specs.Streams.{Gives}
-use Rattle.lra_delta.specs.Encoding.{encoding}
-use Rattle.lra_delta.specs.Rules.{IsDelta}
+use Rattle.lra_delta.specs.Encoding.{encoding_as}
+use Rattle.lra_delta.specs.Rules.{IsDeltaAs}
 use Rattle.lra_delta.specs.Sources.{ReadsCalls, StopsReading, of_stream, standing}
 use Rattle.lra_delta.proofs.StreamReads.{fresh_source, reads_calls, reads_frame, reads_known, reads_stop}
 use Rattle.lra_delta.proofs.delta.Delta.read.Goals as goal
@@ -19,7 +20,7 @@ returns-clause-frame g c =
     let new : Seen = of_stream stream calls n.track.now.start.value n.begun n.source n.interrupted n.bytes n.track.now.taken n.limit in
     let stands : Standing = standing stream calls c.args.reader.now c.args.interrupted.now in
     let fresh = fresh_source stands c.args.bytes _ old c.new-input.ensures in
-    subst (λ x. IfOk c.frame_of-result.result (λ d. IsDelta d × (length (encoding d) ≡ c.args.bytes) × Gives (stream c.args.reader.now) (stream x) (encoding d))) (first_of (search rules, grind (arith, common_steps))) (reads_frame stands c.args.bytes old new c.frame_of-result.result fresh c.frame_of-result.ensures.answers c.interrupted.ensures.sound c.frame_of-result.ensures.whole)
+    subst (λ x. IfOk c.frame_of-result.result (λ d. (v : Version) × IsDeltaAs v d × (length (encoding_as v d) ≡ c.args.bytes) × Gives (stream c.args.reader.now) (stream x) (encoding_as v d))) (first_of (search rules, grind (arith, common_steps))) (reads_frame stands c.args.bytes old new c.frame_of-result.result fresh c.frame_of-result.ensures.answers c.interrupted.ensures.sound c.frame_of-result.ensures.whole)
 
 pub returns-clause-stop : goal.returns-clause-stop
 returns-clause-stop g c =

@@ -4,9 +4,9 @@ use Rattle.lra_forest.specs.declared.duties.Errand.TheVariants.{Forget}
 use Rattle.lra_forest.specs.declared.duties.Due.{Due}
 use Rattle.lra_forest.specs.Forests.{id_of}
 use Rattle.lra_forest.specs.Owings.{owed_by, owing_at}
-use Rattle.lra_forest.specs.Said.{first_owed, is_below, is_under_at}
+use Rattle.lra_forest.specs.Said.{first_member, is_below, is_owed, is_under_at}
 use Rattle.lra_forest.specs.Shape.{found_at}
-use Rattle.lra_forest.proofs.Climbs.{first_owed_is}
+use Rattle.lra_forest.proofs.Climbs.{first_member_is, owed_owes}
 use Rattle.lra_forest.proofs.Overdue.{at, number_passes}
 use Rattle.lra_forest.proofs.forest.Forest.first_to_forget.Goals as goal
 
@@ -21,5 +21,5 @@ returns-clause-due c =
     c.first_owed.ensures
     ∙ ap (λ (ds : List Due). slice_get ds 0) c.forgetting_since.ensures.owed
     ∙ ap (λ (x : Id). slice_get (owed_by (owing_at Forget there r) x 1 r.members) 0) named
-    ∙ sym (first_owed_is there r 1 r.members)
-    ∙ sym (ap (λ (b : Bool). cond b (first_owed there r 1 r.members) None) below)
+    ∙ sym (first_member_is (is_owed there r) (owing_at Forget there r) (owed_owes there r) (id_of r) 1 r.members)
+    ∙ sym (ap (λ (b : Bool). cond b (first_member (is_owed there r) (id_of r) 1 r.members) None) below)

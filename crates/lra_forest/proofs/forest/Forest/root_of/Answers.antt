@@ -1,36 +1,10 @@
-use Rattle.std.proofs.Common.{◌≡◌, ◌∙◌, ◌+◌, ◌-◌, ◌&&◌, Bool, false, sym, ap, arith, is_none}
-use Rattle.std.specs.List.{list_any}
-use Rattle.lra_forest.specs.declared.record.Record.{Record}
-use Rattle.lra_forest.specs.Said.{is_ended_at, records_up}
+use Rattle.std.proofs.Common.{is_some}
+use Rattle.lra_forest.specs.Said.{is_ended_at, want_at}
 use Rattle.lra_forest.specs.Shape.{found_at}
-use Rattle.lra_forest.proofs.Climbs.{any_above, any_root, found_number}
-use Rattle.lra_forest.proofs.Sayings.{up_none, up_nothing}
 use Rattle.lra_forest.proofs.forest.Forest.root_of.Goals as goal
 
-pub returns-in_default : goal.returns-in_default
-returns-in_default c =
-    let at = found_at c.args.self.now.home c.args.self.now.records in
-    let test : Record → Bool = λ r. is_none r.parent && is_ended_at at r.num in
-    c.loop.invariant ∙ ap (list_any test) (up_none (8 - c.loop.counter) at c.loop.at (sym c.in_default.ensures))
+pub returns-clause-over : goal.returns-clause-over
+returns-clause-over c = c.root_met.ensures (is_ended_at (found_at c.args.self.now.home c.args.self.now.records))
 
-pub returns-in_default-parent : goal.returns-in_default-parent
-returns-in_default-parent c =
-    let at = found_at c.args.self.now.home c.args.self.now.records in
-    let r = c.in-Some.record.now in
-    let number = found_number c.args.self.now.home c.loop.at c.args.self.now.records r (sym c.in-Some.ensures) in
-    let here : (is_none r.parent && is_ended_at at r.num) ≡ is_ended_at at c.loop.at = ap (λ p. is_none p && is_ended_at at r.num) c.in_default-parent.is ∙ ap (is_ended_at at) number in
-    c.loop.invariant ∙ any_root (λ (q : Record). is_none q.parent && is_ended_at at q.num) (8 - c.loop.counter) at c.loop.at r (omega (arith, c.loop-test.true)) (sym c.in-Some.ensures) c.in_default-parent.is ∙ here
-
-pub loop-preserved : goal.loop-preserved
-loop-preserved c =
-    let at = found_at c.args.self.now.home c.args.self.now.records in
-    let r = c.in-Some.record.now in
-    let fails : (is_none r.parent && is_ended_at at r.num) ≡ false = ap (λ p. is_none p && is_ended_at at r.num) c.in-Some-parent.is in
-    c.loop.invariant ∙ any_above (λ (q : Record). is_none q.parent && is_ended_at at q.num) (8 - c.loop.counter) (8 - (c.loop.counter + 1)) at c.loop.at r c.in-Some-parent.place (omega (arith, c.loop-test.true)) (omega arith) (sym c.in-Some.ensures) c.in-Some-parent.is fails
-
-pub returns : goal.returns
-returns c =
-    let at = found_at c.args.self.now.home c.args.self.now.records in
-    let test : Record → Bool = λ r. is_none r.parent && is_ended_at at r.num in
-    let done : 8 - c.loop.counter ≡ 0 = omega (arith, c.loop-test.false) in
-    c.loop.invariant ∙ ap (λ n. list_any test (records_up n at c.loop.at)) done ∙ ap (list_any test) (up_nothing at c.loop.at)
+pub returns-clause-decided : goal.returns-clause-decided
+returns-clause-decided c = let at = found_at c.args.self.now.home c.args.self.now.records in c.root_met.ensures (λ root. is_some (want_at at root))

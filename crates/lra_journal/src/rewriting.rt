@@ -1,0 +1,173 @@
+// The rows of a journal of version 1, written anew in version 2.
+ghost use Rattle.std.specs.Prelude.{◌≡◌, ◌<◌, false, true, IsTrue, OnErr, OnOk};
+ghost use Rattle.sqlite.specs.Held.{state};
+ghost use Rattle.sqlite.specs.State.{HasCleanDisk, KeepsCommit, Survives};
+ghost use Rattle.lra_delta.specs.declared.version.Version.TheVariants.{One};
+ghost use Rattle.lra_journal.specs.Rewriting.{Rewrites, all_records};
+ghost use Rattle.lra_journal.specs.Stands.{PutsRecord, Stands, StandsAs};
+ghost use Rattle.lra_journal.specs.Tables.{GoesOn, IsJournal, IsWriting};
+ghost use Rattle.lra_journal.specs.Turns.{InTurn};
+ghost use Rattle.lra_replica.specs.Replicas.{records_in, view_of};
+
+use crate::front_rows::VERSION;
+use crate::patches::put_record;
+use crate::selects::select_front;
+use crate::steps::put_front;
+use lra_forest::{Forest, Records};
+use lra_id::NodeId;
+use lra_replica::Replica;
+use sqlite::{Alter, Connection, Error, Transaction};
+use std::alloc::Global;
+
+fn put_records<S: Alter>(
+    alloc: Global,
+    tx: &mut Transaction<'_, S>,
+    records: Records<'_>,
+) -> Result<(), Error>
+    ensures same_reference { tx.new.conn.ghost_name ≡ tx.old.conn.ghost_name }
+    ensures survives { Survives (state S.Store tx.old.conn.now) (state S.Store tx.new.conn.now)
+        (λ _. ⊥) }
+    ensures kept { HasCleanDisk (state S.Store tx.new.conn.now) →
+        KeepsCommit (state S.Store tx.old.conn.now) (state S.Store tx.new.conn.now) }
+    ensures ok { HasCleanDisk (state S.Store tx.new.conn.now) →
+        IsWriting (state S.Store tx.old.conn.now) →
+        OnOk result (GoesOn (InTurn PutsRecord records.entry)
+        (state S.Store tx.old.conn.now) (state S.Store tx.new.conn.now)) }
+{
+    'records: for kept in records {
+        put_record(alloc, tx, kept)?;
+    }
+    Ok(())
+}
+
+fn put_homes<S: Alter>(
+    alloc: Global,
+    tx: &mut Transaction<'_, S>,
+    homes: &[Forest],
+) -> Result<(), Error>
+    ensures same_reference { tx.new.conn.ghost_name ≡ tx.old.conn.ghost_name }
+    ensures survives { Survives (state S.Store tx.old.conn.now) (state S.Store tx.new.conn.now)
+        (λ _. ⊥) }
+    ensures kept { HasCleanDisk (state S.Store tx.new.conn.now) →
+        KeepsCommit (state S.Store tx.old.conn.now) (state S.Store tx.new.conn.now) }
+    ensures ok { HasCleanDisk (state S.Store tx.new.conn.now) →
+        IsWriting (state S.Store tx.old.conn.now) →
+        OnOk result (GoesOn (InTurn PutsRecord (all_records (records_in homes.now)))
+        (state S.Store tx.old.conn.now) (state S.Store tx.new.conn.now)) }
+{
+    'homes: for home in homes {
+        put_records(alloc, tx, home.records())?;
+    }
+    Ok(())
+}
+
+/// Writes the row of each record, and then that of the version.
+fn put_rows<S: Alter>(
+    alloc: Global,
+    tx: &mut Transaction<'_, S>,
+    me: NodeId,
+    replica: &Replica,
+) -> Result<(), Error>
+    ensures same_reference { tx.new.conn.ghost_name ≡ tx.old.conn.ghost_name }
+    ensures survives { Survives (state S.Store tx.old.conn.now) (state S.Store tx.new.conn.now)
+        (λ _. ⊥) }
+    ensures kept { HasCleanDisk (state S.Store tx.new.conn.now) →
+        KeepsCommit (state S.Store tx.old.conn.now) (state S.Store tx.new.conn.now) }
+    ensures ok { HasCleanDisk (state S.Store tx.new.conn.now) →
+        IsWriting (state S.Store tx.old.conn.now) →
+        OnOk result (GoesOn (Rewrites me (view_of replica.now).records)
+        (state S.Store tx.old.conn.now) (state S.Store tx.new.conn.now)) }
+{
+    put_homes(alloc, tx, replica.homes())?;
+    put_front(tx, 0, u64::from(me.number()), VERSION)
+}
+
+/// The same. A connection that is shut is refused by the question before, so that nothing is said of one.
+fn put_anew<S: Alter>(
+    alloc: Global,
+    tx: &mut Transaction<'_, S>,
+    me: NodeId,
+    replica: &Replica,
+) -> Result<(), Error>
+    ensures same_reference { tx.new.conn.ghost_name ≡ tx.old.conn.ghost_name }
+    ensures survives { Survives (state S.Store tx.old.conn.now) (state S.Store tx.new.conn.now)
+        (λ _. ⊥) }
+    ensures kept { HasCleanDisk (state S.Store tx.new.conn.now) →
+        (state S.Store tx.old.conn.now).in_transaction ≡ true →
+        KeepsCommit (state S.Store tx.old.conn.now) (state S.Store tx.new.conn.now) }
+    ensures open { HasCleanDisk (state S.Store tx.new.conn.now) →
+        OnOk result (IsTrue (state S.Store tx.old.conn.now).is_open) }
+    ensures ok { HasCleanDisk (state S.Store tx.new.conn.now) →
+        IsWriting (state S.Store tx.old.conn.now) →
+        OnOk result (GoesOn (Rewrites me (view_of replica.now).records)
+        (state S.Store tx.old.conn.now) (state S.Store tx.new.conn.now)) }
+{
+    let _ = select_front(tx)?;
+    put_rows(alloc, tx, me, replica)
+}
+
+fn write_anew<S: Alter>(
+    alloc: Global,
+    connection: &mut Connection<S>,
+    me: NodeId,
+    replica: &Replica,
+) -> Result<(), Error>
+    requires { connection.old.in_transaction ≡ false }
+    ensures idle { connection.new.in_transaction ≡ false }
+    ensures was_open { HasCleanDisk (state S.Store connection.new) →
+        IsTrue (state S.Store connection.new).is_open →
+        IsTrue (state S.Store connection.old).is_open }
+    ensures open { HasCleanDisk (state S.Store connection.new) →
+        OnOk result (IsTrue (state S.Store connection.old).is_open) }
+    ensures ok { HasCleanDisk (state S.Store connection.new) →
+        IsJournal (state S.Store connection.old) →
+        OnOk result (IsJournal (state S.Store connection.new)
+        × Rewrites me (view_of replica.now).records
+        (state S.Store connection.old).now.trees (state S.Store connection.new).now.trees) }
+    ensures kept { HasCleanDisk (state S.Store connection.new) →
+        IsJournal (state S.Store connection.old) → IsTrue (state S.Store connection.new).is_open →
+        OnErr result (((state S.Store connection.new).now ≡ (state S.Store connection.old).now)
+        × ((state S.Store connection.new).committed ≡ (state S.Store connection.old).committed)) }
+    ensures crash_open { Survives (state S.Store connection.old) (state S.Store connection.new)
+        (λ _. IsTrue (state S.Store connection.old).is_open) }
+    ensures crash { Survives (state S.Store connection.old) (state S.Store connection.new)
+        (λ db. IsJournal (state S.Store connection.old) →
+        Rewrites me (view_of replica.now).records (state S.Store connection.old).now.trees db) }
+{
+    let mut tx = connection.transaction();
+    put_anew(alloc, &mut tx, me, replica)?;
+    tx.commit()
+}
+
+/// Writes the rows of version 1 that stand for a replica anew in version 2, in one transaction. E17 and E18 leave them as they were,
+/// or the connection is shut.
+pub(crate) fn rewrite<S: Alter>(
+    alloc: Global,
+    connection: &mut Connection<S>,
+    me: NodeId,
+    replica: &Replica,
+) -> Result<(), Error>
+    requires { connection.old.in_transaction ≡ false }
+    ensures idle { connection.new.in_transaction ≡ false }
+    ensures was_open { HasCleanDisk (state S.Store connection.new) →
+        IsTrue (state S.Store connection.new).is_open →
+        IsTrue (state S.Store connection.old).is_open }
+    ensures open { HasCleanDisk (state S.Store connection.new) →
+        OnOk result (IsTrue (state S.Store connection.old).is_open) }
+    ensures stands { HasCleanDisk (state S.Store connection.new) →
+        IsJournal (state S.Store connection.old) →
+        StandsAs One me (state S.Store connection.old).now.trees (view_of replica.now) →
+        OnOk result (IsJournal (state S.Store connection.new)
+        × Stands me (state S.Store connection.new).now.trees (view_of replica.now)) }
+    ensures kept { HasCleanDisk (state S.Store connection.new) →
+        IsJournal (state S.Store connection.old) → IsTrue (state S.Store connection.new).is_open →
+        OnErr result (((state S.Store connection.new).now ≡ (state S.Store connection.old).now)
+        × ((state S.Store connection.new).committed ≡ (state S.Store connection.old).committed)) }
+    ensures crash { Survives (state S.Store connection.old) (state S.Store connection.new)
+        (λ db. IsTrue (state S.Store connection.old).is_open ×
+        (IsJournal (state S.Store connection.old) →
+        StandsAs One me (state S.Store connection.old).now.trees (view_of replica.now) →
+        Stands me db (view_of replica.now))) }
+{
+    write_anew(alloc, connection, me, replica)
+}

@@ -1,0 +1,17 @@
+use Rattle.std.proofs.Common.{◌-◌, ◌∙◌, sym, ap, set}
+use Rattle.lra_forest.specs.declared.record.Member.{Member}
+use Rattle.lra_history.specs.Growth.{hearing}
+use Rattle.lra_history.proofs.OneMemberChanged.{change_none, change_some, numbered_is}
+use Rattle.lra_replica.proofs.commands.told.hear_at.Goals as goal
+
+pub returns-in_ok-clone : goal.returns-in_ok-clone
+returns-in_ok-clone c some =
+    let there = sym (numbered_is c.args.members.now c.args.number some) ∙ sym c.in-Some.ensures in
+    let told = hearing in
+    c.set.ensures ∙ ap (λ (m : Member). set c.args.members.now (c.args.number - 1) m) (c.hearing-next.ensures ∙ ap told c.in_ok-clone.ensures.cases)
+    ∙ sym (change_some told (c.args.number - 1) c.args.members.now c.in-Some.member.now there)
+
+pub returns-in_default : goal.returns-in_default
+returns-in_default c some =
+    let there = sym (numbered_is c.args.members.now c.args.number some) ∙ sym c.in_default.ensures in
+    sym (change_none hearing (c.args.number - 1) c.args.members.now there)
