@@ -1,0 +1,51 @@
+#!/usr/bin/env python3
+"""Lists the sentences of the pages that have over 30 words: python3 docs/sentences.py [PAGE..]. With --check it fails where there is one.
+Code in a line counts as one word, and blocks of code aren't looked at. Standard library alone."""
+import glob
+import os
+import re
+import sys
+
+TOP = os.path.dirname(os.path.dirname(os.path.abspath(__file__)))
+MADE = {"docs/CALLS.md"}
+MOST = 30
+
+
+def pieces(text):
+    """The pieces of a page that stand by themselves, each with its line: paragraphs, items of lists, headings, cells of tables."""
+    piece, first, fenced = [], 0, False
+    for number, line in enumerate([*text.split("\n"), ""], 1):
+        fence = line.lstrip().startswith("```")
+        fenced ^= fence
+        code = fenced or fence or line.startswith("    ")
+        starts = re.match(r"\s*([-*] |\d+\. |#+ |\|)", line)
+        if piece and (code or starts or not line.strip()):
+            yield first, " ".join(piece)
+            piece = []
+        if line.startswith("|"):
+            yield from ((number, cell) for cell in re.split(r"(?<!\\)\|", re.sub(r"`[^`]*`", "code", line)))
+        elif line.strip() and not code:
+            first = first if piece else number
+            piece.append(re.sub(r"^\s*([-*] |\d+\. |#+ )", "", line).strip())
+
+
+def sentences(piece):
+    text = re.sub(r"`[^`]*`", "code", piece)
+    text = re.sub(r"\[([^\]]*)\]\([^)]*\)", r"\1", text)
+    return re.split(r"(?<=[.!?])[)*\"']*\s+(?=[(*\"'A-Zc])", text)
+
+
+def long_ones(pages):
+    for page in pages:
+        for line, piece in pieces(open(f"{TOP}/{page}", encoding="utf-8").read()):
+            for sentence in sentences(piece):
+                words = len(re.findall(r"[A-Za-z0-9][^\s]*", sentence))
+                if words > MOST:
+                    yield f"{page}:{line}: {words} words: {sentence.strip()}"
+
+
+named = [page for page in sys.argv[1:] if not page.startswith("--")]
+every = [os.path.relpath(path, TOP) for path in sorted(glob.glob(f"{TOP}/*.md") + glob.glob(f"{TOP}/*/*.md"))]
+found = list(long_ones(named or [page for page in every if page not in MADE]))
+print("\n".join(found) or "ok")
+sys.exit(1 if found and "--check" in sys.argv else 0)
