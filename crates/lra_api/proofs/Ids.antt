@@ -26,10 +26,6 @@ id_at_layout id valid =
     ap (λ (h : ℕ). record { home = h; num = from_be_bytes w64 (drop 8 (layout id)) % 2 ^ 62 }) (home_back id valid)
     ∙ ap (λ (n : ℕ). record { home = id.home; num = n }) (num_back id valid)
 
-from_true : (b : Bool) → (b ≡ false → ⊥) → b ≡ true
-from_true true h = refl
-from_true false h = absurd (h refl)
-
 le_true : (a b : ℕ) → a ≤ b → nat_le a b ≡ true
 le_true a b h = grind (arith, nat_tests)
 

@@ -7,7 +7,6 @@ use Rattle.std.proofs.lemmas.List.{append_assoc, append_cancel_left, append_canc
 use Rattle.std.proofs.lemmas.List.Elements.{All-from_recursion}
 use Rattle.uuid.specs.Text.{lower, parsed}
 use Rattle.uuid.proofs.RoundTrips.{parses_hyphenated}
-use Rattle.uuid.proofs.TextLemmas.{by_index_length}
 use Rattle.lra_id.proofs.VisibleTexts.{text_length}
 use Rattle.lra_id.specs.Ids.{Id, IsId, layout, text_of}
 use Rattle.lra_states.specs.Names.{lra_name, member_name}

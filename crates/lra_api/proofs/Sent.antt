@@ -1,6 +1,6 @@
 -- What was written, by what the writing of a response came to.
 use Rattle.std.specs.Prelude.{⊤}
-use Rattle.std.proofs.Common.{◌≡◌, ◌+◌, ◌<◌, length, length-append, ap, arith, inl, inr, List, None, Result, Ok, Err, OnOk, OnErr, subst}
+use Rattle.std.proofs.Common.{◌≡◌, ◌+◌, length, inl, inr, None, Result, Ok, Err, OnOk, OnErr, subst}
 use Rattle.lra_facts.specs.declared.refusal.Refusal.{Refusal}
 use Rattle.lra_facts.specs.declared.refusal.Refusal.TheVariants.{NoMemory}
 use Rattle.lra_http.specs.MessageTexts.{response_text}
@@ -14,9 +14,7 @@ use Rattle.lra_api.specs.Serving.{Ends, EndsNoMemory, ServesCall, ServesRequest,
 use Rattle.lra_api.specs.Streams.{Sends, SendsPart}
 use Rattle.lra_api.specs.declared.routing.Unrouted.{Unrouted}
 use Rattle.lra_book.specs.declared.calls.Call.{Call}
-use Rattle.lra_book.specs.declared.calls.Receipt.{Receipt}
 use Rattle.lra_book.specs.declared.calls.Reply.{Reply}
-use Rattle.lra_book.specs.Clerks.{IsOutcome}
 use Rattle.lra_api.specs.declared.serving.ServeError.{ServeError}
 
 -- the writing of E17's text, however it came out
@@ -45,10 +43,6 @@ pub no_memory_served : {W : Type 0} (same : Type 0) (makes : Call → Result Rep
     → same → EndsNoMemory sink old new None result → ServesRequest same makes sink old new right result
 no_memory_served same makes sink old new (Ok call) result s ends = inr (s, ends)
 no_memory_served same makes sink old new (Err u) result s ends = (s, inr (inr ends))
-
--- a list with one more at its end isn't empty
-pub one_more_some : (old new : List Receipt) (call : Call) (reply : Reply) → IsOutcome old new call (Ok reply) → 0 < length new
-one_more_some old new call reply (index, e) = let n = ap length e in omega (arith, length-append {A = Receipt}, n)
 
 -- the answer to what came of a call
 pub replied : {W : Type 0} (makes : Result Reply Refusal → Type 0) (sink : OfSink W) (old new : W) (seen reply : Reply) (result : Result ⊤ ServeError)

@@ -15,7 +15,7 @@ use Rattle.lra_facts.specs.Sets.{parent_of, want}
 use Rattle.lra_forest.specs.declared.duties.Due.{Due}
 use Rattle.lra_forest.specs.Dues.{AreAll, IsDueAt, is_before, is_complete_duty, is_topmost_before}
 use Rattle.lra_forest.proofs.Bools.{and_left, and_right, not_false}
-use Rattle.lra_forest.proofs.Gathered.{all_append, all_map}
+use Rattle.lra_forest.proofs.ListsByRecord.{all_append, all_map}
 use Rattle.lra_callback.specs.declared.answer.Kind.{Kind}
 use Rattle.lra_callback.specs.declared.answer.Kind.TheVariants.{Complete, Compensate, Status, Forget, After}
 use Rattle.lra_callback.specs.declared.duty.Duty.{Duty}

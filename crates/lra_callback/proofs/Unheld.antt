@@ -5,7 +5,7 @@ use Rattle.lra_facts.specs.declared.refusal.Refusal.{Refusal}
 use Rattle.lra_forest.specs.declared.record.Record.{Record}
 use Rattle.lra_forest.specs.Said.{wanted_by}
 use Rattle.lra_forest.specs.Standing.{answered}
-use Rattle.lra_forest.proofs.Sayings.{up_none}
+use Rattle.lra_forest.proofs.RecordsSayTheSet.{up_none}
 use Rattle.lra_history.specs.Readings.{at_home, by_view}
 use Rattle.lra_history.specs.Views.{View}
 use Rattle.lra_callback.specs.CallDuties.{act_wanted}

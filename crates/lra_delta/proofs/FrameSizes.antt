@@ -11,7 +11,7 @@ use Rattle.lra_forest.specs.declared.record.Member.TheVariants.{Nested, Particip
 use Rattle.lra_forest.specs.declared.record.Place.{Place}
 use Rattle.lra_forest.specs.declared.record.Record.{Record}
 use Rattle.lra_forest.proofs.Bools.{all_from}
-use Rattle.lra_forest.proofs.Giving.{in_get}
+use Rattle.lra_forest.proofs.GiversOfNumbers.{in_get}
 use Rattle.lra_delta.specs.declared.version.Version.{Version}
 use Rattle.lra_delta.specs.declared.version.Version.TheVariants.{One, Two}
 use Rattle.lra_delta.specs.Frames.{Frame, live_at}

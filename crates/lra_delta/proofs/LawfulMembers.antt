@@ -24,10 +24,10 @@ use Rattle.lra_forest.specs.RecordMerges.{linked}
 use Rattle.lra_forest.specs.Records.{givers, is_about, is_named, member_by, members_of, place_in, stamp}
 use Rattle.lra_forest.proofs.Begins.{begin_gives, parent_begin}
 use Rattle.lra_forest.proofs.Bools.{all_in}
-use Rattle.lra_forest.proofs.Chained.{begins_at}
-use Rattle.lra_forest.proofs.Giving.{Ascend, giver_in, givers_ascend}
+use Rattle.lra_forest.proofs.ParentsAndChains.{begins_at}
+use Rattle.lra_forest.proofs.GiversOfNumbers.{Ascend, giver_in, givers_ascend}
 use Rattle.lra_forest.proofs.NumberedMembers.{same_is}
-use Rattle.lra_forest.proofs.Standings.{place_parent}
+use Rattle.lra_forest.proofs.RecordsOfASet.{place_parent}
 use Rattle.lra_history.specs.Growth.{IsSettled}
 use Rattle.lra_history.specs.Views.{IsCounted}
 use Rattle.lra_history.proofs.Basics.{about_named, false_from, giver_names}

@@ -54,13 +54,6 @@ SoFar item next count start old prefix left s now =
     × ((whole : List ℕ) → Begins now.taken whole → Begins old.taken whole × (with_prefix prefix (each_at item next left s (rest_in whole now)) ≡ each_at item next count start (rest_in whole old)))
     × (IsWell old → IsWell now)
 
-pub begins : {S A : Type 0} (item : S → Rest → Read A) (next : S → A → S) (count : ℕ) (start : S) (old : Seen) → SoFar item next count start old [] count start old
-begins item next count start old = (refl, (λ whole f. (f, same (each_at item next count start (rest_in whole old)))), λ well. well)
-  where
-    same : {A : Type 0} (read : Read (List A)) → with_prefix [] read ≡ read
-    same (Ok x) = refl
-    same (Err e) = refl
-
 pub goes_on : {S A X : Type 0} (item : S → Rest → Read A) (next : S → A → S) (count : ℕ) (start : S) (old : Seen) (prefix : List A) (i : ℕ) (s : S) (now after : Seen) (view : X → A) (x : X)
     → i < count → SoFar item next count start old prefix (count - i) s now → Reads now after view (Ok x) (item s)
     → SoFar item next count start old (prefix ++ view x ∷ []) (count - (i + 1)) (next s (view x)) after

@@ -181,10 +181,6 @@ unfolding after_at
 after_code One needed = finish None refl refl (λ o f. f)
 after_code Two needed = link_code needed true
 
-abbrev pub IsToldMark : Version → Option (List ℕ) → Bool → Type 0
-IsToldMark One link b = b ≡ false
-IsToldMark Two link b = is_mark_for link (flag_mark b) ≡ true
-
 -- ---- participants
 
 outcome_small : (n : ℕ) → is_outcome n ≡ true → n ≤ 3
@@ -223,10 +219,6 @@ flag_again false = refl
 
 mark_for_small : (link : Option (List ℕ)) (n : ℕ) → is_mark_for link n ≡ true → n ≤ 1
 mark_for_small link n e = grind (arith, nat_tests)
-
--- the mark as a number: 0 where the version does not know it
-abbrev told_number : Version → Bool → ℕ
-told_number v b = flag_mark b
 
 abbrev IsToldNumber : Version → Option (List ℕ) → ℕ → Type 0
 IsToldNumber One link n = n ≡ 0

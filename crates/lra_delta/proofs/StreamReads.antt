@@ -13,7 +13,7 @@ use Rattle.lra_delta.specs.FrameFields.{Gives, told_of, value_of}
 use Rattle.lra_delta.specs.Frames.{Frame}
 use Rattle.lra_delta.specs.Rules.{IsDeltaAs}
 use Rattle.lra_delta.specs.declared.version.Version.{Version}
-use Rattle.lra_delta.specs.Seen.{Seen, Standing, Start, Answers, Whole, MayBe, HasReason, Begins, GoesWell, IsWell, StopsWell, rest_in}
+use Rattle.lra_delta.specs.Seen.{Seen, Standing, Start, Answers, Whole, HasReason, Begins, GoesWell, IsWell, StopsWell, rest_in}
 use Rattle.lra_delta.specs.Sources.{IsSound, OnReadFault, ReadsCalls, Refuses, Says, StopsReading}
 use Rattle.lra_delta.specs.Reading.{frame_at, looking, read_of, frame_in}
 use Rattle.lra_delta.proofs.FrameCodes.{frame_takes}
@@ -37,16 +37,6 @@ fresh_source stands bytes source s e = record {
   limit = ap (λ (o : Seen). o.limit) e;
   taken = ap (λ (o : Seen). o.taken) e;
 }
-
-may_be_itself : (e : Stop) (s : Seen) → MayBe e s s.taken
-may_be_itself (Fault place) s = begins_itself s.taken
-may_be_itself Cut s = refl
-may_be_itself ReadFault s = refl
-may_be_itself Memory s = begins_itself s.taken
-
-whole_itself : {X : Type 0} (result : Result X Stop) (s : Seen) → Whole result s s.taken
-whole_itself (Ok x) s = begins_itself s.taken
-whole_itself (Err e) s = may_be_itself e s
 
 begins_more : (taken more : List ℕ) → Begins taken (taken ++ more)
 unfolding Begins

@@ -40,6 +40,3 @@ record_in_as v front bytes = told_of (value_of (alone_at v front (record { place
 
 abbrev pub IsRecordUnder : (front : List ℕ) → Record → Type 0
 IsRecordUnder front kept = IsRecordUnderAs Two front kept
-
-abbrev pub record_in : (front bytes : List ℕ) → Result Record Stop
-record_in front bytes = record_in_as Two front bytes

@@ -53,9 +53,6 @@ is_outcome_for link n = nat_le n 3 && (is_some link || (n == 0))
 abbrev pub is_mark_for : Option (List ℕ) → ℕ → Bool
 is_mark_for link n = nat_le n 1 && (is_some link || (n == 0))
 
-abbrev pub is_length : ℕ → Bool
-is_length n = nat_le n 127
-
 abbrev pub is_given_length : ℕ → Bool
 is_given_length n = nat_le 1 n && nat_le n 127
 

@@ -9,7 +9,7 @@ use Rattle.lra_facts.specs.Lists.{In}
 use Rattle.lra_forest.specs.Standing.{AreOnce}
 use Rattle.lra_facts.proofs.Membership.{any_from}
 use Rattle.lra_forest.proofs.Bools.{all_in}
-use Rattle.lra_forest.proofs.Chained.{begins_at}
+use Rattle.lra_forest.proofs.ParentsAndChains.{begins_at}
 use Rattle.lra_forest.proofs.NumberedMembers.{same_self}
 
 -- facts with one origin and one number are one fact

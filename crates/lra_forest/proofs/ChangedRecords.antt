@@ -10,7 +10,7 @@ use Rattle.lra_forest.specs.Forests.{IsAscending, AreOf, is_of}
 use Rattle.lra_forest.specs.Places.{put_record}
 use Rattle.lra_forest.specs.RecordMerges.{changed_by, put_all, without}
 use Rattle.lra_forest.specs.Shape.{found_at}
-use Rattle.lra_forest.proofs.Gatherings.{find_in}
+use Rattle.lra_forest.proofs.MembersAndStamps.{find_in}
 use Rattle.lra_forest.proofs.Places.{beyond_all, none_of}
 use Rattle.lra_forest.proofs.Puts.{put_are_of, put_find}
 use Rattle.lra_forest.proofs.Removals.{filter_are_of}

@@ -29,13 +29,13 @@ use Rattle.lra_forest.specs.Participants.{joined_as, participant_at}
 use Rattle.lra_forest.specs.Records.{members_of, record_of}
 use Rattle.lra_forest.specs.Said.{is_unheard}
 use Rattle.lra_forest.specs.Standing.{IsSeated, IsWhole, Stands}
-use Rattle.lra_forest.proofs.Asked.{participant_law, unknown_is}
-use Rattle.lra_forest.proofs.Collected.{lesser_before}
-use Rattle.lra_forest.proofs.Gathered.{Owned, of_all, one_record_more}
-use Rattle.lra_forest.proofs.Gatherings.{find_in}
+use Rattle.lra_forest.proofs.ParticipantAnswers.{participant_law, unknown_is}
+use Rattle.lra_forest.proofs.CompensationsByRecord.{lesser_before}
+use Rattle.lra_forest.proofs.ListsByRecord.{Owned, of_all, one_record_more}
+use Rattle.lra_forest.proofs.MembersAndStamps.{find_in}
 use Rattle.lra_forest.proofs.Overdue.{at, held_number}
-use Rattle.lra_forest.proofs.Owed.{owed_all}
-use Rattle.lra_forest.proofs.Standings.{found_is, found_parent, found_root, held_if_found, stands_at}
+use Rattle.lra_forest.proofs.OwedMembers.{owed_all}
+use Rattle.lra_forest.proofs.RecordsOfASet.{found_is, found_parent, found_root, held_if_found, stands_at}
 
 -- how a participant that is found joined
 pub record IsJoined (S : List Fact) (l : Id) (m : ℕ) (p : ParticipantRecord) : Type 0 where

@@ -23,9 +23,8 @@ use Rattle.lra_forest.specs.contracts.record.PlacePartialEq.TheImpl as of_places
 use Rattle.lra_forest.specs.contracts.record.ParticipantPartialEq.TheImpl as of_participants
 use Rattle.lra_forest.specs.contracts.record.MemberPartialEq.TheImpl as of_members
 use Rattle.lra_forest.specs.contracts.record.RecordPartialEq.TheImpl as of_records
-use Rattle.lra_forest.specs.Forests.{HomeRecords}
 use Rattle.lra_forest.proofs.Bools.{and_left, and_right}
-use Rattle.lra_forest.proofs.Gatherings.{same_record}
+use Rattle.lra_forest.proofs.MembersAndStamps.{same_record}
 
 -- the test is true of equal ones alone
 abbrev pub Same : {X : Type 0} → (X → X → Bool) → Type 0
@@ -256,15 +255,3 @@ record_decides a b = decided of_records.ghosts.eq record_same record_own a b
 -- `==` of two lists of records says whether they are one
 pub records_decide : (a b : List Record) → Decides (pointwise of_records.ghosts.eq a b) (a ≡ b)
 records_decide a b = pointwise_decides (decided of_records.ghosts.eq record_same record_own) a b
-
--- where the homes are one, two forests are the same just where that test is true
-pub same_answer : (g h x y : HomeRecords) → x ≡ g → y ≡ h → x.home ≡ y.home → (b : Bool) → b ≡ pointwise of_records.ghosts.eq x.records y.records → (b ≡ true → (g.home ≡ h.home) × (g.records ≡ h.records)) × ((g.home ≡ h.home) × (g.records ≡ h.records) → b ≡ true)
-same_answer g h x y s t home b e =
-    let one = λ (f : HomeRecords) (k : HomeRecords) (u : f ≡ k). ap (λ (z : HomeRecords). z.records) u in
-    let decides = records_decide x.records y.records in (
-      λ true_. (
-        ap (λ (z : HomeRecords). z.home) (sym s) ∙ home ∙ ap (λ (z : HomeRecords). z.home) t,
-        sym (one x g s) ∙ decides.0 (sym e ∙ true_) ∙ one y h t,
-      ),
-      λ same. e ∙ decides.1 (one x g s ∙ same.1 ∙ sym (one y h t)),
-    )

@@ -19,7 +19,7 @@ use Rattle.lra_forest.specs.MembersByNumber.{numbered}
 use Rattle.lra_forest.specs.Records.{givers, member_by, members_of}
 use Rattle.lra_forest.specs.Standing.{IsSeated}
 use Rattle.lra_forest.specs.Statuses.{status_at, status_in}
-use Rattle.lra_forest.proofs.Giving.{get_in, in_get, giver_in, in_givers, givers_ascend, number_is, place_is}
+use Rattle.lra_forest.proofs.GiversOfNumbers.{get_in, in_get, giver_in, in_givers, givers_ascend, number_is, place_is}
 
 id_is : (g h m n : ℕ) → g ≡ h → m ≡ n → ◌≡◌ {A = Id} (record { home = g; num = m }) (record { home = h; num = n })
 id_is g h m n home num = ap (λ (k : ℕ). record { home = k; num = m }) home ∙ ap (λ (k : ℕ). record { home = h; num = k }) num

@@ -13,13 +13,13 @@ use Rattle.lra_forest.specs.Forests.{AreOf, IsAscending, is_of}
 use Rattle.lra_forest.specs.Overdue.{is_overdue, is_past, IsLeastOverdue}
 use Rattle.lra_forest.specs.Standing.{Stands, IsNested, IsWhole}
 use Rattle.lra_forest.proofs.Bools.{all_in, and_left}
-use Rattle.lra_forest.proofs.Chained.{begins_at}
-use Rattle.lra_forest.proofs.Gatherings.{find_in}
-use Rattle.lra_forest.proofs.Standings.{found_is, held_if_found, stands_at}
+use Rattle.lra_forest.proofs.ParentsAndChains.{begins_at}
+use Rattle.lra_forest.proofs.MembersAndStamps.{find_in}
+use Rattle.lra_forest.proofs.RecordsOfASet.{found_is, held_if_found, stands_at}
 use Rattle.std.specs.Option.{option_map_or}
 use Rattle.lra_forest.specs.Said.{first_overdue, is_overdue_at, want_at}
 use Rattle.lra_forest.specs.Shape.{found_at}
-use Rattle.lra_forest.proofs.Sayings.{want_said}
+use Rattle.lra_forest.proofs.RecordsSayTheSet.{want_said}
 
 abbrev pub at : ℕ → ℕ → Id
 at home num = record { home = home; num = num }

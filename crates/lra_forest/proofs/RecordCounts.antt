@@ -9,8 +9,8 @@ use Rattle.lra_forest.specs.Forests.{AreOf, id_of, is_of}
 use Rattle.lra_forest.specs.Places.{put_record}
 use Rattle.lra_forest.specs.Records.{record_of}
 use Rattle.lra_forest.specs.Standing.{AreOnce, Stands}
-use Rattle.lra_forest.proofs.Chained.{begins_at}
-use Rattle.lra_forest.proofs.Makings.{StandSoFar, any_last, own_home, stand_put}
+use Rattle.lra_forest.proofs.ParentsAndChains.{begins_at}
+use Rattle.lra_forest.proofs.RecordsSoFar.{StandSoFar, any_last, own_home, stand_put}
 use Rattle.lra_forest.proofs.Puts.{put_are_of}
 use Rattle.lra_forest.proofs.OneListOfRecords.{one_view}
 
@@ -41,9 +41,6 @@ no_more : (held b d : Bool) (r : Record) → (held ≡ true → b ≡ true → �
 no_more false b d r h = refl
 no_more true false d r h = refl
 no_more true true d r h = absurd (h refl refl)
-
-same_test : (a b : ℕ) → a ≡ b → (a == b) ≡ true
-same_test a b e = grind (arith, nat_tests, e)
 
 built_stands : (nodes home : ℕ) (S done : List Fact) → StandSoFar nodes home S done (built nodes home S done)
 built_stands nodes home S [] l at = by (is_held S l)

@@ -14,7 +14,7 @@ use Rattle.lra_facts.proofs.Membership.{filter_in, in_append, in_filter, in_map,
 use Rattle.lra_forest.specs.Records.{is_named}
 use Rattle.lra_forest.specs.Standing.{AreOnce, IsWhole}
 use Rattle.lra_forest.proofs.Bools.{all_from, all_in}
-use Rattle.lra_forest.proofs.Giving.{filter_both}
+use Rattle.lra_forest.proofs.GiversOfNumbers.{filter_both}
 use Rattle.lra_history.specs.Growth.{IsSettled}
 use Rattle.lra_history.specs.Histories.{Entry, History, IsClosed, IsLawful, IsLawfulEntry, Made, entries_of, facts, is_counted, made, made_by, made_from}
 use Rattle.lra_history.specs.Views.{IsCounted}

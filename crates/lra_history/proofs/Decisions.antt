@@ -15,7 +15,7 @@ use Rattle.lra_facts.proofs.Membership.{any_from, any_gives, any_inside, in_appe
 use Rattle.lra_facts.proofs.Orders.{parent_missing}
 use Rattle.lra_forest.proofs.Begins.{parent_found}
 use Rattle.lra_forest.proofs.Bools.{and_left}
-use Rattle.lra_forest.proofs.Chained.{begins_at, chain_root}
+use Rattle.lra_forest.proofs.ParentsAndChains.{begins_at, chain_root}
 use Rattle.lra_forest.proofs.NumberedMembers.{same_is, same_self}
 use Rattle.lra_history.specs.Histories.{Entry, History, IsClosed, IsLawful, Made, facts, made, made_by, made_from}
 use Rattle.lra_history.specs.Replies.{command_of}

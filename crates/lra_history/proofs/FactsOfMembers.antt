@@ -18,7 +18,7 @@ use Rattle.lra_forest.specs.declared.record.Member.{Member}
 use Rattle.lra_forest.specs.declared.record.Member.TheVariants.{Nested, Participant, Left}
 use Rattle.lra_forest.specs.Records.{givers, member_by, members_of, record_of}
 use Rattle.lra_forest.specs.Standing.{IsSeated}
-use Rattle.lra_forest.proofs.Giving.{get_in, giver_in, givers_ascend, number_is, place_is}
+use Rattle.lra_forest.proofs.GiversOfNumbers.{get_in, giver_in, givers_ascend, number_is, place_is}
 use Rattle.lra_forest.proofs.Bools.{and_left}
 use Rattle.lra_forest.proofs.NumberedMembers.{same_is, same_self, join_found}
 use Rattle.lra_history.specs.Growth.{IsMore, IsSettled, reporting, leaving, forgetting, member_changed, record_after, hearing}

@@ -9,7 +9,7 @@ use Rattle.lra_facts.specs.Sets.{begins_held, begun_by, held_at, is_begin}
 use Rattle.lra_forest.specs.Standing.{AreOnce}
 use Rattle.lra_forest.proofs.Begins.{once_in}
 use Rattle.lra_forest.proofs.Bools.{all_in, and_left, and_right}
-use Rattle.lra_forest.proofs.Giving.{filter_both}
+use Rattle.lra_forest.proofs.GiversOfNumbers.{filter_both}
 use Rattle.lra_history.specs.Histories.{History, IsClosed, IsLawful, Made, facts, is_counted, made}
 use Rattle.lra_history.specs.Replies.{IsLawfulBody}
 use Rattle.lra_history.specs.declared.command.Command.TheVariants.{Begin as BeginAsked}

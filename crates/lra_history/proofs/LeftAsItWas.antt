@@ -23,7 +23,7 @@ use Rattle.lra_forest.specs.declared.record.Record.{Record}
 use Rattle.lra_forest.specs.Records.{is_about, is_named, stamp, nodes_to, by_number, givers, member_by, members_of, deadline_of, place_in, decision_of, record_of}
 use Rattle.lra_forest.specs.Standing.{IsWhole, IsSeated}
 use Rattle.lra_forest.proofs.Bools.{all_from}
-use Rattle.lra_forest.proofs.Chained.{begins_at, parent_home}
+use Rattle.lra_forest.proofs.ParentsAndChains.{begins_at, parent_home}
 use Rattle.lra_history.specs.Growth.{IsMore, IsSettled}
 use Rattle.lra_history.specs.Views.{is_purge_fact, purge_number}
 use Rattle.lra_history.proofs.ListsWithOneMore.{any_more, most_more, filter_same, filter_more, filter_append, map_last, map_agree, by_number_last, parent_same, deadline_same, heard_same, set_at_node}

@@ -1,47 +1,57 @@
-pub mod AcceptedCommands
-pub mod Basics
-pub mod ClosedSets
-pub mod CountedByFronts
-pub mod Covered
-mod Decisions
-pub mod ElementsByHome
-mod EndsStay
-mod Examples
-mod FactsOfMembers
-mod FactsOfRecords
-mod FewAtHome
-pub mod JoinedFronts
-mod LeftAsItWas
-pub mod ListsWithOneMore
-mod MergeExamples
-pub mod MergeIsAJoin
-mod MergedLras
-mod MergedMembers
-pub mod MergedRecords
-pub mod MergedViews
-mod NewRecords
-pub mod OneMemberChanged
-pub mod OneMerge
-pub mod OneMoreEntry
-pub mod OneViewOfASet
-pub mod PatchedHistories
-pub mod PatchesAddFacts
-mod PatchesOnlyChange
-mod Prefixes
-mod Purges
-mod Ranks
-pub mod RanksRise
-mod RecordsWithOneMore
-mod RemovedByPurge
-pub mod ReplyOrRefusal
-mod SameChains
-pub mod SameReadings
-pub mod SetsToMerge
-pub mod SettledFacts
-mod ShapeExamples
-pub mod SplitVerdicts
-mod StaysSettled
-pub mod TellingAll
-pub mod TwoClosedSets
-pub mod ViewReplies
-pub mod ViewsHaveShape
+-- What each file shows, by what it serves. Those called `pub` may be cited above.
+
+-- ---- Small facts, and lists
+pub mod Basics  -- small facts that several files use
+pub mod ElementsByHome  -- the elements of a flat list by their homes
+mod Prefixes  -- facts in order of numbers: when one list is the first part of another
+pub mod ListsWithOneMore  -- a list with one more element
+mod SameChains  -- when two sets have the same chains
+-- ---- Fronts count sets
+pub mod CountedByFronts  -- the front of a set with one more fact, and of none
+pub mod Covered  -- what is begun is covered
+pub mod JoinedFronts  -- joined fronts count the union
+-- ---- Each closed set of a lawful history is settled
+pub mod SettledFacts  -- what is asked of each fact of a settled set; a lawful fact meets it
+mod StaysSettled  -- one more lawful fact keeps a set settled
+pub mod ClosedSets  -- closed sets of lawful histories
+pub mod OneMoreEntry  -- a history with one entry more
+mod FewAtHome  -- a closed set holds at most 256 LRAs of each home
+-- ---- A set has one view, and a view replies as its set
+pub mod OneViewOfASet  -- a set has one front and one view
+pub mod SameReadings  -- readings that tell the same make the same of a command
+pub mod ViewReplies  -- what a view replies is what its set does
+pub mod ReplyOrRefusal  -- the reply where a command is refused, and where it is accepted
+pub mod AcceptedCommands  -- what a node knows of a command that it accepts
+-- ---- A prepared patch adds exactly its fact
+mod LeftAsItWas  -- what one more fact leaves as it was
+pub mod OneMemberChanged  -- one member changed
+mod NewRecords  -- the record of a new LRA
+mod FactsOfRecords  -- the record that a decision, a join or a begin names
+mod FactsOfMembers  -- the record that a leave, a report, a forgot or a told names
+mod RecordsWithOneMore  -- the records of a home with one more fact
+mod RecordsAfterAPurge  -- the records that a purge leaves
+mod RemovedByPurge  -- the LRAs that a purge removes, by the records of a view
+pub mod PatchesAddFacts  -- the patch adds exactly its fact
+mod PatchesOnlyChange  -- it holds only what changes, each once
+pub mod PatchedHistories  -- and its history has that entry
+-- ---- Merge is a join
+pub mod TwoClosedSets  -- two closed sets of one history, their fronts and their union
+pub mod SetsToMerge  -- what a closed set keeps besides being settled
+mod MergedLras  -- what is held in the union
+mod MergedMembers  -- the members of an LRA in the union
+pub mod MergedRecords  -- its record there
+pub mod MergedViews  -- the merge of two views stands for the union
+pub mod OneMerge  -- two views have one merge
+pub mod MergeIsAJoin  -- the merge is a join
+pub mod TellingAll  -- to take all that is told of a view is to merge it
+pub mod ViewsHaveShape  -- the views of closed sets have the shape
+-- ---- Statuses only rise; no split verdict
+mod Ranks  -- ranks of statuses
+pub mod RanksRise  -- the rank of what an LRA shows rises with the facts
+mod Decisions  -- what a home enters of an LRA that wants something
+pub mod SplitVerdicts  -- where two sets differ, an ancestor was cancelled
+mod EndsStay  -- what is at its end stays there
+-- ---- Computed for a reader, and cited by nothing
+mod HistoryExamples  -- a lawful history of three facts
+mod MergeExamples  -- merges in which an outcome is heard, and a purged LRA stays away
+mod ShapeExamples  -- two views of no one history, whose merge has lost the shape

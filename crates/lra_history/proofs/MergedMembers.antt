@@ -21,7 +21,7 @@ use Rattle.lra_forest.specs.declared.record.Member.{Member}
 use Rattle.lra_forest.specs.declared.record.Member.TheVariants.{Participant, Left}
 use Rattle.lra_forest.specs.Participants.{joined_as}
 use Rattle.lra_forest.specs.Records.{givers, member_by, members_of, stamp}
-use Rattle.lra_forest.proofs.Giving.{giver_in, number_is}
+use Rattle.lra_forest.proofs.GiversOfNumbers.{giver_in, number_is}
 use Rattle.lra_forest.proofs.NumberedMembers.{same_is}
 use Rattle.lra_forest.specs.RecordMerges.{merged_member, merged_members}
 use Rattle.lra_history.specs.Growth.{names_member}

@@ -23,8 +23,8 @@ use Rattle.lra_forest.specs.Records.{deadline_given, deadline_of, givers, is_abo
 use Rattle.lra_forest.specs.Standing.{AreOnce}
 use Rattle.lra_forest.proofs.Begins.{once_in, parent_found}
 use Rattle.lra_forest.proofs.Bools.{all_from, all_in, and_left}
-use Rattle.lra_forest.proofs.Chained.{begins_at, parent_home}
-use Rattle.lra_forest.proofs.Giving.{Ascend, giver_in, givers_ascend, in_givers, number_is}
+use Rattle.lra_forest.proofs.ParentsAndChains.{begins_at, parent_home}
+use Rattle.lra_forest.proofs.GiversOfNumbers.{Ascend, giver_in, givers_ascend, in_givers, number_is}
 use Rattle.lra_forest.specs.RecordMerges.{home_stamp, merged_members, merged_record}
 use Rattle.lra_history.proofs.ListsWithOneMore.{map_agree}
 use Rattle.lra_history.proofs.Prefixes.{same_ascending}

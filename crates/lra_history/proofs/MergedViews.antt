@@ -15,7 +15,7 @@ use Rattle.lra_forest.specs.Records.{is_about, is_named, nodes_to, record_of}
 use Rattle.lra_forest.specs.Standing.{AreOnce, IsWhole}
 use Rattle.lra_forest.proofs.Begins.{parent_found}
 use Rattle.lra_forest.proofs.Bools.{and_left, and_right, not_false, or_cases}
-use Rattle.lra_forest.proofs.Chained.{begins_at, parent_home}
+use Rattle.lra_forest.proofs.ParentsAndChains.{begins_at, parent_home}
 use Rattle.lra_forest.specs.RecordMerges.{merged_record, absorbed}
 use Rattle.lra_history.specs.Growth.{IsSettled}
 use Rattle.lra_history.specs.Merging.{IsMerged}

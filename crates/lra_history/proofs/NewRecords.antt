@@ -20,8 +20,8 @@ use Rattle.lra_forest.specs.Records.{is_about, is_named, stamp, nodes_to, by_num
 use Rattle.lra_forest.specs.Standing.{IsWhole}
 use Rattle.lra_forest.proofs.Begins.{begins_own}
 use Rattle.lra_forest.proofs.Bools.{and_right, not_false}
-use Rattle.lra_forest.proofs.Chained.{begins_at}
-use Rattle.lra_forest.proofs.Giving.{filter_both}
+use Rattle.lra_forest.proofs.ParentsAndChains.{begins_at}
+use Rattle.lra_forest.proofs.GiversOfNumbers.{filter_both}
 use Rattle.lra_forest.proofs.NumberedMembers.{same_is}
 use Rattle.lra_history.specs.Growth.{IsMore, IsSettled, new_record, next_place}
 use Rattle.lra_history.proofs.ListsWithOneMore.{none_found, filter_none, filter_all, parent_first, deadline_first, zero_at_nodes}

@@ -11,7 +11,7 @@ use Rattle.lra_forest.specs.declared.record.Record.{Record}
 use Rattle.lra_forest.specs.Forests.{AreOf, id_of, is_of}
 use Rattle.lra_forest.specs.Records.{nodes_to}
 use Rattle.lra_forest.proofs.Bools.{all_from, all_in}
-use Rattle.lra_forest.proofs.Gatherings.{find_in}
+use Rattle.lra_forest.proofs.MembersAndStamps.{find_in}
 use Rattle.lra_forest.proofs.Puts.{put_are_of, put_find}
 use Rattle.lra_forest.proofs.OneListOfRecords.{same_records}
 use Rattle.lra_forest.specs.RecordMerges.{home_stamp, merged_record, absorbed}

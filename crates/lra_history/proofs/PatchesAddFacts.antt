@@ -19,8 +19,8 @@ use Rattle.lra_forest.specs.Places.{put_record}
 use Rattle.lra_forest.specs.Records.{givers, member_by, nodes_to, record_of}
 use Rattle.lra_forest.specs.Standing.{IsNested, IsWhole}
 use Rattle.lra_forest.proofs.Bools.{all_in}
-use Rattle.lra_forest.proofs.Chained.{begins_at}
-use Rattle.lra_forest.proofs.Giving.{filter_both}
+use Rattle.lra_forest.proofs.ParentsAndChains.{begins_at}
+use Rattle.lra_forest.proofs.GiversOfNumbers.{filter_both}
 use Rattle.lra_forest.proofs.NumberedMembers.{same_is, same_self}
 use Rattle.lra_history.specs.Growth.{IsMore, IsSettled, new_record, record_after, stamped}
 use Rattle.lra_history.specs.Changes.{AddsFact, IsRemoval, one_change, purge_change, put_at_home, put_each, raised, remove_each, remove_at_home, two_changes}
@@ -34,7 +34,7 @@ use Rattle.lra_history.proofs.SettledFacts.{body_gives, filter_agree, givers_len
 use Rattle.lra_history.proofs.LeftAsItWas.{held_stays}
 use Rattle.lra_history.proofs.ListsWithOneMore.{filter_all}
 use Rattle.lra_history.proofs.RecordsWithOneMore.{decide_stands, forgot_stands, told_stands, join_stands, leave_stands, nested_stands, other_home_stands, report_stands, root_stands, touched_home}
-use Rattle.lra_history.proofs.Purges.{purge_elsewhere_stands, purge_stands, purges_gained, purges_kept, without_tree}
+use Rattle.lra_history.proofs.RecordsAfterAPurge.{purge_elsewhere_stands, purge_stands, purges_gained, purges_kept, without_tree}
 use Rattle.lra_history.proofs.StaysSettled.{settled_with}
 use Rattle.lra_history.proofs.FactsOfMembers.{participant_given}
 use Rattle.lra_history.proofs.Basics.{at_most, held_begun, same_or_not}

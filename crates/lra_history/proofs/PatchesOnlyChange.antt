@@ -14,8 +14,8 @@ use Rattle.lra_forest.specs.OnlyChanges.{AreOnlyChanges}
 use Rattle.lra_forest.specs.Records.{nodes_to, stamp}
 use Rattle.lra_forest.specs.Said.{ids_below, is_below}
 use Rattle.lra_forest.specs.Shape.{found_at}
-use Rattle.lra_forest.proofs.Chained.{begins_at}
-use Rattle.lra_forest.proofs.OnlyChanges.{ids_alone, some_same}
+use Rattle.lra_forest.proofs.ParentsAndChains.{begins_at}
+use Rattle.lra_forest.proofs.OnlyWhatChanges.{ids_alone, some_same}
 use Rattle.lra_history.specs.declared.command.Command.{Command}
 use Rattle.lra_history.specs.declared.command.Command.TheVariants.{Begin, Join, Leave, Decide, Report, Forgot, Told, Purge}
 use Rattle.lra_history.specs.Growth.{IsSettled, record_after, stamped}
@@ -30,7 +30,7 @@ use Rattle.lra_history.proofs.SameReadings.{judge_view}
 use Rattle.lra_history.proofs.ViewReplies.{is_plain}
 use Rattle.lra_history.proofs.Basics.{equal_from, equal_itself, held_begun, length_nodes}
 use Rattle.lra_history.proofs.AcceptedCommands.{lawful_gives}
-use Rattle.lra_history.proofs.Purges.{ascending_kept}
+use Rattle.lra_history.proofs.RecordsAfterAPurge.{ascending_kept}
 use Rattle.lra_history.proofs.ReplyOrRefusal.{held_within}
 use Rattle.lra_history.proofs.ViewsHaveShape.{record_in_place}
 

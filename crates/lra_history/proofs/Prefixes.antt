@@ -3,7 +3,7 @@ use Rattle.std.proofs.Common.{◌≡◌, ◌⊎◌, inl, inr, ◌<◌, List, [],
 use Rattle.lra_facts.specs.declared.fact.Fact.{Fact}
 use Rattle.lra_facts.specs.Lists.{In, IsInside}
 use Rattle.lra_forest.proofs.Bools.{all_in}
-use Rattle.lra_forest.proofs.Giving.{Ascend}
+use Rattle.lra_forest.proofs.GiversOfNumbers.{Ascend}
 
 -- the fact has a greater number than each of the list
 abbrev pub IsBeyond : Fact → List Fact → Type 0

@@ -20,9 +20,9 @@ use Rattle.lra_facts.specs.Sets.{begins, chain, has_left, heard, is_begun, is_de
 use Rattle.lra_facts.proofs.Heard.{heard_inside}
 use Rattle.lra_facts.proofs.Membership.{any_from, any_gives, any_inside}
 use Rattle.lra_forest.proofs.Bools.{and_left, and_right, not_false}
-use Rattle.lra_forest.proofs.Chained.{begins_at}
+use Rattle.lra_forest.proofs.ParentsAndChains.{begins_at}
 use Rattle.lra_forest.proofs.NumberedMembers.{same_is, same_self}
-use Rattle.lra_forest.proofs.Trees.{join_shows, shown_join}
+use Rattle.lra_forest.proofs.UnderAnLra.{join_shows, shown_join}
 use Rattle.lra_history.specs.Histories.{History, IsClosed, IsLawful, facts}
 use Rattle.lra_history.specs.Rising.{rank_in}
 use Rattle.lra_history.proofs.SameChains.{along_chain, chain_goes, chain_order}

@@ -14,7 +14,7 @@ use Rattle.lra_forest.specs.Forests.{AreOf, is_of}
 use Rattle.lra_forest.specs.Places.{put_record}
 use Rattle.lra_forest.specs.Records.{is_named, record_of}
 use Rattle.lra_forest.proofs.Bools.{and_left, and_right}
-use Rattle.lra_forest.proofs.Chained.{begins_at}
+use Rattle.lra_forest.proofs.ParentsAndChains.{begins_at}
 use Rattle.lra_forest.proofs.Puts.{put_find, put_are_of}
 use Rattle.lra_forest.proofs.NumberedMembers.{same_is, same_self}
 use Rattle.lra_history.specs.Growth.{IsMore, IsSettled, record_after, new_record}

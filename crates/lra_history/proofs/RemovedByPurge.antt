@@ -9,8 +9,8 @@ use Rattle.lra_forest.specs.declared.record.Record.{Record}
 use Rattle.lra_forest.specs.Forests.{id_of, is_of}
 use Rattle.lra_forest.specs.Said.{ids_below, is_below}
 use Rattle.lra_forest.proofs.Bools.{all_from, all_in}
-use Rattle.lra_forest.proofs.Climbs.{below_id, below_said, id_below}
-use Rattle.lra_forest.proofs.Gatherings.{find_in}
+use Rattle.lra_forest.proofs.ToldByChains.{below_id, below_said, id_below}
+use Rattle.lra_forest.proofs.MembersAndStamps.{find_in}
 use Rattle.lra_forest.proofs.Overdue.{at, found_in}
 use Rattle.lra_history.specs.Growth.{IsSettled}
 use Rattle.lra_history.specs.Readings.{at_home}

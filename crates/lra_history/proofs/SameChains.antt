@@ -7,7 +7,7 @@ use Rattle.lra_facts.specs.declared.fact.Fact.{Fact}
 use Rattle.lra_facts.specs.Lists.{In}
 use Rattle.lra_facts.specs.Sets.{NamesEarlier, chain, chain_within, parent_of}
 use Rattle.lra_facts.proofs.Chains.{chain_enough, parent_lesser, same_rest}
-use Rattle.lra_forest.proofs.Chained.{parent_home}
+use Rattle.lra_forest.proofs.ParentsAndChains.{parent_home}
 use Rattle.lra_history.proofs.Basics.{own_in_chain}
 
 rest_goes : (f : Id → List Id) (a b : Id) (above : Option Id) → ((p : Id) → above ≡ Some p → In a (f p) → In b (f p)) → In a (option_map_or f above []) → In b (option_map_or f above [])

@@ -17,11 +17,11 @@ use Rattle.lra_forest.specs.declared.record.Record.{Record}
 use Rattle.lra_forest.specs.Forests.{is_of}
 use Rattle.lra_forest.specs.Standing.{Stands, answered}
 use Rattle.lra_forest.proofs.Bools.{all_from, all_in}
-use Rattle.lra_forest.proofs.Climbs.{end_told_said, hear_said, owed_said, root_said, told_said}
-use Rattle.lra_forest.proofs.LeastForgetDuty.{least_said, least_untold_said}
+use Rattle.lra_forest.proofs.ToldByChains.{end_told_said, hear_said, owed_said, root_said, told_said}
+use Rattle.lra_forest.proofs.LeastDutyUnderARoot.{least_said, least_untold_said}
 use Rattle.lra_forest.proofs.RecordCounts.{held_count}
-use Rattle.lra_forest.proofs.Gatherings.{find_in}
-use Rattle.lra_forest.proofs.Sayings.{demanded_said, depth_said, ended_said, heard_said, member_shown_said, numbers_said, participant_said, shown_said, want_said}
+use Rattle.lra_forest.proofs.MembersAndStamps.{find_in}
+use Rattle.lra_forest.proofs.RecordsSayTheSet.{demanded_said, depth_said, ended_said, heard_said, member_shown_said, numbers_said, participant_said, shown_said, want_said}
 use Rattle.lra_history.specs.declared.command.Command.{Command}
 use Rattle.lra_history.specs.declared.command.Command.TheVariants.{Begin, Join, Leave, Decide, Report, Forgot, Told, Purge}
 use Rattle.lra_history.specs.Growth.{IsSettled}

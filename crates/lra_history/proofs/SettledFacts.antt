@@ -16,8 +16,8 @@ use Rattle.lra_forest.specs.Records.{givers, is_named}
 use Rattle.lra_forest.specs.Standing.{AreOnce, IsSeated, IsWhole}
 use Rattle.lra_forest.proofs.Begins.{begins_own, parent_begin, parent_found}
 use Rattle.lra_forest.proofs.Bools.{all_from, and_left, and_right}
-use Rattle.lra_forest.proofs.Chained.{begins_at, chain_root, chain_up}
-use Rattle.lra_forest.proofs.Giving.{givers_ascend, get_in, giver_in, length_by_number, number_is, place_is}
+use Rattle.lra_forest.proofs.ParentsAndChains.{begins_at, chain_root, chain_up}
+use Rattle.lra_forest.proofs.GiversOfNumbers.{givers_ascend, get_in, giver_in, length_by_number, number_is, place_is}
 use Rattle.lra_forest.proofs.NumberedMembers.{join_found, same_is, same_self}
 use Rattle.lra_history.specs.Growth.{IsSettled, names_member}
 use Rattle.lra_history.specs.Views.{IsCounted}

@@ -5,7 +5,7 @@ use Rattle.lra_id.specs.Fronts.{IsBelow}
 use Rattle.lra_facts.specs.Lists.{In}
 use Rattle.lra_forest.specs.Forests.{id_of, is_of}
 use Rattle.lra_forest.specs.MembersByNumber.{numbered}
-use Rattle.lra_forest.proofs.Gatherings.{find_in}
+use Rattle.lra_forest.proofs.MembersAndStamps.{find_in}
 use Rattle.lra_forest.proofs.NumberedMembers.{same_is}
 use Rattle.lra_forest.specs.declared.record.Member.{Member}
 use Rattle.lra_forest.specs.declared.record.Member.TheVariants.{Left, Nested}

@@ -12,7 +12,7 @@ use Rattle.lra_facts.specs.Lists.{In}
 use Rattle.lra_facts.specs.Sets.{chain, is_decided, is_decision, is_held, is_root, parent_of, want}
 use Rattle.lra_facts.proofs.Membership.{any_from, any_gives}
 use Rattle.lra_forest.proofs.Bools.{and_left, and_right}
-use Rattle.lra_forest.proofs.Chained.{chain_root}
+use Rattle.lra_forest.proofs.ParentsAndChains.{chain_root}
 use Rattle.lra_forest.proofs.NumberedMembers.{same_is}
 use Rattle.lra_history.specs.Histories.{History, IsClosed, IsLawful, facts}
 use Rattle.lra_history.specs.Rising.{IsCancelledAbove, IsShownCancelled, IsShownClosed}

@@ -19,7 +19,7 @@ use Rattle.lra_facts.specs.Sets.{reported, is_decision, is_decided, is_leave, is
 use Rattle.lra_facts.proofs.Membership.{any_from, any_gives, most_bounds, most_least, same_bools}
 use Rattle.lra_forest.specs.Records.{is_about, is_named, stamp, givers, decision_of}
 use Rattle.lra_forest.proofs.Begins.{once_in}
-use Rattle.lra_forest.proofs.Giving.{giver_in, givers_ascend, in_givers}
+use Rattle.lra_forest.proofs.GiversOfNumbers.{giver_in, givers_ascend, in_givers}
 use Rattle.lra_history.specs.Growth.{IsSettled}
 use Rattle.lra_history.specs.Views.{IsCounted}
 use Rattle.lra_history.proofs.Prefixes.{IsLonger, longer, same_ascending}

@@ -18,8 +18,8 @@ use Rattle.lra_forest.specs.Forests.{is_of}
 use Rattle.lra_forest.specs.Places.{put_record}
 use Rattle.lra_forest.specs.Said.{shown_at}
 use Rattle.lra_forest.specs.Shape.{found_at}
-use Rattle.lra_forest.proofs.Gatherings.{find_in}
-use Rattle.lra_forest.proofs.Sayings.{shown_said}
+use Rattle.lra_forest.proofs.MembersAndStamps.{find_in}
+use Rattle.lra_forest.proofs.RecordsSayTheSet.{shown_said}
 use Rattle.lra_history.specs.declared.command.Command.{Command}
 use Rattle.lra_history.specs.declared.command.Command.TheVariants.{Begin, Join, Leave, Decide, Report, Forgot, Told, Purge}
 use Rattle.lra_history.specs.declared.command.CommandReply.TheVariants.{Began, Decided, Joined}

@@ -20,12 +20,12 @@ use Rattle.lra_forest.specs.Records.{givers, is_about, member_by, members_of, no
 use Rattle.lra_forest.specs.Standing.{IsWhole}
 use Rattle.lra_forest.proofs.Begins.{begin_gives, parent_begin, parent_begun}
 use Rattle.lra_forest.proofs.Bools.{and_right, not_false}
-use Rattle.lra_forest.proofs.Chained.{begins_at, chain_up, parent_home}
+use Rattle.lra_forest.proofs.ParentsAndChains.{begins_at, chain_up, parent_home}
 use Rattle.lra_forest.proofs.RecordCounts.{held_count}
-use Rattle.lra_forest.proofs.Descents.{depth_up}
+use Rattle.lra_forest.proofs.ShownByMembers.{depth_up}
 use Rattle.lra_forest.proofs.NumberedMembers.{get_map, numbered_at, seat_of}
-use Rattle.lra_forest.proofs.Standings.{held_parent, place_parent, stands_at}
-use Rattle.lra_forest.proofs.Trees.{nested_child}
+use Rattle.lra_forest.proofs.RecordsOfASet.{held_parent, place_parent, stands_at}
+use Rattle.lra_forest.proofs.UnderAnLra.{nested_child}
 use Rattle.lra_forest.specs.Shape.{IsInPlace, IsNestedAt, found_at, is_shallow}
 use Rattle.lra_history.specs.Growth.{IsSettled}
 use Rattle.lra_history.specs.Histories.{History, IsClosed, IsLawful, facts}

@@ -15,7 +15,7 @@ use Rattle.lra_http.specs.declared.head.Kind.{Kind}
 use Rattle.lra_http.specs.declared.head.Kind.TheVariants.{Request, Response}
 use Rattle.lra_http.specs.declared.head.Step.{Step}
 use Rattle.lra_http.specs.declared.head.Step.TheVariants.{Whole, Long}
-use Rattle.lra_http.specs.Heads.{IsStep, IsHead, HasNoHead, HasNoShorterHead, NeverHasHead, MayBecomeHead, Exceeds, Overflows, HasHead, HasNoHeadWithin, IsHeadWithin, IsHeadTooLong, IsOpen, RefusesHead}
+use Rattle.lra_http.specs.Heads.{IsStep, IsHead, HasNoHead, HasNoShorterHead, NeverHasHead, MayBecomeHead, Exceeds, Overflows, HasHead, IsHeadWithin, IsHeadTooLong, IsOpen, RefusesHead}
 use Rattle.lra_http.specs.Faults.{Shows, Stops}
 use Rattle.lra_http.specs.Streams.{FoundEnd, GivenBytes, Gives, GivesWhat}
 use Rattle.lra_http.specs.declared.fault.Fault.{Fault}
@@ -188,22 +188,7 @@ pub none_lacked : (kind : Kind) (spaced : Bool) (head items : List ℕ) (byte : 
 none_lacked kind true head items byte e none others other = none_more kind head items byte e none (other refl)
 none_lacked kind false head items byte e none others other = none_unspaced kind items (others refl)
 
--- ---- what was read
-
-pub no_head_within : (kind : Kind) (most room : ℕ) (bytes : List ℕ) → HasNoHead kind bytes → HasNoHeadWithin kind most room bytes
-no_head_within kind most room bytes none = λ text rest lines is same fits few. none_of kind bytes text rest lines none is same
-
 -- ---- the faults
-
--- at the end of the input
-pub cut_shown : (kind : Kind) (most room : ℕ) (bytes : List ℕ) → HasNoHead kind bytes → MayBecomeHead kind bytes → length bytes ≤ most
-    → Shows (most + 1) (RefusesHead kind most room) bytes Cut
-cut_shown kind most room bytes none may short = record {
-  shown = λ more nothing.
-      subst (λ (l : List ℕ). HasNoHead kind l × MayBecomeHead kind l × (length l ≤ most)) (sym (ap (λ (l : List ℕ). bytes ++ l) (nothing refl) ∙ append-nil bytes))
-      (none, may, short);
-  short = omega (arith, short);
-}
 
 pub bad_shown : (kind : Kind) (most room : ℕ) (bytes : List ℕ) → NeverHasHead kind bytes → length bytes ≤ most + 1
     → Shows (most + 1) (RefusesHead kind most room) bytes BadHead

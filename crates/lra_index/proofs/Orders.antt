@@ -24,9 +24,6 @@ same_parts a b e =
     let num : a.num ≡ b.num = grind (arith, nat_tests) in
     three (λ s h n. record { stamp = s; home = h; num = n }) a.stamp a.home a.num b.stamp b.home b.num stamp home num
 
-pub same_self : (a : Entry) → same_entry a a ≡ true
-same_self a = grind (arith, nat_tests)
-
 -- of two, one comes before the other, or they are one
 pub neither : (a b : Entry) → is_before a b ≡ false → same_entry a b ≡ false → is_before b a ≡ true
 neither a b e f = grind (arith, nat_tests)

@@ -7,7 +7,7 @@ use Rattle.sqlite.specs.Tree.{Trees}
 use Rattle.lra_id.specs.Ids.{Id}
 use Rattle.lra_forest.specs.declared.record.Record.{Record}
 use Rattle.lra_forest.specs.Forests.{id_of, is_of}
-use Rattle.lra_forest.proofs.Gatherings.{find_in}
+use Rattle.lra_forest.proofs.MembersAndStamps.{find_in}
 use Rattle.lra_forest.proofs.OneListOfRecords.{same_records}
 use Rattle.lra_history.specs.Views.{View, record_at, records_at}
 use Rattle.lra_history.proofs.OneViewOfASet.{same_homes, same_views}

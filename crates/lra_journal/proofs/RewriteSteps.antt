@@ -1,11 +1,10 @@
 -- The steps by which rows are written anew.
-use Rattle.std.proofs.Common.{◌≡◌, ◌≤◌, ℕ, ℤ, pos, arith, List, [], ◌∷◌, ◌++◌, refl, sym, ap, subst, ◌∙◌, append-nil, append_assoc, true, false, Ok, Err, Result}
-use Rattle.std.specs.Prelude.{IsTrue, OnOk}
+use Rattle.std.proofs.Common.{◌≡◌, ◌≤◌, ℕ, ℤ, pos, arith, List, [], ◌∷◌, ◌++◌, refl, sym, ap, subst, ◌∙◌, append-nil, append_assoc, Ok, Err, Result}
+use Rattle.std.specs.Prelude.{OnOk}
 use Rattle.std.specs.Int.{w64}
 use Rattle.std.specs.List.{flat_map}
 use Rattle.std.proofs.Math.Facts.{to_z_pos}
-use Rattle.sqlite.specs.Effect.{Database}
-use Rattle.sqlite.specs.State.{State, KeepsCommit}
+use Rattle.sqlite.specs.State.{State}
 use Rattle.sqlite.specs.Tree.{Trees}
 use Rattle.lra_forest.specs.declared.record.Record.{Record}
 use Rattle.lra_forest.specs.Forests.{HomeRecords}
@@ -38,14 +37,6 @@ pub one_home_more : (homes : List HomeRecords) (home : HomeRecords) → records_
 one_home_more [] home = append-nil home.records
 one_home_more (h ∷ homes) home =
     ap (λ (rs : List Record). h.records ++ rs) (one_home_more homes home) ∙ sym (append_assoc h.records (records_of homes) home.records)
-
--- a step that begins where a question left everything as it was
-pub goes_from : (Changes : Trees → Trees → Type 0) (a b c : State) → b.now ≡ a.now → KeepsCommit a b → IsTrue b.is_open → GoesOn Changes b c → GoesOn Changes a c
-goes_from Changes a b c same kept still goes = record {
-  shows = record { was_open = kept.was_open still; is_open = goes.shows.is_open; now_is = refl; committed_is = goes.shows.committed_is ∙ kept.committed still; mode = goes.shows.mode };
-  writing = goes.writing;
-  change = subst (λ (d : Database). Changes d.trees c.now.trees) same goes.change;
-}
 
 -- the rows of all records, and then the version
 pub rows_anew : {E : Type 0} (a b c : State) (me held : ℕ) (homes : List (List Record)) (r : Result (Unit {0}) E) → me ≤ 8 → held ≡ me → GoesOn (InTurn PutsRecord (all_records homes)) a b

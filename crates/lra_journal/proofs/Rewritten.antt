@@ -1,7 +1,7 @@
 -- Rows of version 1 that are written anew, record by record, and then the version.
-use Rattle.std.proofs.Common.{◌≡◌, ◌<◌, ◌^◌, ◌+◌, ◌-◌, ◌⊎◌, ◌↔◌, inl, inr, ℕ, zero, suc, ℤ, pos, List, [], ◌∷◌, ◌++◌, refl, sym, ap, subst, ◌∙◌, Bool, true, false, cond, arith, Option, Some, None, Ok, Err, Result, get_or, length}
-use Rattle.std.specs.List.{flat_map, list_any}
-use Rattle.std.proofs.lemmas.Bool.{true≢false, cases_lt}
+use Rattle.std.proofs.Common.{◌≡◌, ◌<◌, ◌+◌, ◌-◌, ◌↔◌, inl, inr, ℕ, zero, suc, ℤ, List, [], ◌∷◌, refl, sym, ap, subst, ◌∙◌, Bool, true, false, cond, arith, Option, Some, Ok, Err, Result, get_or, length}
+use Rattle.std.specs.List.{list_any}
+use Rattle.std.proofs.lemmas.Bool.{true≢false}
 use Rattle.std.specs.Prelude.{IsTrue, OnOk}
 use Rattle.sqlite.specs.State.{State, Survives}
 use Rattle.sqlite.specs.Tree.{Trees}
@@ -12,7 +12,7 @@ use Rattle.lra_facts.proofs.Membership.{in_append}
 use Rattle.lra_forest.specs.declared.record.Record.{Record}
 use Rattle.lra_forest.specs.Forests.{AreOf, id_of, is_of}
 use Rattle.lra_forest.proofs.Bools.{all_in}
-use Rattle.lra_forest.proofs.Gatherings.{find_in}
+use Rattle.lra_forest.proofs.MembersAndStamps.{find_in}
 use Rattle.lra_forest.proofs.NumberedMembers.{same_self}
 use Rattle.lra_history.specs.Views.{View, record_at, records_at}
 use Rattle.lra_history.proofs.Basics.{in_left, in_right}
@@ -20,9 +20,8 @@ use Rattle.lra_delta.specs.declared.version.Version.{Version}
 use Rattle.lra_delta.specs.declared.version.Version.TheVariants.{One, Two}
 use Rattle.lra_delta.specs.Encoding.{record_text, record_text_as}
 use Rattle.lra_journal.specs.Rewriting.{Rewrites, all_records}
-use Rattle.lra_journal.specs.Schema.{front_tree, lra_tree}
 use Rattle.lra_journal.specs.Stands.{IsFrontOf, IsHeld, IsRecordOf, IsReplicaView, PutsRecord, Stands, StandsAs}
-use Rattle.lra_journal.specs.Tables.{signed, front_row, lra_row, HasFront, HasLra, IsFormed, IsJournal, IsKey, SetsFront, SetsLra}
+use Rattle.lra_journal.specs.Tables.{signed, front_row, lra_row, HasFront, HasLra, IsFormed, IsJournal, IsKey, SetsLra}
 use Rattle.lra_journal.specs.Turns.{InTurn}
 use Rattle.lra_journal.proofs.ChangedViews.{same_home, same_num, same_from}
 use Rattle.lra_journal.proofs.RowsStand.{found_in}

@@ -10,7 +10,7 @@ use Rattle.lra_forest.specs.declared.record.Record.{Record}
 use Rattle.lra_forest.specs.Forests.{AreOf, id_of, is_of}
 use Rattle.lra_forest.specs.Places.{put_record}
 use Rattle.lra_forest.proofs.ChangedRecords.{find_filter, keep}
-use Rattle.lra_forest.proofs.Gatherings.{find_in}
+use Rattle.lra_forest.proofs.MembersAndStamps.{find_in}
 use Rattle.lra_forest.proofs.Puts.{put_find}
 use Rattle.lra_index.specs.Indexes.{with_stamps}
 use Rattle.lra_replica.specs.Replicas.{stamps_in}

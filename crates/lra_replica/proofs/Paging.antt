@@ -9,7 +9,7 @@ use Rattle.lra_facts.proofs.Membership.{filter_in, in_filter}
 use Rattle.lra_forest.specs.declared.record.Record.{Record}
 use Rattle.lra_forest.specs.Forests.{AreOf, HomeRecords, id_of, is_of}
 use Rattle.lra_forest.proofs.Bools.{all_in, and_left, and_right}
-use Rattle.lra_forest.proofs.Gatherings.{find_in}
+use Rattle.lra_forest.proofs.MembersAndStamps.{find_in}
 use Rattle.lra_forest.proofs.Overdue.{at, found_in, number_passes}
 use Rattle.lra_forest.proofs.Removals.{filter_are_of}
 use Rattle.lra_history.specs.Growth.{IsSettled}

@@ -123,13 +123,6 @@ pub none_left : {X : Type 0} (xs : List X) → length xs ≡ 0 → xs ≡ []
 none_left [] e = refl
 none_left (x ∷ xs) e = absurd (omega (arith, e))
 
-at_home : (n : ℕ) (r : Record) (kept : ReplicaState) (home : ℕ) → n ≤ spare_at kept.homes r.home → cond (r.home == home) n 0 ≤ spare_at kept.homes home
-at_home n r kept home room = by (r.home == home) refl
-  where
-    by : (b : Bool) → (r.home == home) ≡ b → cond b n 0 ≤ spare_at kept.homes home
-    by true t = let same : r.home ≡ home = grind (arith, nat_tests, t) in omega (arith, room, ap (spare_at kept.homes) same)
-    by false t = omega arith
-
 pub spare_new : (homes : List HomeRecords) (home : ℕ) (new : HomeRecords) → home - 1 < length homes → spare_at (set homes (home - 1) new) home ≡ new.spare
 spare_new homes home new e = let there = set_here homes (home - 1) new e in rw there refl
 

@@ -13,12 +13,12 @@ use Rattle.lra_forest.specs.Participants.{parent_held, participant_at, participa
 use Rattle.lra_forest.specs.Records.{record_of}
 use Rattle.lra_forest.specs.Shape.{found_at}
 use Rattle.lra_forest.specs.Standing.{Stands}
-use Rattle.lra_forest.proofs.Asked.{parent_known, participant_held, participant_law}
+use Rattle.lra_forest.proofs.ParticipantAnswers.{parent_known, participant_held, participant_law}
 use Rattle.lra_forest.proofs.Bools.{all_from}
-use Rattle.lra_forest.proofs.Compensated.{compensations_settled}
+use Rattle.lra_forest.proofs.CompensationsOfAHome.{compensations_settled}
 use Rattle.lra_forest.proofs.Overdue.{at, held_number, number_passes}
-use Rattle.lra_forest.proofs.Seats.{completions_settled, forgets_settled, hearings_settled}
-use Rattle.lra_forest.proofs.Standings.{found_parent, found_root, held_parent, stands_at}
+use Rattle.lra_forest.proofs.DutiesOfAHome.{completions_settled, forgets_settled, hearings_settled}
+use Rattle.lra_forest.proofs.RecordsOfASet.{found_parent, found_root, held_parent, stands_at}
 use Rattle.lra_history.specs.Growth.{IsSettled}
 use Rattle.lra_history.specs.Views.{StandsFor, View, records_at}
 use Rattle.lra_history.proofs.Covered.{nested_settled}

@@ -5,7 +5,7 @@ use Rattle.std.proofs.lemmas.List.{append-nil, take-append-drop}
 use Rattle.std.proofs.lemmas.Bool.Decides.{nat_tests}
 use Rattle.lra_id.specs.Fronts.{IsBelow, join_fronts}
 use Rattle.lra_facts.specs.declared.refusal.Refusal.TheVariants.{Gap}
-use Rattle.lra_forest.proofs.Giving.{get_in}
+use Rattle.lra_forest.proofs.GiversOfNumbers.{get_in}
 use Rattle.lra_history.specs.Histories.{facts}
 use Rattle.lra_replica.specs.Replicas.{view_of}
 use Rattle.lra_history.specs.Views.{View}

@@ -1,12 +1,11 @@
 -- What happens in a world.
-use Rattle.std.proofs.Common.{◌≡◌, ◌⊎◌, ◌+◌, zero, suc, inl, inr, [], ◌∷◌, ◌++◌, append_assoc, take, ◌≤◌, ◌-◌, ◌&&◌, ℕ, List, refl, sym, ap, subst, ◌∙◌, Bool, true, false, arith, Some, length, nat_le, slice_get}
+use Rattle.std.proofs.Common.{◌≡◌, ◌⊎◌, ◌+◌, zero, suc, inl, inr, [], ◌∷◌, ◌++◌, append_assoc, take, ◌≤◌, ◌-◌, ℕ, List, refl, sym, ap, subst, ◌∙◌, true, false, arith, Some, length, nat_le, slice_get}
 use Rattle.std.proofs.Math.Seq.{take-append_seam}
 use Rattle.std.proofs.lemmas.Bool.Decides.{nat_tests}
 use Rattle.lra_id.specs.Ids.{Id}
 use Rattle.std.proofs.lemmas.List.{length-append}
 use Rattle.lra_id.specs.Fronts.{IsBelow}
 use Rattle.lra_facts.specs.declared.fact.Fact.{Fact}
-use Rattle.lra_facts.specs.declared.refusal.Refusal.TheVariants.{BadText}
 use Rattle.lra_history.specs.declared.command.Command.{Command}
 use Rattle.lra_history.specs.declared.command.Command.TheVariants.{Decide}
 use Rattle.lra_history.specs.declared.command.CommandReply.{CommandReply}
@@ -22,10 +21,10 @@ use Rattle.lra_delta.specs.declared.version.Version.TheVariants.{One, Two}
 use Rattle.lra_world.specs.declared.event.Event.{Event}
 use Rattle.lra_world.specs.declared.event.Event.TheVariants.{Act, Restart, Send, SendOld, Tick}
 use Rattle.lra_world.specs.declared.event.Reply.{Reply}
-use Rattle.lra_world.specs.declared.event.Reply.TheVariants.{Answered, Refused, Restarted, Sent}
+use Rattle.lra_world.specs.declared.event.Reply.TheVariants.{Answered, Restarted, Sent}
 use Rattle.lra_world.specs.Headline.{IsNode}
 use Rattle.lra_world.specs.Machines.{Happens, IsChanged, IsExpired, IsWorldOf, LeadsTo, Machine, StopsIn}
-use Rattle.lra_world.specs.Worlds.{Acts, SentFrame, IfNode, IsEncoded, IsViewOf, IsWorld, NeedsTwo, Runs, Sends, SendsOld, State, Stays, Ticks, after_command, expired, front_of, is_node, nodes_of, set_of, with_frame}
+use Rattle.lra_world.specs.Worlds.{Acts, SentFrame, IsEncoded, IsViewOf, IsWorld, NeedsTwo, Runs, Sends, SendsOld, State, Stays, Ticks, after_command, expired, front_of, nodes_of, set_of, with_frame}
 use Rattle.lra_delta.specs.Frames.{frame_of}
 use Rattle.lra_delta.specs.Versions.{needs_two}
 use Rattle.lra_world.proofs.Agreeing.{same_view}
@@ -38,17 +37,6 @@ use Rattle.lra_world.proofs.WorldsStand.{ActsSo, acted_world, still_world, with_
 -- there is such a node
 pub node_there : (s : State) (m : Machine) (node : ℕ) → IsWorldOf s m → 1 ≤ node → nat_le node (length m.replicas) ≡ true → IsNode s node
 node_there s m node w some e = let there : node ≤ length m.replicas = grind (arith, nat_tests) in record { some = some; there = omega (arith, there, w.nodes) }
-
--- where there is none, nothing happens
-not_node : (s : State) (m : Machine) (node : ℕ) → IsWorldOf s m → nat_le node (length m.replicas) ≡ false → is_node s node ≡ false
-not_node s m node w e = both (nat_le 1 node) (nat_le node (nodes_of s)) (ap (λ (n : ℕ). nat_le node n) (sym w.nodes) ∙ e)
-  where
-    both : (a b : Bool) → b ≡ false → (a && b) ≡ false
-    both true b h = h
-    both false b h = refl
-
-pub nowhere : (s : State) (m : Machine) (node : ℕ) (happens : Type 0) → IsWorldOf s m → nat_le node (length m.replicas) ≡ false → IfNode (is_node s node) s happens (Refused BadText) s
-nowhere s m node happens w e = subst (λ (b : Bool). IfNode b s happens (Refused BadText) s) (sym (not_node s m node w e)) (refl, refl)
 
 pub act_happens : (s : State) (old new : Machine) (node : ℕ) (c : Command) (reply : CommandReply) → IsWorldOf s old → IsNode s node → IsChanged old new node (ActsSo node c reply) → Happens s (Act node c) (Answered reply) new
 act_happens s old new node c reply w is change =

@@ -1,7 +1,7 @@
 use Rattle.std.proofs.Common.{◌≡◌, ◌∙◌, Some, inr, refl, sym, ap, false, true}
 use Rattle.lra_forest.specs.declared.record.Record.{Record}
 use Rattle.lra_forest.proofs.EqualRecords.{record_decides}
-use Rattle.lra_forest.proofs.OnlyChanges.{some_same}
+use Rattle.lra_forest.proofs.OnlyWhatChanges.{some_same}
 use Rattle.lra_forest.proofs.merging.unless_there.Goals as goal
 
 pub returns-then-eq : goal.returns-then-eq

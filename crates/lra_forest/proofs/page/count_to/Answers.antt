@@ -1,6 +1,6 @@
 use Rattle.std.proofs.Common.{◌≡◌, ◌+◌, ◌∙◌, ap, arith, true, false, drop, is_some, slice_get}
 use Rattle.lra_forest.specs.Places.{count_below, with_number}
-use Rattle.lra_forest.proofs.Exchanges.{rest_after, rest_beyond}
+use Rattle.lra_forest.proofs.RecordsReplaced.{rest_after, rest_beyond}
 use Rattle.lra_forest.proofs.Places.{place_length}
 use Rattle.lra_forest.proofs.page.count_to.Goals as goal
 

@@ -1,6 +1,6 @@
 use Rattle.std.proofs.Common.{◌≡◌, true, is_some, slice_get, Some}
 use Rattle.lra_forest.specs.Places.{count_below, with_number}
-use Rattle.lra_forest.proofs.Exchanges.{back_is}
+use Rattle.lra_forest.proofs.RecordsReplaced.{back_is}
 use Rattle.lra_forest.proofs.Puts.{put_set}
 use Rattle.lra_forest.proofs.page.exchange_among.Goals as goal
 

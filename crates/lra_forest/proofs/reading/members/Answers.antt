@@ -1,6 +1,6 @@
 use Rattle.std.proofs.Common.{sym, ap, arith, length, length-append, ◌∷◌, [], List}
 use Rattle.lra_forest.specs.declared.record.Member.{Member}
-use Rattle.lra_forest.proofs.Gatherings.{members_step, members_done, members_start}
+use Rattle.lra_forest.proofs.MembersAndStamps.{members_step, members_done, members_start}
 use Rattle.lra_forest.proofs.reading.members.Goals as goal
 
 pub places-init : goal.places-init

@@ -1,4 +1,4 @@
-use Rattle.lra_forest.proofs.Gatherings.{number_fits, same_record}
+use Rattle.lra_forest.proofs.MembersAndStamps.{number_fits, same_record}
 use Rattle.lra_forest.proofs.reading.record_of.Goals as goal
 
 pub returns-clause-entry : goal.returns-clause-entry

@@ -1,6 +1,6 @@
 use Rattle.std.proofs.Common.{ℕ, ap, arith, length, List}
 use Rattle.lra_forest.specs.Records.{stamp}
-use Rattle.lra_forest.proofs.Gatherings.{nodes_length, nodes_step}
+use Rattle.lra_forest.proofs.MembersAndStamps.{nodes_length, nodes_step}
 use Rattle.lra_forest.proofs.reading.stamps.Goals as goal
 
 pub set-requires : goal.set-requires

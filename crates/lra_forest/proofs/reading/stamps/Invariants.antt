@@ -1,6 +1,6 @@
 use Rattle.std.proofs.Common.{◌≡◌}
 use Rattle.lra_forest.specs.Records.{stamp}
-use Rattle.lra_forest.proofs.Gatherings.{first_nodes}
+use Rattle.lra_forest.proofs.MembersAndStamps.{first_nodes}
 use Rattle.lra_forest.proofs.reading.stamps.Given as goal
 
 -- the nodes so far are counted

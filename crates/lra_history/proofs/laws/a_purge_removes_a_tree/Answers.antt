@@ -1,4 +1,4 @@
-use Rattle.lra_history.proofs.Purges.{purge_held}
+use Rattle.lra_history.proofs.RecordsAfterAPurge.{purge_held}
 use Rattle.lra_history.proofs.laws.a_purge_removes_a_tree.Goals as goal
 
 pub returns : goal.returns

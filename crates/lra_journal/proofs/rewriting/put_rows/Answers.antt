@@ -1,4 +1,4 @@
-use Rattle.std.proofs.Common.{◌∙◌, ap, arith, subst}
+use Rattle.std.proofs.Common.{◌∙◌, arith, subst}
 use Rattle.sqlite.specs.Held.{state}
 use Rattle.lra_journal.specs.Rewriting.{all_records}
 use Rattle.lra_journal.specs.Stands.{PutsRecord}

@@ -1,6 +1,6 @@
 use Rattle.std.proofs.Common.{List, subst}
 use Rattle.lra_forest.specs.declared.record.Record.{Record}
-use Rattle.lra_forest.proofs.Takes.{IsBringing, bringing_more}
+use Rattle.lra_forest.proofs.TakenRecords.{IsBringing, bringing_more}
 use Rattle.lra_forest.proofs.forest.Forest.all_brought.Goals as goal
 
 pub loop-heard-preserved : goal.loop-heard-preserved

@@ -1,5 +1,5 @@
 use Rattle.std.proofs.Common.{◌≡◌}
-use Rattle.lra_forest.proofs.Takes.{IsBringing}
+use Rattle.lra_forest.proofs.TakenRecords.{IsBringing}
 use Rattle.lra_forest.proofs.forest.Forest.all_brought.Given as goal
 
 -- what is left is still to be brought

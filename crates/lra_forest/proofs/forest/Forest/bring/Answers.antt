@@ -7,7 +7,7 @@ use Rattle.lra_forest.specs.OnlyChanges.{IsPut}
 use Rattle.lra_forest.specs.Places.{put_record}
 use Rattle.lra_forest.specs.Shape.{found_at}
 use Rattle.lra_forest.proofs.Puts.{put_are_of}
-use Rattle.lra_forest.proofs.Takes.{IsNews, news_found, news_of}
+use Rattle.lra_forest.proofs.TakenRecords.{IsNews, news_found, news_of}
 use Rattle.lra_forest.proofs.forest.Forest.bring.Goals as goal
 
 news_is : (c : goal.After-put-arg-1) → IsNews c.args.self.now.home c.args.self.now.records (nat_le c.args.heard.num c.args.mine) c.args.heard (Some c.in-Some.next)

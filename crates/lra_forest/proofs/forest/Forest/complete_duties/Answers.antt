@@ -6,7 +6,7 @@ use Rattle.lra_forest.specs.Dues.{AreAll, IsDueAt, is_before, is_complete_duty}
 use Rattle.lra_forest.specs.Owings.{owed_of}
 use Rattle.lra_forest.specs.RecordDues.{due_to_complete}
 use Rattle.lra_forest.specs.Shape.{found_at}
-use Rattle.lra_forest.proofs.Seats.{completions_settled, owed_at_seats}
+use Rattle.lra_forest.proofs.DutiesOfAHome.{completions_settled, owed_at_seats}
 use Rattle.lra_forest.proofs.forest.Forest.complete_duties.Goals as goal
 
 pub returns-clause-says : goal.returns-clause-says

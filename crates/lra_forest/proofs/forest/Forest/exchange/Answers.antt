@@ -1,6 +1,6 @@
 use Rattle.std.proofs.Common.{sym, ap, subst, ◌∙◌, is_some}
 use Rattle.lra_forest.specs.Forests.{AreOf, HomeRecords}
-use Rattle.lra_forest.proofs.Exchanges.{found_at}
+use Rattle.lra_forest.proofs.RecordsReplaced.{found_at}
 use Rattle.lra_forest.proofs.Puts.{put_are_of}
 use Rattle.lra_forest.proofs.forest.Forest.exchange.Goals as goal
 

@@ -6,7 +6,7 @@ use Rattle.lra_forest.specs.Forests.{id_of}
 use Rattle.lra_forest.specs.Owings.{owed_by, owing_at}
 use Rattle.lra_forest.specs.Said.{first_member, is_below, is_owed, is_under_at}
 use Rattle.lra_forest.specs.Shape.{found_at}
-use Rattle.lra_forest.proofs.Climbs.{first_member_is, owed_owes}
+use Rattle.lra_forest.proofs.ToldByChains.{first_member_is, owed_owes}
 use Rattle.lra_forest.proofs.Overdue.{at, number_passes}
 use Rattle.lra_forest.proofs.forest.Forest.first_to_forget.Goals as goal
 

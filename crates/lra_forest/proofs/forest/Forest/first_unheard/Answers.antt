@@ -1,11 +1,11 @@
-use Rattle.std.proofs.Common.{◌≡◌, ◌&&◌, ◌∙◌, refl, rules, sym, ap, Bool, true, cond, List, None, slice_get}
+use Rattle.std.proofs.Common.{◌≡◌, ◌&&◌, ◌∙◌, refl, rules, sym, ap, Bool, true, cond, None, slice_get}
 use Rattle.lra_id.specs.Ids.{Id}
 use Rattle.lra_forest.specs.declared.duties.Owing.TheVariants.{Hearing}
 use Rattle.lra_forest.specs.Forests.{id_of}
 use Rattle.lra_forest.specs.Owings.{owed_by}
 use Rattle.lra_forest.specs.Said.{first_member, is_below, is_under_at, is_unheard}
 use Rattle.lra_forest.specs.Shape.{found_at}
-use Rattle.lra_forest.proofs.Climbs.{first_member_is}
+use Rattle.lra_forest.proofs.ToldByChains.{first_member_is}
 use Rattle.lra_forest.proofs.Overdue.{at, number_passes}
 use Rattle.lra_forest.proofs.forest.Forest.first_unheard.Goals as goal
 

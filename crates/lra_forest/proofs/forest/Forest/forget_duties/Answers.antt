@@ -7,7 +7,7 @@ use Rattle.lra_forest.specs.Dues.{AreAll, IsDueAt, is_before}
 use Rattle.lra_forest.specs.Owings.{owed_of}
 use Rattle.lra_forest.specs.RecordDues.{due_to_forget}
 use Rattle.lra_forest.specs.Shape.{found_at}
-use Rattle.lra_forest.proofs.Seats.{forgets_settled, owed_at_seats}
+use Rattle.lra_forest.proofs.DutiesOfAHome.{forgets_settled, owed_at_seats}
 use Rattle.lra_forest.proofs.forest.Forest.forget_duties.Goals as goal
 
 pub returns-clause-says : goal.returns-clause-says

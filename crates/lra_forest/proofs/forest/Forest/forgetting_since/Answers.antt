@@ -2,7 +2,7 @@ use Rattle.std.proofs.Common.{◌≡◌, ◌∙◌, rules, None, ap, slice_get, 
 use Rattle.lra_forest.specs.declared.duties.Owing.{Owing}
 use Rattle.lra_forest.specs.Owings.{owed_by}
 use Rattle.lra_forest.specs.Shape.{found_at}
-use Rattle.lra_forest.proofs.Climbs.{none_forgetting}
+use Rattle.lra_forest.proofs.ToldByChains.{none_forgetting}
 use Rattle.lra_forest.proofs.forest.Forest.forgetting_since.Goals as goal
 
 pub returns-then-is_none-clause-owed : goal.returns-then-is_none-clause-owed

@@ -4,7 +4,7 @@ use Rattle.std.specs.List.{AllByRecursion}
 use Rattle.std.proofs.lemmas.List.{take_all}
 use Rattle.lra_forest.specs.Shape.{found_at, records_after}
 use Rattle.lra_forest.proofs.Bools.{all_at}
-use Rattle.lra_forest.proofs.RecordsInPlace.{IsThere, all_there, copied_some, nested_there}
+use Rattle.lra_forest.proofs.ShapeOfAHome.{IsThere, all_there, copied_some, nested_there}
 use Rattle.lra_forest.proofs.forest.Forest.has_nested.Goals as goal
 
 pub returns-then-is_none : goal.returns-then-is_none

@@ -1,7 +1,7 @@
 use Rattle.std.proofs.Common.{take}
 use Rattle.std.specs.List.{AllByRecursion}
 use Rattle.lra_forest.specs.Shape.{records_after}
-use Rattle.lra_forest.proofs.RecordsInPlace.{IsThere}
+use Rattle.lra_forest.proofs.ShapeOfAHome.{IsThere}
 use Rattle.lra_forest.proofs.forest.Forest.has_nested.Given as goal
 
 -- those so far are there

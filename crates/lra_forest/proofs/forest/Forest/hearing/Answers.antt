@@ -1,6 +1,6 @@
 use Rattle.std.proofs.Common.{◌≡◌, ◌∙◌, rules, None, sym}
 use Rattle.lra_forest.specs.Shape.{found_at}
-use Rattle.lra_forest.proofs.Climbs.{none_hearing}
+use Rattle.lra_forest.proofs.ToldByChains.{none_hearing}
 use Rattle.lra_forest.proofs.forest.Forest.hearing.Goals as goal
 
 pub returns-then-is_none : goal.returns-then-is_none

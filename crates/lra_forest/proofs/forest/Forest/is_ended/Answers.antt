@@ -3,7 +3,7 @@ use mathlib.Core.Bool.{not}
 use Rattle.lra_facts.specs.Sets.{is_open}
 use Rattle.lra_forest.specs.Said.{some_shows_at, wanted_by}
 use Rattle.lra_forest.specs.Shape.{found_at}
-use Rattle.lra_forest.proofs.Sayings.{up_none}
+use Rattle.lra_forest.proofs.RecordsSayTheSet.{up_none}
 use Rattle.lra_forest.proofs.forest.Forest.is_ended.Goals as goal
 
 pub returns-in_default : goal.returns-in_default

@@ -1,6 +1,6 @@
 use Rattle.std.proofs.Common.{◌≡◌, ◌∙◌, ◌+◌, ◌-◌, ◌<◌, refl, sym, ap, arith}
 use Rattle.lra_forest.specs.Shape.{is_shallow, records_after}
-use Rattle.lra_forest.proofs.RecordsInPlace.{shallow_none, shallow_root, shallow_nested}
+use Rattle.lra_forest.proofs.ShapeOfAHome.{shallow_none, shallow_root, shallow_nested}
 use Rattle.lra_forest.proofs.forest.Forest.is_shallow.Goals as goal
 
 pub loop-init : goal.loop-init

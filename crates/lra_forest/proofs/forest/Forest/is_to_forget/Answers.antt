@@ -7,7 +7,7 @@ use Rattle.lra_forest.specs.Owings.{forgetting_at, owes}
 use Rattle.lra_forest.specs.Participants.{answered_of, participant_at}
 use Rattle.lra_forest.specs.Said.{is_over_at, is_owed_at, participant_of}
 use Rattle.lra_forest.specs.Shape.{found_at}
-use Rattle.lra_forest.proofs.Climbs.{both_false, both_true, to_forget_is}
+use Rattle.lra_forest.proofs.ToldByChains.{both_false, both_true, to_forget_is}
 use Rattle.lra_forest.proofs.forest.Forest.is_to_forget.Goals as goal
 
 -- the answer at the record and the participant that were found

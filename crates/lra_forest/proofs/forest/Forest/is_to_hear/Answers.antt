@@ -6,7 +6,7 @@ use Rattle.lra_forest.specs.MembersByNumber.{numbered}
 use Rattle.lra_forest.specs.Participants.{answered_of, participant_at}
 use Rattle.lra_forest.specs.Said.{is_at_end_at, is_to_hear_at, is_unheard, participant_of}
 use Rattle.lra_forest.specs.Shape.{found_at}
-use Rattle.lra_forest.proofs.Climbs.{both_false, both_true, to_hear_is}
+use Rattle.lra_forest.proofs.ToldByChains.{both_false, both_true, to_hear_is}
 use Rattle.lra_forest.proofs.forest.Forest.is_to_hear.Goals as goal
 
 -- the answer at the record and the participant that were found

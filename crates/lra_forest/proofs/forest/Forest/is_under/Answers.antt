@@ -4,8 +4,8 @@ use Rattle.std.proofs.lemmas.Bool.Decides.{nat_tests}
 use Rattle.lra_forest.specs.declared.record.Record.{Record}
 use Rattle.lra_forest.specs.Said.{records_up}
 use Rattle.lra_forest.specs.Shape.{found_at}
-use Rattle.lra_forest.proofs.Climbs.{any_above, any_here, any_root}
-use Rattle.lra_forest.proofs.Sayings.{up_none, up_nothing}
+use Rattle.lra_forest.proofs.ToldByChains.{any_above, any_here, any_root}
+use Rattle.lra_forest.proofs.RecordsSayTheSet.{up_none, up_nothing}
 use Rattle.lra_forest.proofs.forest.Forest.is_under.Goals as goal
 
 pub returns-in_default : goal.returns-in_default

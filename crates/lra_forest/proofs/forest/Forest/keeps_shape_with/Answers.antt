@@ -2,7 +2,7 @@ use Rattle.std.proofs.Common.{◌≡◌, ◌∙◌, List, sym, subst, true, fals
 use Rattle.std.specs.List.{AllByRecursion}
 use Rattle.lra_forest.specs.declared.record.Record.{Record}
 use Rattle.lra_forest.specs.Shape.{IsInPlaceAt, records_after}
-use Rattle.lra_forest.proofs.RecordsInPlace.{each_fits, shape_from}
+use Rattle.lra_forest.proofs.ShapeOfAHome.{each_fits, shape_from}
 use Rattle.lra_forest.proofs.forest.Forest.keeps_shape_with.Goals as goal
 
 pub returns-then-not-is_few : goal.returns-then-not-is_few

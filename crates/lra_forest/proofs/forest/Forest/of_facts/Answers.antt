@@ -6,7 +6,7 @@ use Rattle.lra_facts.specs.declared.fact.Fact.{Fact}
 use Rattle.lra_facts.specs.Sets.{IsNumbered}
 use Rattle.lra_forest.specs.Forests.{HomeRecords}
 use Rattle.lra_forest.specs.Places.{put_record}
-use Rattle.lra_forest.proofs.Makings.{IsMade, begun_home, made_put, made_skip}
+use Rattle.lra_forest.proofs.RecordsSoFar.{IsMade, begun_home, made_put, made_skip}
 use Rattle.lra_forest.proofs.forest.Forest.of_facts.Goals as goal
 use Rattle.lra_forest.proofs.forest.Forest.of_facts.Goals.{in-Some+in_ok-made+in_ok-reserve, in_default}
 

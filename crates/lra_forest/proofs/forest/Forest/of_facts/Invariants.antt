@@ -1,7 +1,7 @@
 use Rattle.std.proofs.Common.{take, drop}
 use Rattle.std.specs.List.{AllByRecursion}
 use Rattle.lra_facts.specs.Sets.{IsNumbered}
-use Rattle.lra_forest.proofs.Makings.{IsMade}
+use Rattle.lra_forest.proofs.RecordsSoFar.{IsMade}
 use Rattle.lra_forest.proofs.forest.Forest.of_facts.Given as goal
 
 -- the records are those of the begins so far

@@ -1,7 +1,7 @@
 use Rattle.std.proofs.Common.{sym, ap, ◌∙◌, None, Some}
-use Rattle.lra_forest.proofs.Asked.{parent_known, parent_lost}
+use Rattle.lra_forest.proofs.ParticipantAnswers.{parent_known, parent_lost}
 use Rattle.lra_forest.proofs.Overdue.{at, held_number, id_made}
-use Rattle.lra_forest.proofs.Standings.{found_parent, found_root, held_if_found, held_parent, not_held}
+use Rattle.lra_forest.proofs.RecordsOfASet.{found_parent, found_root, held_if_found, held_parent, not_held}
 use Rattle.lra_forest.proofs.forest.Forest.parent.Goals as goal
 
 pub returns-in_default-clause-settled : goal.returns-in_default-clause-settled

@@ -1,7 +1,7 @@
 use Rattle.std.proofs.Common.{◌≡◌, sym, ap, subst, ◌∙◌, true, is_some, slice_get}
 use Rattle.lra_forest.specs.Forests.{AreOf, HomeRecords}
 use Rattle.lra_forest.specs.Places.{count_below, with_number}
-use Rattle.lra_forest.proofs.Exchanges.{found_at}
+use Rattle.lra_forest.proofs.RecordsReplaced.{found_at}
 use Rattle.lra_forest.proofs.Puts.{put_are_of}
 use Rattle.lra_forest.proofs.Removals.{room_for}
 use Rattle.lra_forest.proofs.forest.Forest.put.Goals as goal

@@ -5,8 +5,8 @@ use Rattle.lra_forest.specs.RecordMerges.{held_numbers, is_gone}
 use Rattle.lra_forest.specs.OnlyChanges.{AreOnlyChanges, ids_lost}
 use Rattle.lra_forest.specs.Shape.{found_at}
 use Rattle.lra_forest.proofs.ChangedRecords.{changes_are_of}
-use Rattle.lra_forest.proofs.OnlyChanges.{only_changes}
-use Rattle.lra_forest.proofs.Takes.{AreGone, ids_are_gone, takes}
+use Rattle.lra_forest.proofs.OnlyWhatChanges.{only_changes}
+use Rattle.lra_forest.proofs.TakenRecords.{AreGone, ids_are_gone, takes}
 use Rattle.lra_forest.proofs.forest.Forest.taking.Goals as goal
 
 gone_is : (c : goal.Joined-other-3) → c.in_ok-removed.removed.items ≡ ids_lost c.args.self.now.home c.args.told (held_numbers c.args.other.held) c.args.other.records.records c.args.self.now.records

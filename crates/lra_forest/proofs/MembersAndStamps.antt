@@ -15,7 +15,7 @@ use Rattle.lra_facts.specs.Lists.{In}
 use Rattle.lra_forest.specs.Gathering.{lesser_number, number_above, least_above, giver_at, next_giver, IsRecordable}
 use Rattle.lra_forest.specs.Records.{givers, member_by, members_of, nodes_to}
 use Rattle.lra_forest.proofs.Bools.{all_in, and_left, and_right}
-use Rattle.lra_forest.proofs.Giving.{Ascend, in_givers, giver_in, differ_givers, by_number_ascends, all_by_number, number_is}
+use Rattle.lra_forest.proofs.GiversOfNumbers.{Ascend, in_givers, giver_in, differ_givers, by_number_ascends, all_by_number, number_is}
 
 number_none : (n : ℕ) (l : Id) (f : Fact) → number_above n l f ≡ None → gives_number l f.body ≡ true → nat_lt n f.num ≡ true → ⊥
 number_none n l f none gives above = absurd (let some : number_above n l f ≡ Some f.num = rw (gives, above) refl in cc)

@@ -27,15 +27,15 @@ use Rattle.lra_forest.specs.Said.{first_below, first_member, is_below, is_owed, 
 use Rattle.lra_forest.specs.Shape.{found_at}
 use Rattle.lra_forest.specs.Standing.{IsNested, IsSeated, IsWhole, Stands}
 use Rattle.lra_forest.proofs.Bools.{all_in, and_left, and_right}
-use Rattle.lra_forest.proofs.Climbs.{Agrees, below_said, first_member_is, owed_owes, owing_said}
+use Rattle.lra_forest.proofs.ToldByChains.{Agrees, below_said, first_member_is, owed_owes, owing_said}
 use Rattle.lra_forest.proofs.DueByRecord.{due_none, due_owes, untold_none, untold_unheard}
-use Rattle.lra_forest.proofs.Gatherings.{find_in}
+use Rattle.lra_forest.proofs.MembersAndStamps.{find_in}
 use Rattle.lra_forest.proofs.Overdue.{at, found_in}
-use Rattle.lra_forest.proofs.Owed.{owed_all}
+use Rattle.lra_forest.proofs.OwedMembers.{owed_all}
 use Rattle.lra_forest.proofs.Paths.{under_home}
 use Rattle.lra_forest.proofs.NumberedMembers.{join_found}
-use Rattle.lra_forest.proofs.Shares.{held_below}
-use Rattle.lra_forest.proofs.Standings.{found_is, held_if_found, stands_at}
+use Rattle.lra_forest.proofs.CompensationUnderAnLra.{held_below}
+use Rattle.lra_forest.proofs.RecordsOfASet.{found_is, held_if_found, stands_at}
 
 -- The order
 

@@ -30,15 +30,15 @@ use Rattle.lra_forest.specs.Said.{first_member, ids_below, is_at_end_at, is_belo
 use Rattle.lra_forest.specs.Shape.{found_at}
 use Rattle.lra_forest.specs.Standing.{IsNested, IsSeated, IsWhole, Stands}
 use Rattle.lra_forest.specs.Statuses.{status_in}
-use Rattle.lra_forest.proofs.Asked.{answer_known, unknown_is}
+use Rattle.lra_forest.proofs.ParticipantAnswers.{answer_known, unknown_is}
 use Rattle.lra_forest.proofs.Bools.{and_left}
 use Rattle.lra_forest.proofs.Depths.{depth_above}
-use Rattle.lra_forest.proofs.Descents.{some_depth}
+use Rattle.lra_forest.proofs.ShownByMembers.{some_depth}
 use Rattle.lra_forest.proofs.DueByRecord.{due_none, due_owes, joined_is, nested_is}
-use Rattle.lra_forest.proofs.Gatherings.{find_in}
+use Rattle.lra_forest.proofs.MembersAndStamps.{find_in}
 use Rattle.lra_forest.proofs.Overdue.{at, held_number, number_passes}
-use Rattle.lra_forest.proofs.Sayings.{ended_said, up_more, up_root, want_said}
-use Rattle.lra_forest.proofs.Standings.{found_parent, found_root, held_if_found, held_parent, nothing_found, stands_at}
+use Rattle.lra_forest.proofs.RecordsSayTheSet.{ended_said, up_more, up_root, want_said}
+use Rattle.lra_forest.proofs.RecordsOfASet.{found_parent, found_root, held_if_found, held_parent, nothing_found, stands_at}
 
 -- Tests along a chain
 

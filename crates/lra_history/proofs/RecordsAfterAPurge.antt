@@ -13,7 +13,7 @@ use Rattle.lra_forest.specs.declared.record.Record.{Record}
 use Rattle.lra_forest.specs.Forests.{AreOf, IsAscending, is_of}
 use Rattle.lra_forest.specs.Records.{nodes_to, record_of}
 use Rattle.lra_forest.specs.Standing.{IsWhole}
-use Rattle.lra_forest.proofs.Chained.{parent_home}
+use Rattle.lra_forest.proofs.ParentsAndChains.{parent_home}
 use Rattle.lra_forest.proofs.NumberedMembers.{same_is}
 use Rattle.lra_history.specs.Growth.{IsMore, IsSettled}
 use Rattle.lra_history.specs.Views.{AreRecords, is_purge_fact, purge_number}

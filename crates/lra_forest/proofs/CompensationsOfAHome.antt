@@ -7,7 +7,7 @@ use Rattle.std.proofs.lemmas.List.{take_all, take_more}
 use Rattle.std.proofs.lemmas.List.Elements.{filter_map-append}
 use Rattle.lra_facts.specs.declared.fact.Fact.{Fact}
 use Rattle.lra_facts.specs.Duties.{is_compensation_due, wants_cancel}
-use Rattle.lra_facts.specs.Sets.{is_decided, is_held, IsNumbered}
+use Rattle.lra_facts.specs.Sets.{is_held, IsNumbered}
 use Rattle.lra_forest.specs.declared.duties.Due.{Due}
 use Rattle.lra_forest.specs.declared.record.Place.{Place}
 use Rattle.lra_forest.specs.declared.record.Record.{Record}
@@ -19,15 +19,15 @@ use Rattle.lra_forest.specs.Said.{want_at}
 use Rattle.lra_forest.specs.Shape.{found_at}
 use Rattle.lra_forest.specs.Standing.{IsNested, IsSeated, IsWhole, Stands}
 use Rattle.lra_forest.specs.Walks.{last_of, pending_within}
-use Rattle.lra_forest.proofs.Collected.{AreSoFar, as_list, share_more, share_whole}
-use Rattle.lra_forest.proofs.Greatest.{IsGreatest}
+use Rattle.lra_forest.proofs.CompensationsByRecord.{AreSoFar, as_list, share_more, share_whole}
+use Rattle.lra_forest.proofs.GreatestByPath.{IsGreatest}
 use Rattle.lra_forest.proofs.Overdue.{at, find_at, number_passes}
-use Rattle.lra_forest.proofs.Pendings.{IsPendingUnder, path_under}
-use Rattle.lra_forest.proofs.Sagas.{decision_cancels, topmost_alone}
-use Rattle.lra_forest.proofs.Sayings.{want_said}
-use Rattle.lra_forest.proofs.Seats.{some_at}
-use Rattle.lra_forest.proofs.Shares.{found_number, none_pending, none_top, not_topmost, one_due, topmost_of_nested, walked_at}
-use Rattle.lra_forest.proofs.Standings.{found_is, found_parent, found_root, held_if_found, held_parent}
+use Rattle.lra_forest.proofs.LastPending.{IsPendingUnder, path_under}
+use Rattle.lra_forest.proofs.SagaOrder.{decision_cancels, topmost_alone}
+use Rattle.lra_forest.proofs.RecordsSayTheSet.{want_said}
+use Rattle.lra_forest.proofs.DutiesOfAHome.{some_at}
+use Rattle.lra_forest.proofs.CompensationUnderAnLra.{found_number, none_pending, none_top, not_topmost, one_due, topmost_of_nested, walked_at}
+use Rattle.lra_forest.proofs.RecordsOfASet.{found_is, found_parent, found_root, held_if_found, held_parent}
 
 -- the records have the same LRA topmost as the set
 topmost_said : (nodes home : ℕ) (S : List Fact) (records : List Record) (r : Record) → IsWhole S → IsNested S → Stands nodes home S records → found_at home records r.num ≡ Some r → is_topmost_at (found_at home records) r ≡ is_topmost S (at home r.num)

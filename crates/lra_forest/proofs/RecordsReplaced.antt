@@ -6,7 +6,7 @@ use Rattle.lra_forest.specs.declared.record.Record.{Record}
 use Rattle.lra_forest.specs.Forests.{AreOf, HomeRecords, IsAscending, id_of, is_of}
 use Rattle.lra_forest.specs.Places.{count_below, put_record, with_number}
 use Rattle.lra_forest.proofs.Bools.{all_in}
-use Rattle.lra_forest.proofs.Gatherings.{find_in}
+use Rattle.lra_forest.proofs.MembersAndStamps.{find_in}
 use Rattle.lra_forest.proofs.Places.{beyond_all, found_place}
 use Rattle.lra_forest.proofs.Puts.{put_find}
 

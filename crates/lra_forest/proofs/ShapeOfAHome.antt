@@ -13,7 +13,7 @@ use Rattle.lra_forest.specs.RecordMerges.{changed_by}
 use Rattle.lra_forest.specs.Shape.{found_at, is_shallow, AreInShape, IsInPlaceAt, IsInPlace}
 use Rattle.lra_forest.proofs.Bools.{all_from, all_in}
 use Rattle.lra_forest.proofs.ChangedRecords.{found_changed, found_kept, found_own, keep, stays}
-use Rattle.lra_forest.proofs.Gatherings.{find_in}
+use Rattle.lra_forest.proofs.MembersAndStamps.{find_in}
 
 -- one that is not there is not shallow
 pub shallow_none : (levels home : ℕ) (records : List Record) (num : ℕ) → None ≡ found_at home records num → is_shallow levels home records num ≡ false

@@ -1,11 +1,10 @@
 -- what is taken of another node's records
-use Rattle.std.proofs.Common.{◌≡◌, ◌<◌, ◌+◌, ◌&&◌, ◌||◌, ◌==◌, ◌∷◌, ◌++◌, ℕ, List, [], inl, inr, append_assoc, drop, filter, length, get_or, map, refl, sym, ap, subst, ◌∙◌, Bool, true, false, cond, arith, Option, Some, None, nat_le, is_some, is_none}
+use Rattle.std.proofs.Common.{◌≡◌, ◌&&◌, ◌||◌, ◌==◌, ◌∷◌, ℕ, List, [], inl, inr, filter, map, refl, sym, ap, subst, ◌∙◌, Bool, true, false, cond, arith, Option, Some, None, nat_le, is_some, is_none}
 use mathlib.Core.Bool.{not}
 use Rattle.std.specs.List.{AllByRecursion, list_any}
 use Rattle.std.specs.Option.{option_or}
 use Rattle.std.proofs.lemmas.Bool.Decides.{nat_tests}
 use Rattle.lra_id.specs.Ids.{Id}
-use Rattle.lra_facts.proofs.Chains.{drop_at}
 use Rattle.lra_forest.specs.declared.record.Record.{Record}
 use Rattle.lra_forest.specs.Forests.{AreOf, id_of, is_of}
 use Rattle.lra_forest.specs.RecordMerges.{brought, changed_by, home_stamp, is_gone, merged_record, absorbed}
@@ -108,43 +107,6 @@ bringing_more home mine own all rest records new t h order put others = record {
         (h.there num (ap is_some same ∙ e))
 
 -- What is gone
-
--- what a test lets through
-pub tested : {X : Type 0} (b : Bool) (x y : X) → Some x ≡ cond b (Some y) None → (b ≡ true) × (x ≡ y)
-tested true x y e = (refl, cc)
-tested false x y e = absurd cc
-
-pub refused : {X : Type 0} (b : Bool) (y : X) → None ≡ cond b (Some y) None → b ≡ false
-refused true y e = absurd cc
-refused false y e = refl
-
--- those so far, and those of the records that are left
-ids_left : (test : Record → Bool) (rs : List Record) (i : ℕ) (r : Record) (b : Bool) → i < length rs → r ≡ get_or rs i r → test r ≡ b
-    → map id_of (filter test (drop i rs)) ≡ cond b (id_of r ∷ map id_of (filter test (drop (i + 1) rs))) (map id_of (filter test (drop (i + 1) rs)))
-ids_left test rs i r b within is passes = ap (λ (xs : List Record). map id_of (filter test xs)) (drop_at rs i r within is) ∙ by b passes
-  where
-    by : (b : Bool) → test r ≡ b → map id_of (filter test (r ∷ drop (i + 1) rs)) ≡ cond b (id_of r ∷ map id_of (filter test (drop (i + 1) rs))) (map id_of (filter test (drop (i + 1) rs)))
-    by true e = rw e refl
-    by false e = rw e refl
-
-pub one_id : (test : Record → Bool) (rs : List Record) (i : ℕ) (r : Record) (done new all : List Id) (id : Id) → i < length rs → r ≡ get_or rs i r
-    → Some id ≡ cond (test r) (Some (id_of r)) None → new ≡ done ++ id ∷ []
-    → done ++ map id_of (filter test (drop i rs)) ≡ all → new ++ map id_of (filter test (drop (i + 1) rs)) ≡ all
-one_id test rs i r done new all id within is e added so =
-    let passed = tested (test r) id (id_of r) e in
-    ap (λ ls. ls ++ map id_of (filter test (drop (i + 1) rs))) added
-    ∙ append_assoc done (id ∷ []) (map id_of (filter test (drop (i + 1) rs)))
-    ∙ ap (λ (l : Id). done ++ l ∷ map id_of (filter test (drop (i + 1) rs))) passed.1
-    ∙ ap (λ ls. done ++ ls) (sym (ids_left test rs i r true within is passed.0))
-    ∙ so
-
-pub no_id : (test : Record → Bool) (rs : List Record) (i : ℕ) (r : Record) (done new all : List Id) → i < length rs → r ≡ get_or rs i r
-    → None ≡ cond (test r) (Some (id_of r)) None → new ≡ done
-    → done ++ map id_of (filter test (drop i rs)) ≡ all → new ++ map id_of (filter test (drop (i + 1) rs)) ≡ all
-no_id test rs i r done new all within is e same so =
-    ap (λ ls. ls ++ map id_of (filter test (drop (i + 1) rs))) same
-    ∙ ap (λ ls. done ++ ls) (sym (ids_left test rs i r false within is (refused (test r) (id_of r) e)))
-    ∙ so
 
 -- those of which there is a record that passes the test
 abbrev pub AreGone : (ℕ → Bool) → ℕ → List Record → List Id → Type 0

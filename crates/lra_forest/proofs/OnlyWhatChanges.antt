@@ -12,7 +12,7 @@ use Rattle.lra_forest.specs.OnlyChanges.{AreOnlyChanges, IsPut, ids_lost, is_los
 use Rattle.lra_forest.specs.Shape.{found_at}
 use Rattle.lra_forest.proofs.Bools.{all_from, all_in, and_left}
 use Rattle.lra_forest.proofs.Removals.{filter_are_of}
-use Rattle.lra_forest.proofs.Takes.{by_number, IsRight}
+use Rattle.lra_forest.proofs.TakenRecords.{by_number, IsRight}
 
 pub some_same : {X : Type 0} (x y : X) → Some y ≡ Some x → x ≡ y
 some_same x y e = cc
