@@ -21,8 +21,8 @@ use Rattle.lra_callback.specs.declared.answer.Answer.TheVariants.{Code, Broken}
 use Rattle.lra_callback.specs.declared.answer.Kind.{Kind}
 use Rattle.lra_callback.specs.declared.answer.Kind.TheVariants.{Complete, Compensate, Status, Forget, After}
 use Rattle.lra_callback.specs.CallWords.{kind_name}
-use Rattle.lra_script.specs.declared.ask.Ask.{Ask}
-use Rattle.lra_script.specs.declared.ask.Ask.TheVariants.{Enter, Tick, Send, SendOld, Deliver, Restart, Show, Member, Duties, Hear, Front, Same, Text, Read}
+use Rattle.lra_script.specs.declared.asking.Ask.{Ask}
+use Rattle.lra_script.specs.declared.asking.Ask.TheVariants.{Enter, Tick, Send, SendOld, Deliver, Restart, Show, Member, Duties, Hear, Front, Same, Text, Read}
 use Rattle.lra_script.specs.Asks.{IsInRange, HasArguments, IsMemberNumber, IsNodeOf, IsNumber, Spells, kept_words, parent_words, verb_of}
 use Rattle.lra_script.specs.CallLines.{IsAnswerInRange, GivesAnswer, IsRestOf}
 use Rattle.lra_script.specs.Joins.{GivesLinks}

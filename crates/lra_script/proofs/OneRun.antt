@@ -17,8 +17,8 @@ use Rattle.lra_world.specs.declared.event.Reply.TheVariants.{Answered}
 use Rattle.lra_world.specs.Worlds.{Acts, IfNode, IsWorld, Leads, State, Steps, after_command, front_of, is_node, nodes_of, reply_at, set_of, start}
 use Rattle.lra_world.proofs.Converging.{led_converges, leads_none, leads_on, one_step}
 use Rattle.lra_world.proofs.Moving.{run_keeps, start_is}
-use Rattle.lra_script.specs.declared.ask.Ask.{Ask}
-use Rattle.lra_script.specs.declared.ask.Ask.TheVariants.{Enter, Tick, Send, SendOld, Deliver, Restart, Show, Member, Duties, Hear, Front, Same, Text, Read}
+use Rattle.lra_script.specs.declared.asking.Ask.{Ask}
+use Rattle.lra_script.specs.declared.asking.Ask.TheVariants.{Enter, Tick, Send, SendOld, Deliver, Restart, Show, Member, Duties, Hear, Front, Same, Text, Read}
 use Rattle.lra_script.specs.Asks.{IsInRange, IsNodeOf}
 use Rattle.lra_script.specs.CallLines.{act_asked, command_of}
 use Rattle.lra_script.specs.Scripts.{Answers, AreOneRun, Does, Plays, PrintsReply, ScriptText, after_answer, after_heard}

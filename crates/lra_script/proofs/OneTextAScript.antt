@@ -8,8 +8,8 @@ use Rattle.lra_world.specs.declared.event.Event.TheVariants.{Act as ActEvent, De
 use Rattle.lra_world.specs.declared.event.Reply.{Reply}
 use Rattle.lra_world.specs.Worlds.{Comes, SentFrame, IfNode, IsEncoded, State, frame_at, is_node, set_of}
 use Rattle.lra_world.proofs.Determined.{one_encoding, step_once}
-use Rattle.lra_script.specs.declared.ask.Ask.{Ask}
-use Rattle.lra_script.specs.declared.ask.Ask.TheVariants.{Enter, Tick, Send, SendOld, Deliver, Restart, Show, Member, Duties, Hear, Front, Same, Text, Read}
+use Rattle.lra_script.specs.declared.asking.Ask.{Ask}
+use Rattle.lra_script.specs.declared.asking.Ask.TheVariants.{Enter, Tick, Send, SendOld, Deliver, Restart, Show, Member, Duties, Hear, Front, Same, Text, Read}
 use Rattle.lra_script.specs.Asks.{Spells}
 use Rattle.lra_script.specs.CallLines.{duties_text}
 use Rattle.lra_script.specs.Scripts.{Answers, AnswersInRoom, Does, IsDone, PrintsReply, ScriptText, TellsSame, TextInRoom, event_line, printed}

@@ -2,10 +2,10 @@
 use Rattle.std.proofs.Common.{◌≡◌, refl}
 use Rattle.lra_states.specs.declared.outcome.Verdict.TheVariants as verdict
 use Rattle.lra_history.specs.declared.command.Command.TheVariants as command
-use Rattle.lra_script.specs.declared.ask.Ask.{Ask}
-use Rattle.lra_script.specs.declared.ask.Ask.TheVariants as ask
-use Rattle.lra_script.specs.declared.verb.Verb.{Verb}
-use Rattle.lra_script.specs.declared.verb.Verb.TheVariants as verb
+use Rattle.lra_script.specs.declared.asking.Ask.{Ask}
+use Rattle.lra_script.specs.declared.asking.Ask.TheVariants as ask
+use Rattle.lra_script.specs.declared.words.Verb.{Verb}
+use Rattle.lra_script.specs.declared.words.Verb.TheVariants as verb
 use Rattle.lra_script.specs.Asks.{verb_of}
 use Rattle.lra_script.specs.Verbs.{verb_name}
 

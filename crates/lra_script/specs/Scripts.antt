@@ -28,8 +28,8 @@ use Rattle.lra_callback.specs.declared.duty.Duty.{Duty}
 use Rattle.lra_callback.specs.Answers.{heard_of}
 use Rattle.lra_callback.specs.CallDuties.{IsDuty, comes_first}
 use Rattle.lra_callback.specs.CallWords.{heard_name}
-use Rattle.lra_script.specs.declared.ask.Ask.{Ask}
-use Rattle.lra_script.specs.declared.ask.Ask.TheVariants.{Enter, Tick, Send, SendOld, Deliver, Restart, Show, Member, Duties, Hear, Front, Same, Text, Read}
+use Rattle.lra_script.specs.declared.asking.Ask.{Ask}
+use Rattle.lra_script.specs.declared.asking.Ask.TheVariants.{Enter, Tick, Send, SendOld, Deliver, Restart, Show, Member, Duties, Hear, Front, Same, Text, Read}
 use Rattle.lra_script.specs.Asks.{Spells}
 use Rattle.lra_script.specs.CallLines.{act_asked, command_of, duties_text}
 use Rattle.lra_script.specs.NodeHoldings.{AreComing}

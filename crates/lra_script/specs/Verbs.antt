@@ -1,7 +1,7 @@
 -- The words that lines begin with.
 use Rattle.std.specs.Prelude.{ℕ, List, codes}
-use Rattle.lra_script.specs.declared.verb.Verb.{Verb}
-use Rattle.lra_script.specs.declared.verb.Verb.TheVariants.{Answer, Begin, Cancel, Close, Deliver, Duties, Forgot, Front, Join, Leave, Member, Purge, Read, Report, Restart, Same, Send, SendOld, Show, Text, Tick, Told}
+use Rattle.lra_script.specs.declared.words.Verb.{Verb}
+use Rattle.lra_script.specs.declared.words.Verb.TheVariants.{Answer, Begin, Cancel, Close, Deliver, Duties, Forgot, Front, Join, Leave, Member, Purge, Read, Report, Restart, Same, Send, SendOld, Show, Text, Tick, Told}
 
 abbrev pub verb_name : Verb → List ℕ
 verb_name Answer = codes "answer"

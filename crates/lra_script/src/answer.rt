@@ -3,18 +3,16 @@ ghost use Rattle.std.specs.Prelude.{◌≡◌, ◌≤◌, length, IfOk, OnErr, s
 ghost use Rattle.lra_facts.specs.declared.refusal.Refusal.TheVariants.{NoMemory};
 ghost use Rattle.lra_world.specs.Machines.{IsWorldOf};
 ghost use Rattle.lra_world.specs.Worlds.{State};
-ghost use Rattle.lra_script.specs.declared.ask.Ask.TheVariants.{Deliver};
+ghost use Rattle.lra_script.specs.declared.asking.Ask.TheVariants.{Deliver};
 ghost use Rattle.lra_script.specs.Asks.{IsInRange};
 ghost use Rattle.lra_script.specs.Scripts.{HasHappened, WasAnswered, WasDone, refused};
 ghost use Rattle.lra_script.specs.NodeHoldings.{AreComing};
 
-use crate::ask::Ask;
-use crate::asking::ask_of;
+use crate::asking::{Ask, ask_of};
 use crate::calls::{hear_answer, show_duties};
 use crate::line::MAX_LINE_BYTES;
-use crate::room::Room;
 use crate::showing::{held, id_line, show, show_front, show_member, show_same, text_line};
-use crate::telling::{refusal_line, tell};
+use crate::telling::{Room, refusal_line, tell};
 use lra_facts::Refusal;
 use lra_history::CommandReply;
 use lra_id::NodeId;

@@ -14,9 +14,8 @@ ghost use Rattle.lra_script.specs.CallLines.{act_asked, act_demanded, act_where,
 ghost use Rattle.lra_script.specs.Scripts.{IsNothing, after_answer, after_heard, answer_line, heard_line, heard_reply_line, printed};
 ghost use Rattle.lra_script.specs.NodeHoldings.{Holds};
 
-use crate::room::Room;
 use crate::showing::held;
-use crate::telling::{refusal_line, tell};
+use crate::telling::{Room, refusal_line, tell};
 use lra_callback::{Answer, Duty, Heard, Kind, act_wanted, hear, pick};
 use lra_facts::Refusal;
 use lra_history::{Command, CommandReply};

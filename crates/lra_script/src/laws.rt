@@ -2,7 +2,7 @@
 ghost use Rattle.std.specs.Prelude.{◌≡◌, ◌≤◌, ◌∷◌, ℕ, List, IfSome};
 ghost use Rattle.lra_http.specs.Streams.{Calls, GivenBytes, TakenBytes, TakesPart};
 ghost use Rattle.lra_world.specs.Worlds.{IsWorld, State, nodes_of};
-ghost use Rattle.lra_script.specs.declared.ask.Ask.{Ask};
+ghost use Rattle.lra_script.specs.declared.asking.Ask.{Ask};
 ghost use Rattle.lra_script.specs.Asks.{Spells};
 ghost use Rattle.lra_script.specs.LineParts.{lines_of};
 ghost use Rattle.lra_script.specs.ScriptEnds.{HasRun, IsPut, WritesPart};

@@ -2,20 +2,16 @@
 #![tactic(auto)]
 
 mod answer;
-mod ask;
 mod asking;
 mod calls;
 mod course;
 pub mod laws;
 mod line;
-mod number;
 mod playing;
-mod room;
 mod showing;
 mod telling;
-mod verb;
 mod words;
 
 pub use course::{ScriptFault, script};
-pub use number::{code_of, node_of};
 pub use playing::{arguments, asked_nodes, play, run};
+pub use words::{code_of, node_of};

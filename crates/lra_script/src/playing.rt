@@ -3,7 +3,7 @@ ghost use Rattle.lra_script.specs.Arguments.{AskScript, EndsWith, IsRunOf};
 ghost use Rattle.std.specs.Prelude.{◌≡◌, ◌≤◌, ℕ, MatchOption, map, string_bytes};
 
 use crate::course::script;
-use crate::number::node_of;
+use crate::words::node_of;
 use lra_http::{OverRead, OverWrite, Sink, Source};
 use lra_id::MAX_NODES;
 use std::alloc::Global;

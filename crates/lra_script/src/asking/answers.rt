@@ -9,9 +9,8 @@ ghost use Rattle.lra_script.specs.Asks.{IsMemberNumber, IsNodeOf, ReadsArguments
 ghost use Rattle.lra_script.specs.CallLines.{IsAnswerInRange, GivesAnswer};
 
 use super::members::next_participant;
-use crate::ask::Ask;
-use crate::number::code_of;
-use crate::words::Words;
+use crate::asking::Ask;
+use crate::words::{Words, code_of};
 use lra_callback::{Answer, Kind};
 use lra_http::Bytes;
 use lra_id::{LraId, NodeId};

@@ -7,7 +7,7 @@ ghost use Rattle.lra_script.specs.Asks.{ReadsArguments};
 ghost use Rattle.lra_script.specs.Joins.{GivesLinks, IsTextUnder, are_link_words, gives, is_link_word, is_once, mark_of, text_under};
 
 use super::lras::next_node_and_id;
-use crate::ask::Ask;
+use crate::asking::Ask;
 use crate::words::Words;
 use lra_facts::{Links, Refusal};
 use lra_history::Command;

@@ -5,9 +5,8 @@ ghost use Rattle.lra_id.specs.Ids.{Id, IsId, id_text};
 ghost use Rattle.lra_states.specs.Names.{verdict_name};
 ghost use Rattle.lra_script.specs.Asks.{IsNodeOf, ReadsArguments, parent_words};
 
-use crate::ask::Ask;
-use crate::number::{id_of, node_of, number_of};
-use crate::words::Words;
+use crate::asking::Ask;
+use crate::words::{Words, id_of, node_of, number_of};
 use lra_history::Command;
 use lra_id::{LraId, NodeId};
 use lra_states::Verdict;

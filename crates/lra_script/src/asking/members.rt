@@ -8,9 +8,8 @@ ghost use Rattle.lra_states.specs.Names.{act_name, outcome_name};
 ghost use Rattle.lra_script.specs.Asks.{IsMemberNumber, IsNodeOf, ReadsArguments};
 
 use super::lras::next_node_and_id;
-use crate::ask::Ask;
-use crate::number::member_number_of;
-use crate::words::Words;
+use crate::asking::Ask;
+use crate::words::{Words, member_number_of};
 use lra_history::Command;
 use lra_id::{LraId, NodeId};
 use lra_states::{Act, Outcome};

@@ -3,9 +3,8 @@ ghost use Rattle.std.specs.Prelude.{◌≡◌, ◌≤◌, ℕ, List, Option, cod
 ghost use Rattle.std.specs.Fmt.{decimal};
 ghost use Rattle.lra_script.specs.Asks.{IsBaseOf, IsNumber, ReadsArguments, kept_words};
 
-use crate::ask::Ask;
-use crate::number::{node_of, number_of};
-use crate::words::Words;
+use crate::asking::Ask;
+use crate::words::{Words, node_of, number_of};
 use lra_id::Front;
 
 pub fn front_of(mut words: Words<'_>, nodes: u8) -> Option<Ask>

@@ -1,8 +1,8 @@
 use Rattle.std.proofs.Common.{◌≡◌, ℕ, ◌-◌, ◌<◌, ◌^◌, List, take, drop, length, arith, ◌∙◌, length-drop}
 use Rattle.std.proofs.lemmas.List.{take_all}
 use Rattle.lra_script.proofs.DecimalNumbers.{id_parted, one_number}
-use Rattle.lra_script.proofs.number.id_of.Goals as goal
-use Rattle.lra_script.proofs.number.id_of.Goals.{then-word-lt2-via-then-word-lt2, then-word-lt2-via-else-word-lt2+then-word-ne46, in_default-via-in-Some+in_default, in_default-via-in_default}
+use Rattle.lra_script.proofs.words.id_of.Goals as goal
+use Rattle.lra_script.proofs.words.id_of.Goals.{then-word-lt2-via-then-word-lt2, then-word-lt2-via-else-word-lt2+then-word-ne46, in_default-via-in-Some+in_default, in_default-via-in_default}
 
 -- what is read behind the point
 rest_is : (text : List ℕ) → take (length text - 2) (drop 2 text) ≡ drop 2 text

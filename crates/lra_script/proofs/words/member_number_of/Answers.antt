@@ -1,7 +1,7 @@
 use Rattle.std.proofs.Common.{◌<◌, ◌^◌, arith}
 use Rattle.lra_script.proofs.DecimalNumbers.{one_number}
-use Rattle.lra_script.proofs.number.member_number_of.Goals as goal
-use Rattle.lra_script.proofs.number.member_number_of.Goals.{then-number-eq0-via-then-number-eq0, then-number-eq0-via-else-number-eq0+then-number}
+use Rattle.lra_script.proofs.words.member_number_of.Goals as goal
+use Rattle.lra_script.proofs.words.member_number_of.Goals.{then-number-eq0-via-then-number-eq0, then-number-eq0-via-else-number-eq0+then-number}
 
 pub returns-then-number-eq0 : goal.returns-then-number-eq0
 returns-then-number-eq0 c = λ m of e.

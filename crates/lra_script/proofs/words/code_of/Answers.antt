@@ -1,6 +1,6 @@
 use Rattle.std.proofs.Common.{arith, ◌<◌, ◌^◌}
 use Rattle.lra_script.proofs.DecimalNumbers.{one_number}
-use Rattle.lra_script.proofs.number.code_of.Goals as goal
+use Rattle.lra_script.proofs.words.code_of.Goals as goal
 
 pub returns-then-number-from : goal.returns-then-number-from
 returns-then-number-from c = λ n small e.
