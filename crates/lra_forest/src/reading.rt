@@ -225,7 +225,7 @@ fn next_giver(facts: &[Fact], id: LraId, after: u64) -> Option<&Fact>
 }
 
 /// The members of an LRA in order of their numbers. It goes over the facts twice for each.
-#[tactic(auto, using(crate::proofs::Gatherings::next_some, crate::proofs::Gatherings::next_none))]
+#[tactic(auto, using(crate::proofs::MembersAndStamps::next_some, crate::proofs::MembersAndStamps::next_none))]
 fn members(alloc: Global, facts: &[Fact], id: LraId) -> Result<Members, AllocError>
     requires numbered { AllByRecursion IsNumbered facts.now }
     ensures { IsRecordable facts.now → IfOk result (λ members. members ≡ members_of facts.now id) }

@@ -26,9 +26,9 @@ use Rattle.lra_forest.specs.Shape.{found_at}
 use Rattle.lra_history.specs.declared.command.Command.{Command}
 use Rattle.lra_history.specs.declared.command.Command.TheVariants.{Begin, Join, Leave, Decide, Report, Forgot, Told}
 use Rattle.lra_history.specs.declared.command.CommandReply.{CommandReply}
-use Rattle.lra_history.specs.declared.command.CommandReply.TheVariants.{Began, Decided, Forgotten, Joined, Left, Reported, Told as ToldReply}
+use Rattle.lra_history.specs.declared.command.CommandReply.TheVariants.{Began, Decided, Joined, Left, Reported}
 use Rattle.lra_history.specs.Growth.{IsSettled, member_changed, forgetting, hearing, joined, leaving, record_after, reporting}
-use Rattle.lra_history.specs.Next.{accepted_on, change_on, changed, judge_on, next_fact_on, member_shown_on, no_change, shown_on}
+use Rattle.lra_history.specs.Next.{accepted_on, change_on, change_record, changed, judge_on, next_fact_on, member_shown_on, no_change, shown_on}
 use Rattle.lra_history.specs.Changes.{fresh_record, with_stamp, Change, one_change, patched, two_changes}
 use Rattle.lra_history.specs.Replies.{member_shown, shown_of, refusal_by, Denied, Judgement, AlreadyKnown, Accepted, accepted, judge, reply_by}
 use Rattle.lra_history.specs.Readings.{at_home, by_view}
@@ -37,7 +37,10 @@ use Rattle.lra_history.proofs.SameReadings.{IsPlain, forgot_passed, judge_view, 
 use Rattle.lra_history.proofs.AcceptedCommands.{lawful_gives}
 use Rattle.lra_history.proofs.ReplyOrRefusal.{held_within, never_lost, reply_denied, reply_accepted}
 use Rattle.lra_history.proofs.ViewReplies.{accepted_open, leave_passed, decide_passed, found_id, found_there, changed_records, join_passed, nest_passed, numbers_on, is_added}
+use Rattle.lra_replica.specs.declared.commands.notices.Notice.{Notice}
+use Rattle.lra_replica.specs.declared.commands.notices.Notice.TheVariants.{ToForget, OfTheEnd}
 use Rattle.lra_replica.specs.declared.patch.Prepared.{Prepared}
+use Rattle.lra_replica.specs.Notices.{entered_by, judged_by_notice, noted, reply_to}
 use Rattle.lra_replica.specs.Prepared.{IsAnswer, IsNext, IsReadyNext, IsPrepared}
 
 -- Answers
@@ -77,18 +80,28 @@ some_number : (at : ℕ → Option Record) (num m : ℕ) → is_some (participan
 some_number at num zero e = absurd cc
 some_number at num (suc m) e = omega arith
 
+-- a command that changes one member of an LRA changes its record so
+pub member_next : (view : View) (me : ℕ) (c : Command) (l : Id) (m : ℕ) (f : Member → Member) (reply : CommandReply) (copy : Record) (members : List Member) (change : Change)
+    → (judge_on view me c ≡ Accepted → 1 ≤ m) → reply ≡ accepted_on view me c → change_record view me c l ≡ change_on view me c
+    → ((old : Record) → record (with_stamp me (count view.front me + 1) old) { members = member_changed f (m - 1) old.members } ≡ record_after (next_fact_on view me c) old)
+    → IsReadyNext view me c l (Ok copy) → (1 ≤ m → members ≡ member_changed f (m - 1) copy.members) → change ≡ one_change view me (record copy { members = members })
+    → IsNext view me c (Ok (record { reply = reply; patch = Some change }))
+member_next view me c l m f reply copy members change some replied changes after ready is change_is =
+    let old = ready.1.0 in
+    let same : copy.members ≡ old.members = ap (λ (r : Record). r.members) ready.1.2 in
+    let next : record copy { members = members } ≡ record_after (next_fact_on view me c) old =
+    ap (λ (r : Record). record r { members = members }) ready.1.2
+    ∙ ap (λ (ms : List Member). record (with_stamp me (count view.front me + 1) old) { members = ms }) (is (some ready.0) ∙ ap (member_changed f (m - 1)) same)
+    ∙ after old in
+    answer_accepted (judge_on view me c) (accepted_on view me c) reply (change_on view me c) change ready.0 replied
+    (change_is ∙ ap (one_change view me) next ∙ ap (λ (o : Option Record). option_map_or (λ (r : Record). one_change view me (record_after (next_fact_on view me c) r)) o (no_change view)) (sym ready.1.1) ∙ changes)
+
 pub leave_next : (view : View) (me : ℕ) (l : Id) (m : ℕ) (copy : Record) (members : List Member) (change : Change) → IsReadyNext view me (Leave l m) l (Ok copy)
     → (1 ≤ m → members ≡ member_changed leaving (m - 1) copy.members) → change ≡ one_change view me (record copy { members = members })
     → IsNext view me (Leave l m) (Ok (record { reply = Left; patch = Some change }))
-leave_next view me l m copy members change ready is change_is =
-    let c : Command = Leave l m in
-    let old = ready.1.0 in
-    let some = some_number (at_home view l.home) l.num m (leave_passed view me l m ready.0).1 in
-    let same : copy.members ≡ old.members = ap (λ (r : Record). r.members) ready.1.2 in
-    let next : record copy { members = members } ≡ record_after (next_fact_on view me c) old =
-    ap (λ (r : Record). record r { members = members }) ready.1.2 ∙ ap (λ (ms : List Member). record (with_stamp me (count view.front me + 1) old) { members = ms }) (is some ∙ ap (member_changed leaving (m - 1)) same) in
-    answer_accepted (judge_on view me c) (accepted_on view me c) Left (change_on view me c) change ready.0 refl
-    (change_is ∙ ap (one_change view me) next ∙ ap (λ (o : Option Record). option_map_or (λ (r : Record). one_change view me (record_after (next_fact_on view me c) r)) o (no_change view)) (sym ready.1.1))
+leave_next view me l m copy members change =
+    member_next view me (Leave l m) l m leaving Left copy members change
+    (λ taken. some_number (at_home view l.home) l.num m (leave_passed view me l m taken).1) refl refl (λ old. refl)
 
 record_next : (view : View) (me : ℕ) (l : Id) (verdict : Verdict) (copy old : Record) → copy ≡ with_stamp me (count view.front me + 1) old → record copy { decision = Some verdict } ≡ record_after (next_fact_on view me (Decide l verdict)) old
 record_next view me l verdict copy old is = ap (λ (r : Record). record r { decision = Some verdict }) is
@@ -221,57 +234,39 @@ report_some view me l m act outcome taken =
 pub report_next : (view : View) (me : ℕ) (l : Id) (m : ℕ) (act : Act) (outcome : Outcome) (copy : Record) (members : List Member) (change : Change) → IsReadyNext view me (Report l m act outcome) l (Ok copy)
     → (1 ≤ m → members ≡ member_changed (reporting act outcome) (m - 1) copy.members) → change ≡ one_change view me (record copy { members = members })
     → IsNext view me (Report l m act outcome) (Ok (record { reply = Reported; patch = Some change }))
-report_next view me l m act outcome copy members change ready is change_is =
-    let c : Command = Report l m act outcome in
-    let old = ready.1.0 in
-    let same : copy.members ≡ old.members = ap (λ (r : Record). r.members) ready.1.2 in
-    let next : record copy { members = members } ≡ record_after (next_fact_on view me c) old =
-    ap (λ (r : Record). record r { members = members }) ready.1.2
-    ∙ ap (λ (ms : List Member). record (with_stamp me (count view.front me + 1) old) { members = ms }) (is (report_some view me l m act outcome ready.0) ∙ ap (member_changed (reporting act outcome) (m - 1)) same) in
-    answer_accepted (judge_on view me c) (accepted_on view me c) Reported (change_on view me c) change ready.0 refl
-    (change_is ∙ ap (one_change view me) next ∙ ap (λ (o : Option Record). option_map_or (λ (r : Record). one_change view me (record_after (next_fact_on view me c) r)) o (no_change view)) (sym ready.1.1))
+report_next view me l m act outcome copy members change =
+    member_next view me (Report l m act outcome) l m (reporting act outcome) Reported copy members change (report_some view me l m act outcome) refl refl (λ old. refl)
 
--- That a participant was told to forget
+-- That a participant was told something
 
-pub forgot_some : (view : View) (me : ℕ) (l : Id) (m : ℕ) → judge_on view me (Forgot l m) ≡ Accepted → 1 ≤ m
+forgot_some : (view : View) (me : ℕ) (l : Id) (m : ℕ) → judge_on view me (Forgot l m) ≡ Accepted → 1 ≤ m
 forgot_some view me l m taken =
     let t = by_view view in
     let none = accepted_open (refusal_by t view.front me (Forgot l m)) (t.forgot l m) (spent view.front me) taken in
     some_number (at_home view l.home) l.num m (forgot_passed t view.front me l m none).1
 
-pub forgot_next : (view : View) (me : ℕ) (l : Id) (m : ℕ) (copy : Record) (members : List Member) (change : Change) → IsReadyNext view me (Forgot l m) l (Ok copy)
-    → (1 ≤ m → members ≡ member_changed forgetting (m - 1) copy.members) → change ≡ one_change view me (record copy { members = members })
-    → IsNext view me (Forgot l m) (Ok (record { reply = Forgotten; patch = Some change }))
-forgot_next view me l m copy members change ready is change_is =
-    let c : Command = Forgot l m in
-    let old = ready.1.0 in
-    let same : copy.members ≡ old.members = ap (λ (r : Record). r.members) ready.1.2 in
-    let next : record copy { members = members } ≡ record_after (next_fact_on view me c) old =
-    ap (λ (r : Record). record r { members = members }) ready.1.2
-    ∙ ap (λ (ms : List Member). record (with_stamp me (count view.front me + 1) old) { members = ms }) (is (forgot_some view me l m ready.0) ∙ ap (member_changed forgetting (m - 1)) same) in
-    answer_accepted (judge_on view me c) (accepted_on view me c) Forgotten (change_on view me c) change ready.0 refl
-    (change_is ∙ ap (one_change view me) next ∙ ap (λ (o : Option Record). option_map_or (λ (r : Record). one_change view me (record_after (next_fact_on view me c) r)) o (no_change view)) (sym ready.1.1))
-
--- That a participant was told that its LRA has ended
-
-pub told_some : (view : View) (me : ℕ) (l : Id) (m : ℕ) → judge_on view me (Told l m) ≡ Accepted → 1 ≤ m
+told_some : (view : View) (me : ℕ) (l : Id) (m : ℕ) → judge_on view me (Told l m) ≡ Accepted → 1 ≤ m
 told_some view me l m taken =
     let t = by_view view in
     let none = accepted_open (refusal_by t view.front me (Told l m)) (t.told l m) (spent view.front me) taken in
     some_number (at_home view l.home) l.num m (told_passed t view.front me l m none).1
 
-pub told_next : (view : View) (me : ℕ) (l : Id) (m : ℕ) (copy : Record) (members : List Member) (change : Change) → IsReadyNext view me (Told l m) l (Ok copy)
-    → (1 ≤ m → members ≡ member_changed hearing (m - 1) copy.members) → change ≡ one_change view me (record copy { members = members })
-    → IsNext view me (Told l m) (Ok (record { reply = ToldReply; patch = Some change }))
-told_next view me l m copy members change ready is change_is =
-    let c : Command = Told l m in
-    let old = ready.1.0 in
-    let same : copy.members ≡ old.members = ap (λ (r : Record). r.members) ready.1.2 in
-    let next : record copy { members = members } ≡ record_after (next_fact_on view me c) old =
-    ap (λ (r : Record). record r { members = members }) ready.1.2
-    ∙ ap (λ (ms : List Member). record (with_stamp me (count view.front me + 1) old) { members = ms }) (is (told_some view me l m ready.0) ∙ ap (member_changed hearing (m - 1)) same) in
-    answer_accepted (judge_on view me c) (accepted_on view me c) ToldReply (change_on view me c) change ready.0 refl
-    (change_is ∙ ap (one_change view me) next ∙ ap (λ (o : Option Record). option_map_or (λ (r : Record). one_change view me (record_after (next_fact_on view me c) r)) o (no_change view)) (sym ready.1.1))
+pub notice_next : (notice : Notice) (view : View) (me : ℕ) (l : Id) (m : ℕ) (reply : CommandReply) (copy : Record) (members : List Member) (change : Change) → reply ≡ reply_to notice → IsReadyNext view me (entered_by notice l m) l (Ok copy)
+    → (1 ≤ m → members ≡ member_changed (noted notice) (m - 1) copy.members) → change ≡ one_change view me (record copy { members = members })
+    → IsNext view me (entered_by notice l m) (Ok (record { reply = reply; patch = Some change }))
+notice_next ToForget view me l m reply copy members change replied =
+    member_next view me (Forgot l m) l m forgetting reply copy members change (forgot_some view me l m) replied refl (λ old. refl)
+notice_next OfTheEnd view me l m reply copy members change replied =
+    member_next view me (Told l m) l m hearing reply copy members change (told_some view me l m) replied refl (λ old. refl)
+
+-- what is made of the command
+pub notice_judged : (notice : Notice) (view : View) (me : ℕ) (l : Id) (m : ℕ) → judge_on view me (entered_by notice l m) ≡ judged_by_notice notice view me l m
+notice_judged ToForget view me l m = refl
+notice_judged OfTheEnd view me l m = refl
+
+pub notice_plain : (notice : Notice) (nodes me : ℕ) (l : Id) (m : ℕ) → IsPlain nodes me (entered_by notice l m)
+notice_plain ToForget nodes me l m = tt
+notice_plain OfTheEnd nodes me l m = tt
 
 pub ok_any : {X : Type 0} (P : Type 0) (r : Result X Refusal) → P → IfOk r (λ _. P)
 ok_any P (Ok x) p = p
@@ -312,12 +307,11 @@ pub report_unready : (S : List Fact) (view : View) (me : ℕ) (l : Id) (m : ℕ)
 report_unready S view me l m act outcome refusal settled stands taken lost =
     unready S view me (Report l m act outcome) l refusal stands (λ e. (lawful_gives S view.front me (Report l m act outcome) e).0.held) (sym (judge_view S view me (Report l m act outcome) tt settled stands) ∙ taken) lost
 
-pub forgot_unready : (S : List Fact) (view : View) (me : ℕ) (l : Id) (m : ℕ) (refusal : Refusal) → IsSettled S → StandsFor S view → judge_on view me (Forgot l m) ≡ Accepted
-    → (refusal ≡ NoMemory) ⊎ (record_at view l ≡ None) → IsPrepared S view me (Forgot l m) (Err refusal)
-forgot_unready S view me l m refusal settled stands taken lost =
-    unready S view me (Forgot l m) l refusal stands (λ e. (lawful_gives S view.front me (Forgot l m) e).0.held) (sym (judge_view S view me (Forgot l m) tt settled stands) ∙ taken) lost
-
-pub told_unready : (S : List Fact) (view : View) (me : ℕ) (l : Id) (m : ℕ) (refusal : Refusal) → IsSettled S → StandsFor S view → judge_on view me (Told l m) ≡ Accepted
-    → (refusal ≡ NoMemory) ⊎ (record_at view l ≡ None) → IsPrepared S view me (Told l m) (Err refusal)
-told_unready S view me l m refusal settled stands taken lost =
-    unready S view me (Told l m) l refusal stands (λ e. (lawful_gives S view.front me (Told l m) e).0.held) (sym (judge_view S view me (Told l m) tt settled stands) ∙ taken) lost
+pub notice_unready : (notice : Notice) (S : List Fact) (view : View) (me : ℕ) (l : Id) (m : ℕ) (refusal : Refusal) → IsSettled S → StandsFor S view → judge_on view me (entered_by notice l m) ≡ Accepted
+    → (refusal ≡ NoMemory) ⊎ (record_at view l ≡ None) → IsPrepared S view me (entered_by notice l m) (Err refusal)
+notice_unready notice S view me l m refusal settled stands taken lost =
+    unready S view me (entered_by notice l m) l refusal stands (by notice) (sym (judge_view S view me (entered_by notice l m) (notice_plain notice (length view.front) me l m) settled stands) ∙ taken) lost
+  where
+    by : (n : Notice) → judge S view.front me (entered_by n l m) ≡ Accepted → is_held S l ≡ true
+    by ToForget e = (lawful_gives S view.front me (Forgot l m) e).0.held
+    by OfTheEnd e = (lawful_gives S view.front me (Told l m) e).0.held

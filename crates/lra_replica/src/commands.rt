@@ -7,13 +7,12 @@ ghost use Rattle.lra_history.specs.Views.{OfItsSet};
 mod begin;
 mod decide;
 mod fact;
-mod forgot;
 mod join;
 mod leave;
+mod notices;
 mod purge;
 mod refusals;
 mod report;
-mod told;
 
 use crate::{Prepared, Replica};
 use lra_facts::Refusal;
