@@ -11,7 +11,8 @@ use Rattle.lra_callback.specs.declared.answer.Answer.{Answer}
 use Rattle.lra_callback.specs.declared.answer.Kind.{Kind}
 use Rattle.lra_callback.specs.Answers.{heard_of}
 use Rattle.lra_world.specs.declared.event.Event.{Event}
-use Rattle.lra_world.specs.declared.event.Event.TheVariants.{Act as ActEvent, Deliver as DeliverEvent, Restart as RestartEvent, Send as SendEvent, SendOld as SendOldEvent, Tick as TickEvent}
+use Rattle.lra_delta.specs.declared.version.Version.TheVariants.{One, Two}
+use Rattle.lra_world.specs.declared.event.Event.TheVariants.{Act as ActEvent, Deliver as DeliverEvent, Restart as RestartEvent, Send as SendEvent, Tick as TickEvent}
 use Rattle.lra_world.specs.declared.event.Reply.{Reply}
 use Rattle.lra_world.specs.declared.event.Reply.TheVariants.{Answered}
 use Rattle.lra_world.specs.Worlds.{Acts, IfNode, IsWorld, Leads, State, Steps, after_command, front_of, is_node, nodes_of, reply_at, set_of, start}
@@ -54,8 +55,8 @@ answer_leads s node id m kind answer (Ok act) w is = heard_leads s node (command
 does_lead : (s t : State) (ask : Ask) (out : List ℕ) → IsWorld s → IsInRange (nodes_of s) ask → Does s ask out t → Leads s t
 does_lead s t (Enter node command) out w range h = prints_lead s t (ActEvent node command) out w h
 does_lead s t (Tick node now) out w range h = prints_lead s t (TickEvent node now) out w h
-does_lead s t (Send node base) out w range h = prints_lead s t (SendEvent node base) out w h
-does_lead s t (SendOld node base) out w range h = prints_lead s t (SendOldEvent node base) out w h
+does_lead s t (Send node base) out w range h = prints_lead s t (SendEvent node base Two) out w h
+does_lead s t (SendOld node base) out w range h = prints_lead s t (SendEvent node base One) out w h
 does_lead s t (Deliver frame node kept) out w range (count, coming, prints) = prints_lead s t (DeliverEvent frame node count) out w prints
 does_lead s t (Restart node) out w range h = prints_lead s t (RestartEvent node) out w h
 does_lead s t (Show node id) out w range h = stays_lead s t w h.1

@@ -15,12 +15,13 @@ use Rattle.lra_replica.specs.Replicas.{ReplicaState, view_of}
 use Rattle.lra_history.specs.Replies.{Judgement, Denied, AlreadyKnown, Accepted, accepted, judge, reply_by}
 use Rattle.lra_history.specs.Views.{View}
 use Rattle.lra_history.proofs.ClosedSets.{closed_settled}
+use Rattle.lra_delta.specs.declared.version.Version.{Version}
 use Rattle.lra_world.specs.declared.event.Event.{Event}
-use Rattle.lra_world.specs.declared.event.Event.TheVariants.{Act as ActEvent, Deliver as DeliverEvent, Restart as RestartEvent, Send as SendEvent, SendOld as SendOldEvent, Tick as TickEvent}
+use Rattle.lra_world.specs.declared.event.Event.TheVariants.{Act as ActEvent, Deliver as DeliverEvent, Restart as RestartEvent, Send as SendEvent, Tick as TickEvent}
 use Rattle.lra_world.specs.declared.event.Reply.{Reply}
 use Rattle.lra_world.specs.declared.event.Reply.TheVariants.{Answered}
 use Rattle.lra_world.specs.Machines.{Happens, IsWorldOf, Machine}
-use Rattle.lra_world.specs.Worlds.{Acts, Comes, Expires, IfNode, IsEncoded, IsViewOf, SentFrame, Sends, SendsOld, State, Steps, Takes, Ticks, after_command, expired, frame_at, front_of, if_taken, is_node, nodes_of, reply_at, set_of, with_command}
+use Rattle.lra_world.specs.Worlds.{Acts, Comes, Expires, IfNode, IsEncoded, IsViewOf, SentFrame, Sends, State, Steps, Takes, Ticks, after_command, expired, frame_at, front_of, if_taken, is_node, nodes_of, reply_at, set_of, with_command}
 use Rattle.lra_world.proofs.Agreeing.{same_view}
 use Rattle.lra_world.proofs.OneReplicaChanged.{get_some}
 use Rattle.lra_script.specs.Asks.{IsNodeOf}
@@ -68,16 +69,11 @@ if_node_stays false s t happens reply by h = h.1
 acts_nothing : (s t : State) (node : ℕ) (c : Command) (reply : Reply) → IsNothing reply → Acts s node c reply t → t ≡ s
 acts_nothing s t node c reply none h = h.1 ∙ refused_same s node c (subst IsNothing h.0 none)
 
-sends_nothing : (s t : State) (node : ℕ) (base : List ℕ) (reply : Reply) → IsNothing reply → Sends s node base reply t → t ≡ s
-sends_nothing s t node base reply none (inl h) = h.1.1
-sends_nothing s t node base reply none (inr (inl h)) = h.2.1
-sends_nothing s t node base reply none (inr (inr h)) = absurd (subst IsNothing h.2 none)
-
-sends_old_nothing : (s t : State) (node : ℕ) (base : List ℕ) (reply : Reply) → IsNothing reply → SendsOld s node base reply t → t ≡ s
-sends_old_nothing s t node base reply none (inl h) = h.1.1
-sends_old_nothing s t node base reply none (inr (inl h)) = h.2.1
-sends_old_nothing s t node base reply none (inr (inr (inl h))) = h.3.1
-sends_old_nothing s t node base reply none (inr (inr (inr h))) = absurd (subst IsNothing h.3 none)
+sends_nothing : (s t : State) (node : ℕ) (base : List ℕ) (version : Version) (reply : Reply) → IsNothing reply → Sends s node base version reply t → t ≡ s
+sends_nothing s t node base version reply none (inl h) = h.1.1
+sends_nothing s t node base version reply none (inr (inl h)) = h.2.1
+sends_nothing s t node base version reply none (inr (inr (inl h))) = h.3.1
+sends_nothing s t node base version reply none (inr (inr (inr h))) = absurd (subst IsNothing h.3 none)
 
 takes_nothing : (s t : State) (node : ℕ) (frame : SentFrame) (bytes : List ℕ) (kept : ℕ) (reply : Reply) → IsNothing reply → Takes s node frame bytes kept reply t → t ≡ s
 takes_nothing s t node frame bytes kept reply none (inl h) = h.1.1
@@ -97,8 +93,7 @@ expires_nothing s t node (Some l) reply none h =
 -- where nothing happened the state is the same
 nothing_stays : (s t : State) (event : Event) (reply : Reply) → IsNothing reply → Steps s event reply t → t ≡ s
 nothing_stays s t (ActEvent node c) reply none h = if_node_stays (is_node s node) s t _ reply (λ k. acts_nothing s t node c reply none k) h
-nothing_stays s t (SendEvent node base) reply none h = if_node_stays (is_node s node) s t (Sends s node base reply t) reply (λ k. sends_nothing s t node base reply none k) h
-nothing_stays s t (SendOldEvent node base) reply none h = if_node_stays (is_node s node) s t (SendsOld s node base reply t) reply (λ k. sends_old_nothing s t node base reply none k) h
+nothing_stays s t (SendEvent node base version) reply none h = if_node_stays (is_node s node) s t (Sends s node base version reply t) reply (λ k. sends_nothing s t node base version reply none k) h
 nothing_stays s t (DeliverEvent number node kept) reply none h =
     if_node_stays (is_node s node) s t (Comes s node (frame_at s number) kept reply t) reply (λ k. comes_nothing s t node (frame_at s number) kept reply none k) h
 nothing_stays s t (RestartEvent node) reply none h = if_node_stays (is_node s node) s t _ reply (λ k. k.1) h

@@ -15,7 +15,8 @@ use Rattle.lra_history.specs.declared.command.Command.{Command}
 use Rattle.lra_history.specs.declared.command.CommandReply.{CommandReply}
 use Rattle.lra_history.specs.declared.command.CommandReply.TheVariants.{Began, Joined, Left, Decided, Reported, Known, Forgotten, Told, Purged, Refused as NotEntered}
 use Rattle.lra_world.specs.declared.event.Event.{Event}
-use Rattle.lra_world.specs.declared.event.Event.TheVariants.{Act as ActEvent, Deliver as DeliverEvent, Restart as RestartEvent, Send as SendEvent, SendOld as SendOldEvent, Tick as TickEvent}
+use Rattle.lra_delta.specs.declared.version.Version.TheVariants.{One, Two}
+use Rattle.lra_world.specs.declared.event.Event.TheVariants.{Act as ActEvent, Deliver as DeliverEvent, Restart as RestartEvent, Send as SendEvent, Tick as TickEvent}
 use Rattle.lra_world.specs.declared.event.Reply.{Reply}
 use Rattle.lra_world.specs.declared.event.Reply.TheVariants.{Answered, Sent, Took, Restarted, Expired, Quiet, Refused}
 use Rattle.lra_world.specs.Headline.{Converges, member_at, shown_at}
@@ -134,8 +135,8 @@ PrintsReply s event out t = (reply : Reply) × Steps s event reply t × (out ≡
 abbrev pub Does : State → Ask → List ℕ → State → Type 0
 Does s (Enter node command) out t = PrintsReply s (ActEvent node command) out t
 Does s (Tick node now) out t = PrintsReply s (TickEvent node now) out t
-Does s (Send node base) out t = PrintsReply s (SendEvent node base) out t
-Does s (SendOld node base) out t = PrintsReply s (SendOldEvent node base) out t
+Does s (Send node base) out t = PrintsReply s (SendEvent node base Two) out t
+Does s (SendOld node base) out t = PrintsReply s (SendEvent node base One) out t
 Does s (Deliver frame node kept) out t = (count : ℕ) × AreComing s frame kept count × PrintsReply s (DeliverEvent frame node count) out t
 Does s (Restart node) out t = PrintsReply s (RestartEvent node) out t
 Does s (Show node id) out t = (out ≡ status_line (shown_at s node id)) × (t ≡ s)

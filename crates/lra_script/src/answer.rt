@@ -13,6 +13,7 @@ use crate::calls::{hear_answer, show_duties};
 use crate::line::MAX_LINE_BYTES;
 use crate::showing::{held, id_line, show, show_front, show_member, show_same, text_line};
 use crate::telling::{Room, refusal_line, tell};
+use lra_delta::Version;
 use lra_facts::Refusal;
 use lra_history::CommandReply;
 use lra_id::NodeId;
@@ -55,8 +56,30 @@ fn obey(alloc: Global, world: &mut World, ask: Ask) -> Result<String, AllocError
     match ask {
         Ask::Enter { node, command } => happen(alloc, world, Event::Act { node, command }),
         Ask::Tick { node, now } => happen(alloc, world, Event::Tick { node, now }),
-        Ask::Send { node, base } => happen(alloc, world, Event::Send { node, base }),
-        Ask::SendOld { node, base } => happen(alloc, world, Event::SendOld { node, base }),
+        Ask::Send { node, base } => {
+            let version = Version::Two;
+            happen(
+                alloc,
+                world,
+                Event::Send {
+                    node,
+                    base,
+                    version,
+                },
+            )
+        }
+        Ask::SendOld { node, base } => {
+            let version = Version::One;
+            happen(
+                alloc,
+                world,
+                Event::Send {
+                    node,
+                    base,
+                    version,
+                },
+            )
+        }
         Ask::Deliver { frame, node, kept } => deliver(alloc, world, frame, node, kept),
         Ask::Restart { node } => happen(alloc, world, Event::Restart { node }),
         Ask::Hear {

@@ -9,11 +9,12 @@ use Rattle.lra_history.specs.declared.command.Command.TheVariants.{Decide}
 use Rattle.lra_history.specs.Histories.{IsClosed, facts}
 use Rattle.lra_history.specs.Replies.{Judgement, Denied, AlreadyKnown, Accepted, judge}
 use Rattle.lra_history.specs.Views.{StandsFor, View}
+use Rattle.lra_delta.specs.declared.version.Version.{Version}
 use Rattle.lra_world.specs.declared.event.Event.{Event}
-use Rattle.lra_world.specs.declared.event.Event.TheVariants.{Act, Deliver, Restart, Send, SendOld, Tick}
+use Rattle.lra_world.specs.declared.event.Event.TheVariants.{Act, Deliver, Restart, Send, Tick}
 use Rattle.lra_world.specs.declared.event.Reply.{Reply}
 use Rattle.lra_world.specs.Headline.{IsNode}
-use Rattle.lra_world.specs.Worlds.{Acts, Comes, Expires, IfNode, SentFrame, Sends, SendsOld, State, Steps, Takes, Ticks, after_command, frame_at, front_of, if_taken, is_node, set_of, with_command}
+use Rattle.lra_world.specs.Worlds.{Acts, Comes, Expires, IfNode, SentFrame, Sends, State, Steps, Takes, Ticks, after_command, frame_at, front_of, if_taken, is_node, set_of, with_command}
 use Rattle.lra_world.proofs.Moving.{IsKeptBy, node_is, step_keeps}
 use Rattle.lra_trail.specs.NodeTrails.{IsServed, node_of}
 
@@ -40,16 +41,11 @@ command_leaves s t node me c own other is e = by (judge (set_of s node) (front_o
     by AlreadyKnown k = same_leaves me s t k
     by Accepted k = ap (λ (u : State). front_of u me) k ∙ other_front s node me _ is.some own other
 
-sends_leave : (s t : State) (node me : ℕ) (base : List ℕ) (reply : Reply) → Sends s node base reply t → Leaves me s t
-sends_leave s t node me base reply (inl h) = same_leaves me s t h.1.1
-sends_leave s t node me base reply (inr (inl h)) = same_leaves me s t h.2.1
-sends_leave s t node me base reply (inr (inr h)) = ap (λ (u : State). front_of u me) h.3
-
-sends_old_leave : (s t : State) (node me : ℕ) (base : List ℕ) (reply : Reply) → SendsOld s node base reply t → Leaves me s t
-sends_old_leave s t node me base reply (inl h) = same_leaves me s t h.1.1
-sends_old_leave s t node me base reply (inr (inl h)) = same_leaves me s t h.2.1
-sends_old_leave s t node me base reply (inr (inr (inl h))) = same_leaves me s t h.3.1
-sends_old_leave s t node me base reply (inr (inr (inr h))) = ap (λ (u : State). front_of u me) h.4
+sends_leave : (s t : State) (node me : ℕ) (base : List ℕ) (version : Version) (reply : Reply) → Sends s node base version reply t → Leaves me s t
+sends_leave s t node me base version reply (inl h) = same_leaves me s t h.1.1
+sends_leave s t node me base version reply (inr (inl h)) = same_leaves me s t h.2.1
+sends_leave s t node me base version reply (inr (inr (inl h))) = same_leaves me s t h.3.1
+sends_leave s t node me base version reply (inr (inr (inr h))) = ap (λ (u : State). front_of u me) h.4
 
 takes_leave : (s t : State) (node me : ℕ) (frame : SentFrame) (bytes : List ℕ) (kept : ℕ) (reply : Reply) → 1 ≤ me → (node ≡ me → ⊥) → IsNode s node → Takes s node frame bytes kept reply t → Leaves me s t
 takes_leave s t node me frame bytes kept reply own other is (inl h) = same_leaves me s t h.1.1
@@ -68,10 +64,8 @@ expires_leave s t node me (Some l) reply own other is h = command_leaves s t nod
 step_leaves : (s t : State) (me : ℕ) (event : Event) (reply : Reply) → 1 ≤ me → (node_of event ≡ me → ⊥) → Steps s event reply t → Leaves me s t
 step_leaves s t me (Act node c) reply own other h =
     if_node_leaves (is_node s node) s t node me (Acts s node c reply t) reply refl (λ is k. command_leaves s t node me c own other is k.1) h
-step_leaves s t me (Send node base) reply own other h =
-    if_node_leaves (is_node s node) s t node me (Sends s node base reply t) reply refl (λ is k. sends_leave s t node me base reply k) h
-step_leaves s t me (SendOld node base) reply own other h =
-    if_node_leaves (is_node s node) s t node me (SendsOld s node base reply t) reply refl (λ is k. sends_old_leave s t node me base reply k) h
+step_leaves s t me (Send node base version) reply own other h =
+    if_node_leaves (is_node s node) s t node me (Sends s node base version reply t) reply refl (λ is k. sends_leave s t node me base version reply k) h
 step_leaves s t me (Deliver number node kept) reply own other h =
     if_node_leaves (is_node s node) s t node me (Comes s node (frame_at s number) kept reply t) reply refl
     (λ is k. comes_leave s t node me (frame_at s number) kept reply own other is k) h

@@ -215,7 +215,7 @@ meet_nodes (a ∷ v) (b ∷ w) e = ap suc (meet_nodes v w (omega (arith, e)))
 gave_means : (me : ℕ) (s : State) (frame now : ℕ) (a b : View) (body asker : List ℕ) → IsServed me s a → length asker ≡ length a.front → b ≡ a
     → Means me s frame now (Pull body) (Gave (frame_of a (meet_fronts asker a.front))) b
 gave_means me s frame now a b body asker served nodes same =
-    Something (Send me base) (Sent number) t refl refl (at_node s t me (Sends s me base (Sent number) t) (Sent number) served.node sends) (number, refl, told) (as_it_was me s a b served same)
+    Something (Send me base Two) (Sent number) t refl refl (at_node s t me (Sends s me base Two (Sent number) t) (Sent number) served.node sends) (number, refl, told) (as_it_was me s a b served same)
   where
     base : List ℕ
     base = meet_fronts asker a.front
@@ -229,14 +229,15 @@ gave_means me s frame now a b body asker served nodes same =
     t : State
     t = record s { sent = s.sent ++ added ∷ [] }
 
-    sends : Sends s me base (Sent number) t
+    sends : Sends s me base Two (Sent number) t
     sends =
-        inr (inr (
+        inr (inr (inr (
           meet_nodes asker a.front nodes ∙ nodes_in me s a served,
           subst (IsBelow base) served.holds.counts (meet_below asker a.front nodes).1,
+          (λ later. absurd cc),
           refl,
           refl,
-        ))
+        )))
 
     told : IsTold t number (frame_of a base)
     told = record { sent = added; numbered = last_numbered s.sent added number refl; version = refl; view = a; sender = served.holds; told = refl }

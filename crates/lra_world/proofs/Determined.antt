@@ -7,7 +7,8 @@ use Rattle.lra_forest.specs.Overdue.{IsLeastOverdue, is_overdue}
 use Rattle.lra_history.specs.Histories.{History}
 use Rattle.lra_history.specs.Views.{View}
 use Rattle.lra_world.specs.declared.event.Event.{Event}
-use Rattle.lra_world.specs.declared.event.Event.TheVariants.{Act, Deliver, Restart, Send, SendOld, Tick}
+use Rattle.lra_delta.specs.declared.version.Version.{Version}
+use Rattle.lra_world.specs.declared.event.Event.TheVariants.{Act, Deliver, Restart, Send, Tick}
 use Rattle.lra_world.specs.declared.event.Reply.{Reply}
 use Rattle.lra_world.specs.declared.event.Reply.TheVariants.{Refused}
 use Rattle.lra_facts.specs.declared.refusal.Refusal.TheVariants.{BadFrame}
@@ -16,7 +17,7 @@ use Rattle.lra_delta.specs.declared.input.Stop.TheVariants.{Fault}
 use Rattle.lra_delta.specs.Frames.{Frame, frame_of}
 use Rattle.lra_delta.specs.Reading.{frame_in}
 use Rattle.lra_delta.specs.Encoding.{encoding_as}
-use Rattle.lra_world.specs.Worlds.{Comes, Expires, SentFrame, IfNode, IsEncoded, Sends, SendsOld, State, Stays, Steps, Takes, Ticks, frame_at, is_node, set_of}
+use Rattle.lra_world.specs.Worlds.{Comes, Expires, SentFrame, IfNode, IsEncoded, Sends, State, Stays, Steps, Takes, Ticks, frame_at, is_node, set_of}
 use Rattle.lra_world.proofs.Agreeing.{same_view}
 
 pub record AreOne (t u : State) (reply other : Reply) : Type 0 where
@@ -26,34 +27,23 @@ pub record AreOne (t u : State) (reply other : Reply) : Type 0 where
 stays_once : (s t u : State) (is reply other : Reply) → Stays s is reply t → Stays s is other u → AreOne t u reply other
 stays_once s t u is reply other h k = record { reply_is = h.0 ∙ sym k.0; state_is = h.1 ∙ sym k.1 }
 
-sends_once : (s t u : State) (node : ℕ) (base : List ℕ) (reply other : Reply) → Sends s node base reply t → Sends s node base other u → AreOne t u reply other
-sends_once s t u node base reply other (inl h) (inl k) = stays_once s t u _ reply other h.1 k.1
-sends_once s t u node base reply other (inl h) (inr (inl k)) = absurd (h.0 k.0)
-sends_once s t u node base reply other (inl h) (inr (inr k)) = absurd (h.0 k.0)
-sends_once s t u node base reply other (inr (inl h)) (inl k) = absurd (k.0 h.0)
-sends_once s t u node base reply other (inr (inl h)) (inr (inl k)) = stays_once s t u _ reply other h.2 k.2
-sends_once s t u node base reply other (inr (inl h)) (inr (inr k)) = absurd (h.1 k.1)
-sends_once s t u node base reply other (inr (inr h)) (inl k) = absurd (k.0 h.0)
-sends_once s t u node base reply other (inr (inr h)) (inr (inl k)) = absurd (k.1 h.1)
-sends_once s t u node base reply other (inr (inr h)) (inr (inr k)) = record { reply_is = h.2 ∙ sym k.2; state_is = h.3 ∙ sym k.3 }
-
-sends_old_once : (s t u : State) (node : ℕ) (base : List ℕ) (reply other : Reply) → SendsOld s node base reply t → SendsOld s node base other u → AreOne t u reply other
-sends_old_once s t u node base reply other (inl h) (inl k) = stays_once s t u _ reply other h.1 k.1
-sends_old_once s t u node base reply other (inl h) (inr (inl k)) = absurd (h.0 k.0)
-sends_old_once s t u node base reply other (inl h) (inr (inr (inl k))) = absurd (h.0 k.0)
-sends_old_once s t u node base reply other (inl h) (inr (inr (inr k))) = absurd (h.0 k.0)
-sends_old_once s t u node base reply other (inr (inl h)) (inl k) = absurd (k.0 h.0)
-sends_old_once s t u node base reply other (inr (inl h)) (inr (inl k)) = stays_once s t u _ reply other h.2 k.2
-sends_old_once s t u node base reply other (inr (inl h)) (inr (inr (inl k))) = absurd (h.1 k.1)
-sends_old_once s t u node base reply other (inr (inl h)) (inr (inr (inr k))) = absurd (h.1 k.1)
-sends_old_once s t u node base reply other (inr (inr (inl h))) (inl k) = absurd (k.0 h.0)
-sends_old_once s t u node base reply other (inr (inr (inl h))) (inr (inl k)) = absurd (k.1 h.1)
-sends_old_once s t u node base reply other (inr (inr (inl h))) (inr (inr (inl k))) = stays_once s t u _ reply other h.3 k.3
-sends_old_once s t u node base reply other (inr (inr (inl h))) (inr (inr (inr k))) = absurd (k.2 h.2)
-sends_old_once s t u node base reply other (inr (inr (inr h))) (inl k) = absurd (k.0 h.0)
-sends_old_once s t u node base reply other (inr (inr (inr h))) (inr (inl k)) = absurd (k.1 h.1)
-sends_old_once s t u node base reply other (inr (inr (inr h))) (inr (inr (inl k))) = absurd (h.2 k.2)
-sends_old_once s t u node base reply other (inr (inr (inr h))) (inr (inr (inr k))) = record { reply_is = h.3 ∙ sym k.3; state_is = h.4 ∙ sym k.4 }
+sends_once : (s t u : State) (node : ℕ) (base : List ℕ) (version : Version) (reply other : Reply) → Sends s node base version reply t → Sends s node base version other u → AreOne t u reply other
+sends_once s t u node base version reply other (inl h) (inl k) = stays_once s t u _ reply other h.1 k.1
+sends_once s t u node base version reply other (inl h) (inr (inl k)) = absurd (h.0 k.0)
+sends_once s t u node base version reply other (inl h) (inr (inr (inl k))) = absurd (h.0 k.0)
+sends_once s t u node base version reply other (inl h) (inr (inr (inr k))) = absurd (h.0 k.0)
+sends_once s t u node base version reply other (inr (inl h)) (inl k) = absurd (k.0 h.0)
+sends_once s t u node base version reply other (inr (inl h)) (inr (inl k)) = stays_once s t u _ reply other h.2 k.2
+sends_once s t u node base version reply other (inr (inl h)) (inr (inr (inl k))) = absurd (h.1 k.1)
+sends_once s t u node base version reply other (inr (inl h)) (inr (inr (inr k))) = absurd (h.1 k.1)
+sends_once s t u node base version reply other (inr (inr (inl h))) (inl k) = absurd (k.0 h.0)
+sends_once s t u node base version reply other (inr (inr (inl h))) (inr (inl k)) = absurd (k.1 h.1)
+sends_once s t u node base version reply other (inr (inr (inl h))) (inr (inr (inl k))) = stays_once s t u _ reply other h.3 k.3
+sends_once s t u node base version reply other (inr (inr (inl h))) (inr (inr (inr k))) = absurd (k.2 h.2)
+sends_once s t u node base version reply other (inr (inr (inr h))) (inl k) = absurd (k.0 h.0)
+sends_once s t u node base version reply other (inr (inr (inr h))) (inr (inl k)) = absurd (k.1 h.1)
+sends_once s t u node base version reply other (inr (inr (inr h))) (inr (inr (inl k))) = absurd (h.2 k.2)
+sends_once s t u node base version reply other (inr (inr (inr h))) (inr (inr (inr k))) = record { reply_is = h.3 ∙ sym k.3; state_is = h.4 ∙ sym k.4 }
 
 -- bytes break a rule at one place
 one_place : (bytes : List ℕ) (place other : ℕ) → frame_in bytes ≡ Err (Fault place) → frame_in bytes ≡ Err (Fault other) → place ≡ other
@@ -137,10 +127,8 @@ if_node_once false s t u X Y reply other by h k = stays_once s t u _ reply other
 pub step_once : (s t u : State) (event : Event) (reply other : Reply) → Steps s event reply t → Steps s event other u → AreOne t u reply other
 step_once s t u (Act node c) reply other h k =
     if_node_once (is_node s node) s t u _ _ reply other (λ x y. record { reply_is = x.0 ∙ sym y.0; state_is = x.1 ∙ sym y.1 }) h k
-step_once s t u (Send node base) reply other h k =
-    if_node_once (is_node s node) s t u (Sends s node base reply t) (Sends s node base other u) reply other (λ x y. sends_once s t u node base reply other x y) h k
-step_once s t u (SendOld node base) reply other h k =
-    if_node_once (is_node s node) s t u (SendsOld s node base reply t) (SendsOld s node base other u) reply other (λ x y. sends_old_once s t u node base reply other x y) h k
+step_once s t u (Send node base version) reply other h k =
+    if_node_once (is_node s node) s t u (Sends s node base version reply t) (Sends s node base version other u) reply other (λ x y. sends_once s t u node base version reply other x y) h k
 step_once s t u (Deliver number node kept) reply other h k =
     if_node_once (is_node s node) s t u (Comes s node (frame_at s number) kept reply t) (Comes s node (frame_at s number) kept other u) reply other
     (λ x y. comes_once s t u node (frame_at s number) kept reply other x y) h k

@@ -11,9 +11,10 @@ use Rattle.lra_delta.specs.Encoding.{encoding_as}
 use Rattle.lra_delta.specs.Frames.{Frame, IsFrame}
 use Rattle.lra_delta.specs.Rules.{IsDeltaAs}
 use Rattle.lra_delta.specs.Versions.{needs_two}
-use Rattle.lra_delta.specs.declared.version.Version.TheVariants.{One}
+use Rattle.lra_delta.specs.declared.version.Version.{Version}
 use Rattle.lra_world.specs.declared.event.Reply.TheVariants.{Refused}
 use Rattle.lra_world.specs.Machines.{TakesFrame}
+use Rattle.lra_world.specs.Worlds.{needs_later}
 
 same_refusal : {X : Type 0} (r s : Refusal) → ◌≡◌ {A = Result X Refusal} (Err r) (Err s) → r ≡ s
 same_refusal r s e = cc
@@ -37,17 +38,16 @@ refused_frame {X} old new frame r gap union other same h v w from = (
     nodes = ap (λ (u : List ℕ). length u) from.counts ∙ from.sender.nodes ∙ sym from.receiver.nodes ∙ ap (λ (u : List ℕ). length u) (sym from.own.counts)
 
 -- what is written in version 1 needs no other
-pub written_first : (r : Result (Vec ℕ Global) Refusal) (f : Frame) → IfOk r (λ bytes. bytes.items ≡ encoding_as One f) → ((r ≡ Err NeedsVersion2) ↔ (needs_two f ≡ true)) → (needs_two f ≡ false → IsDeltaAs One f)
-    → IfOk r (λ bytes. (needs_two f ≡ false) × IsDeltaAs One f × (bytes.items ≡ encoding_as One f))
-written_first (Err q) f text needs rules = tt
-written_first (Ok bytes) f text needs rules = by (needs_two f) refl
+pub written_first : {X : Type 0} (r : Result X Refusal) (f : Frame) → ((r ≡ Err NeedsVersion2) ↔ (needs_two f ≡ true)) → IfOk r (λ _. needs_two f ≡ false)
+written_first (Err q) f needs = tt
+written_first {X} (Ok x) f needs = by (needs_two f) refl
   where
-    never : (x : Vec ℕ Global) (q : Refusal) → ◌≡◌ {A = Result (Vec ℕ Global) Refusal} (Ok x) (Err q) → ⊥
-    never x q e = absurd cc
+    never : (q : Refusal) → ◌≡◌ {A = Result X Refusal} (Ok x) (Err q) → ⊥
+    never q e = absurd cc
 
-    by : (b : Bool) → needs_two f ≡ b → (needs_two f ≡ false) × IsDeltaAs One f × (bytes.items ≡ encoding_as One f)
-    by false e = (e, rules e, text)
-    by true e = absurd (never bytes NeedsVersion2 (needs.1 e))
+    by : (b : Bool) → needs_two f ≡ b → needs_two f ≡ false
+    by false e = e
+    by true e = absurd (never NeedsVersion2 (needs.1 e))
 
 -- and what is refused for its version needs the second
 pub refused_first : {X : Type 0} (r : Result X Refusal) (f : Frame) → IfErr r (λ q. (q ≡ NoMemory) ⊎ (q ≡ NeedsVersion2)) → ((r ≡ Err NeedsVersion2) ↔ (needs_two f ≡ true))
@@ -55,3 +55,9 @@ pub refused_first : {X : Type 0} (r : Result X Refusal) (f : Frame) → IfErr r 
 refused_first (Ok x) f cause needs = tt
 refused_first (Err q) f (inl none) needs = inl none
 refused_first (Err q) f (inr is) needs = inr (is, needs.0 (ap Err is))
+
+-- bytes that encode a frame, and its rules
+pub written_both : (r : Result (Vec ℕ Global) Refusal) (f : Frame) (version : Version) → IfOk r (λ bytes. (needs_later version f ≡ false) × (bytes.items ≡ encoding_as version f)) → IfOk r (λ _. IsDeltaAs version f)
+    → IfOk r (λ bytes. (needs_later version f ≡ false) × IsDeltaAs version f × (bytes.items ≡ encoding_as version f))
+written_both (Ok bytes) f version text rules = (text.0, rules, text.1)
+written_both (Err q) f version text rules = tt

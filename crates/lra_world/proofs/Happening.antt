@@ -19,12 +19,12 @@ use Rattle.lra_history.specs.Views.{OfItsSet, StandsFor, View}
 use Rattle.lra_delta.specs.declared.version.Version.{Version}
 use Rattle.lra_delta.specs.declared.version.Version.TheVariants.{One, Two}
 use Rattle.lra_world.specs.declared.event.Event.{Event}
-use Rattle.lra_world.specs.declared.event.Event.TheVariants.{Act, Restart, Send, SendOld, Tick}
+use Rattle.lra_world.specs.declared.event.Event.TheVariants.{Act, Restart, Send, Tick}
 use Rattle.lra_world.specs.declared.event.Reply.{Reply}
 use Rattle.lra_world.specs.declared.event.Reply.TheVariants.{Answered, Restarted, Sent}
 use Rattle.lra_world.specs.Headline.{IsNode}
 use Rattle.lra_world.specs.Machines.{Happens, IsChanged, IsExpired, IsWorldOf, LeadsTo, Machine, StopsIn}
-use Rattle.lra_world.specs.Worlds.{Acts, SentFrame, IsEncoded, IsViewOf, IsWorld, NeedsTwo, Runs, Sends, SendsOld, State, Stays, Ticks, after_command, expired, front_of, nodes_of, set_of, with_frame}
+use Rattle.lra_world.specs.Worlds.{Acts, SentFrame, IsEncoded, IsViewOf, IsWorld, NeedsLater, Runs, Sends, State, Stays, Ticks, after_command, expired, front_of, needs_later, nodes_of, set_of, with_frame}
 use Rattle.lra_delta.specs.Frames.{frame_of}
 use Rattle.lra_delta.specs.Versions.{needs_two}
 use Rattle.lra_world.proofs.Agreeing.{same_view}
@@ -145,11 +145,11 @@ last_or_old (x ∷ fs) [] f b place frame bytes same at spelt = absurd (omega (a
 last_or_old (x ∷ fs) (y ∷ bs) f b zero frame bytes same at spelt = inl (at, spelt)
 last_or_old (x ∷ fs) (y ∷ bs) f b (suc place) frame bytes same at spelt = last_or_old fs bs f b place frame bytes (omega (arith, same)) at spelt
 
--- a frame that has no such record is one that version 1 can write
-pub needs_none : (s : State) (node : ℕ) (base : List ℕ) (view : View) → IsViewOf s.history (front_of s node) view → needs_two (frame_of view base) ≡ false → NeedsTwo s node base → ⊥
-needs_none s node base view own none two =
-    let same : two.view ≡ view = same_view s.history (front_of s node) (front_of s node) two.view view refl two.own own in
-    never_both (needs_two (frame_of view base)) (subst (λ (v : View). needs_two (frame_of v base) ≡ true) same two.needs) none
+-- a version that tells a frame tells every frame of what the node holds since the base: there is one
+pub needs_none : (s : State) (node : ℕ) (base : List ℕ) (version : Version) (view : View) → IsViewOf s.history (front_of s node) view → needs_later version (frame_of view base) ≡ false → NeedsLater s node base version → ⊥
+needs_none s node base version view own none later =
+    let same : later.view ≡ view = same_view s.history (front_of s node) (front_of s node) later.view view refl later.own own in
+    never_both (needs_later version (frame_of view base)) (subst (λ (v : View). needs_later version (frame_of v base) ≡ true) same later.needs) none
 
 -- the world with the frame's bytes stands for the state with the frame
 posted_world : (s : State) (m : Machine) (version : Version) (node : ℕ) (base bytes : List ℕ) → IsWorldOf s m → IsNode s node → length base ≡ nodes_of s → IsBelow base (front_of s node)
@@ -168,26 +168,14 @@ posted_world s m version node base bytes w is counts below encoded =
       ];
     }
 
-pub send_happens : (s : State) (m : Machine) (node : ℕ) (base bytes : List ℕ) → IsWorldOf s m → IsNode s node → length base ≡ length m.replicas → IsBelow base (front_of s node)
-    → IsEncoded s.history (record { version = Two; base = base; front = front_of s node }) bytes
-    → Happens s (Send node base) (Sent (length m.sent + 1)) (record { replicas = m.replicas; sent = m.sent ++ bytes ∷ [] })
-send_happens s m node base bytes w is nodes below encoded =
-    let t : State = with_frame s Two node base in
+pub send_happens : (s : State) (m : Machine) (node : ℕ) (base : List ℕ) (version : Version) (bytes : List ℕ) → IsWorldOf s m → IsNode s node → length base ≡ length m.replicas → IsBelow base (front_of s node)
+    → (NeedsLater s node base version → ⊥) → IsEncoded s.history (record { version = version; base = base; front = front_of s node }) bytes
+    → Happens s (Send node base version) (Sent (length m.sent + 1)) (record { replicas = m.replicas; sent = m.sent ++ bytes ∷ [] })
+send_happens s m node base version bytes w is nodes below tells encoded =
+    let t : State = with_frame s version node base in
     let counts : length base ≡ nodes_of s = nodes ∙ w.nodes in (
       t,
-      at_node s t node (Sends s node base (Sent (length m.sent + 1)) t) (Sent (length m.sent + 1)) is
-          (inr (inr (counts, below, ap (λ (n : ℕ). Sent (n + 1)) w.count, refl))),
-      posted_world s m Two node base bytes w is counts below encoded,
-    )
-
-pub send_old_happens : (s : State) (m : Machine) (node : ℕ) (base bytes : List ℕ) → IsWorldOf s m → IsNode s node → length base ≡ length m.replicas → IsBelow base (front_of s node)
-    → (NeedsTwo s node base → ⊥) → IsEncoded s.history (record { version = One; base = base; front = front_of s node }) bytes
-    → Happens s (SendOld node base) (Sent (length m.sent + 1)) (record { replicas = m.replicas; sent = m.sent ++ bytes ∷ [] })
-send_old_happens s m node base bytes w is nodes below first encoded =
-    let t : State = with_frame s One node base in
-    let counts : length base ≡ nodes_of s = nodes ∙ w.nodes in (
-      t,
-      at_node s t node (SendsOld s node base (Sent (length m.sent + 1)) t) (Sent (length m.sent + 1)) is
-          (inr (inr (inr (counts, below, first, ap (λ (n : ℕ). Sent (n + 1)) w.count, refl)))),
-      posted_world s m One node base bytes w is counts below encoded,
+      at_node s t node (Sends s node base version (Sent (length m.sent + 1)) t) (Sent (length m.sent + 1)) is
+          (inr (inr (inr (counts, below, tells, ap (λ (n : ℕ). Sent (n + 1)) w.count, refl)))),
+      posted_world s m version node base bytes w is counts below encoded,
     )

@@ -22,10 +22,10 @@ use Rattle.lra_history.proofs.JoinedFronts.{closed_join, count_join}
 use Rattle.lra_delta.specs.declared.version.Version.{Version}
 use Rattle.lra_delta.specs.declared.version.Version.TheVariants.{One, Two}
 use Rattle.lra_world.specs.declared.event.Event.{Event}
-use Rattle.lra_world.specs.declared.event.Event.TheVariants.{Act, Deliver, Restart, Send, SendOld, Tick}
+use Rattle.lra_world.specs.declared.event.Event.TheVariants.{Act, Deliver, Restart, Send, Tick}
 use Rattle.lra_world.specs.declared.event.Reply.{Reply}
 use Rattle.lra_world.specs.Headline.{IsNode}
-use Rattle.lra_world.specs.Worlds.{Acts, Comes, Expires, SentFrame, IfNode, IsSent, IsWorld, Runs, Sends, SendsOld, State, Steps, Takes, Ticks, after_command, frame_at, front_of, if_taken, is_node, nodes_of, set_of, start, with_command, with_frame, with_front}
+use Rattle.lra_world.specs.Worlds.{Acts, Comes, Expires, SentFrame, IfNode, IsSent, IsWorld, Runs, Sends, State, Steps, Takes, Ticks, after_command, frame_at, front_of, if_taken, is_node, nodes_of, set_of, start, with_command, with_frame, with_front}
 use Rattle.lra_world.proofs.GrowingHistories.{IsGrown, grown_more, grown_none, grown_with, sent_still}
 
 -- nothing changes, a node enters a command that it accepts, a node joins the front of a frame, or a node sends a frame
@@ -60,16 +60,11 @@ after_moves s t node c is e = by (judge (set_of s node) (front_of s node) node c
     by AlreadyKnown j k = Still k
     by Accepted j k = Entered node c is j k
 
-sends_move : (s t : State) (node : ℕ) (base : List ℕ) (reply : Reply) → IsNode s node → Sends s node base reply t → IsMove s t
-sends_move s t node base reply is (inl h) = Still h.1.1
-sends_move s t node base reply is (inr (inl h)) = Still h.2.1
-sends_move s t node base reply is (inr (inr h)) = Posted Two node base is h.0 h.1 h.3
-
-sends_old_move : (s t : State) (node : ℕ) (base : List ℕ) (reply : Reply) → IsNode s node → SendsOld s node base reply t → IsMove s t
-sends_old_move s t node base reply is (inl h) = Still h.1.1
-sends_old_move s t node base reply is (inr (inl h)) = Still h.2.1
-sends_old_move s t node base reply is (inr (inr (inl h))) = Still h.3.1
-sends_old_move s t node base reply is (inr (inr (inr h))) = Posted One node base is h.0 h.1 h.4
+sends_move : (s t : State) (node : ℕ) (base : List ℕ) (version : Version) (reply : Reply) → IsNode s node → Sends s node base version reply t → IsMove s t
+sends_move s t node base version reply is (inl h) = Still h.1.1
+sends_move s t node base version reply is (inr (inl h)) = Still h.2.1
+sends_move s t node base version reply is (inr (inr (inl h))) = Still h.3.1
+sends_move s t node base version reply is (inr (inr (inr h))) = Posted version node base is h.0 h.1 h.4
 
 takes_move : (s t : State) (node : ℕ) (frame : SentFrame) (bytes : List ℕ) (kept : ℕ) (reply : Reply) → IsNode s node → In frame s.sent → Takes s node frame bytes kept reply t → IsMove s t
 takes_move s t node frame bytes kept reply is m (inl h) = Still h.1.1
@@ -95,10 +90,8 @@ expires_move s t node (Some l) reply is h = after_moves s t node (Decide l Cance
 pub step_moves : (s t : State) (event : Event) (reply : Reply) → Steps s event reply t → IsMove s t
 step_moves s t (Act node c) reply h =
     if_node_moves (is_node s node) s t node (Acts s node c reply t) reply refl (λ is k. after_moves s t node c is k.1) h
-step_moves s t (Send node base) reply h =
-    if_node_moves (is_node s node) s t node (Sends s node base reply t) reply refl (λ is k. sends_move s t node base reply is k) h
-step_moves s t (SendOld node base) reply h =
-    if_node_moves (is_node s node) s t node (SendsOld s node base reply t) reply refl (λ is k. sends_old_move s t node base reply is k) h
+step_moves s t (Send node base version) reply h =
+    if_node_moves (is_node s node) s t node (Sends s node base version reply t) reply refl (λ is k. sends_move s t node base version reply is k) h
 step_moves s t (Deliver number node kept) reply h =
     if_node_moves (is_node s node) s t node (Comes s node (frame_at s number) kept reply t) reply refl
     (λ is k. comes_move s t node number kept (frame_at s number) reply is refl k) h

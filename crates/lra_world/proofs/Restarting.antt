@@ -1,5 +1,5 @@
 -- A view that is taken whole by that of no facts stays as it is.
-use Rattle.std.proofs.Common.{◌≡◌, ◌-◌, inl, ℕ, zero, suc, List, [], ◌∷◌, refl, sym, ap, subst, ◌∙◌, arith, get_or, length, max, replicate}
+use Rattle.std.proofs.Common.{◌≡◌, ◌-◌, inl, ℕ, zero, suc, List, [], ◌∷◌, refl, sym, ap, subst, ◌∙◌, arith, get_or, length, max, replicate, false}
 use Rattle.std.proofs.lemmas.List.{length-replicate}
 use Rattle.lra_id.specs.Fronts.{IsBelow, join_fronts}
 use Rattle.lra_facts.specs.declared.fact.Fact.{Fact}
@@ -25,7 +25,7 @@ use Rattle.lra_world.specs.declared.event.Reply.{Reply}
 use Rattle.lra_world.specs.declared.event.Reply.TheVariants.{Took}
 use Rattle.lra_world.specs.Machines.{IsFrom, TakesBytes, TakesFrame}
 use Rattle.lra_world.specs.Restarts.{ComesBack, whole_of}
-use Rattle.lra_world.specs.Worlds.{IsViewOf}
+use Rattle.lra_world.specs.Worlds.{IsViewOf, needs_later}
 use Rattle.lra_world.proofs.Delivering.{all_read}
 
 zero_at : (n i : ℕ) → get_or {A = ℕ} (replicate n 0) i 0 ≡ 0
@@ -97,13 +97,13 @@ taken_again h v zeros bytes own fresh new n reply lawful closed is nodes none em
 
 -- the same by what a sender's bytes are in each lawful history
 pub retaken : (zeros items bytes nodes_front : List ℕ) (own fresh new : View) (nodes len vec : ℕ) (reply : Reply)
-    → ((h : History) (v : List ℕ) → IsLawful h → IsClosed h v → IsViewOf h v own → IsBelow zeros v × IsDelta (frame_of own zeros) × (items ≡ encoding (frame_of own zeros)))
+    → ((h : History) (v : List ℕ) → IsLawful h → IsClosed h v → IsViewOf h v own → IsBelow zeros v × (needs_later Two (frame_of own zeros) ≡ false) × IsDelta (frame_of own zeros) × (items ≡ encoding (frame_of own zeros)))
     → nodes ≡ length nodes_front → nodes_front ≡ own.front → zeros ≡ replicate nodes 0 → fresh ≡ empty_view nodes → bytes ≡ items → length bytes ≡ vec → len ≡ vec
     → TakesBytes fresh bytes len reply new → (h : History) (v : List ℕ) → IsLawful h → IsClosed h v → StandsFor (facts h v) own → own.front ≡ v → (reply ≡ Took) × (new ≡ own)
 retaken zeros items bytes nodes_front own fresh new nodes len vec reply sends count front none empty same many whole takes h v lawful closed stands counts =
     let is : IsViewOf h v own = record { stands = stands; counts = counts } in
     let sent = sends h v lawful closed is in
-    taken_again h v zeros bytes own fresh new nodes reply lawful closed is (count ∙ ap (λ (u : List ℕ). length u) front) none empty sent.1 (same ∙ sent.2)
+    taken_again h v zeros bytes own fresh new nodes reply lawful closed is (count ∙ ap (λ (u : List ℕ). length u) front) none empty sent.2 (same ∙ sent.3)
     (subst (λ (k : ℕ). TakesBytes fresh bytes k reply new) (whole ∙ sym many) takes)
 
 -- The frame since nothing brings all back

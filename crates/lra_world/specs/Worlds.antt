@@ -26,7 +26,7 @@ use Rattle.lra_delta.specs.Versions.{needs_two}
 use Rattle.lra_delta.specs.declared.version.Version.{Version}
 use Rattle.lra_delta.specs.declared.version.Version.TheVariants.{One, Two}
 use Rattle.lra_world.specs.declared.event.Event.{Event}
-use Rattle.lra_world.specs.declared.event.Event.TheVariants.{Act, Deliver, Restart, Send, SendOld, Tick}
+use Rattle.lra_world.specs.declared.event.Event.TheVariants.{Act, Deliver, Restart, Send, Tick}
 use Rattle.lra_world.specs.declared.event.Reply.{Reply}
 use Rattle.lra_world.specs.declared.event.Reply.TheVariants.{Answered, Expired, Quiet, Refused, Restarted, Sent, Took}
 
@@ -135,28 +135,25 @@ after_command s node c = if_taken (judge (set_of s node) (front_of s node) node 
 abbrev pub Acts : State → ℕ → Command → Reply → State → Type 0
 Acts s node c reply t = (reply ≡ Answered (reply_at s node c)) × (t ≡ after_command s node c)
 
--- a node sends a frame in version 2: its base counts as many nodes, and no more than the node does
-abbrev pub Sends : State → ℕ → List ℕ → Reply → State → Type 0
-Sends s node base reply t =
-    ((length base ≡ nodes_of s → ⊥) × Stays s (Refused BadText) reply t)
-    ⊎ ((length base ≡ nodes_of s) × (IsBelow base (front_of s node) → ⊥) × Stays s (Refused (Gap (front_of s node))) reply t)
-    ⊎ ((length base ≡ nodes_of s) × IsBelow base (front_of s node) × (reply ≡ Sent (length s.sent + 1))
-    × (t ≡ with_frame s Two node base))
+-- a frame that a version doesn't tell: the first where a record has a link for the end of its LRA
+abbrev pub needs_later : Version → Frame → Bool
+needs_later One frame = needs_two frame
+needs_later Two frame = false
 
--- of what the node holds a record that is told since the base has a link for the end of its LRA, which version 1 doesn't know
-pub record NeedsTwo (s : State) (node : ℕ) (base : List ℕ) : Type 0 where
+-- so is the frame of what the node holds since the base
+pub record NeedsLater (s : State) (node : ℕ) (base : List ℕ) (version : Version) : Type 0 where
   pub view : View
   pub own : IsViewOf s.history (front_of s node) view
-  pub needs : needs_two (frame_of view base) ≡ true
+  pub needs : needs_later version (frame_of view base) ≡ true
 
--- a node sends the same frame in version 1, where it needs no other
-abbrev pub SendsOld : State → ℕ → List ℕ → Reply → State → Type 0
-SendsOld s node base reply t =
+-- a node sends a frame in a version that tells it: its base counts as many nodes, and no more than the node does
+abbrev pub Sends : State → ℕ → List ℕ → Version → Reply → State → Type 0
+Sends s node base version reply t =
     ((length base ≡ nodes_of s → ⊥) × Stays s (Refused BadText) reply t)
     ⊎ ((length base ≡ nodes_of s) × (IsBelow base (front_of s node) → ⊥) × Stays s (Refused (Gap (front_of s node))) reply t)
-    ⊎ ((length base ≡ nodes_of s) × IsBelow base (front_of s node) × NeedsTwo s node base × Stays s (Refused NeedsVersion2) reply t)
-    ⊎ ((length base ≡ nodes_of s) × IsBelow base (front_of s node) × (NeedsTwo s node base → ⊥) × (reply ≡ Sent (length s.sent + 1))
-    × (t ≡ with_frame s One node base))
+    ⊎ ((length base ≡ nodes_of s) × IsBelow base (front_of s node) × NeedsLater s node base version × Stays s (Refused NeedsVersion2) reply t)
+    ⊎ ((length base ≡ nodes_of s) × IsBelow base (front_of s node) × (NeedsLater s node base version → ⊥) × (reply ≡ Sent (length s.sent + 1))
+    × (t ≡ with_frame s version node base))
 
 -- Of a frame that is encoded by these bytes so many come to a node: more than there are, or fewer, or all. All are taken
 -- where the node counts the base: then it holds what it held and what the sender held
@@ -195,8 +192,7 @@ IfNode false s happens reply t = Stays s (Refused BadText) reply t
 -- One step: in state s the event is replied so, and leaves state t
 abbrev pub Steps : State → Event → Reply → State → Type 0
 Steps s (Act node c) reply t = IfNode (is_node s node) s (Acts s node c reply t) reply t
-Steps s (Send node base) reply t = IfNode (is_node s node) s (Sends s node base reply t) reply t
-Steps s (SendOld node base) reply t = IfNode (is_node s node) s (SendsOld s node base reply t) reply t
+Steps s (Send node base version) reply t = IfNode (is_node s node) s (Sends s node base version reply t) reply t
 Steps s (Deliver number node kept) reply t = IfNode (is_node s node) s (Comes s node (frame_at s number) kept reply t) reply t
 Steps s (Restart node) reply t = IfNode (is_node s node) s (Stays s Restarted reply t) reply t
 Steps s (Tick node now) reply t = IfNode (is_node s node) s (Ticks s node now reply t) reply t

@@ -1,4 +1,5 @@
 // What may happen in a world, and what is replied to it.
+use lra_delta::Version;
 use lra_facts::Refusal;
 use lra_history::{Command, CommandReply};
 use lra_id::{Front, LraId, NodeId};
@@ -12,15 +13,11 @@ pub enum Event {
         node: NodeId,
         command: Command,
     },
-    /// A node sends what it has since a base, in version 2 of frames.
+    /// A node sends what it has since a base, in a version of frames.
     Send {
         node: NodeId,
         base: Front,
-    },
-    /// A node sends the same in version 1, for nodes that know no other.
-    SendOld {
-        node: NodeId,
-        base: Front,
+        version: Version,
     },
     /// The first so many bytes of a frame that was sent come to a node. Frames are numbered from 1 as they are sent.
     Deliver {
@@ -50,13 +47,14 @@ impl Clone for Event {
                 node: *node,
                 command: command.clone()?,
             }),
-            Event::Send { node, base } => Ok(Event::Send {
+            Event::Send {
+                node,
+                base,
+                version,
+            } => Ok(Event::Send {
                 node: *node,
                 base: *base,
-            }),
-            Event::SendOld { node, base } => Ok(Event::SendOld {
-                node: *node,
-                base: *base,
+                version: *version,
             }),
             Event::Deliver { frame, node, kept } => Ok(Event::Deliver {
                 frame: *frame,

@@ -6,16 +6,15 @@ ghost use Rattle.lra_history.specs.Views.{OfItsSet, StandsFor};
 ghost use Rattle.lra_id.specs.Fronts.{IsBelow};
 ghost use Rattle.lra_facts.specs.declared.refusal.Refusal.TheVariants.{Gap, NeedsVersion2, NoMemory};
 ghost use Rattle.lra_delta.specs.Frames.{frame_of};
-ghost use Rattle.lra_delta.specs.Rules.{IsDelta, IsDeltaAs};
-ghost use Rattle.lra_delta.specs.Encoding.{encoding, encoding_as};
-ghost use Rattle.lra_delta.specs.Versions.{needs_two};
-ghost use Rattle.lra_delta.specs.declared.version.Version.TheVariants.{One};
-ghost use Rattle.lra_world.specs.Worlds.{IsViewOf};
+ghost use Rattle.lra_delta.specs.Grammar.{IsOfGrammar};
+ghost use Rattle.lra_delta.specs.Rules.{IsDeltaAs};
+ghost use Rattle.lra_delta.specs.Encoding.{encoding_as};
+ghost use Rattle.lra_world.specs.Worlds.{IsViewOf, needs_later};
 ghost use Rattle.lra_world.specs.Machines.{IsActed, TakesBytes, TakesFrame, with_patch};
 ghost use Rattle.lra_world.specs.declared.event.Reply.TheVariants.{Restarted};
 
 use crate::Reply;
-use lra_delta::{Delta, encode, encode_v1, prepare};
+use lra_delta::{Delta, Version, encode, encode_v1, prepare};
 use lra_facts::Refusal;
 use lra_history::{Command, CommandReply};
 use lra_id::{Front, NodeId};
@@ -106,37 +105,42 @@ pub fn take_bytes(
     }
 }
 
-/// The bytes of what a node tells another that has the facts of a base, in version 2. E15 where the node doesn't count the base.
-pub fn bytes_since(alloc: Global, replica: &Replica, base: &Front) -> Result<Vec<u8>, Refusal>
-    requires { length base.now ≡ length replica.now.front }
-    ensures sent { (h : History) (v : List ℕ) →
-        IsLawful h → IsClosed h v → IsViewOf h v (view_of replica.now) →
-        IfOk result (λ bytes. IsBelow base.now v × IsDelta (frame_of (view_of replica.now) base.now)
-        × (bytes.items ≡ encoding (frame_of (view_of replica.now) base.now))) }
+/// The bytes that encode what a node tells, in a version.
+fn encoded(alloc: Global, told: &Delta, version: Version) -> Result<Vec<u8>, Refusal>
+    ensures text { IfOk result (λ bytes. (needs_later version told.now ≡ false)
+        × (bytes.items ≡ encoding_as version told.now)) }
+    ensures rules { IsOfGrammar told.now → IfOk result (λ _. IsDeltaAs version told.now) }
     ensures refused { IfErr result (λ refusal. (refusal ≡ NoMemory)
-        ⊎ ((refusal ≡ Gap replica.now.front) × (IsBelow base.now replica.now.front → ⊥))) }
+        ⊎ ((refusal ≡ NeedsVersion2) × (needs_later version told.now ≡ true))) }
 {
-    let delta = Delta::since(alloc, replica, base)?;
-    Ok(encode(alloc, &delta)?)
+    match version {
+        Version::One => encode_v1(alloc, told),
+        Version::Two => Ok(encode(alloc, told)?),
+    }
 }
 
-/// The same in version 1, for nodes that know no other. E15 where the node doesn't count the base, and then E23 where a record
-/// of what it tells has a link for the end of its LRA.
-pub fn old_bytes_since(alloc: Global, replica: &Replica, base: &Front) -> Result<Vec<u8>, Refusal>
+/// The bytes of what a node tells another that has the facts of a base. E15 where the node doesn't count the base, and then E23
+/// where the version can't tell it.
+pub fn bytes_since(
+    alloc: Global,
+    replica: &Replica,
+    base: &Front,
+    version: Version,
+) -> Result<Vec<u8>, Refusal>
     requires { length base.now ≡ length replica.now.front }
     ensures sent { (h : History) (v : List ℕ) →
         IsLawful h → IsClosed h v → IsViewOf h v (view_of replica.now) →
         IfOk result (λ bytes. IsBelow base.now v
-        × (needs_two (frame_of (view_of replica.now) base.now) ≡ false)
-        × IsDeltaAs One (frame_of (view_of replica.now) base.now)
-        × (bytes.items ≡ encoding_as One (frame_of (view_of replica.now) base.now))) }
+        × (needs_later version (frame_of (view_of replica.now) base.now) ≡ false)
+        × IsDeltaAs version (frame_of (view_of replica.now) base.now)
+        × (bytes.items ≡ encoding_as version (frame_of (view_of replica.now) base.now))) }
     ensures refused { IfErr result (λ refusal. (refusal ≡ NoMemory)
         ⊎ (((refusal ≡ Gap replica.now.front) × (IsBelow base.now replica.now.front → ⊥))
         ⊎ ((refusal ≡ NeedsVersion2) × IsBelow base.now replica.now.front
-        × (needs_two (frame_of (view_of replica.now) base.now) ≡ true)))) }
+        × (needs_later version (frame_of (view_of replica.now) base.now) ≡ true)))) }
 {
     let told = Delta::since(alloc, replica, base)?;
-    encode_v1(alloc, &told)
+    encoded(alloc, &told, version)
 }
 
 /// A node starts again from the bytes of its own frame since the front of zeros, which has all that it holds.
@@ -148,7 +152,7 @@ pub fn restart(alloc: Global, replica: &mut Replica) -> Result<Reply, AllocError
     ensures err { OnErr result (view_of replica.new ≡ view_of replica.old) }
 {
     let nodes = replica.front().nodes();
-    let Ok(bytes) = bytes_since(alloc, replica, &Front::zero(nodes)) else {
+    let Ok(bytes) = bytes_since(alloc, replica, &Front::zero(nodes), Version::Two) else {
         return Err(AllocError);
     };
     let Ok(mut fresh) = Replica::new(alloc, nodes) else {

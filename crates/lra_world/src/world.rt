@@ -6,18 +6,18 @@ ghost use Rattle.lra_history.specs.Growth.{IsSettled};
 ghost use Rattle.lra_history.specs.Histories.{History, IsClosed, IsLawful, facts};
 ghost use Rattle.lra_replica.specs.Replicas.{view_of};
 ghost use Rattle.lra_history.specs.Views.{StandsFor};
-ghost use Rattle.lra_world.specs.declared.event.Event.TheVariants.{Act, Deliver, Restart, Send, SendOld, Tick};
+ghost use Rattle.lra_world.specs.declared.event.Event.TheVariants.{Act, Deliver, Restart, Send, Tick};
 ghost use Rattle.lra_world.specs.declared.event.Reply.{Reply as Replies};
 ghost use Rattle.lra_world.specs.declared.event.Reply.TheVariants.{Restarted, Sent};
 ghost use Rattle.lra_world.specs.Headline.{member_at, shown_at};
 ghost use Rattle.lra_world.specs.Machines.{AreEmpty, Happens, IsActed, IsChanged, IsExpired, IsWorldOf, LeadsTo, StepsTo, StopsIn, TakesBytes};
-ghost use Rattle.lra_world.specs.Worlds.{IsEncoded, IsViewOf, Leads, NeedsTwo, State, expired, front_of, set_of, start};
-ghost use Rattle.lra_delta.specs.declared.version.Version.TheVariants.{One, Two};
+ghost use Rattle.lra_world.specs.Worlds.{IsEncoded, IsViewOf, Leads, NeedsLater, State, expired, front_of, set_of, start};
 ghost use Rattle.lra_id.specs.Fronts.{IsBelow};
 ghost use Rattle.lra_facts.specs.declared.refusal.Refusal.TheVariants.{BadText, Gap, NeedsVersion2, NoMemory};
 
-use crate::node::{act, bytes_since, old_bytes_since, restart, take_bytes};
+use crate::node::{act, bytes_since, restart, take_bytes};
 use crate::{Event, Reply, Stopped};
+use lra_delta::Version;
 use lra_facts::Refusal;
 use lra_history::{Command, CommandReply};
 use lra_id::{Front, LraId, NodeId};
@@ -253,8 +253,11 @@ impl World {
     {
         match event {
             Event::Act { node, command } => self.act(alloc, node, command),
-            Event::Send { node, base } => self.send(alloc, node, base),
-            Event::SendOld { node, base } => self.send_old(alloc, node, base),
+            Event::Send {
+                node,
+                base,
+                version,
+            } => self.send(alloc, node, base, version),
             Event::Deliver { frame, node, kept } => self.deliver(alloc, frame, node, kept),
             Event::Restart { node } => self.restart(alloc, node),
             Event::Tick { node, now } => self.tick(alloc, node, now),
@@ -328,16 +331,22 @@ impl World {
         }
     }
 
-    /// A node sends what it has since a base, in version 2 of frames.
-    fn send(&mut self, alloc: Global, node: NodeId, base: Front) -> Result<Reply, AllocError>
+    /// A node sends what it has since a base, in a version of frames.
+    fn send(
+        &mut self,
+        alloc: Global,
+        node: NodeId,
+        base: Front,
+        version: Version,
+    ) -> Result<Reply, AllocError>
         ensures step { (s : State) → IsWorldOf s self.old →
-            IfOk result (λ reply. Happens s (Send node base) reply self.new) }
+            IfOk result (λ reply. Happens s (Send node base version) reply self.new) }
         ensures err { (s : State) → IsWorldOf s self.old → OnErr result (IsWorldOf s self.new) }
     {
         if !self.has(node) || base.nodes() != self.replicas.len() {
             return Ok(Reply::Refused(Refusal::BadText));
         }
-        match self.frame_since(alloc, node, &base) {
+        match self.frame_since(alloc, node, &base, version) {
             Ok(bytes) => self.post(bytes),
             Err(refusal) => {
                 if refusal == Refusal::NoMemory {
@@ -349,56 +358,27 @@ impl World {
     }
 
     /// The bytes of the frame of a node since a base.
-    fn frame_since(&self, alloc: Global, node: NodeId, base: &Front) -> Result<Vec<u8>, Refusal>
-        requires node { node ≤ length self.now.replicas }
-        requires base { length base.now ≡ length self.now.replicas }
-        ensures sent { (s : State) → IsWorldOf s self.now →
-            IfOk result (λ bytes. IsBelow base.now (front_of s node) × IsEncoded s.history
-            (record { version = Two; base = base.now; front = front_of s node }) bytes.items) }
-        ensures refused { (s : State) →
-            IsWorldOf s self.now → IfErr result (λ refusal. (refusal ≡ NoMemory)
-            ⊎ ((refusal ≡ Gap (front_of s node)) × (IsBelow base.now (front_of s node) → ⊥))) }
-    {
-        let place = usize::from(node.number()) - 1;
-        bytes_since(alloc, &self.replicas[place], base)
-    }
-
-    /// A node sends what it has since a base in version 1 of frames.
-    fn send_old(&mut self, alloc: Global, node: NodeId, base: Front) -> Result<Reply, AllocError>
-        ensures step { (s : State) → IsWorldOf s self.old →
-            IfOk result (λ reply. Happens s (SendOld node base) reply self.new) }
-        ensures err { (s : State) → IsWorldOf s self.old → OnErr result (IsWorldOf s self.new) }
-    {
-        if !self.has(node) || base.nodes() != self.replicas.len() {
-            return Ok(Reply::Refused(Refusal::BadText));
-        }
-        match self.old_frame_since(alloc, node, &base) {
-            Ok(bytes) => self.post(bytes),
-            Err(refusal) => {
-                if refusal == Refusal::NoMemory {
-                    return Err(AllocError);
-                }
-                Ok(Reply::Refused(refusal))
-            }
-        }
-    }
-
-    /// The bytes in version 1 of the frame of a node since a base.
-    fn old_frame_since(&self, alloc: Global, node: NodeId, base: &Front) -> Result<Vec<u8>, Refusal>
+    fn frame_since(
+        &self,
+        alloc: Global,
+        node: NodeId,
+        base: &Front,
+        version: Version,
+    ) -> Result<Vec<u8>, Refusal>
         requires node { node ≤ length self.now.replicas }
         requires base { length base.now ≡ length self.now.replicas }
         ensures sent { (s : State) → IsWorldOf s self.now →
             IfOk result (λ bytes. IsBelow base.now (front_of s node)
-            × (NeedsTwo s node base.now → ⊥) × IsEncoded s.history
-            (record { version = One; base = base.now; front = front_of s node }) bytes.items) }
+            × (NeedsLater s node base.now version → ⊥) × IsEncoded s.history
+            (record { version = version; base = base.now; front = front_of s node }) bytes.items) }
         ensures refused { (s : State) →
             IsWorldOf s self.now → IfErr result (λ refusal. (refusal ≡ NoMemory)
             ⊎ (((refusal ≡ Gap (front_of s node)) × (IsBelow base.now (front_of s node) → ⊥))
             ⊎ ((refusal ≡ NeedsVersion2) × IsBelow base.now (front_of s node)
-            × NeedsTwo s node base.now))) }
+            × NeedsLater s node base.now version))) }
     {
         let place = usize::from(node.number()) - 1;
-        old_bytes_since(alloc, &self.replicas[place], base)
+        bytes_since(alloc, &self.replicas[place], base, version)
     }
 
     /// Keeps the bytes of a frame that is sent.

@@ -5,6 +5,7 @@ use Rattle.lra_facts.specs.declared.refusal.Refusal.TheVariants.{Gap}
 use Rattle.lra_replica.specs.Replicas.{view_of}
 use Rattle.lra_world.specs.Machines.{IsWorldOf, Machine}
 use Rattle.lra_world.specs.Worlds.{IsViewOf, State, front_of}
+use Rattle.lra_world.proofs.Happening.{needs_none}
 use Rattle.lra_world.proofs.OneReplicaChanged.{get_at}
 use Rattle.lra_world.proofs.world.World.frame_since.Goals.{After-bytes_since}
 use Rattle.lra_world.proofs.world.World.frame_since.Goals as goal
@@ -24,7 +25,11 @@ returns-clause-sent c s w =
     let some : 1 ≤ c.args.node = omega (arith, c.number.ensures.range, c.number.ensures.value) in
     let closed = (w.world.current c.args.node some (omega (arith, c.requires.node, w.nodes))).closed in
     IfOk-weaker c.bytes_since.result _ _
-    (λ bytes sent. (sent.0, record { view = view_of c.index.result.now; sender = view; rules = sent.1; encodes = sent.2 }))
+    (λ bytes sent. (
+      sent.0,
+      needs_none s c.args.node c.args.base.now c.args.version (view_of c.index.result.now) view sent.1,
+      record { view = view_of c.index.result.now; sender = view; rules = sent.2; encodes = sent.3 },
+    ))
     (c.bytes_since.ensures.sent s.history (front_of s c.args.node) w.world.lawful closed view)
 
 pub returns-clause-refused : goal.returns-clause-refused
@@ -33,6 +38,7 @@ returns-clause-refused c s w =
     IfErr-weaker c.bytes_since.result _ _
     (λ refusal r. elim r [
       | inl none ↦ inl none
-      | inr gap ↦ inr (gap.0 ∙ ap (λ (v : List ℕ). Gap v) view.counts, λ below. gap.1 (subst (λ (v : List ℕ). IsBelow c.args.base.now v) (sym view.counts) below))
+      | inr (inl gap) ↦ inr (inl (gap.0 ∙ ap (λ (v : List ℕ). Gap v) view.counts, λ below. gap.1 (subst (λ (v : List ℕ). IsBelow c.args.base.now v) (sym view.counts) below)))
+      | inr (inr needs) ↦ inr (inr (needs.0, subst (λ (v : List ℕ). IsBelow c.args.base.now v) view.counts needs.1, record { view = view_of c.index.result.now; own = view; needs = needs.2 }))
     ])
     c.bytes_since.ensures.refused
