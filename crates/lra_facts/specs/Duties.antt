@@ -115,8 +115,7 @@ is_root_decided S l = list_any (λ a. is_root S a && is_some (want S a)) (chain 
 
 abbrev pub wants_cancel : Option Verdict → Bool
 wants_cancel (Some Cancel) = true
-wants_cancel (Some Close) = false
-wants_cancel None = false
+wants_cancel _ = false
 
 -- No later decision changes what l shows: it is ended, and it wants Cancel or its root wants something. A closed LRA whose root
 -- wants nothing is still cancelled with an LRA above it

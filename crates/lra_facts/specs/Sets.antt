@@ -156,9 +156,7 @@ is_heard S l m act outcome = nat_le (level (Some outcome)) (level (heard S l m a
 abbrev pub demands : Option Verdict → Links → Act → Bool
 demands (Some Close) links Complete = is_some links.complete
 demands (Some Cancel) links Compensate = is_some links.compensate
-demands (Some Close) links Compensate = false
-demands (Some Cancel) links Complete = false
-demands None links act = false
+demands _ links act = false
 
 abbrev pub is_demanded : List Fact → Id → ℕ → Act → Bool
 is_demanded S l m act = option_map_or (λ links. demands (want S l) links act) (links_of S l m) false

@@ -1,7 +1,7 @@
 -- What a set of facts says of an LRA, as one record. The set is given as a list in any order: what goes by order goes by
 -- the facts' numbers.
 use Rattle.std.specs.Prelude.{◌==◌, ◌&&◌, ◌||◌, ◌++◌, ℕ, zero, suc, List, [], ◌∷◌, Bool, false, Option, Some, None, nat_le, filter, map, if◌then◌else◌}
-use Rattle.std.specs.Option.{option_map_or}
+use Rattle.std.specs.Option.{option_map, option_map_or}
 use Rattle.lra_id.specs.Ids.{Id, same_id}
 use Rattle.lra_states.specs.declared.outcome.Verdict.{Verdict}
 use Rattle.lra_states.specs.declared.outcome.Verdict.TheVariants.{Close, Cancel}
@@ -87,8 +87,7 @@ deadline_of (f ∷ S) l = if begins l f then deadline_given f.body else deadline
 
 -- where the LRA with this number is nested in its parent
 abbrev pub place_in : List Fact → ℕ → Option Id → Option Place
-place_in S num None = None
-place_in S num (Some p) = Some (record { number = p.num; slot = member_number S p num })
+place_in S num parent = option_map (λ (p : Id). record { number = p.num; slot = member_number S p num }) parent
 
 -- of l itself
 abbrev pub decision_of : List Fact → Id → Option Verdict

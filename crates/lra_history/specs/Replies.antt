@@ -14,11 +14,11 @@ use Rattle.lra_facts.specs.declared.fact.Body.TheVariants.{Begin, Join, Leave, D
 use Rattle.lra_facts.specs.declared.fact.Fact.{Fact}
 use Rattle.lra_facts.specs.declared.refusal.Refusal.{Refusal}
 use Rattle.lra_facts.specs.declared.refusal.Refusal.TheVariants.{DepthFull, LrasFull, MembersFull, NotActive, NotDue, NotEnded, NotHeld, NotRoot, StillToForget, StillToTell, UnknownMember}
-use Rattle.lra_facts.specs.Duties.{has_forgot, has_told, is_after_duty, is_forget_duty}
+use Rattle.lra_facts.specs.Duties.{has_forgot, has_told, is_after_duty, is_forget_duty, is_untold}
 use Rattle.lra_facts.specs.Refusals.{unless, first, unknown, away, spent}
 use Rattle.lra_facts.specs.Sets.{begun_by, depth, held_at, is_demanded, is_ended, is_heard, is_held, is_participant, is_root, member_status, numbers_given, shows_now, want}
 use Rattle.lra_forest.specs.declared.duties.Due.{Due}
-use Rattle.lra_forest.specs.Dues.{least_forget, least_untold}
+use Rattle.lra_forest.specs.Dues.{least_due}
 use Rattle.lra_history.specs.declared.command.Command.{Command}
 use Rattle.lra_history.specs.declared.command.Command.TheVariants.{Begin as BeginAsked, Join as JoinAsked, Leave as LeaveAsked, Decide as DecideAsked, Report as ReportAsked, Forgot as ForgotAsked, Told as ToldAsked, Purge as PurgeAsked}
 use Rattle.lra_history.specs.declared.command.CommandReply.{CommandReply}
@@ -65,10 +65,10 @@ by_facts S =
       ended = is_ended S;
       owed = is_forget_duty S;
       forgot = has_forgot S;
-      least_owed = least_forget S;
+      least_owed = least_due is_forget_duty S S;
       to_hear = is_after_duty S;
       told = has_told S;
-      least_untold = least_untold S;
+      least_untold = least_due is_untold S S;
     }
 
 -- Refusals

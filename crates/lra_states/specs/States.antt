@@ -1,5 +1,6 @@
 -- Orders on statuses, outcomes and verdicts, and what is shown by what is wanted and heard.
 use Rattle.std.specs.Prelude.{ℕ, Bool, true, false, Option, Some, None, ◌==◌}
+use Rattle.std.specs.Option.{option_map_or}
 use Rattle.lra_states.specs.declared.status.LraStatus.{LraStatus}
 use Rattle.lra_states.specs.declared.status.LraStatus.TheVariants.{Active, Closing, Closed, FailedToClose, Cancelling, Cancelled, FailedToCancel}
 use Rattle.lra_states.specs.declared.status.MemberStatus.{MemberStatus}
@@ -23,8 +24,7 @@ rank FailedToCancel = 6
 
 -- one that is not held comes last
 abbrev pub rank_of : Option LraStatus → ℕ
-rank_of None = 7
-rank_of (Some s) = rank s
+rank_of status = option_map_or rank status 7
 
 -- the order of outcomes: none, Busy, Done, Failed (this project's profile)
 abbrev pub level : Option Outcome → ℕ
@@ -38,39 +38,33 @@ abbrev pub greater : Option Outcome → Option Outcome → Option Outcome
 greater None b = b
 greater (Some Busy) None = Some Busy
 greater (Some Busy) (Some b) = Some b
-greater (Some Done) None = Some Done
-greater (Some Done) (Some Busy) = Some Done
-greater (Some Done) (Some Done) = Some Done
 greater (Some Done) (Some Failed) = Some Failed
+greater (Some Done) _ = Some Done
 greater (Some Failed) b = Some Failed
 
 -- whether two verdicts are one
 abbrev pub same_verdict : Verdict → Verdict → Bool
 same_verdict Close Close = true
 same_verdict Cancel Cancel = true
-same_verdict Close Cancel = false
-same_verdict Cancel Close = false
+same_verdict _ _ = false
 
 -- whether two acts are one
 abbrev pub same_act : Act → Act → Bool
 same_act Complete Complete = true
 same_act Compensate Compensate = true
-same_act Complete Compensate = false
-same_act Compensate Complete = false
+same_act _ _ = false
 
 -- what a participant that is asked to complete shows, by what was heard of it
 abbrev pub completing : Option Outcome → MemberStatus
-completing None = Completing
-completing (Some Busy) = Completing
 completing (Some Done) = Completed
 completing (Some Failed) = FailedToComplete
+completing _ = Completing
 
 -- what a participant that is asked to compensate shows, by what was heard of it
 abbrev pub compensating : Option Outcome → MemberStatus
-compensating None = Compensating
-compensating (Some Busy) = Compensating
 compensating (Some Done) = Compensated
 compensating (Some Failed) = FailedToCompensate
+compensating _ = Compensating
 
 abbrev pub member_rank : MemberStatus → ℕ
 member_rank MemberActive = 0
@@ -87,13 +81,10 @@ same_member_status a b = member_rank a == member_rank b
 
 -- a participant is final where nothing is left for it to do
 abbrev pub is_final : MemberStatus → Bool
-is_final Completed = true
-is_final FailedToComplete = true
-is_final Compensated = true
-is_final FailedToCompensate = true
+is_final MemberActive = false
 is_final Completing = false
 is_final Compensating = false
-is_final MemberActive = false
+is_final _ = true
 
 -- what an LRA shows by what it wants, whether it is ended, and whether a participant failed to complete or to compensate
 abbrev pub shown : Option Verdict → (ended incomplete uncompensated : Bool) → LraStatus

@@ -234,7 +234,7 @@ gave_means me s frame now a b body asker served nodes same =
         inr (inr (inr (
           meet_nodes asker a.front nodes ∙ nodes_in me s a served,
           subst (IsBelow base) served.holds.counts (meet_below asker a.front nodes).1,
-          (λ later. absurd cc),
+          (λ later. absurd (let wrong : false ≡ true = later.2 in cc)),
           refl,
           refl,
         )))

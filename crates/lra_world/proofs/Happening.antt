@@ -148,8 +148,8 @@ last_or_old (x ∷ fs) (y ∷ bs) f b (suc place) frame bytes same at spelt = la
 -- a version that tells a frame tells every frame of what the node holds since the base: there is one
 pub needs_none : (s : State) (node : ℕ) (base : List ℕ) (version : Version) (view : View) → IsViewOf s.history (front_of s node) view → needs_later version (frame_of view base) ≡ false → NeedsLater s node base version → ⊥
 needs_none s node base version view own none later =
-    let same : later.view ≡ view = same_view s.history (front_of s node) (front_of s node) later.view view refl later.own own in
-    never_both (needs_later version (frame_of view base)) (subst (λ (v : View). needs_later version (frame_of v base) ≡ true) same later.needs) none
+    let same : later.0 ≡ view = same_view s.history (front_of s node) (front_of s node) later.0 view refl later.1 own in
+    never_both (needs_later version (frame_of view base)) (subst (λ (v : View). needs_later version (frame_of v base) ≡ true) same later.2) none
 
 -- the world with the frame's bytes stands for the state with the frame
 posted_world : (s : State) (m : Machine) (version : Version) (node : ℕ) (base bytes : List ℕ) → IsWorldOf s m → IsNode s node → length base ≡ nodes_of s → IsBelow base (front_of s node)

@@ -119,9 +119,8 @@ with_command s node c =
 
 -- only a command that is accepted enters something
 abbrev pub if_taken : Judgement → (before after : State) → State
-if_taken (Denied r) before after = before
-if_taken AlreadyKnown before after = before
 if_taken Accepted before after = after
+if_taken _ before after = before
 
 -- What a node makes of a command
 abbrev pub reply_at : State → ℕ → Command → CommandReply
@@ -141,10 +140,8 @@ needs_later One frame = needs_two frame
 needs_later Two frame = false
 
 -- so is the frame of what the node holds since the base
-pub record NeedsLater (s : State) (node : ℕ) (base : List ℕ) (version : Version) : Type 0 where
-  pub view : View
-  pub own : IsViewOf s.history (front_of s node) view
-  pub needs : needs_later version (frame_of view base) ≡ true
+abbrev pub NeedsLater : State → ℕ → List ℕ → Version → Type 0
+NeedsLater s node base version = (view : View) × IsViewOf s.history (front_of s node) view × (needs_later version (frame_of view base) ≡ true)
 
 -- a node sends a frame in a version that tells it: its base counts as many nodes, and no more than the node does
 abbrev pub Sends : State → ℕ → List ℕ → Version → Reply → State → Type 0
@@ -201,8 +198,7 @@ Steps s (Tick node now) reply t = IfNode (is_node s node) s (Ticks s node now re
 abbrev pub Runs : State → List Event → List Reply → State → Type 0
 Runs s [] [] t = t ≡ s
 Runs s (event ∷ events) (reply ∷ replies) t = (mid : State) × Steps s event reply mid × Runs mid events replies t
-Runs s [] (reply ∷ replies) t = ⊥
-Runs s (event ∷ events) [] t = ⊥
+Runs s _ _ t = ⊥
 
 -- a run leads from state s, which is one of a world, to state t
 pub record Leads (s t : State) : Type 0 where

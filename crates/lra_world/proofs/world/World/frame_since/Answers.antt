@@ -39,6 +39,6 @@ returns-clause-refused c s w =
     (λ refusal r. elim r [
       | inl none ↦ inl none
       | inr (inl gap) ↦ inr (inl (gap.0 ∙ ap (λ (v : List ℕ). Gap v) view.counts, λ below. gap.1 (subst (λ (v : List ℕ). IsBelow c.args.base.now v) (sym view.counts) below)))
-      | inr (inr needs) ↦ inr (inr (needs.0, subst (λ (v : List ℕ). IsBelow c.args.base.now v) view.counts needs.1, record { view = view_of c.index.result.now; own = view; needs = needs.2 }))
+      | inr (inr needs) ↦ inr (inr (needs.0, subst (λ (v : List ℕ). IsBelow c.args.base.now v) view.counts needs.1, (view_of c.index.result.now, view, needs.2)))
     ])
     c.bytes_since.ensures.refused

@@ -1,0 +1,139 @@
+#!/usr/bin/env python3
+"""Finds what has to be read to believe the headline: the definitions that the clause `headline` of World::step rests on, and writes their
+files and lines into docs/THEOREMS.md: python3 docs/reading.py. With --check it compares, and with --list it prints each definition.
+Blank lines, comments and imports are left out. Standard library alone."""
+import glob
+import os
+import re
+import sys
+
+TOP = os.path.dirname(os.path.dirname(os.path.abspath(__file__)))
+PAGE = f"{TOP}/docs/THEOREMS.md"
+CALL = "crates/lra_world/src/world.rt", "step", "headline"
+CRATES = ["lra_id", "lra_states", "lra_facts", "lra_forest", "lra_history", "lra_index", "lra_replica", "lra_delta", "lra_world"]
+# That a frame is bytes, and where a cut one is refused.
+GRAMMAR = {"lra_delta", "lra_facts LinkTexts"}
+NAME = r"[A-Za-z_][A-Za-z0-9_']*"
+WORDS = {"abbrev", "unfoldable", "opaque", "inline", "pub", "record", "data", "noncomputable", "let", "in", "if", "then", "else", "where", "infixl"}
+
+
+def source(path):
+    """A file's lines without comments and imports, each with its number."""
+    for number, line in enumerate(open(f"{TOP}/{path}", encoding="utf-8"), 1):
+        line = line.split("--")[0].rstrip()
+        if line.strip() and not re.match(r"\s*(ghost )?(pub )?(use|mod) ", line):
+            yield number, line
+
+
+def imports(path):
+    """Each name that a file imports from a specs file: where it stands."""
+    found = {}
+    text = open(f"{TOP}/{path}", encoding="utf-8").read()
+    for crate, module, names in re.findall(r"use Rattle\.(lra_\w+)\.specs\.([A-Z]\w*)\.\{([^}]*)\}", text):
+        for name in names.split(","):
+            there, _, here = name.strip().partition(" as ")
+            found[here or there] = f"crates/{crate}/specs/{module}.antt", there
+    return found
+
+
+def definitions(path):
+    """Each definition of a file: its name and its lines."""
+    found, current = {}, None
+    for _, line in source(path):
+        if not line[0].isspace():
+            names = [name for name in re.findall(NAME, line) if name not in WORDS]
+            current = names[0] if names else None
+        if current:
+            found.setdefault(current, []).append(line)
+    return found
+
+
+def variables(name, lines):
+    """The names that a definition binds itself: what its patterns, functions and fields call so."""
+    bound = set()
+    for line in lines:
+        if re.match(rf"{name}\b[^:]*=", line):
+            bound.update(it for it in re.findall(NAME, line.split("=")[0]) if it[0].islower() and it != name)
+        for binders in re.findall(r"λ ([^.]*)\.", line):
+            bound.update(re.findall(NAME, re.sub(r":[^()]*", "", binders)))
+        for names in re.findall(r"\(([A-Za-z0-9_' ]+) : ", line):
+            bound.update(names.split())
+        bound.update(re.findall(rf"\blet ({NAME}) ", line))
+        bound.update(re.findall(rf"^\s+pub ({NAME}) : ", line))
+    return bound
+
+
+def cited(name, lines):
+    """The names that a definition uses and doesn't bind."""
+    text = re.sub(rf"\.{NAME}", "", "\n".join(lines))
+    text = re.sub(rf"\b{NAME} = (?!=)", "", re.sub(rf"\brecord {{", "{", text)) if "record {" in text else text
+    return set(re.findall(NAME, text)) - variables(name, lines) - {name}
+
+
+def clause():
+    """The text of the clause that is read."""
+    path, function, wanted = CALL
+    text = open(f"{TOP}/{path}", encoding="utf-8").read()
+    contract = text[text.index(f"fn {function}("):]
+    contract = contract[contract.index(f"ensures {wanted} {{"):]
+    return path, contract[:contract.index("}\n")]
+
+
+def reached():
+    """What the clause rests on: each definition by file, and its lines."""
+    files = {os.path.relpath(path, TOP) for path in glob.glob(f"{TOP}/crates/*/specs/*.antt")}
+    defined = {path: definitions(path) for path in files}
+    known = {path: imports(path) for path in files}
+    path, text = clause()
+    left = [place for name, place in imports(path).items() if re.search(rf"\b{name}\b", text)]
+    seen = {}
+    while left:
+        path, name = left.pop()
+        if (path, name) in seen or name not in defined.get(path, {}):
+            continue
+        lines = seen[path, name] = defined[path][name]
+        for it in cited(name, lines):
+            left.append((path, it) if it in defined[path] else known[path].get(it, (path, "")))
+    return seen
+
+
+def by_file(seen):
+    """The files in reading order: crate, module, names and count of lines."""
+    found = {}
+    for (path, name), lines in seen.items():
+        found.setdefault(path, []).append((name, len(lines)))
+    order = {path: [number for number, _ in enumerate(CRATES) if f"/{CRATES[number]}/" in path][0] for path in found}
+    for path in sorted(found, key=lambda path: (order[path], path)):
+        crate, module = path.split("/")[1], os.path.basename(path).removesuffix(".antt")
+        yield crate, module, sorted(name for name, _ in found[path]), sum(count for _, count in found[path])
+
+
+def told(files):
+    """Some files as a sentence tells them, crate by crate."""
+    crates = {}
+    for crate, module, _, _ in files:
+        crates.setdefault(crate, []).append(f"`{module}`")
+    return "; ".join(f"of `{crate}` {', '.join(modules)}" for crate, modules in crates.items())
+
+
+def main():
+    files = list(by_file(reached()))
+    if "--list" in sys.argv:
+        for crate, module, names, count in files:
+            print(f"{crate} {module}, {count} lines: {', '.join(names)}")
+    bytes_ = [it for it in files if it[0] in GRAMMAR or f"{it[0]} {it[1]}" in GRAMMAR]
+    rest = [it for it in files if it not in bytes_]
+    count = [sum(it[3] for it in part) for part in (rest, bytes_)]
+    text = f"| Read | Files of `crates/NAME/specs` | Lines |\n|---|---|---|\n| the headline | {told(rest)} | {count[0]} |\n| that a frame is bytes, and where a cut one is refused | {told(bytes_)} | {count[1]} |\n"
+    page = open(PAGE, encoding="utf-8").read()
+    new = re.sub(r"\| Read \| Files .*?\n\n", text.replace("\\", r"\\") + "\n", page, count=1, flags=re.S)
+    if "--check" in sys.argv:
+        print("ok" if new == page and text in page else "FAILED: run python3 docs/reading.py")
+        sys.exit(0 if new == page and text in page else 1)
+    if "--list" in sys.argv:
+        print(text, end="")
+    else:
+        open(PAGE, "w", encoding="utf-8").write(new)
+
+
+main()
