@@ -10,7 +10,7 @@ use Rattle.lra_states.specs.declared.status.MemberStatus.TheVariants.{Completed,
 use Rattle.lra_states.specs.declared.outcome.Act.TheVariants.{Compensate}
 use Rattle.lra_states.specs.declared.outcome.Outcome.{Outcome}
 use Rattle.lra_states.specs.declared.outcome.Verdict.{Verdict}
-use Rattle.lra_states.specs.declared.outcome.Verdict.TheVariants.{Close, Cancel}
+use Rattle.lra_states.specs.declared.outcome.Verdict.TheVariants.{Cancel}
 use Rattle.lra_facts.specs.declared.fact.Body.{Body}
 use Rattle.lra_facts.specs.declared.fact.Body.TheVariants.{Join, Forgot, Told}
 use Rattle.lra_facts.specs.declared.fact.Fact.{Fact}

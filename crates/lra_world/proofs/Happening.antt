@@ -17,7 +17,6 @@ use Rattle.lra_history.specs.Histories.{History, IsClosed, IsLawful, facts}
 use Rattle.lra_replica.specs.Replicas.{ReplicaState, view_of}
 use Rattle.lra_history.specs.Views.{OfItsSet, StandsFor, View}
 use Rattle.lra_delta.specs.declared.version.Version.{Version}
-use Rattle.lra_delta.specs.declared.version.Version.TheVariants.{One, Two}
 use Rattle.lra_world.specs.declared.event.Event.{Event}
 use Rattle.lra_world.specs.declared.event.Event.TheVariants.{Act, Restart, Send, Tick}
 use Rattle.lra_world.specs.declared.event.Reply.{Reply}
@@ -26,7 +25,6 @@ use Rattle.lra_world.specs.Headline.{IsNode}
 use Rattle.lra_world.specs.Machines.{Happens, IsChanged, IsExpired, IsWorldOf, LeadsTo, Machine, StopsIn}
 use Rattle.lra_world.specs.Worlds.{Acts, SentFrame, IsEncoded, IsViewOf, IsWorld, NeedsLater, Runs, Sends, State, Stays, Ticks, after_command, expired, front_of, needs_later, nodes_of, set_of, with_frame}
 use Rattle.lra_delta.specs.Frames.{frame_of}
-use Rattle.lra_delta.specs.Versions.{needs_two}
 use Rattle.lra_world.proofs.Agreeing.{same_view}
 use Rattle.lra_world.proofs.Determined.{never_both}
 use Rattle.lra_world.proofs.Delivering.{at_node}

@@ -20,7 +20,6 @@ use Rattle.lra_history.proofs.OneMoreEntry.{below_raised, closed_with, lawful_wi
 use Rattle.lra_history.proofs.PatchedHistories.{empty_view_in}
 use Rattle.lra_history.proofs.JoinedFronts.{closed_join, count_join}
 use Rattle.lra_delta.specs.declared.version.Version.{Version}
-use Rattle.lra_delta.specs.declared.version.Version.TheVariants.{One, Two}
 use Rattle.lra_world.specs.declared.event.Event.{Event}
 use Rattle.lra_world.specs.declared.event.Event.TheVariants.{Act, Deliver, Restart, Send, Tick}
 use Rattle.lra_world.specs.declared.event.Reply.{Reply}

@@ -15,7 +15,7 @@ use Rattle.lra_history.specs.declared.command.CommandReply.TheVariants.{Refused 
 use Rattle.lra_history.specs.Histories.{History, IsClosed, IsLawful, facts, with_entry}
 use Rattle.lra_history.specs.NodeViews.{IsCurrent, entry_for}
 use Rattle.lra_history.specs.Changes.{raised}
-use Rattle.lra_history.specs.Replies.{Judgement, Denied, AlreadyKnown, Accepted, judge, reply_of}
+use Rattle.lra_history.specs.Replies.{Judgement, Accepted, judge, reply_of}
 use Rattle.lra_history.specs.Views.{StandsFor, View}
 use Rattle.lra_delta.specs.declared.input.Stop.TheVariants.{Fault}
 use Rattle.lra_delta.specs.Frames.{frame_of}
