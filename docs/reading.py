@@ -108,12 +108,14 @@ def by_file(seen):
         yield crate, module, sorted(name for name, _ in found[path]), sum(count for _, count in found[path])
 
 
-def told(files):
-    """Some files as a sentence tells them, crate by crate."""
+def rows(files, what):
+    """Some files as rows of the table, a row a crate, and one for all of them."""
     crates = {}
-    for crate, module, _, _ in files:
-        crates.setdefault(crate, []).append(f"`{module}`")
-    return "; ".join(f"of `{crate}` {', '.join(modules)}" for crate, modules in crates.items())
+    for crate, module, _, count in files:
+        crates.setdefault(crate, []).append((module, count))
+    for crate, modules in crates.items():
+        yield f"| `{crate}` | {', '.join(f'`{module}`' for module, _ in modules)} | {sum(count for _, count in modules)} |"
+    yield f"| **{what}** | | **{sum(count for *_, count in files)}** |"
 
 
 def main():
@@ -123,10 +125,10 @@ def main():
             print(f"{crate} {module}, {count} lines: {', '.join(names)}")
     bytes_ = [it for it in files if it[0] in GRAMMAR or f"{it[0]} {it[1]}" in GRAMMAR]
     rest = [it for it in files if it not in bytes_]
-    count = [sum(it[3] for it in part) for part in (rest, bytes_)]
-    text = f"| Read | Files of `crates/NAME/specs` | Lines |\n|---|---|---|\n| the headline | {told(rest)} | {count[0]} |\n| that a frame is bytes, and where a cut one is refused | {told(bytes_)} | {count[1]} |\n"
+    lines = ["| Crate | Files of its `specs` | Lines |", "|---|---|---|", *rows(rest, "the headline"), *rows(bytes_, "and that a frame is bytes, and where a cut one is refused")]
+    text = "\n".join(lines) + "\n"
     page = open(PAGE, encoding="utf-8").read()
-    new = re.sub(r"\| Read \| Files .*?\n\n", text.replace("\\", r"\\") + "\n", page, count=1, flags=re.S)
+    new = re.sub(r"\| Crate \| Files .*?\n\n", text.replace("\\", r"\\") + "\n", page, count=1, flags=re.S)
     if "--check" in sys.argv:
         print("ok" if new == page and text in page else "FAILED: run python3 docs/reading.py")
         sys.exit(0 if new == page and text in page else 1)
