@@ -18,7 +18,7 @@ use Rattle.lra_history.specs.Changes.{raised}
 use Rattle.lra_history.specs.Replies.{Judgement, Accepted, judge, reply_of}
 use Rattle.lra_history.specs.Views.{StandsFor, View}
 use Rattle.lra_delta.specs.declared.input.Stop.TheVariants.{Fault}
-use Rattle.lra_delta.specs.Frames.{frame_of}
+use Rattle.lra_delta.specs.Frames.{Frame, frame_of}
 use Rattle.lra_delta.specs.Reading.{frame_in}
 use Rattle.lra_delta.specs.Rules.{IsDeltaAs}
 use Rattle.lra_delta.specs.Encoding.{encoding_as}
