@@ -1,4 +1,4 @@
--- members in order, stamps, and the records of all begins
+-- the members and stamps of a record are those of its facts
 use Rattle.std.proofs.Common.{◌≡◌, ◌≤◌, ◌<◌, ◌+◌, ◌-◌, ◌&&◌, ◌==◌, ◌∷◌, ◌++◌, inl, inr, ℕ, zero, suc, List, [], refl, sym, ap, ◌∙◌, Bool, true, false, cond, arith, Option, Some, None, find, filter, map, length, nat_lt, option_and_then, replicate, length-append, ◌^◌}
 use Rattle.std.proofs.lemmas.List.{map-append, length-replicate}
 use Rattle.std.specs.Prelude.{slice_set}

@@ -1,4 +1,4 @@
--- What each file shows, by what it serves. Those called `pub` may be cited above.
+-- What each file shows, by what it serves. Crates above may cite those marked `pub`.
 
 -- ---- Small facts, and lists
 pub mod Basics  -- small facts that several files use
@@ -33,22 +33,22 @@ mod RecordsAfterAPurge  -- the records that a purge leaves
 mod RemovedByPurge  -- the LRAs that a purge removes, by the records of a view
 pub mod PatchesAddFacts  -- the patch adds exactly its fact
 mod PatchesOnlyChange  -- it holds only what changes, each once
-pub mod PatchedHistories  -- and its history has that entry
+pub mod PatchedHistories  -- a patch that adds a command's fact, in the history with that entry
 -- ---- Merge is a join
 pub mod TwoClosedSets  -- two closed sets of one history, their fronts and their union
 pub mod SetsToMerge  -- what a closed set keeps besides being settled
-mod MergedLras  -- what is held in the union
+mod MergedLras  -- what is held and heard in the union
 mod MergedMembers  -- the members of an LRA in the union
-pub mod MergedRecords  -- its record there
+pub mod MergedRecords  -- the record of an LRA in the union
 pub mod MergedViews  -- the merge of two views stands for the union
 pub mod OneMerge  -- two views have one merge
 pub mod MergeIsAJoin  -- the merge is a join
 pub mod TellingAll  -- to take all that is told of a view is to merge it
 pub mod ViewsHaveShape  -- the views of closed sets have the shape
 -- ---- Statuses only rise; no split verdict
-mod Ranks  -- ranks of statuses
+mod Ranks  -- ranks rise as more is heard and wanted
 pub mod RanksRise  -- the rank of what an LRA shows rises with the facts
-mod Decisions  -- what a home enters of an LRA that wants something
+mod Decisions  -- what a home enters of an LRA that wants something; an LRA is decided once
 pub mod SplitVerdicts  -- where two sets differ, an ancestor was cancelled
 mod EndsStay  -- what is at its end stays there
 -- ---- Computed for a reader, and cited by nothing

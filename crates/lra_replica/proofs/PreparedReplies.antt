@@ -40,7 +40,7 @@ use Rattle.lra_history.proofs.ViewReplies.{accepted_open, leave_passed, decide_p
 use Rattle.lra_replica.specs.declared.commands.notices.Notice.{Notice}
 use Rattle.lra_replica.specs.declared.commands.notices.Notice.TheVariants.{ToForget, OfTheEnd}
 use Rattle.lra_replica.specs.declared.patch.Prepared.{Prepared}
-use Rattle.lra_replica.specs.Notices.{entered_by, judged_by_notice, noted, reply_to}
+use Rattle.lra_replica.specs.Notices.{command_for, judgement_for, noted, reply_to}
 use Rattle.lra_replica.specs.Prepared.{IsAnswer, IsNext, IsReadyNext, IsPrepared}
 
 -- Answers
@@ -251,20 +251,20 @@ told_some view me l m taken =
     let none = accepted_open (refusal_by t view.front me (Told l m)) (t.told l m) (spent view.front me) taken in
     some_number (at_home view l.home) l.num m (told_passed t view.front me l m none).1
 
-pub notice_next : (notice : Notice) (view : View) (me : ℕ) (l : Id) (m : ℕ) (reply : CommandReply) (copy : Record) (members : List Member) (change : Change) → reply ≡ reply_to notice → IsReadyNext view me (entered_by notice l m) l (Ok copy)
+pub notice_next : (notice : Notice) (view : View) (me : ℕ) (l : Id) (m : ℕ) (reply : CommandReply) (copy : Record) (members : List Member) (change : Change) → reply ≡ reply_to notice → IsReadyNext view me (command_for notice l m) l (Ok copy)
     → (1 ≤ m → members ≡ member_changed (noted notice) (m - 1) copy.members) → change ≡ one_change view me (record copy { members = members })
-    → IsNext view me (entered_by notice l m) (Ok (record { reply = reply; patch = Some change }))
+    → IsNext view me (command_for notice l m) (Ok (record { reply = reply; patch = Some change }))
 notice_next ToForget view me l m reply copy members change replied =
     member_next view me (Forgot l m) l m forgetting reply copy members change (forgot_some view me l m) replied refl (λ old. refl)
 notice_next OfTheEnd view me l m reply copy members change replied =
     member_next view me (Told l m) l m hearing reply copy members change (told_some view me l m) replied refl (λ old. refl)
 
 -- what is made of the command
-pub notice_judged : (notice : Notice) (view : View) (me : ℕ) (l : Id) (m : ℕ) → judge_on view me (entered_by notice l m) ≡ judged_by_notice notice view me l m
+pub notice_judged : (notice : Notice) (view : View) (me : ℕ) (l : Id) (m : ℕ) → judge_on view me (command_for notice l m) ≡ judgement_for notice view me l m
 notice_judged ToForget view me l m = refl
 notice_judged OfTheEnd view me l m = refl
 
-pub notice_plain : (notice : Notice) (nodes me : ℕ) (l : Id) (m : ℕ) → IsPlain nodes me (entered_by notice l m)
+pub notice_plain : (notice : Notice) (nodes me : ℕ) (l : Id) (m : ℕ) → IsPlain nodes me (command_for notice l m)
 notice_plain ToForget nodes me l m = tt
 notice_plain OfTheEnd nodes me l m = tt
 
@@ -307,11 +307,11 @@ pub report_unready : (S : List Fact) (view : View) (me : ℕ) (l : Id) (m : ℕ)
 report_unready S view me l m act outcome refusal settled stands taken lost =
     unready S view me (Report l m act outcome) l refusal stands (λ e. (lawful_gives S view.front me (Report l m act outcome) e).0.held) (sym (judge_view S view me (Report l m act outcome) tt settled stands) ∙ taken) lost
 
-pub notice_unready : (notice : Notice) (S : List Fact) (view : View) (me : ℕ) (l : Id) (m : ℕ) (refusal : Refusal) → IsSettled S → StandsFor S view → judge_on view me (entered_by notice l m) ≡ Accepted
-    → (refusal ≡ NoMemory) ⊎ (record_at view l ≡ None) → IsPrepared S view me (entered_by notice l m) (Err refusal)
+pub notice_unready : (notice : Notice) (S : List Fact) (view : View) (me : ℕ) (l : Id) (m : ℕ) (refusal : Refusal) → IsSettled S → StandsFor S view → judge_on view me (command_for notice l m) ≡ Accepted
+    → (refusal ≡ NoMemory) ⊎ (record_at view l ≡ None) → IsPrepared S view me (command_for notice l m) (Err refusal)
 notice_unready notice S view me l m refusal settled stands taken lost =
-    unready S view me (entered_by notice l m) l refusal stands (by notice) (sym (judge_view S view me (entered_by notice l m) (notice_plain notice (length view.front) me l m) settled stands) ∙ taken) lost
+    unready S view me (command_for notice l m) l refusal stands (by notice) (sym (judge_view S view me (command_for notice l m) (notice_plain notice (length view.front) me l m) settled stands) ∙ taken) lost
   where
-    by : (n : Notice) → judge S view.front me (entered_by n l m) ≡ Accepted → is_held S l ≡ true
+    by : (n : Notice) → judge S view.front me (command_for n l m) ≡ Accepted → is_held S l ≡ true
     by ToForget e = (lawful_gives S view.front me (Forgot l m) e).0.held
     by OfTheEnd e = (lawful_gives S view.front me (Told l m) e).0.held

@@ -1,4 +1,4 @@
--- What a participant is told and has no outcome: that it may forget, and that its LRA has ended
+-- What a participant is told without an outcome: that it may forget, and that its LRA has ended
 use Rattle.std.specs.Prelude.{◌||◌, ◌∷◌, [], ℕ, Bool, Option}
 use Rattle.lra_id.specs.Ids.{Id}
 use Rattle.lra_facts.specs.declared.refusal.Refusal.{Refusal}
@@ -17,9 +17,9 @@ use Rattle.lra_replica.specs.declared.commands.notices.Notice.{Notice}
 use Rattle.lra_replica.specs.declared.commands.notices.Notice.TheVariants.{ToForget, OfTheEnd}
 
 -- the command that enters it
-abbrev pub entered_by : Notice → Id → ℕ → Command
-entered_by ToForget l m = Forgot l m
-entered_by OfTheEnd l m = Told l m
+abbrev pub command_for : Notice → Id → ℕ → Command
+command_for ToForget l m = Forgot l m
+command_for OfTheEnd l m = Told l m
 
 -- and its reply
 abbrev pub reply_to : Notice → CommandReply
@@ -46,9 +46,9 @@ abbrev pub undue_by : Notice → Reading → Id → ℕ → Option Refusal
 undue_by notice t l m = unless (is_due_by notice t l m || was_given_by notice t l m) (NotDue (t.shows l))
 
 -- the first refusal
-abbrev pub refused_by : Notice → View → Id → ℕ → Option Refusal
-refused_by notice view l m = let t = by_view view in first (unknown view.front l ∷ gone_by t l ∷ stranger_by t l m ∷ undue_by notice t l m ∷ [])
+abbrev pub refusal_for : Notice → View → Id → ℕ → Option Refusal
+refusal_for notice view l m = let t = by_view view in first (unknown view.front l ∷ gone_by t l ∷ stranger_by t l m ∷ undue_by notice t l m ∷ [])
 
 -- what is made of the command
-abbrev pub judged_by_notice : Notice → View → ℕ → Id → ℕ → Judgement
-judged_by_notice notice view me l m = judged (refused_by notice view l m) (was_given_by notice (by_view view) l m) (spent view.front me)
+abbrev pub judgement_for : Notice → View → ℕ → Id → ℕ → Judgement
+judgement_for notice view me l m = judged (refusal_for notice view l m) (was_given_by notice (by_view view) l m) (spent view.front me)

@@ -1,4 +1,4 @@
-// The eight commands, one file each with its refusals: each is prepared as a patch that adds its fact.
+// The eight commands, each prepared as a patch that adds its fact: a file each, and one for forgot and told.
 ghost use Rattle.std.specs.Prelude.{◌≡◌, ◌≤◌, length};
 ghost use Rattle.lra_replica.specs.Prepared.{IsNext, HasRoom, IsPrepared};
 ghost use Rattle.lra_replica.specs.Replicas.{KeepsRoom, view_of};

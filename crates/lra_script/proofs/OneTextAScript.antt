@@ -4,7 +4,8 @@ use Rattle.std.specs.Prelude.{IfSome}
 use Rattle.lra_callback.specs.declared.duty.Duty.{Duty}
 use Rattle.lra_callback.proofs.Single.{one_list_of_duties}
 use Rattle.lra_world.specs.declared.event.Event.{Event}
-use Rattle.lra_world.specs.declared.event.Event.TheVariants.{Act as ActEvent, Deliver as DeliverEvent, Restart as RestartEvent, Send as SendEvent, SendOld as SendOldEvent, Tick as TickEvent}
+use Rattle.lra_delta.specs.declared.version.Version.TheVariants.{One, Two}
+use Rattle.lra_world.specs.declared.event.Event.TheVariants.{Act as ActEvent, Deliver as DeliverEvent, Restart as RestartEvent, Send as SendEvent, Tick as TickEvent}
 use Rattle.lra_world.specs.declared.event.Reply.{Reply}
 use Rattle.lra_world.specs.Worlds.{Comes, SentFrame, IfNode, IsEncoded, State, frame_at, is_node, set_of}
 use Rattle.lra_world.proofs.Determined.{one_encoding, step_once}
@@ -59,8 +60,8 @@ same_once P a x (inr (never, is)) (inr (also, same)) = is ∙ sym same
 does_once : (s : State) (ask : Ask) (a x : List ℕ) (t u : State) → Does s ask a t → Does s ask x u → AreOne a x t u
 does_once s (Enter node command) a x t u h k = event_once s (ActEvent node command) a x t u h k
 does_once s (Tick node now) a x t u h k = event_once s (TickEvent node now) a x t u h k
-does_once s (Send node base) a x t u h k = event_once s (SendEvent node base) a x t u h k
-does_once s (SendOld node base) a x t u h k = event_once s (SendOldEvent node base) a x t u h k
+does_once s (Send node base) a x t u h k = event_once s (SendEvent node base Two) a x t u h k
+does_once s (SendOld node base) a x t u h k = event_once s (SendEvent node base One) a x t u h k
 does_once s (Deliver frame node kept) a x t u (n, coming, prints) (m, comes, printing) = coming_once s frame node kept n m a x t u coming comes prints printing
 does_once s (Restart node) a x t u h k = event_once s (RestartEvent node) a x t u h k
 does_once s (Show node id) a x t u h k = (h.0 ∙ sym k.0, h.1 ∙ sym k.1)

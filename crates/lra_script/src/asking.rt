@@ -1,4 +1,4 @@
-// What a line asks, and reading it.
+// What a line asks, and how it is read.
 ghost use Rattle.std.specs.Prelude.{◌≡◌, ◌≤◌, IfOk, MatchOption};
 ghost use Rattle.lra_script.specs.declared.asking.Ask.{Ask};
 ghost use Rattle.lra_script.specs.Asks.{ReadsArguments, Spells};

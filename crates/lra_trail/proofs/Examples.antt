@@ -8,6 +8,7 @@ use Rattle.lra_facts.specs.declared.refusal.Refusal.TheVariants.{NotHeld}
 use Rattle.lra_history.specs.declared.command.Command.TheVariants.{Begin, Decide}
 use Rattle.lra_history.specs.declared.command.CommandReply.TheVariants.{Began, Refused as NotEntered}
 use Rattle.lra_delta.specs.Frames.{Frame}
+use Rattle.lra_delta.specs.declared.version.Version.TheVariants.{Two}
 use Rattle.lra_world.specs.declared.event.Event.TheVariants.{Act, Restart, Send, Tick}
 use Rattle.lra_world.specs.declared.event.Reply.TheVariants.{Restarted}
 use Rattle.lra_book.specs.declared.calls.Call.TheVariants.{Command as Enter, Pull, Status, Expire}
@@ -36,5 +37,5 @@ items =
     ∷ []
 
 -- what is refused, quiet or a question is no event
-happened : events_of 1 items ≡ Act 1 (Begin None 9) ∷ Restart 2 ∷ Tick 1 9 ∷ Send 1 (0 ∷ 0 ∷ []) ∷ []
+happened : events_of 1 items ≡ Act 1 (Begin None 9) ∷ Restart 2 ∷ Tick 1 9 ∷ Send 1 (0 ∷ 0 ∷ []) Two ∷ []
 happened = refl

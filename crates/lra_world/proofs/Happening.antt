@@ -143,7 +143,7 @@ last_or_old (x ∷ fs) [] f b place frame bytes same at spelt = absurd (omega (a
 last_or_old (x ∷ fs) (y ∷ bs) f b zero frame bytes same at spelt = inl (at, spelt)
 last_or_old (x ∷ fs) (y ∷ bs) f b (suc place) frame bytes same at spelt = last_or_old fs bs f b place frame bytes (omega (arith, same)) at spelt
 
--- a version that tells a frame tells every frame of what the node holds since the base: there is one
+-- a set has one view, so where the version tells its frame no later one is needed
 pub needs_none : (s : State) (node : ℕ) (base : List ℕ) (version : Version) (view : View) → IsViewOf s.history (front_of s node) view → needs_later version (frame_of view base) ≡ false → NeedsLater s node base version → ⊥
 needs_none s node base version view own none later =
     let same : later.0 ≡ view = same_view s.history (front_of s node) (front_of s node) later.0 view refl later.1 own in

@@ -134,12 +134,12 @@ after_command s node c = if_taken (judge (set_of s node) (front_of s node) node 
 abbrev pub Acts : State → ℕ → Command → Reply → State → Type 0
 Acts s node c reply t = (reply ≡ Answered (reply_at s node c)) × (t ≡ after_command s node c)
 
--- a frame that a version doesn't tell: the first where a record has a link for the end of its LRA
+-- the frame needs a later version: version 1 knows no link for the end
 abbrev pub needs_later : Version → Frame → Bool
 needs_later One frame = needs_two frame
 needs_later Two frame = false
 
--- so is the frame of what the node holds since the base
+-- the frame of what the node holds since the base needs one
 abbrev pub NeedsLater : State → ℕ → List ℕ → Version → Type 0
 NeedsLater s node base version = (view : View) × IsViewOf s.history (front_of s node) view × (needs_later version (frame_of view base) ≡ true)
 

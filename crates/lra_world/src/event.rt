@@ -13,7 +13,7 @@ pub enum Event {
         node: NodeId,
         command: Command,
     },
-    /// A node sends what it has since a base, in a version of frames.
+    /// A node sends what it has since a base, in the given version of frames.
     Send {
         node: NodeId,
         base: Front,

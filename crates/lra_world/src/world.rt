@@ -331,7 +331,7 @@ impl World {
         }
     }
 
-    /// A node sends what it has since a base, in a version of frames.
+    /// A node sends what it has since a base, in the given version of frames.
     fn send(
         &mut self,
         alloc: Global,

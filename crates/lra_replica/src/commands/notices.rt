@@ -6,7 +6,7 @@ ghost use Rattle.lra_history.specs.Growth.{forgetting, hearing, member_changed};
 ghost use Rattle.lra_replica.specs.Replicas.{view_of, KeepsRoom};
 ghost use Rattle.lra_forest.specs.Participants.{answered_of};
 ghost use Rattle.lra_history.specs.declared.command.Command.TheVariants.{Forgot, Told};
-ghost use Rattle.lra_replica.specs.Notices.{entered_by, is_due_by, judged_by_notice, noted, refused_by, reply_to, undue_by, was_given_by};
+ghost use Rattle.lra_replica.specs.Notices.{command_for, is_due_by, judgement_for, noted, refusal_for, reply_to, undue_by, was_given_by};
 ghost use Rattle.lra_replica.specs.Prepared.{IsNext, HasRoom, IsPrepared, judged_as};
 ghost use Rattle.lra_history.specs.Readings.{by_view};
 ghost use Rattle.lra_history.specs.Views.{OfItsSet};
@@ -154,7 +154,7 @@ impl Replica {
         }
     }
 
-    fn may_be_given(&self, id: LraId, member: u8, notice: Notice) -> Result<bool, Refusal>
+    fn is_due_or_given(&self, id: LraId, member: u8, notice: Notice) -> Result<bool, Refusal>
         ensures { let t = by_view (view_of self.now)
             in result ≡ answered_of (t.held id) (t.participant id member)
             (is_due_by notice t id member || was_given_by notice t id member) }
@@ -169,14 +169,14 @@ impl Replica {
         ensures { let t = by_view (view_of self.now) in t.held id ≡ true →
             t.participant id member ≡ true → result ≡ undue_by notice t id member }
     {
-        match self.may_be_given(id, member, notice) {
+        match self.is_due_or_given(id, member, notice) {
             Ok(true) => None,
             _ => self.not_due(id),
         }
     }
 
     fn refusal_to_give(&self, id: LraId, member: u8, notice: Notice) -> Option<Refusal>
-        ensures { result ≡ refused_by notice (view_of self.now) id member }
+        ensures { result ≡ refusal_for notice (view_of self.now) id member }
     {
         if let Some(refusal) = self.refusal_to_show(id) {
             return Some(refusal);
@@ -188,7 +188,7 @@ impl Replica {
     }
 
     fn knows(&self, me: NodeId, id: LraId, member: u8, notice: Notice) -> Result<bool, Refusal>
-        ensures judged { judged_by_notice notice (view_of self.now) me id member
+        ensures judged { judgement_for notice (view_of self.now) me id member
             ≡ judged_as result }
         ensures left { result ≡ Ok false → count self.now.front me < last_number }
     {
@@ -205,7 +205,7 @@ impl Replica {
         }
     }
 
-    fn give(
+    fn prepare_notice(
         &mut self,
         alloc: Global,
         me: NodeId,
@@ -217,9 +217,9 @@ impl Replica {
         ensures view { view_of self.new ≡ view_of self.old }
         ensures room { HasRoom result self.new }
         ensures stays { KeepsRoom self.old self.new }
-        ensures next { IsNext (view_of self.old) me (entered_by notice id member) result }
+        ensures next { IsNext (view_of self.old) me (command_for notice id member) result }
         ensures prepared { OfItsSet (view_of self.old)
-            (λ S. IsPrepared S (view_of self.old) me (entered_by notice id member) result) }
+            (λ S. IsPrepared S (view_of self.old) me (command_for notice id member) result) }
     {
         let known = self.knows(me, id, member, notice)?;
         if known {
@@ -255,10 +255,10 @@ impl Replica {
         ensures prepared { OfItsSet (view_of self.old)
             (λ S. IsPrepared S (view_of self.old) me (Forgot id member) result) }
     {
-        self.give(alloc, me, id, member, Notice::ToForget)
+        self.prepare_notice(alloc, me, id, member, Notice::ToForget)
     }
 
-    /// Prepares that a participant was told that its LRA has ended, which any node may enter. The rest is as of `forgot`.
+    /// Prepares that a participant was told that its LRA has ended, which any node may enter. When it is known, its cost and its errors are as for `forgot`.
     pub fn told(
         &mut self,
         alloc: Global,
@@ -274,6 +274,6 @@ impl Replica {
         ensures prepared { OfItsSet (view_of self.old)
             (λ S. IsPrepared S (view_of self.old) me (Told id member) result) }
     {
-        self.give(alloc, me, id, member, Notice::OfTheEnd)
+        self.prepare_notice(alloc, me, id, member, Notice::OfTheEnd)
     }
 }
