@@ -127,7 +127,7 @@ def measure(words, way):
           f" on the way {' '.join(f'{seen[len(seen) * i // 10]:.0f}' for i in range(1, 10))}", flush=True)
     client.stdin.write(b"\n")
     client.stdin.close()
-    client.wait(60)
+    client.wait(600)
 
 
 def turns(words):
