@@ -233,7 +233,7 @@ fault_right fault.LengthNeeded = code_411
 fault_right fault.Cut = code_400
 fault_right fault.ReadFault = code_400
 fault_right fault.WriteFault = code_400
-fault_right fault.NoMemory = code_400
+fault_right fault.NoMemory = code_503
 
 -- Values of fields
 

@@ -1,6 +1,6 @@
 // Who makes calls, and keeps their receipts.
-ghost use Rattle.std.specs.Prelude.{◌≡◌, ◌<◌, [], IfErr, IsSome, OnErr, OnOk, length};
-ghost use Rattle.lra_book.specs.Clerks.{BookCalled, DeskCalled, IsEnteredBy, IsOfClerk, IsRefusedBy, last_reply};
+ghost use Rattle.std.specs.Prelude.{◌≡◌, ◌<◌, [], IfErr, IsSome, OnOk, length};
+ghost use Rattle.lra_book.specs.Clerks.{BookCalled, DeskCalled, IsEnteredBy, IsRefusedBy, last_reply};
 
 use crate::desk::{Desk, DeskPass, Run};
 use crate::receipts::{make_room, put_last, reply_of_last};

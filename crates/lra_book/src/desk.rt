@@ -1,5 +1,5 @@
 // The desk: a book under one lock, and the passes of the threads that share it.
-ghost use Rattle.std.specs.Prelude.{◌≡◌, ◌+◌, ◌-◌, ◌<◌, ◌≤◌, ◌==◌, ◌++◌, ◌∷◌, [], ℕ, None, Some, IfErr, IfNone, IfOk, IfSome, IsTrue, OnErr, OnOk, count_by, flat_map, length, slice_get, sum_by, vec_len};
+ghost use Rattle.std.specs.Prelude.{◌≡◌, ◌+◌, ◌-◌, ◌<◌, ◌≤◌, ◌==◌, ◌++◌, ◌∷◌, [], None, Some, IfErr, IfNone, IfOk, IfSome, IsTrue, OnErr, OnOk, count_by, flat_map, length, slice_get, sum_by, vec_len};
 ghost use Rattle.lra_facts.specs.declared.refusal.Refusal.TheVariants.{NoMemory};
 ghost use Rattle.sqlite.specs.Held.{state};
 ghost use Rattle.lra_journal.specs.Keeping.{IsOwn, Keeps};

@@ -1,6 +1,6 @@
 // What a call comes to, and carrying it out.
-ghost use Rattle.std.specs.Prelude.{◌≡◌, ◌≤◌, ◌<◌, ◌⊎◌, ℕ, Err, IfErr, IfOk, IfSome, IsTrue, OnErr, OnOk, length};
-ghost use Rattle.lra_facts.specs.declared.refusal.Refusal.TheVariants.{JournalFailed, NoMemory};
+ghost use Rattle.std.specs.Prelude.{◌≡◌, ◌≤◌, ◌<◌, ℕ, Err, IfErr, IfOk, IfSome, IsTrue, OnErr, OnOk, length};
+ghost use Rattle.lra_facts.specs.declared.refusal.Refusal.TheVariants.{NoMemory};
 ghost use Rattle.lra_history.specs.declared.command.Command.TheVariants.{Decide};
 ghost use Rattle.lra_history.specs.Next.{member_shown_on, next_view, overdue_on, reply_on, shown_on};
 ghost use Rattle.lra_history.specs.Views.{View};

@@ -1,7 +1,7 @@
 // What is heard of a participant's answer.
 ghost use Rattle.std.specs.Prelude.{◌≡◌, Some};
 ghost use Rattle.lra_callback.specs.CallWords.{heard_name, kind_name};
-ghost use Rattle.lra_callback.specs.Answers.{bare, done_status, failed_status, heard_by_act, heard_by_after, heard_by_forget, heard_by_status, heard_of, trimmed, unquoted, without_leading, without_trailing};
+ghost use Rattle.lra_callback.specs.Answers.{done_status, failed_status, heard_by_act, heard_by_after, heard_by_forget, heard_by_status, heard_of, unquoted, without_leading, without_trailing};
 
 use lra_http::Bytes;
 use lra_states::{Act, MemberStatus, Outcome};

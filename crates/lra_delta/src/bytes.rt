@@ -1,6 +1,6 @@
 // A slice as an input.
-ghost use Rattle.std.specs.Prelude.{◌≡◌, ◌≤◌, length, take, drop, Some};
-ghost use Rattle.lra_delta.specs.Seen.{Seen, of_slice};
+ghost use Rattle.std.specs.Prelude.{◌≡◌, ◌≤◌, length};
+ghost use Rattle.lra_delta.specs.Seen.{of_slice};
 
 use crate::input::{Input, Stop};
 

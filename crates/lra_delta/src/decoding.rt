@@ -1,5 +1,5 @@
 // Frames out of bytes.
-ghost use Rattle.std.specs.Prelude.{◌≡◌, ◌++◌, ℕ, List, Ok, IfOk};
+ghost use Rattle.std.specs.Prelude.{◌≡◌, Ok, IfOk};
 ghost use Rattle.lra_delta.specs.Answer.{Decodes};
 ghost use Rattle.lra_delta.specs.Frames.{Frame};
 ghost use Rattle.lra_delta.specs.Reading.{frame_in};

@@ -1,5 +1,5 @@
 // The encoding of a frame, one of each version, put field by field.
-ghost use Rattle.std.specs.Prelude.{◌≡◌, ◌≤◌, ◌%◌, ◌^◌, ◌++◌, ◌⊎◌, ◌↔◌, Err, true, false, length, IfOk, IfErr};
+ghost use Rattle.std.specs.Prelude.{◌≡◌, ◌%◌, ◌^◌, ◌++◌, ◌⊎◌, ◌↔◌, Err, true, false, length, IfOk, IfErr};
 ghost use Rattle.std.specs.List.{All, flat_map, list_any};
 ghost use Rattle.lra_facts.specs.declared.refusal.Refusal.TheVariants.{NeedsVersion2, NoMemory};
 ghost use Rattle.lra_forest.specs.declared.record.Record.{Record};

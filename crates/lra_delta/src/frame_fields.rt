@@ -1,6 +1,6 @@
 // The fields of a frame before and after its records.
-ghost use Rattle.std.specs.Prelude.{[], ◌≡◌, ◌++◌, ◌∷◌, ◌+◌, ◌-◌, ◌*◌, ◌≤◌, ◌<◌, ◌==◌, ℕ, List, Option, length, map, replicate, slice_index, slice_set, true, IfOk, OnOk};
-ghost use Rattle.std.specs.Int.{w8, w16, w32, w64};
+ghost use Rattle.std.specs.Prelude.{[], ◌≡◌, ◌++◌, ◌∷◌, ◌+◌, ◌-◌, ◌*◌, ◌≤◌, ◌<◌, ◌==◌, ℕ, Option, length, slice_index, slice_set, IfOk, OnOk};
+ghost use Rattle.std.specs.Int.{w8, w32, w64};
 ghost use Rattle.lra_forest.specs.RecordMerges.{held_numbers};
 ghost use Rattle.lra_forest.specs.declared.merging.Told.{Told};
 ghost use Rattle.std.specs.List.{AllByRecursion};
@@ -8,7 +8,7 @@ ghost use Rattle.lra_history.specs.Merging.{AreToldFrom};
 ghost use Rattle.lra_history.specs.Views.{records_at as records_of_home};
 ghost use Rattle.lra_delta.specs.Seen.{Answers, Reads};
 ghost use Rattle.lra_delta.specs.FrameFields.{each_at, number_at, vector_at};
-ghost use Rattle.lra_delta.specs.Rules.{are_counts, at_most, by_home, is_frame_length, is_front, is_live_number, is_node_count, start, told_context, after as after_lem};
+ghost use Rattle.lra_delta.specs.Rules.{are_counts, at_most, is_frame_length, is_front, is_live_number, is_node_count, start, told_context, after as after_lem};
 ghost use Rattle.lra_delta.specs.Reading.{body_at, frame_at, live_at, live_list_at, record_at, records_at};
 ghost use Rattle.lra_delta.specs.Encoding.{magic};
 ghost use Rattle.lra_delta.specs.Versions.{is_version, version_mark};

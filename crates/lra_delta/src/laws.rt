@@ -21,7 +21,7 @@ ghost use Rattle.lra_delta.specs.FrameSizes.{IsShort, frame_size};
 ghost use Rattle.lra_delta.specs.TakenFrames.{IsTaken};
 ghost use Rattle.lra_delta.specs.Versions.{needs_two};
 ghost use Rattle.lra_delta.specs.declared.version.Version.{Version};
-ghost use Rattle.lra_delta.specs.declared.version.Version.TheVariants.{One, Two};
+ghost use Rattle.lra_delta.specs.declared.version.Version.TheVariants.{One};
 ghost use Rattle.lra_delta.specs.Typed.{IsTyped, IsTypedRecord};
 
 pub use crate::scan::since_by_scan;

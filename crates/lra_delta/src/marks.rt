@@ -1,5 +1,5 @@
 // What is marked of a participant, in order.
-ghost use Rattle.std.specs.Prelude.{◌≡◌, ℕ};
+ghost use Rattle.std.specs.Prelude.{◌≡◌};
 ghost use Rattle.std.specs.Int.{w8};
 ghost use Rattle.std.specs.Option.{option_copied};
 ghost use Rattle.lra_delta.specs.FrameFields.{number_at};

@@ -1,5 +1,5 @@
 // One record, as the journal keeps it.
-ghost use Rattle.std.specs.Prelude.{◌≡◌, ℕ, List, IfOk, Ok, length};
+ghost use Rattle.std.specs.Prelude.{◌≡◌, ℕ, List, IfOk, Ok};
 ghost use Rattle.lra_forest.specs.declared.record.Record.{Record};
 ghost use Rattle.lra_delta.specs.Answer.{Decodes};
 ghost use Rattle.lra_delta.specs.OneRecord.{KeepsRulesUnder, IsRecordUnder, IsRecordUnderAs, alone_at, record_in_as};

@@ -3,7 +3,7 @@ ghost use Rattle.std.specs.Prelude.{◌≡◌, ◌++◌, ◌≤◌, Some, length
 ghost use Rattle.std.specs.List.{All, flat_map};
 ghost use Rattle.std.specs.Option.{option_copied};
 ghost use Rattle.lra_delta.specs.Rules.{IsLink};
-ghost use Rattle.lra_delta.specs.Encoding.{after_link, byte, counted, decision_mark, flag_mark, link_text, links_text, member, members, number, outcome_mark, parent, participant, record_text, record_text_as, told_mark, vector};
+ghost use Rattle.lra_delta.specs.Encoding.{after_link, byte, counted, decision_mark, flag_mark, link_text, links_text, member, members, number, outcome_mark, parent, participant, record_text_as, told_mark, vector};
 ghost use Rattle.lra_delta.specs.Typed.{AreLinks, HasLinks, IsTypedRecord};
 
 use crate::output::Output;

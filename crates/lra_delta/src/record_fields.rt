@@ -1,5 +1,5 @@
 // The fields of a record in order.
-ghost use Rattle.std.specs.Prelude.{[], ◌≡◌, ◌+◌, ◌-◌, ◌*◌, ◌≤◌, ◌<◌, ◌==◌, ℕ, length, slice_index, true, false, is_none, is_some, Some, IfOk};
+ghost use Rattle.std.specs.Prelude.{[], ◌≡◌, ◌+◌, ◌-◌, ◌*◌, ◌≤◌, ◌<◌, ◌==◌, ℕ, length, true, false, is_none, is_some, Some, IfOk};
 ghost use Rattle.std.specs.Int.{w8, w64};
 ghost use Rattle.std.specs.List.{list_any};
 ghost use Rattle.lra_id.specs.Fronts.{count};
@@ -8,11 +8,10 @@ ghost use Rattle.lra_delta.specs.Order.{Follows};
 ghost use Rattle.lra_delta.specs.Seen.{Reads};
 ghost use Rattle.lra_delta.specs.FrameFields.{each_at, many_at, number_at, vector_at, whole_at};
 ghost use Rattle.lra_delta.specs.Frames.{is_beyond, live_at};
-ghost use Rattle.lra_delta.specs.Rules.{are_stamps, at_most, is_among, is_home, is_kept_or_none, is_length_for, is_next, is_number, may_be, may_be_after, needs_compensate, next_nested, told_context};
+ghost use Rattle.lra_delta.specs.Rules.{are_stamps, at_most, is_among, is_home, is_length_for, is_next, is_number, may_be, may_be_after, needs_compensate, next_nested, told_context};
 ghost use Rattle.lra_delta.specs.Reading.{after_at, decision_at, last_link_at, link_at, links_at, member_at, members_at, parent_at, participant_at, place_at, record_at};
 ghost use Rattle.lra_facts.specs.Links.{links_together};
 ghost use Rattle.lra_delta.specs.declared.version.Version.TheVariants.{One, Two};
-ghost use Rattle.lra_delta.specs.Versions.{version_mark};
 
 use crate::fields::{byte, number, text};
 use crate::input::{Input, Stop};

@@ -1,5 +1,5 @@
 // What the records of a home answer of an LRA and of its participants.
-ghost use Rattle.std.specs.Prelude.{◌≡◌, ◌↔◌, ℕ, List, Err, None, Some, true, find, is_some, length, nat_le, if◌then◌else◌};
+ghost use Rattle.std.specs.Prelude.{◌≡◌, ◌↔◌, ℕ, List, Err, None, Some, find, is_some, length, nat_le, if◌then◌else◌};
 ghost use Rattle.std.specs.List.{AllByRecursion};
 ghost use Rattle.std.specs.Option.{option_copied};
 ghost use Rattle.lra_states.specs.States.{level};
@@ -7,7 +7,7 @@ ghost use Rattle.lra_facts.specs.declared.fact.Fact.{Fact};
 ghost use Rattle.lra_facts.specs.declared.refusal.Refusal.TheVariants.{NotHeld};
 ghost use Rattle.lra_facts.specs.Sets.{IsNumbered, depth, is_demanded, is_heard, is_held, is_participant, numbers_given};
 ghost use Rattle.lra_forest.specs.Forests.{AreOf, is_of};
-ghost use Rattle.lra_forest.specs.Overdue.{IsLeastOverdue, is_overdue, is_past};
+ghost use Rattle.lra_forest.specs.Overdue.{IsLeastOverdue, is_past};
 ghost use Rattle.lra_forest.specs.Participants.{answered_of, heard_by, parent_held, participant_at, participant_of as participant_held};
 ghost use Rattle.lra_forest.specs.Said.{depth_at, first_overdue, is_overdue_at, is_demanded_at, is_heard_at, members_at, parent_at, participant_of};
 ghost use Rattle.lra_forest.specs.Shape.{found_at};

@@ -1,7 +1,6 @@
 // What a home's records become when another node's are taken.
 ghost use Rattle.std.specs.Prelude.{◌≡◌, ◌==◌, ℕ, Some, None, false, IfOk, OnOk, if◌then◌else◌, is_some, nat_le};
 ghost use Rattle.std.specs.Option.{option_copied};
-ghost use Rattle.lra_id.specs.Ids.{Id};
 ghost use Rattle.lra_forest.specs.Forests.{AreOf, id_of};
 ghost use Rattle.lra_forest.specs.RecordMerges.{brought, changed_by, held_numbers, home_stamp, is_gone, is_unlisted, linked, merged_member, merged_members, merged_participant, merged_record, absorbed};
 ghost use Rattle.lra_forest.specs.OnlyChanges.{AreOnlyChanges, IsPut, ids_lost, is_lost};

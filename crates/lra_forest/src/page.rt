@@ -1,5 +1,5 @@
 // Records in order of their numbers, in room that was made for 32.
-ghost use Rattle.std.specs.Prelude.{◌≡◌, ◌↔◌, ◌+◌, ◌≤◌, ◌<◌, ◌==◌, ◌++◌, ◌∷◌, [], None, Some, false, true, IfOk, IsTrue, OnErr, OnOk, drop, filter, is_some, length, nat_lt, slice_get, vec_capacity, vec_len};
+ghost use Rattle.std.specs.Prelude.{◌≡◌, ◌↔◌, ◌+◌, ◌≤◌, ◌<◌, ◌==◌, ◌++◌, ◌∷◌, [], None, Some, false, true, IfOk, IsTrue, OnOk, drop, filter, is_some, length, nat_lt, slice_get, vec_capacity, vec_len};
 ghost use mathlib.Core.Bool.{not};
 ghost use Rattle.std.specs.Option.{option_copied};
 ghost use Rattle.lra_forest.specs.Forests.{IsAscending};

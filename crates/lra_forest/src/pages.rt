@@ -1,10 +1,9 @@
 // The records of a home on pages of at most 32.
-ghost use Rattle.std.specs.Prelude.{◌≡◌, ◌↔◌, ◌+◌, ◌-◌, ◌*◌, ◌≤◌, ◌<◌, ◌==◌, ◌++◌, ◌∷◌, ◌^◌, ℕ, max, List, [], None, Some, true, false, IfOk, IsTrue, MatchOption, OnErr, OnOk, drop, filter, get_or, is_some, length, nat_lt, slice_get, vec_capacity, vec_len};
+ghost use Rattle.std.specs.Prelude.{◌≡◌, ◌+◌, ◌-◌, ◌*◌, ◌≤◌, ◌<◌, ◌==◌, ◌++◌, ◌∷◌, ◌^◌, ℕ, max, List, [], None, Some, true, MatchOption, OnErr, OnOk, drop, filter, get_or, is_some, length, nat_lt, slice_get, vec_capacity, vec_len};
 ghost use mathlib.Core.Bool.{not};
 ghost use Rattle.std.specs.List.{insert, remove};
 ghost use Rattle.std.specs.Iterator.{YieldsFirst, YieldsFirstRef, item_count};
 ghost use Rattle.std.specs.Option.{option_copied};
-ghost use Rattle.lra_forest.specs.declared.record.Record.{Record as RecordFields};
 ghost use Rattle.lra_forest.specs.Forests.{IsAscending};
 ghost use Rattle.lra_forest.specs.Pages.{AreEmptyLast, FitsAt, IsPageOf, IsSeat, Reaches, empty_pages, lies_below, records_in, room_in, weight_in};
 ghost use Rattle.lra_forest.specs.Places.{count_below, put_record, with_number};

@@ -1,5 +1,5 @@
 // Bytes over any source and sink, with the bound on interrupted calls.
-ghost use Rattle.std.specs.Prelude.{◌≡◌, ℕ, ◌+◌, ◌<◌, [], ◌∷◌, length, IfOk, IfSome, IfNone, OnOk, OnErr};
+ghost use Rattle.std.specs.Prelude.{◌≡◌, ◌+◌, ◌<◌, [], ◌∷◌, length, IfOk, IfSome, IfNone, OnOk, OnErr};
 ghost use Rattle.lra_http.specs.Streams.{FoundEnd, Gives, IsFlushed, Streams, Takes, TakesPart, too_many_interrupted};
 
 use crate::{CallError, Sink, Source};

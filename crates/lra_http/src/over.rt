@@ -1,5 +1,5 @@
 // Sources and sinks over std's readers and writers.
-ghost use Rattle.std.specs.Prelude.{◌≡◌, ◌+◌, ◌&&◌, ◌==◌, ◌↔◌, [], Err, Ok, if◌then◌else◌, nat_lt};
+ghost use Rattle.std.specs.Prelude.{◌≡◌, ◌+◌, ◌&&◌, ◌==◌, ◌↔◌, Err, Ok, if◌then◌else◌, nat_lt};
 ghost use Rattle.lra_http.specs.Counted.{unread, unwritten};
 ghost use Rattle.lra_http.specs.Streams.{failed_calls, interrupted_calls};
 

@@ -1,5 +1,5 @@
 // What a line asks, and how it is read.
-ghost use Rattle.std.specs.Prelude.{◌≡◌, ◌≤◌, IfOk, MatchOption};
+ghost use Rattle.std.specs.Prelude.{◌≤◌, IfOk, MatchOption};
 ghost use Rattle.lra_script.specs.declared.asking.Ask.{Ask};
 ghost use Rattle.lra_script.specs.Asks.{ReadsArguments, Spells};
 ghost use Rattle.lra_script.specs.Verbs.{verb_name};

@@ -1,5 +1,5 @@
 // Reading what a participant answered.
-ghost use Rattle.std.specs.Prelude.{◌≡◌, ◌≤◌, ◌<◌, ◌^◌, ℕ, List, ◌∷◌, codes, IfOk, MatchOption};
+ghost use Rattle.std.specs.Prelude.{◌≡◌, ◌≤◌, ◌<◌, ℕ, List, ◌∷◌, codes, IfOk, MatchOption};
 ghost use Rattle.std.specs.Fmt.{decimal};
 ghost use Rattle.lra_id.specs.Ids.{Id, IsId, id_text};
 ghost use Rattle.lra_callback.specs.declared.answer.Answer.{Answer};
