@@ -1,4 +1,4 @@
-"""What `benches/run.sh journal` runs: its program beside the same statements by the C library, turn by turn. journal.py PROGRAM"""
+"""What `benches/run.py journal` runs: its program beside the same statements by the C library, turn by turn. journal.py PROGRAM"""
 import os
 import sqlite3
 import statistics

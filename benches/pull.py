@@ -1,4 +1,4 @@
-"""What `benches/run.sh pull` runs behind its program: pulls of the largest frame that full homes give, from the server, with its resident
+"""What `benches/run.py pull` runs behind its program: pulls of the largest frame that full homes give, from the server, with its resident
 memory before, at most and after, by Linux's /proc. pull.py SERVER"""
 import http.client
 import json

@@ -49,13 +49,17 @@ def wait_for(port):
 
 
 def ask(method, path, body=None, port=PORT):
-    """One request over a connection of its own. A 503 between two runs is asked again."""
+    """One request over a connection of its own. One that meets the end of a run is made again."""
     while True:
         connection = http.client.HTTPConnection("127.0.0.1", port, timeout=30)
-        connection.request(method, path, body)
-        answer = connection.getresponse()
-        text = answer.read()
-        connection.close()
+        try:
+            connection.request(method, path, body)
+            answer = connection.getresponse()
+            text = answer.read()
+        except (http.client.HTTPException, ConnectionError):
+            continue
+        finally:
+            connection.close()
         if answer.status != 503:
             return answer.status, json.loads(text) if text else None
         if b"E20" not in text:
