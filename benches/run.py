@@ -25,7 +25,7 @@ from concurrent.futures import ThreadPoolExecutor
 TOP = os.path.dirname(os.path.dirname(os.path.abspath(__file__)))
 sys.path.insert(0, f"{TOP}/tests")
 
-from only import built
+from only import built, words
 from wrong import below, crates
 
 REPLICAS = ("lra_id", "lra_states", "lra_facts", "lra_forest", "lra_history", "lra_replica", "lra_delta", "lra_world", "lra_http", "lra_callback")
@@ -40,22 +40,11 @@ USES = {
 AT_ONCE = max((os.cpu_count() or 1) - 1, 1)
 
 
-def words(kit, uses):
-    """The words of a build over these libraries and those below them."""
+def unbuilt(names):
+    """The libraries below these programs that don't stand built."""
     libraries = crates()
-    ours = [it for it in uses if it in libraries]
-    places = {it: built(it) for dep in ours for it in [*below(dep, libraries), dep]}
-    missing = [it for it, place in places.items() if not place]
-    if missing:
-        sys.exit(f"{', '.join(missing)} aren't built: run `rt ci` here first, or name the clone in which it ran by BUILT")
-    said = ["-L", f"dependency={kit}/rlibs"]
-    for dep in ["std", "anyhow", *(it for it in uses if it not in libraries)]:
-        said += ["--extern", f"{dep}={kit}/rlibs/{dep}.rlib"]
-    for dep in ours:
-        said += ["--extern", f"{dep}={places[dep]}/{dep}.rlib"]
-    for place in places.values():
-        said += ["-L", f"dependency={place}"]
-    return [*said, "--antt-project", f"{kit}/rattle/logic/antt-project.json", "--logic-built", f"{kit}/logic_built"]
+    ours = {dep for name in names for it in USES[name] if it in libraries for dep in [it, *below(it, libraries)]}
+    return sorted(it for it in ours if not built(it))
 
 
 def build(kit, name, folder):
@@ -66,7 +55,8 @@ def build(kit, name, folder):
     os.makedirs(f"{crate}/src", exist_ok=True)
     shutil.copy(f"{TOP}/benches/{name}/main.rt.txt", f"{crate}/src/main.rt")
     how = {"cwd": crate, "stdout": subprocess.PIPE, "stderr": subprocess.STDOUT, "text": True}
-    line = [f"{kit}/bin/rattle", "build", "--crate-name", f"bench_{name}", "src/main.rt", *words(kit, USES[name]), "--jobs", "1"]
+    libraries = {**crates(), f"bench_{name}": [*USES[name], "anyhow"]}
+    line = [f"{kit}/bin/rattle", "build", *words(kit, f"bench_{name}", libraries, crate), "--jobs", "1"]
     ran = subprocess.run([*line, "--toolchain", f"{kit}/toolchain", "--backend", "llvm", "-o", f"{program}.o"], **how)
     if ran.returncode == 0:
         line = [f"{kit}/bin/rattle-link", "--target", "x86_64-unknown-linux-gnu", "--toolchain", f"{kit}/toolchain", "-o", program]
@@ -96,11 +86,13 @@ def main():
     names = list(USES) if sys.argv[1:] == ["all"] else sys.argv[1:]
     if not names or any(it not in USES for it in names):
         sys.exit(__doc__)
+    missing = unbuilt(names)
+    if missing:
+        sys.exit(f"{', '.join(missing)} aren't built: run `rt ci` here first, or name the clone in which it ran by BUILT")
     kit = os.path.dirname(subprocess.run(["rt", "doc"], capture_output=True, text=True, check=True).stdout.strip())
     with tempfile.TemporaryDirectory() as place:
         folder = os.path.abspath(os.environ.get("KEPT", place))
         os.makedirs(folder, exist_ok=True)
-        words(kit, {dep for name in names for dep in USES[name]})
         with ThreadPoolExecutor(AT_ONCE) as pool:
             said = list(pool.map(lambda name: build(kit, name, folder), names))
         for name, what in zip(names, said):

@@ -32,12 +32,13 @@ def places(names, libraries):
     return found
 
 
-def words(kit, name, libraries):
-    """The words of a check of the crate over those."""
+def words(kit, name, libraries, folder=None):
+    """The words of a check of the crate over those. It stands in crates, or in another folder."""
     found = places(below(name, libraries), libraries)
     sources = [it for it, place in found.items() if not place]
     of_kit = {it for dep in [name, *sources] for it in libraries[dep] if it not in libraries} | ({"core"} if sources else set())
-    root = "src/main.rt" if os.path.isfile(f"{TOP}/crates/{name}/src/main.rt") else "src/lib.rt"
+    is_program = os.path.isfile(f"{folder or os.path.join(TOP, 'crates', name)}/src/main.rt")
+    root = "src/main.rt" if is_program else "src/lib.rt"
     said = ["--crate-name", name, root, "-L", f"dependency={kit}/rlibs"]
     for dep in ["std", *sorted(of_kit)]:
         said += ["--extern", f"{dep}={kit}/rlibs/{dep}.rlib"]
