@@ -253,7 +253,8 @@ impl Forest {
     }
 
     /// The compensations that are due: under each LRA that is cancelled, and that is nested in no cancelled one, at most one,
-    /// by the number of that LRA. It looks up the records under these LRAs, each at most once.
+    /// by the number of that LRA. It looks up the records under these LRAs: each at most once in a history, and of forged records
+    /// each as often as it is named.
     pub fn next_compensations(&self, alloc: Global) -> Result<Vec<Due>, AllocError>
         ensures says { IfOk result (λ dues. dues.items ≡ due_to_compensate self.now.home
             (found_at self.now.home self.now.records) self.now.records) }
@@ -578,6 +579,7 @@ impl Forest {
     /// Of the participants of an LRA of this home and of what is nested in it, the least that is still to be told to forget.
     /// The root is asked at most once whether it is ended.
     pub fn least_forget_duty(&self, above: LraId) -> Option<Due>
+        requires { above.home ≡ self.now.home }
         ensures { result
             ≡ least_owed_of (found_at self.now.home self.now.records) above.num self.now.records }
     {
@@ -606,6 +608,7 @@ impl Forest {
     /// Of the participants of an LRA of this home and of what is nested in it, the least that has a link for the end of its LRA
     /// and was not told of it.
     pub fn least_unheard(&self, above: LraId) -> Option<Due>
+        requires { above.home ≡ self.now.home }
         ensures { result ≡ least_unheard_of
             (found_at self.now.home self.now.records) above.num self.now.records }
     {

@@ -279,6 +279,7 @@ fn keep_one(pages: &mut Vec<Page>)
     ensures items { records_in pages.new.items ≡ records_in pages.old.items }
     ensures last { AreEmptyLast pages.new.items }
     ensures spare { empty_pages pages.new.items ≤ 1 }
+    ensures kept { 1 ≤ empty_pages pages.old.items → 1 ≤ empty_pages pages.new.items }
     ensures len { vec_len pages.new ≤ vec_len pages.old }
 {
     for dropped in 1..empty_in(pages) {
@@ -434,6 +435,7 @@ impl Pages {
     pub(crate) fn release(&mut self)
         ensures items { self.new.items ≡ self.old.items }
         ensures spare { self.new.spare ≤ 16 }
+        ensures kept { 1 ≤ self.old.spare → 1 ≤ self.new.spare }
     {
         keep_one(&mut self.pages);
     }

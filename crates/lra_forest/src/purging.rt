@@ -37,6 +37,7 @@ impl Forest {
     /// An LRA of this home and all that is nested in it, by number. It looks at each of the home's records once, and climbs
     /// from it.
     pub fn tree(&self, alloc: Global, above: LraId) -> Result<Vec<LraId>, AllocError>
+        requires { above.home ≡ self.now.home }
         ensures { IfOk result (λ ids. ids.items
             ≡ ids_below (found_at self.now.home self.now.records) above.num self.now.records) }
     {

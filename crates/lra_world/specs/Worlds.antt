@@ -1,5 +1,5 @@
 -- The world: what all nodes entered, what each of them counts, and the frames that were sent; what may happen next, and
--- what is replied. Of records it speaks only where a frame needs version 2.
+-- what is replied. Of records it speaks in two places: where a frame needs version 2, and where one comes, whose bytes encode records.
 use Rattle.std.specs.Prelude.{◌≡◌, ◌⊎◌, ◌≤◌, ◌<◌, ◌+◌, ◌-◌, ◌==◌, ◌&&◌, ℕ, Bool, true, false, Option, Some, None, List, [], ◌∷◌, ◌++◌, Err, get_or, if◌then◌else◌, length, nat_le, replicate, slice_get, slice_set, take}
 use Rattle.lra_id.specs.Fronts.{IsBelow, join_fronts}
 use Rattle.lra_id.specs.Ids.{Id}

@@ -32,6 +32,9 @@ fn a_root_and_what_is_nested_in_it_are_its_tree(rt: HostRuntime) -> Result<(), F
     let Some(home) = replica.homes().first() else {
         return Err("there is no home")?;
     };
+    if home.home() != root.home() {
+        return Err("it is another home")?;
+    }
     let tree = home.tree(alloc, root)?;
     assert_eq!(rt; tree.as_slice(), [root, nested].as_slice());
     Ok(())
