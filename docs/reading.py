@@ -1,7 +1,8 @@
 #!/usr/bin/env python3
-"""Finds what has to be read to believe the headline: the definitions that the clause `headline` of World::step rests on, and writes their
-files and lines into docs/THEOREMS.md: python3 docs/reading.py. With --check it compares, and with --list it prints each definition.
-Blank lines, comments and imports are left out. Standard library alone."""
+"""Finds what has to be read to believe the headline: the definitions that the clause `headline` of World::step rests on, and the types of
+the code that it and they speak of, each with its `impl Model`, which says what a contract sees of a value. It writes their files and
+lines into docs/THEOREMS.md: python3 docs/reading.py. With --check it compares, and with --list it prints each definition and type. Blank
+lines, comments and imports are left out. Standard library alone."""
 import glob
 import os
 import re
@@ -10,6 +11,8 @@ import sys
 TOP = os.path.dirname(os.path.dirname(os.path.abspath(__file__)))
 PAGE = f"{TOP}/docs/THEOREMS.md"
 CALL = "crates/lra_world/src/world.rt", "step", "headline"
+# The types of that call: what it is called on, takes and answers.
+TYPES = "World", "Event", "Reply"
 CRATES = ["lra_id", "lra_states", "lra_facts", "lra_forest", "lra_history", "lra_index", "lra_replica", "lra_delta", "lra_world"]
 # That a frame is bytes, and where a cut one is refused.
 GRAMMAR = {"lra_delta", "lra_facts LinkTexts"}
@@ -79,22 +82,84 @@ def clause():
     return path, contract[:contract.index("}\n")]
 
 
+def block(lines, head):
+    """The item that begins with a line like this, up to its closing bracket."""
+    found = []
+    for line in lines:
+        if found or re.match(head, line):
+            found.append(line)
+            if line in ("}", "};") or re.match(r"pub \w+ \w+(\(.*\))?;", line):
+                break
+    return found
+
+
+def code(path):
+    """A file of code, without comments, imports and attributes."""
+    for line in open(f"{TOP}/{path}", encoding="utf-8"):
+        line = line.split("//")[0].rstrip()
+        if line.strip() and not re.match(r"\s*(#\[|(pub )?use |ghost use )", line):
+            yield line
+
+
+def types():
+    """Each struct and enum of the libraries, by crate and name: its file, its lines and those of its model."""
+    found = {}
+    for crate in CRATES:
+        for path in sorted(os.path.relpath(it, TOP) for it in glob.glob(f"{TOP}/crates/{crate}/src/**/*.rt", recursive=True)):
+            lines = list(code(path))
+            for name in re.findall(r"^pub(?:\(crate\))? (?:struct|enum) (\w+)", "\n".join(lines), re.M):
+                own = block(lines, rf"pub(\(crate\))? (struct|enum) {name}\b")
+                found[crate, name] = path, own, block(lines, rf"impl.* Model for {name}\b")
+    return found
+
+
+def types_named(path, text, all_types):
+    """The types of the libraries that a text of a file names: its own crate's, and those that it imports."""
+    crate = path.split("/")[1]
+    whole = open(f"{TOP}/{path}", encoding="utf-8").read()
+    known = {name: (own, name) for own, name in all_types if own == crate}
+    for own, names in re.findall(r"^use (lra_\w+)::(?:\w+::)*\{?([\w, \n]+)", whole, re.M):
+        known.update({name.strip(): (own, name.strip()) for name in names.split(",")})
+    return [known[name] for name in set(re.findall(r"\w+", text)) if known.get(name) in all_types]
+
+
+def declared(path, lines):
+    """The types that a definition names, by the imports of its file."""
+    text = open(f"{TOP}/{path}", encoding="utf-8").read()
+    words = set(re.findall(NAME, "\n".join(lines)))
+    for crate, module, names in re.findall(r"use Rattle\.(lra_\w+)\.specs\.declared\.([\w.]+)\.\{([^}]*)\}", text):
+        here = {it.strip().split(" as ")[-1] for it in names.split(",")}
+        if here & words:
+            yield crate, module.removesuffix(".TheVariants").split(".")[-1]
+
+
 def reached():
-    """What the clause rests on: each definition by file, and its lines."""
+    """What the clause rests on: each definition by file with its lines, and each type by crate with its file and lines."""
     files = {os.path.relpath(path, TOP) for path in glob.glob(f"{TOP}/crates/*/specs/*.antt")}
     defined = {path: definitions(path) for path in files}
     known = {path: imports(path) for path in files}
     path, text = clause()
     left = [place for name, place in imports(path).items() if re.search(rf"\b{name}\b", text)]
-    seen = {}
-    while left:
+    seen, all_types, used = {}, types(), {}
+    asked = [it for name in TYPES for it in types_named(path, name, all_types)]
+    while left or asked:
+        if asked:
+            it = asked.pop()
+            if it in used or it not in all_types:
+                continue
+            path, own, model = all_types[it]
+            used[it] = path, own + model
+            asked += types_named(path, "\n".join(own), all_types)
+            left += [place for name, place in imports(path).items() if re.search(rf"\b{name}\b", "\n".join(model))]
+            continue
         path, name = left.pop()
         if (path, name) in seen or name not in defined.get(path, {}):
             continue
         lines = seen[path, name] = defined[path][name]
+        asked += declared(path, lines)
         for it in cited(name, lines):
             left.append((path, it) if it in defined[path] else known[path].get(it, (path, "")))
-    return seen
+    return seen, used
 
 
 def by_file(seen):
@@ -118,17 +183,30 @@ def rows(files, what):
     yield f"| **{what}** | | **{sum(count for *_, count in files)}** |"
 
 
+def type_rows(used):
+    """The types of the code as rows of the table, a row a crate, and one for all of them."""
+    for crate in CRATES:
+        own = sorted((name, len(lines)) for (of, name), (_, lines) in used.items() if of == crate)
+        if own:
+            yield f"| `{crate}` | {', '.join(f'`{name}`' for name, _ in own)} | {sum(count for _, count in own)} |"
+    yield f"| **what these speak of** | | **{sum(len(lines) for _, lines in used.values())}** |"
+
+
 def main():
-    files = list(by_file(reached()))
+    seen, used = reached()
+    files = list(by_file(seen))
     if "--list" in sys.argv:
         for crate, module, names, count in files:
             print(f"{crate} {module}, {count} lines: {', '.join(names)}")
+        for (crate, name), (path, lines) in sorted(used.items()):
+            print(f"{crate} {name}, {len(lines)} lines: {path}")
     bytes_ = [it for it in files if it[0] in GRAMMAR or f"{it[0]} {it[1]}" in GRAMMAR]
     rest = [it for it in files if it not in bytes_]
     lines = ["| Crate | Files of its `specs` | Lines |", "|---|---|---|", *rows(rest, "the headline"), *rows(bytes_, "and that a frame is bytes, and where a cut one is refused")]
+    lines += ["", "| Crate | Types of the code, with their models | Lines |", "|---|---|---|", *type_rows(used)]
     text = "\n".join(lines) + "\n"
     page = open(PAGE, encoding="utf-8").read()
-    new = re.sub(r"\| Crate \| Files .*?\n\n", text.replace("\\", r"\\") + "\n", page, count=1, flags=re.S)
+    new = re.sub(r"\| Crate \| Files .*?\n\n(\| Crate \| Types .*?\n\n)?", text.replace("\\", r"\\") + "\n", page, count=1, flags=re.S)
     if "--check" in sys.argv:
         print("ok" if new == page and text in page else "FAILED: run python3 docs/reading.py")
         sys.exit(0 if new == page and text in page else 1)
