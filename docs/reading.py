@@ -1,6 +1,7 @@
 #!/usr/bin/env python3
-"""Finds what has to be read to believe the headline: the definitions that the clause `headline` of World::step rests on, and writes their
-files and lines into docs/THEOREMS.md: python3 docs/reading.py. With --check it compares, and with --list it prints each definition.
+"""Finds what has to be read to believe the headline: the definitions that the clause `headline` of World::step rests on, and then what the
+laws of progress rest on besides. It writes their files and lines into docs/THEOREMS.md: python3 docs/reading.py. With --check it compares,
+and with --list it prints each definition.
 Blank lines, comments and imports are left out. Standard library alone."""
 import glob
 import os
@@ -10,7 +11,13 @@ import sys
 TOP = os.path.dirname(os.path.dirname(os.path.abspath(__file__)))
 PAGE = f"{TOP}/docs/THEOREMS.md"
 CALL = "crates/lra_world/src/world.rt", "step", "headline"
-CRATES = ["lra_id", "lra_states", "lra_facts", "lra_forest", "lra_history", "lra_index", "lra_replica", "lra_delta", "lra_world"]
+CRATES = ["lra_id", "lra_states", "lra_facts", "lra_forest", "lra_history", "lra_index", "lra_replica", "lra_delta", "lra_peer", "lra_callback", "lra_world", "lra_progress", "lra_book", "lra_trail"]
+# The laws of progress: each row counts what those before it don't.
+PROGRESS = "crates/lra_progress/src/laws.rt"
+LAWS = [("and that nothing is stuck", PROGRESS, ["nothing_is_stuck"]),
+        ("and how it goes on to its end", PROGRESS, ["an_lra_ends_with_its_saga", "an_end_is_accepted", "open_participants_only_get_fewer", "after_so_many_ends_it_has_ended", "what_is_under_way_can_be_ended", "a_tree_goes_on_until_it_is_purged", "a_decided_tree_waits_for_so_many_answers", "a_decided_tree_can_be_purged"]),
+        ("and that one round makes all alike", PROGRESS, ["a_frame_brings_what_its_sender_had", "one_round_makes_all_alike", "a_frame_since_nothing_is_taken"]),
+        ("and so all servers", "crates/lra_trail/src/laws/rounds.rt", ["one_round_makes_all_servers_alike"])]
 # That a frame is bytes, and where a cut one is refused.
 GRAMMAR = {"lra_delta", "lra_facts LinkTexts"}
 NAME = r"[A-Za-z_][A-Za-z0-9_']*"
@@ -70,21 +77,22 @@ def cited(name, lines):
     return set(re.findall(NAME, text)) - variables(name, lines) - {name}
 
 
-def clause():
-    """The text of the clause that is read."""
-    path, function, wanted = CALL
+def clause(path, function, wanted):
+    """The text of a clause that is read, or of a law's whole contract."""
     text = open(f"{TOP}/{path}", encoding="utf-8").read()
     contract = text[text.index(f"fn {function}("):]
+    if not wanted:
+        return contract[:contract.index("\n{}\n")]
     contract = contract[contract.index(f"ensures {wanted} {{"):]
-    return path, contract[:contract.index("}\n")]
+    return contract[:contract.index("}\n")]
 
 
-def reached():
-    """What the clause rests on: each definition by file, and its lines."""
+def reached(path, function, wanted=None):
+    """What the clause or the law rests on: each definition by file, and its lines."""
     files = {os.path.relpath(path, TOP) for path in glob.glob(f"{TOP}/crates/*/specs/*.antt")}
     defined = {path: definitions(path) for path in files}
     known = {path: imports(path) for path in files}
-    path, text = clause()
+    text = clause(path, function, wanted)
     left = [place for name, place in imports(path).items() if re.search(rf"\b{name}\b", text)]
     seen = {}
     while left:
@@ -118,14 +126,26 @@ def rows(files, what):
     yield f"| **{what}** | | **{sum(count for *_, count in files)}** |"
 
 
-def main():
-    files = list(by_file(reached()))
+def show(files):
+    """With --list, each definition."""
     if "--list" in sys.argv:
         for crate, module, names, count in files:
             print(f"{crate} {module}, {count} lines: {', '.join(names)}")
+
+
+def main():
+    seen = reached(*CALL)
+    files = list(by_file(seen))
+    show(files)
     bytes_ = [it for it in files if it[0] in GRAMMAR or f"{it[0]} {it[1]}" in GRAMMAR]
     rest = [it for it in files if it not in bytes_]
     lines = ["| Crate | Files of its `specs` | Lines |", "|---|---|---|", *rows(rest, "the headline"), *rows(bytes_, "and that a frame is bytes, and where a cut one is refused")]
+    for what, path, laws in LAWS:
+        more = {it: text for law in laws for it, text in reached(path, law).items() if it not in seen}
+        seen.update(more)
+        files = list(by_file(more))
+        show(files)
+        lines += rows(files, what)
     text = "\n".join(lines) + "\n"
     page = open(PAGE, encoding="utf-8").read()
     new = re.sub(r"\| Crate \| Files .*?\n\n", text.replace("\\", r"\\") + "\n", page, count=1, flags=re.S)
