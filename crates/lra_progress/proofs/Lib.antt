@@ -8,6 +8,7 @@ mod EndsAccepted
 mod EndsInTheWorld
 mod Entering
 mod Examples
+pub mod FramesEnterNothing  -- frames and restarts leave the history as it was
 mod Hearing
 mod LastInOrder
 mod ListedActs

@@ -1,9 +1,9 @@
 -- A round in the world: each node takes a frame of each other.
-use Rattle.std.specs.Prelude.{◌≡◌, ◌⊎◌, ℕ, List, ◌∷◌, length, map}
+use Rattle.std.specs.Prelude.{◌≡◌, ◌⊎◌, ℕ, Bool, true, false, List, ◌∷◌, length, map}
 use Rattle.lra_history.specs.Histories.{Entry, History}
 use Rattle.lra_delta.specs.declared.version.Version.{Version}
 use Rattle.lra_world.specs.declared.event.Event.{Event}
-use Rattle.lra_world.specs.declared.event.Event.TheVariants.{Deliver, Send}
+use Rattle.lra_world.specs.declared.event.Event.TheVariants.{Act, Deliver, Send, Tick}
 use Rattle.lra_world.specs.declared.event.Reply.{Reply}
 use Rattle.lra_world.specs.declared.event.Reply.TheVariants.{Sent, Took}
 use Rattle.lra_world.specs.Headline.{IsNode}
@@ -26,6 +26,12 @@ pub record HearsOf (from to : ℕ) (events : List Event) (replies : List Reply) 
 -- in these events each node sends a frame to each other, and that takes it
 abbrev pub IsRound : State → List Event → List Reply → Type 0
 IsRound s events replies = (from to : ℕ) → IsNode s from → IsNode s to → (from ≡ to → ⊥) → HearsOf from to events replies
+
+-- only such an event may enter something
+abbrev pub may_enter : Event → Bool
+may_enter (Act node c) = true
+may_enter (Tick node now) = true
+may_enter _ = false
 
 -- the front that counts all that was ever entered
 abbrev pub all_counted : History → List ℕ

@@ -1,6 +1,7 @@
 //! Laws of progress: each function does nothing, and its contract is the law. None speaks of time, and none supposes that anything
 //! is fair.
 ghost use Rattle.std.specs.Prelude.{◌≡◌, ◌⊎◌, ◌≤◌, ◌<◌, ◌+◌, ◌↔◌, ℕ, List, Some, false, is_some, length, replicate, true};
+ghost use Rattle.std.specs.List.{list_any};
 ghost use Rattle.lra_id.specs.Fronts.{IsBelow, count};
 ghost use Rattle.lra_id.specs.Ids.{Id, last_number};
 ghost use Rattle.lra_states.specs.declared.outcome.Outcome.{Outcome as TheOutcome};
@@ -28,7 +29,7 @@ ghost use Rattle.lra_world.specs.Headline.{Agree, IsNode};
 ghost use Rattle.lra_world.specs.Worlds.{IsEncoded, IsWorld, Runs, SentFrame, State, Steps, frame_at, front_of, nodes_of, set_of};
 ghost use Rattle.lra_progress.specs.Calls.{HearsAnEnd, IsActUnder, IsCallUnder, IsUnderWay, answers_left, asks_to_act, open_under, saga_of};
 ghost use Rattle.lra_progress.specs.Ends.{CanEnd, CanPurge, GetAnswered, GoOn, last_state};
-ghost use Rattle.lra_progress.specs.Rounds.{HearsOf, IsRound, all_counted};
+ghost use Rattle.lra_progress.specs.Rounds.{HearsOf, IsRound, all_counted, may_enter};
 
 /// Nothing is stuck. Where an LRA shows Closing or Cancelling, a participant is to be called now, to complete or to compensate. It
 /// is one of this LRA or of one nested in it; or, where an LRA above it is cancelled, one under the topmost of these. That is so of
@@ -172,6 +173,12 @@ pub fn one_round_makes_all_alike()
     ensures agree { (s t : State) (events : List Event) (replies : List Reply) (one other : ℕ) →
         IsWorld s → Runs s events replies t → t.history ≡ s.history → IsRound s events replies →
         IsNode s one → IsNode s other → Agree t one other }
+{}
+
+/// Where no command and no tick comes, nothing is entered: frames and restarts leave the history as it was.
+pub fn frames_enter_nothing()
+    ensures { (s t : State) (events : List Event) (replies : List Reply) →
+        Runs s events replies t → list_any may_enter events ≡ false → t.history ≡ s.history }
 {}
 
 /// Nothing refuses such a round: a frame since nothing is sent whenever it is asked for, and taken wherever it comes whole.

@@ -1,5 +1,6 @@
 -- A trail counts what it took, and gives what it counted; so one round makes all servers alike.
-use Rattle.std.proofs.Common.{◌≡◌, inl, inr, ℕ, List, [], ◌∷◌, sym, ap, subst, ◌∙◌, arith, Option, Some, None, Result, Ok, Err, ◌+◌, length}
+use Rattle.std.proofs.Common.{◌≡◌, inl, inr, ℕ, List, [], ◌∷◌, sym, ap, subst, ◌∙◌, arith, false, Option, Some, None, Result, Ok, Err, ◌+◌, length}
+use Rattle.std.specs.List.{list_any}
 use Rattle.std.specs.Option.{option_map_or}
 use Rattle.lra_id.specs.Fronts.{IsBelow, meet_fronts}
 use Rattle.lra_id.specs.Ids.{Id}
@@ -29,8 +30,9 @@ use Rattle.lra_book.specs.declared.calls.Reply.{Reply}
 use Rattle.lra_book.specs.declared.calls.Reply.TheVariants.{Gave, Took}
 use Rattle.lra_book.specs.Next.{IsNext, IsTakeReply, pull_reply, view_expired}
 use Rattle.lra_book.specs.Trails.{LeadsTo, entry}
-use Rattle.lra_progress.specs.Rounds.{all_counted}
+use Rattle.lra_progress.specs.Rounds.{all_counted, may_enter}
 use Rattle.lra_progress.proofs.AllCounted.{AllHear, counts_all, took_all}
+use Rattle.lra_progress.proofs.FramesEnterNothing.{run_same}
 use Rattle.lra_trail.specs.NodeTrails.{IsServed}
 use Rattle.lra_trail.specs.ServerRounds.{IsServerRound}
 use Rattle.lra_trail.specs.Servers.{AreOneRun, AreTrails, Turn, events_in, trail_at}
@@ -158,3 +160,9 @@ module _ (s t : State) (views ends : ℕ → View) (turns : List Turn) (trails :
   pub servers_alike : (one other : ℕ) → IsNode s one → IsNode s other → ends one ≡ ends other
   servers_alike one other is too =
       (answers_converge s t views ends turns trails).equal one other (took_all s t one other trails.world kept still all_hear is too)
+
+-- without a command and a tick nothing is entered
+pub servers_quiet : (s t : State) (views ends : ℕ → View) (turns : List Turn) → AreTrails s views turns t ends → list_any may_enter (events_in turns) ≡ false → t.history ≡ s.history
+servers_quiet s t views ends turns trails quiet =
+    let run = one_run s t views ends turns trails in
+    run_same s t (events_in turns) run.replies run.runs quiet
