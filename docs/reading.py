@@ -16,7 +16,7 @@ CRATES = ["lra_id", "lra_states", "lra_facts", "lra_forest", "lra_history", "lra
 PROGRESS = "crates/lra_progress/src/laws.rt"
 LAWS = [("and that nothing is stuck", PROGRESS, ["nothing_is_stuck"]),
         ("and how it goes on to its end", PROGRESS, ["an_lra_ends_with_its_saga", "an_end_is_accepted", "open_participants_only_get_fewer", "after_so_many_ends_it_has_ended", "what_is_under_way_can_be_ended", "a_tree_goes_on_until_it_is_purged", "a_decided_tree_waits_for_so_many_answers", "a_decided_tree_can_be_purged"]),
-        ("and that one round makes all alike", PROGRESS, ["a_frame_brings_what_its_sender_had", "one_round_makes_all_alike", "a_frame_since_nothing_is_taken"]),
+        ("and that one round makes all alike", PROGRESS, ["a_frame_brings_what_its_sender_had", "one_round_makes_all_alike", "frames_enter_nothing", "a_frame_since_nothing_is_taken"]),
         ("and so all servers", "crates/lra_trail/src/laws/rounds.rt", ["one_round_makes_all_servers_alike"])]
 # That a frame is bytes, and where a cut one is refused.
 GRAMMAR = {"lra_delta", "lra_facts LinkTexts"}
