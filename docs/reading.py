@@ -1,8 +1,8 @@
 #!/usr/bin/env python3
-"""Finds what has to be read to believe the headline: the definitions that the clause `headline` of World::step rests on, and the types of
-the code that it and they speak of, each with its `impl Model`, which says what a contract sees of a value. It writes their files and
-lines into docs/THEOREMS.md: python3 docs/reading.py. With --check it compares, and with --list it prints each definition and type. Blank
-lines, comments and imports are left out. Standard library alone."""
+"""Finds what has to be read to believe the headline: the definitions that the clause `headline` of World::step rests on, and then what the
+laws of progress rest on besides. With them go the types of the code that these speak of, each with its `impl Model`, which says what a
+contract sees of a value. It writes their files and lines into docs/THEOREMS.md: python3 docs/reading.py. With --check it compares, and
+with --list it prints each definition and type. Blank lines, comments and imports are left out. Standard library alone."""
 import glob
 import os
 import re
@@ -13,7 +13,13 @@ PAGE = f"{TOP}/docs/THEOREMS.md"
 CALL = "crates/lra_world/src/world.rt", "step", "headline"
 # The types of that call: what it is called on, takes and answers.
 TYPES = "World", "Event", "Reply"
-CRATES = ["lra_id", "lra_states", "lra_facts", "lra_forest", "lra_history", "lra_index", "lra_replica", "lra_delta", "lra_world"]
+CRATES = ["lra_id", "lra_states", "lra_facts", "lra_forest", "lra_history", "lra_index", "lra_replica", "lra_delta", "lra_peer", "lra_callback", "lra_world", "lra_progress", "lra_book", "lra_trail"]
+# The laws of progress: each row counts what those before it don't.
+PROGRESS = "crates/lra_progress/src/laws.rt"
+LAWS = [("and that nothing is stuck", PROGRESS, ["nothing_is_stuck"]),
+        ("and how it goes on to its end", PROGRESS, ["an_lra_ends_with_its_saga", "an_end_is_accepted", "open_participants_only_get_fewer", "after_so_many_ends_it_has_ended", "what_is_under_way_can_be_ended", "a_tree_goes_on_until_it_is_purged", "a_decided_tree_waits_for_so_many_answers", "a_decided_tree_can_be_purged"]),
+        ("and that one round makes all alike", PROGRESS, ["a_frame_brings_what_its_sender_had", "one_round_makes_all_alike", "frames_enter_nothing", "a_frame_since_nothing_is_taken"]),
+        ("and so all servers", "crates/lra_trail/src/laws/rounds.rt", ["one_round_makes_all_servers_alike"])]
 # That a frame is bytes, and where a cut one is refused.
 GRAMMAR = {"lra_delta", "lra_facts LinkTexts"}
 NAME = r"[A-Za-z_][A-Za-z0-9_']*"
@@ -73,13 +79,14 @@ def cited(name, lines):
     return set(re.findall(NAME, text)) - variables(name, lines) - {name}
 
 
-def clause():
-    """The text of the clause that is read."""
-    path, function, wanted = CALL
+def clause(path, function, wanted):
+    """The text of a clause that is read, or of a law's whole contract."""
     text = open(f"{TOP}/{path}", encoding="utf-8").read()
     contract = text[text.index(f"fn {function}("):]
+    if not wanted:
+        return contract[:contract.index("\n{}\n")]
     contract = contract[contract.index(f"ensures {wanted} {{"):]
-    return path, contract[:contract.index("}\n")]
+    return contract[:contract.index("}\n")]
 
 
 def block(lines, head):
@@ -133,15 +140,16 @@ def declared(path, lines):
             yield crate, module.removesuffix(".TheVariants").split(".")[-1]
 
 
-def reached():
-    """What the clause rests on: each definition by file with its lines, and each type by crate with its file and lines."""
+def reached(path, function, wanted=None, named=()):
+    """What the clause or the law rests on: each definition by file with its lines, and each type by crate with its file and lines. A
+    clause speaks of the types of its call too, which are named."""
     files = {os.path.relpath(path, TOP) for path in glob.glob(f"{TOP}/crates/*/specs/*.antt")}
     defined = {path: definitions(path) for path in files}
     known = {path: imports(path) for path in files}
-    path, text = clause()
+    text = clause(path, function, wanted)
     left = [place for name, place in imports(path).items() if re.search(rf"\b{name}\b", text)]
     seen, all_types, used = {}, types(), {}
-    asked = [it for name in TYPES for it in types_named(path, name, all_types)]
+    asked = [it for name in named for it in types_named(path, name, all_types)]
     while left or asked:
         if asked:
             it = asked.pop()
@@ -192,17 +200,31 @@ def type_rows(used):
     yield f"| **what these speak of** | | **{sum(len(lines) for _, lines in used.values())}** |"
 
 
-def main():
-    seen, used = reached()
-    files = list(by_file(seen))
+def show(files, used):
+    """With --list, each definition and type."""
     if "--list" in sys.argv:
         for crate, module, names, count in files:
             print(f"{crate} {module}, {count} lines: {', '.join(names)}")
         for (crate, name), (path, lines) in sorted(used.items()):
             print(f"{crate} {name}, {len(lines)} lines: {path}")
+
+
+def main():
+    seen, used = reached(*CALL, TYPES)
+    files = list(by_file(seen))
+    show(files, used)
     bytes_ = [it for it in files if it[0] in GRAMMAR or f"{it[0]} {it[1]}" in GRAMMAR]
     rest = [it for it in files if it not in bytes_]
     lines = ["| Crate | Files of its `specs` | Lines |", "|---|---|---|", *rows(rest, "the headline"), *rows(bytes_, "and that a frame is bytes, and where a cut one is refused")]
+    for what, path, laws in LAWS:
+        found = [reached(path, law) for law in laws]
+        more = {it: text for definitions_, _ in found for it, text in definitions_.items() if it not in seen}
+        types_ = {it: text for _, own in found for it, text in own.items() if it not in used}
+        seen.update(more)
+        used.update(types_)
+        files = list(by_file(more))
+        show(files, types_)
+        lines += rows(files, what)
     lines += ["", "| Crate | Types of the code, with their models | Lines |", "|---|---|---|", *type_rows(used)]
     text = "\n".join(lines) + "\n"
     page = open(PAGE, encoding="utf-8").read()

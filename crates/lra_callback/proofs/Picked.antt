@@ -105,7 +105,7 @@ errand_so S (Call a) d act wanted = subst (λ (b : Act). errand_of (kind_from S 
     by CompensateAct false = refl
 
 -- what is made of a participant of which something is due is a duty
-there : (home : ℕ) (S : List Fact) (errand : Errand) (d : Due) → IsDueAt home S (due_by errand) d → IsOn home S errand (duty_from S errand d)
+pub there : (home : ℕ) (S : List Fact) (errand : Errand) (d : Due) → IsDueAt home S (due_by errand) d → IsOn home S errand (duty_from S errand d)
 there home S errand d due =
     record {
       duty = record {

@@ -75,10 +75,10 @@ one_first P (Some x) (Some y) home h k = ap (λ z. Some z) (same_due x y (home x
 
 -- The facts
 
-abbrev TellsOf : (List Fact → Id → ℕ → Bool) → List Fact → Id → List Fact → Due → Type 0
+abbrev pub TellsOf : (List Fact → Id → ℕ → Bool) → List Fact → Id → List Fact → Due → Type 0
 TellsOf due S l facts d = (f : Fact) × In f facts × (due_by due S l f.body ≡ Some d)
 
-least_first : (due : List Fact → Id → ℕ → Bool) (S : List Fact) (l : Id) (facts : List Fact) → IsFirst (TellsOf due S l facts) is_before (least_due due S facts l)
+pub least_first : (due : List Fact → Id → ℕ → Bool) (S : List Fact) (l : Id) (facts : List Fact) → IsFirst (TellsOf due S l facts) is_before (least_due due S facts l)
 least_first due S l [] = λ x p. p.1
 least_first due S l (f ∷ facts) = by (due_by due S l f.body) refl (least_due due S facts l) (least_first due S l facts)
   where
@@ -119,7 +119,7 @@ pub record IsDueBeneath (due : List Fact → Id → ℕ → Bool) (S : List Fact
 abbrev pub IsOfParticipants : (List Fact → Id → ℕ → Bool) → List Fact → Type 0
 IsOfParticipants due S = (l : Id) (m : ℕ) → due S l m ≡ true → is_participant S l m ≡ true
 
-told_is : (due : List Fact → Id → ℕ → Bool) (S : List Fact) (l : Id) (body : Body) (d : Due) → due_by due S l body ≡ Some d → IsDueBeneath due S l d
+pub told_is : (due : List Fact → Id → ℕ → Bool) (S : List Fact) (l : Id) (body : Body) (d : Due) → due_by due S l body ≡ Some d → IsDueBeneath due S l d
 told_is due S l (Join k m links) d e = by (is_under S l k && due S k m) refl e
   where
     by : (b : Bool) → (is_under S l k && due S k m) ≡ b → cond b (Some (record { lra = k; member = m })) None ≡ Some d → IsDueBeneath due S l d

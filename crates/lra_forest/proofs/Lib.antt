@@ -42,13 +42,13 @@ mod OwedMembers  -- those of an LRA's members that owe something
 pub mod DutiesOfAHome  -- the lists of a home are all that is due, in order
 pub mod LeastDutyUnderARoot  -- the least of what is due under a root
 -- ---- Saga order: who is to compensate next
-mod Paths  -- the path of a participant from an LRA that it is under
+pub mod Paths  -- the path of a participant from an LRA that it is under
 mod LaterPaths  -- the lexicographic order of paths
 mod GreatestByPath  -- the greatest of those with a property
 mod LastInAWalk  -- the last element of a walk at which something is found
 mod LastPending  -- the walk finds the last participant that is pending
-mod SagaOrder  -- the last that is pending is the one that is due
-mod CompensationUnderAnLra  -- what is due to compensate under one LRA
+pub mod SagaOrder  -- the last that is pending is the one that is due
+pub mod CompensationUnderAnLra  -- what is due to compensate under one LRA
 mod CompensationsByRecord  -- the compensations that are due, record by record
 pub mod CompensationsOfAHome  -- the list of a home is all that is due to compensate
 -- ---- Merge is a join: what is taken of another node's records

@@ -5,7 +5,7 @@ pub mod Basics  -- small facts that several files use
 pub mod ElementsByHome  -- the elements of a flat list by their homes
 mod Prefixes  -- facts in order of numbers: when one list is the first part of another
 pub mod ListsWithOneMore  -- a list with one more element
-mod SameChains  -- when two sets have the same chains
+pub mod SameChains  -- when two sets have the same chains
 -- ---- Fronts count sets
 pub mod CountedByFronts  -- the front of a set with one more fact, and of none
 pub mod Covered  -- what is begun is covered
@@ -23,7 +23,7 @@ pub mod ViewReplies  -- what a view replies is what its set does
 pub mod ReplyOrRefusal  -- the reply where a command is refused, and where it is accepted
 pub mod AcceptedCommands  -- what a node knows of a command that it accepts
 -- ---- A prepared patch adds exactly its fact
-mod LeftAsItWas  -- what one more fact leaves as it was
+pub mod LeftAsItWas  -- what one more fact leaves as it was
 pub mod OneMemberChanged  -- one member changed
 mod NewRecords  -- the record of a new LRA
 mod FactsOfRecords  -- the record that a decision, a join or a begin names
@@ -46,9 +46,9 @@ pub mod MergeIsAJoin  -- the merge is a join
 pub mod TellingAll  -- to take all that is told of a view is to merge it
 pub mod ViewsHaveShape  -- the views of closed sets have the shape
 -- ---- Statuses only rise; no split verdict
-mod Ranks  -- ranks rise as more is heard and wanted
+pub mod Ranks  -- ranks rise as more is heard and wanted
 pub mod RanksRise  -- the rank of what an LRA shows rises with the facts
-mod Decisions  -- what a home enters of an LRA that wants something; an LRA is decided once
+pub mod Decisions  -- what a home enters of an LRA that wants something; an LRA is decided once
 pub mod SplitVerdicts  -- where two sets differ, an ancestor was cancelled
 mod EndsStay  -- what is at its end stays there
 -- ---- Computed for a reader, and cited by nothing

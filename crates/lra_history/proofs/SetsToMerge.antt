@@ -167,7 +167,7 @@ told_link J v node (Forgot id n) l m given e = absurd cc
 told_link J v node (Purge root) l m given e = absurd cc
 
 -- two joins of one member are one
-joins_once : (S : List Fact) (f g : Fact) (l : Id) (m : ℕ) (a b : Links) → IsSeated S → In f S → f.body ≡ Join l m a → In g S → g.body ≡ Join l m b → a ≡ b
+pub joins_once : (S : List Fact) (f g : Fact) (l : Id) (m : ℕ) (a b : Links) → IsSeated S → In f S → f.body ≡ Join l m a → In g S → g.body ≡ Join l m b → a ≡ b
 joins_once S f g l m a b seated k joins n also =
     let x = seat_of S l f seated k (join_gives l m a f.body joins) in
     let y = seat_of S l g seated n (join_gives l m b g.body also) in

@@ -1,4 +1,6 @@
 //! Laws of a node in the world: each function does nothing, and its contract is the law.
+pub mod rounds;
+
 ghost use Rattle.std.specs.Prelude.{◌≡◌, ◌≤◌, ◌⊎◌, ℕ, List, Ok, Some, length};
 ghost use Rattle.lra_id.specs.Ids.{Id};
 ghost use Rattle.lra_states.specs.declared.status.LraStatus.{LraStatus};

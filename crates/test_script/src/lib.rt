@@ -18,6 +18,8 @@ mod nesting;
 #[cfg(test)]
 mod nodes;
 #[cfg(test)]
+mod progress;
+#[cfg(test)]
 mod purging;
 #[cfg(test)]
 mod scripts;

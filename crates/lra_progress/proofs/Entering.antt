@@ -1,0 +1,66 @@
+-- a node of the world enters a command that it accepts
+use Rattle.std.proofs.Common.{◌≡◌, ◌≤◌, ◌+◌, ◌-◌, ℕ, List, [], refl, sym, ap, subst, ◌∙◌, Bool, arith, get_or-set_same, length}
+use Rattle.lra_id.specs.Fronts.{count}
+use Rattle.lra_facts.specs.declared.fact.Fact.{Fact}
+use Rattle.lra_history.specs.declared.command.Command.{Command}
+use Rattle.lra_history.specs.Changes.{raised}
+use Rattle.lra_history.specs.Growth.{IsMore}
+use Rattle.lra_history.specs.Histories.{Entry, History, facts, with_entry}
+use Rattle.lra_history.specs.NodeViews.{IsCurrent, entry_for}
+use Rattle.lra_history.specs.Replies.{Accepted, Judgement, body_for, judge}
+use Rattle.lra_history.proofs.CountedByFronts.{raised_here}
+use Rattle.lra_history.proofs.OneMoreEntry.{one_more}
+use Rattle.lra_world.specs.declared.event.Event.TheVariants.{Act}
+use Rattle.lra_world.specs.declared.event.Reply.TheVariants.{Answered}
+use Rattle.lra_world.specs.Headline.{IsNode}
+use Rattle.lra_world.specs.Worlds.{Acts, IfNode, IsWorld, State, Steps, front_of, if_taken, reply_at, set_of, with_command}
+use Rattle.lra_world.proofs.Moving.{IsKeptBy, step_keeps}
+use Rattle.lra_progress.proofs.NeverRefused.{node_is}
+
+-- the state after it: the node's set has one fact more
+pub record HasEntered (s : State) (node : ℕ) (c : Command) : Type 0 where
+  pub state : State
+  pub is : state ≡ with_command s node c
+  pub steps : Steps s (Act node c) (Answered (reply_at s node c)) state
+  pub kept : IsKeptBy s state
+  pub counts : count (front_of state node) node ≡ count (front_of s node) node + 1
+  pub more : IsMore (record { origin = node; num = count (front_of s node) node + 1; body = body_for (set_of s node) c }) (set_of s node) (set_of state node)
+
+pub entering : (s : State) (node : ℕ) (c : Command) → IsWorld s → IsNode s node → judge (set_of s node) (front_of s node) node c ≡ Accepted → HasEntered s node c
+entering s node c world is taken =
+    record {
+      state = t;
+      is = refl;
+      steps = steps;
+      kept = step_keeps s t (Act node c) (Answered (reply_at s node c)) world steps;
+      counts = ap (λ (u : List ℕ). count u node) front ∙ raised_here v node is.some short;
+      more = subst (λ (T : List Fact). IsMore (record { origin = node; num = count v node + 1; body = body_for (set_of s node) c }) (set_of s node) T) (sym (ap (facts longer) front))
+          (one_more s.history v node e is.some is.there mine.closed mine.own);
+    }
+  where
+    v : List ℕ
+    v = front_of s node
+
+    mine : IsCurrent s.history node v
+    mine = world.current node is.some is.there
+
+    e : Entry
+    e = entry_for s.history v c
+
+    longer : History
+    longer = with_entry s.history node e
+
+    t : State
+    t = with_command s node c
+
+    acts : Acts s node c (Answered (reply_at s node c)) t
+    acts = (refl, sym (ap (λ (j : Judgement). if_taken j s t) taken))
+
+    steps : Steps s (Act node c) (Answered (reply_at s node c)) t
+    steps = subst (λ (b : Bool). IfNode b s (Acts s node c (Answered (reply_at s node c)) t) (Answered (reply_at s node c)) t) (sym (node_is s node is)) acts
+
+    short : node ≤ length v
+    short = omega (arith, is.there, mine.closed.nodes)
+
+    front : front_of t node ≡ raised v node
+    front = get_or-set_same s.fronts (node - 1) (raised v node) [] (omega (arith, is.some, is.there, world.nodes))

@@ -1,0 +1,38 @@
+-- A round in the world: each node takes a frame of each other.
+use Rattle.std.specs.Prelude.{◌≡◌, ◌⊎◌, ℕ, Bool, true, false, List, ◌∷◌, length, map}
+use Rattle.lra_history.specs.Histories.{Entry, History}
+use Rattle.lra_delta.specs.declared.version.Version.{Version}
+use Rattle.lra_world.specs.declared.event.Event.{Event}
+use Rattle.lra_world.specs.declared.event.Event.TheVariants.{Act, Deliver, Send, Tick}
+use Rattle.lra_world.specs.declared.event.Reply.{Reply}
+use Rattle.lra_world.specs.declared.event.Reply.TheVariants.{Sent, Took}
+use Rattle.lra_world.specs.Headline.{IsNode}
+use Rattle.lra_world.specs.Worlds.{State}
+
+-- the event is one of these, with this reply
+abbrev pub Occurs : Event → Reply → List Event → List Reply → Type 0
+Occurs event reply (e ∷ events) (r ∷ replies) = ((e ≡ event) × (r ≡ reply)) ⊎ Occurs event reply events replies
+Occurs event reply _ _ = ⊥
+
+-- one node sends a frame in these events, and the other takes it
+pub record HearsOf (from to : ℕ) (events : List Event) (replies : List Reply) : Type 0 where
+  pub base : List ℕ
+  pub version : Version
+  pub number : ℕ
+  pub kept : ℕ
+  pub sends : Occurs (Send from base version) (Sent number) events replies
+  pub takes : Occurs (Deliver number to kept) Took events replies
+
+-- in these events each node sends a frame to each other, and that takes it
+abbrev pub IsRound : State → List Event → List Reply → Type 0
+IsRound s events replies = (from to : ℕ) → IsNode s from → IsNode s to → (from ≡ to → ⊥) → HearsOf from to events replies
+
+-- only such an event may enter something
+abbrev pub may_enter : Event → Bool
+may_enter (Act node c) = true
+may_enter (Tick node now) = true
+may_enter _ = false
+
+-- the front that counts all that was ever entered
+abbrev pub all_counted : History → List ℕ
+all_counted h = map (λ (entries : List Entry). length entries) h
