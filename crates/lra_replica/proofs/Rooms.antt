@@ -1,8 +1,9 @@
 -- One home of a replica changed: its records and its room.
-use Rattle.std.proofs.Common.{◌≡◌, ◌≤◌, ◌<◌, ◌+◌, ◌-◌, ◌==◌, ℕ, zero, suc, List, [], ◌∷◌, refl, sym, ap, subst, ◌∙◌, Bool, true, false, cond, arith, Some, length, map, get_or, slice_get, set, filter}
+use Rattle.std.proofs.Common.{◌≡◌, inl, inr, ◌≤◌, ◌<◌, ◌+◌, ◌-◌, ◌==◌, ℕ, zero, suc, List, [], ◌∷◌, refl, sym, ap, subst, ◌∙◌, Bool, true, false, cond, arith, Some, length, map, get_or, slice_get, set, filter}
+use Rattle.std.proofs.lemmas.Bool.{cases_lt}
 use Rattle.std.proofs.lemmas.Bool.Decides.{nat_tests}
 use Rattle.std.proofs.lemmas.List.{map-set, length-set, get_or-map}
-use Rattle.std.proofs.lemmas.Option.{slice_get-get_or}
+use Rattle.std.proofs.lemmas.Option.{slice_get-get_or, slice_get_past}
 use Rattle.std.proofs.Math.Seq.{map-set_same}
 use Rattle.std.specs.List.{AllByRecursion}
 use Rattle.lra_forest.specs.declared.record.Record.{Record}
@@ -132,3 +133,24 @@ keeps_on a b c first then = record {
   homes = λ home some. omega (arith, first.homes home some, then.homes home some);
   index = omega (arith, first.index, then.index);
 }
+
+-- Little room
+
+-- a home that isn't there has none
+pub spare_past : (homes : List HomeRecords) (home : ℕ) → length homes < home → spare_at homes home ≤ 16
+spare_past homes home past = let none = slice_get_past homes (home - 1) (omega (arith, past)) in rw none (omega arith)
+
+-- one home more has little
+pub spare_next : (old new : List HomeRecords) (place : ℕ) → ((home : ℕ) → 1 ≤ home → home ≤ place → spare_at old home ≤ 16) → spare_at new (place + 1) ≤ 16
+    → ((home : ℕ) → 1 ≤ home → (home ≡ place + 1 → ⊥) → spare_at new home ≡ spare_at old home) → (home : ℕ) → 1 ≤ home → home ≤ place + 1 → spare_at new home ≤ 16
+spare_next old new place so_far own others home some high = elim (cases_lt place home) [
+  | inl last ↦ let is : place + 1 ≡ home = omega (arith, last, high) in subst (λ (h : ℕ). spare_at new h ≤ 16) is own
+  | inr before ↦ omega (arith, others home some (λ is. omega (arith, is, before)), so_far home some before)
+]
+
+-- so all have, once each of them has
+pub spare_all : (homes : List HomeRecords) (place : ℕ) → length homes ≤ place → ((home : ℕ) → 1 ≤ home → home ≤ place → spare_at homes home ≤ 16) → (home : ℕ) → 1 ≤ home → spare_at homes home ≤ 16
+spare_all homes place all so_far home some = elim (cases_lt place home) [
+  | inl past ↦ spare_past homes home (omega (arith, past, all))
+  | inr within ↦ so_far home some within
+]

@@ -57,6 +57,10 @@ pub record IsReplicaState (kept : ReplicaState) : Type 0 where
 abbrev pub spare_at : List HomeRecords → ℕ → ℕ
 spare_at homes home = option_map_or (λ (h : HomeRecords). h.spare) (slice_get homes (home - 1)) 0
 
+-- at each home there is room for 16 records more at most
+abbrev pub HasLittleRoom : ReplicaState → Type 0
+HasLittleRoom kept = (home : ℕ) → 1 ≤ home → spare_at kept.homes home ≤ 16
+
 -- there is as much room at each home and in the index as there was, or more: a patch that fitted fits still
 pub record KeepsRoom (before after : ReplicaState) : Type 0 where
   pub homes : (home : ℕ) → 1 ≤ home → spare_at before.homes home ≤ spare_at after.homes home

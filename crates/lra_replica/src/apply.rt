@@ -1,5 +1,5 @@
 // Making a patch's changes.
-ghost use Rattle.std.specs.Prelude.{◌≡◌, ◌≤◌, ◌<◌, ◌+◌, ◌==◌, None, Some, ℕ, if◌then◌else◌, length};
+ghost use Rattle.std.specs.Prelude.{◌≡◌, ◌≢◌, ◌≤◌, ◌<◌, ◌+◌, ◌==◌, None, Some, ℕ, if◌then◌else◌, length};
 ghost use Rattle.std.specs.List.{AllByRecursion};
 ghost use Rattle.std.specs.Option.{option_map};
 ghost use Rattle.lra_id.specs.Ids.{Id};
@@ -7,7 +7,7 @@ ghost use Rattle.lra_forest.specs.declared.record.Record.{Record as RecordFields
 ghost use Rattle.lra_forest.specs.Forests.{AreOf, id_of};
 ghost use Rattle.lra_forest.specs.Shape.{found_at};
 ghost use Rattle.lra_index.specs.Indexes.{with_stamps};
-ghost use Rattle.lra_replica.specs.Replicas.{AreHomesFrom, Fits, KeepsRoom, count_of_home, records_in, spare_at, stamps_in, view_of};
+ghost use Rattle.lra_replica.specs.Replicas.{AreHomesFrom, Fits, HasLittleRoom, KeepsRoom, count_of_home, records_in, spare_at, stamps_in, view_of};
 ghost use Rattle.lra_history.specs.Changes.{patched, put_at_home, put_each, remove_each, remove_at_home};
 
 use crate::{Patch, Replica};
@@ -75,10 +75,11 @@ fn remove_among(homes: &mut Vec<Forest>, id: LraId) -> Option<Front>
 impl Replica {
     /// Makes a patch's changes. The patch was prepared on the present view, and the room that was made for it is there: so
     /// this takes no memory and always succeeds. It costs an insertion for each record, and one in the index for each of its
-    /// stamps that changes. Then it gives back the room that is left of each home, but for one page.
+    /// stamps that changes. Then it gives back the room that is left of each home, but for one page: 16 records at most.
     pub fn apply(&mut self, patch: Patch)
         requires { Fits patch self.old }
-        ensures { view_of self.new ≡ patched patch (view_of self.old) }
+        ensures view { view_of self.new ≡ patched patch (view_of self.old) }
+        ensures room { HasLittleRoom self.new }
     {
         let Patch {
             records,
@@ -150,8 +151,10 @@ impl Replica {
         self.index.reindex(home, num, was, Some(stamps));
     }
 
+    #[tactic(auto, using(crate::proofs::Rooms::spare_next, crate::proofs::Rooms::spare_all))]
     fn release(&mut self)
-        ensures { view_of self.new ≡ view_of self.old }
+        ensures view { view_of self.new ≡ view_of self.old }
+        ensures room { HasLittleRoom self.new }
     {
         for place in 0..self.homes.len() {
             self.release_at(place);
@@ -163,6 +166,8 @@ impl Replica {
         ensures view { view_of self.new ≡ view_of self.old }
         ensures homes { length self.new.homes ≡ length self.old.homes }
         ensures room { spare_at self.new.homes (place + 1) ≤ 16 }
+        ensures others { (home : ℕ) → 1 ≤ home → home ≢ place + 1 →
+            spare_at self.new.homes home ≡ spare_at self.old.homes home }
     {
         self.homes[place].release();
     }
