@@ -8,7 +8,8 @@ import sys
 TOP = os.path.dirname(os.path.dirname(os.path.abspath(__file__)))
 PAGE = f"{TOP}/docs/CALLS.md"
 REFUSES = {"refused", "cause", "err", "error", "missing", "long", "fault", "gap", "nodes", "place", "unbroken", "streams", "memory", "other",
-           "told", "said", "busy", "failed", "exact", "answer", "next", "says", "taken", "found", "entered", "served"}
+           "told", "said", "busy", "failed", "exact", "answer", "next", "says", "taken", "found", "entered", "served", "stop", "known", "calls",
+           "needs"}
 STAYS = {"unchanged", "kept", "err", "back", "state", "crash_refused", "part", "memory", "error", "streams", "stays"}
 HEAD = """# Every public call, and its clauses
 
@@ -23,6 +24,18 @@ Made by `python3 docs/calls.py` from the code; laws, which do nothing, stand in 
 IGNORED = {"test_answers", "test_calls", "test_server", "test_script"}
 
 
+def contract_of(lines, first):
+    """The lines of a function from this one to its body. Without a contract the body begins at the end of a line, else on its own."""
+    has_contract = False
+    for i in range(first, len(lines)):
+        has_contract = has_contract or bool(re.match(r"\s*(ensures|requires|ghost)\b", lines[i]))
+        if re.match(r"\s*\{(\s*\})?$", lines[i]):
+            return lines[first:i]
+        if not has_contract and re.search(r"(\{|\{\}|;)$", lines[i]):
+            return [*lines[first:i], re.sub(r"\s*(\{|\{\}|;)$", "", lines[i])]
+    return lines[first:]
+
+
 def calls_of(path):
     """Each public function of a file: its type or none, its name, its result, whether it changes something, its clauses."""
     owner = None
@@ -33,9 +46,7 @@ def calls_of(path):
         found = re.match(r"^\s*pub fn (\w+)", line)
         if not found:
             continue
-        text = "\n".join(lines[i:i + 60])
-        end = re.search(r"\n\s*\{\s*(\n|\})|\{\}", text)
-        text = text[:end.start()] if end else text
+        text = "\n".join(contract_of(lines, i))
         signature = re.split(r"\n\s*(?:ensures|requires|ghost|//)", text)[0]
         result = re.search(r"->\s*(.+?)\s*\{?$", " ".join(signature.split()))
         clauses = re.findall(r"ensures\*?(?: (\w+))? ?\{", text)

@@ -6,12 +6,14 @@ ghost use Rattle.std.specs.Prelude.{ℕ, List, MatchOption, map, string_bytes};
 
 use log::sink::Console;
 use log::{Level, Logged};
+use lra_http::{OverRead, OverWrite};
 use lra_id::MAX_NODES;
-use lra_script::{arguments, code_of, node_of, play};
+use lra_script::{Ended, arguments, code_of, node_of, play};
 use lra_server::{Folder, serve};
 use sqlite::Start;
 use std::fs::File;
 use std::process::ExitCode;
+use std::{env, io};
 
 const USAGE: &str = "usage: lra_node script N | serve N PORT DIR";
 
@@ -24,17 +26,27 @@ const LAST_PORT: u16 = 65_528;
 /// Runs a server until standard input ends, or plays a script over standard input. Each gives its exit status, as `serve` and
 /// `play` say. Where the arguments ask for something else it ends with 2, and the usage.
 fn main(rt: HostRuntime) -> ExitCode {
-    let Ok(words) = arguments(&rt) else {
+    let Ok(given) = env::args(&rt) else {
+        return ExitCode::from(1);
+    };
+    let Ok(words) = arguments(rt.alloc(), given) else {
         return ExitCode::from(1);
     };
     let Some((nodes, port)) = asked_server(&words) else {
-        return ExitCode::from(play(&rt, &words, USAGE));
+        return ExitCode::from(played(&rt, &words).status());
     };
     let _held = (hold(&rt), hold(&rt), hold(&rt));
     let logged = Logged::new(&rt, Level::Warn, Console(&rt));
     let folder = folder_of(rt, words);
     let (alloc, input) = (rt.alloc(), rt.reader());
     ExitCode::from(serve(&rt, &logged, rt, alloc, nodes, port, &folder, input))
+}
+
+/// Plays a script from standard input to standard output.
+fn played(rt: &HostRuntime, words: &[String]) -> Ended {
+    let mut reader = OverRead::new(rt.reader());
+    let mut writer = OverWrite::new(io::writer(rt));
+    play(rt, words, USAGE, &mut reader, &mut writer)
 }
 
 /// Opens nothing, so that no connection gets the number of a standard stream that was closed before the start: what is written to

@@ -1,9 +1,12 @@
--- What the arguments of a program that plays scripts ask for.
+-- What the arguments of a program that plays scripts ask for, and how that ended.
 use Rattle.std.specs.Prelude.{◌≡◌, ◌≤◌, ◌⊎◌, ℕ, List, [], ◌∷◌, codes}
 use Rattle.std.specs.Fmt.{decimal}
 use Rattle.lra_http.specs.Streams.{Calls, GivenBytes, TakenBytes}
+use Rattle.lra_script.specs.declared.course.ScriptFault.TheVariants.{Read}
+use Rattle.lra_script.specs.declared.playing.Ended.{Ended}
+use Rattle.lra_script.specs.declared.playing.Ended.TheVariants.{NotAsked, Ran, Stopped}
 use Rattle.lra_script.specs.Asks.{IsNodeOf}
-use Rattle.lra_script.specs.ScriptEnds.{HasRun, WritesPart}
+use Rattle.lra_script.specs.ScriptEnds.{AnswersWhole, HasRun, HasStopped, WritesPart}
 
 -- a script of so many nodes
 abbrev pub asked_words : ℕ → List (List ℕ)
@@ -13,14 +16,22 @@ asked_words nodes = codes "script" ∷ decimal nodes ∷ []
 abbrev pub AskScript : List (List ℕ) → ℕ → Type 0
 AskScript words nodes = IsNodeOf 8 nodes × (words ≡ asked_words nodes)
 
--- how a script of so many nodes ended, by the exit status: it has run to the end of its input, or what it wrote is a part of that
-abbrev pub EndsWith : (old new : GivenBytes) (before after : TakenBytes) (reads_before reads writes_before writes : Calls) → (nodes status : ℕ) → Type 0
-EndsWith old new before after reads_before reads writes_before writes nodes status =
-    ((status ≡ 0) × HasRun nodes old new before after reads_before reads writes_before writes)
-    ⊎ ((status ≡ 1) × WritesPart nodes old new before after)
+-- The exit status of a program that ended so
+abbrev pub status_of : Ended → ℕ
+status_of Ran = 0
+status_of (Stopped fault) = 1
+status_of NotAsked = 2
 
--- what is asked has ended so; or nothing is asked, the status is 2 and nothing was touched
-abbrev pub IsRunOf : (asked : ℕ → Type 0) (ends : ℕ → ℕ → Type 0) (untouched : Type 0) → (status : ℕ) → Type 0
-IsRunOf asked ends untouched status =
-    ((nodes : ℕ) × asked nodes × ends nodes status)
-    ⊎ (((nodes : ℕ) → asked nodes → ⊥) × (status ≡ 2) × untouched)
+-- A script of so many nodes ended so. It has run to the end of its input. Or it stopped at a fault that has its cause, and what it
+-- wrote is a part of what such a run writes; after a read fault every line that was given whole is answered whole
+abbrev pub EndsWith : (old new : GivenBytes) (before after : TakenBytes) (reads_before reads writes_before writes : Calls) (untouched : Type 0) → (nodes : ℕ) → Ended → Type 0
+EndsWith old new before after reads_before reads writes_before writes untouched nodes Ran = HasRun nodes old new before after reads_before reads writes_before writes
+EndsWith old new before after reads_before reads writes_before writes untouched nodes (Stopped fault) =
+    WritesPart nodes old new before after × (fault ≡ Read → AnswersWhole nodes old new before after) × HasStopped reads_before reads writes_before writes untouched fault
+EndsWith old new before after reads_before reads writes_before writes untouched nodes NotAsked = ⊥
+
+-- what is asked has ended so; or nothing is asked, and nothing was touched
+abbrev pub IsRunOf : (asked : ℕ → Type 0) (ends : Type 0 → ℕ → Ended → Type 0) (untouched : Type 0) → Ended → Type 0
+IsRunOf asked ends untouched ended =
+    ((nodes : ℕ) × asked nodes × ends untouched nodes ended)
+    ⊎ (((nodes : ℕ) → asked nodes → ⊥) × (ended ≡ NotAsked) × untouched)

@@ -13,5 +13,5 @@ mod telling;
 mod words;
 
 pub use course::{ScriptFault, script};
-pub use playing::{arguments, asked_nodes, play, run};
+pub use playing::{Ended, arguments, asked_nodes, play, run};
 pub use words::{code_of, node_of};

@@ -20,8 +20,8 @@ use Rattle.lra_history.specs.Next.{next_view, overdue_on, reply_on}
 use Rattle.lra_history.specs.Views.{StandsFor, View, records_at}
 use Rattle.lra_history.proofs.Covered.{nested_settled}
 use Rattle.lra_delta.specs.Frames.{Frame, IsFrame, frame_of}
-use Rattle.lra_delta.specs.Rules.{IsDelta, IsDeltaAs, are_counts}
-use Rattle.lra_delta.specs.Encoding.{encoding, encoding_as}
+use Rattle.lra_delta.specs.Rules.{IsDeltaAs, are_counts}
+use Rattle.lra_delta.specs.Encoding.{encoding_as}
 use Rattle.lra_delta.specs.declared.version.Version.{Version}
 use Rattle.lra_delta.specs.declared.version.Version.TheVariants.{Two}
 use Rattle.lra_delta.proofs.FramesOfHistories.{take_law}
@@ -38,12 +38,12 @@ use Rattle.lra_book.specs.declared.calls.Call.TheVariants.{Command as Enter, Tak
 use Rattle.lra_book.specs.declared.calls.Reply.{Reply as BookReply}
 use Rattle.lra_book.specs.declared.calls.Reply.TheVariants.{Command as Entered, Took, Gave}
 use Rattle.lra_book.specs.Next.{IsNext, IsTakeReply, Takes, expire_reply, expired, pull_reply, view_expired}
-use Rattle.lra_trail.specs.NodeTrails.{IsServed, IsTold, Says, WasSent, event_by, is_accepted, node_of}
+use Rattle.lra_trail.specs.NodeTrails.{Arrival, IsServed, IsTold, IsToldAs, Says, WasSent, event_by, is_accepted, node_of}
 use Rattle.lra_trail.proofs.KeptFrames.{last_numbered}
 use Rattle.lra_trail.proofs.OwnCommands.{Holds, at_node, command_holds, current_of, nodes_in, reply_is, settled_of, there_in, unless_accepted}
 
 -- it is nothing, or an event that is replied as the entry says; and then the node holds what its next view is of
-pub data Means (me : ℕ) (s : State) (frame now : ℕ) (call : Call) (reply : BookReply) (b : View) : Type 0 where
+pub data Means (me : ℕ) (s : State) (frame : Arrival) (now : ℕ) (call : Call) (reply : BookReply) (b : View) : Type 0 where
   Nothing : event_by me frame now call reply ≡ None → Holds me s b → Means me s frame now call reply b
   Something : (event : Event) (is : Reply) (t : State) → event_by me frame now call reply ≡ Some event → node_of event ≡ me → Steps s event is t → Says t reply is → Holds me t b
       → Means me s frame now call reply b
@@ -53,7 +53,7 @@ as_it_was me s a b served same = subst (Holds me s) (sym same) served.holds
 
 -- Commands
 
-entered_means : (me : ℕ) (s : State) (frame now : ℕ) (a b : View) (c : Command) (reply : BookReply) → IsServed me s a → reply ≡ Entered (reply_on a me c) → b ≡ next_view a me c → Means me s frame now (Enter c) reply b
+entered_means : (me : ℕ) (s : State) (frame : Arrival) (now : ℕ) (a b : View) (c : Command) (reply : BookReply) → IsServed me s a → reply ≡ Entered (reply_on a me c) → b ≡ next_view a me c → Means me s frame now (Enter c) reply b
 entered_means me s frame now a b c reply served is next =
     subst (λ (r : BookReply). Means me s frame now (Enter c) r b) (sym (is ∙ ap (λ r. Entered r) (reply_is me s a c served))) (by (is_accepted (reply_at s me c)) refl)
   where
@@ -76,7 +76,7 @@ overdue_of me s now a served =
     overdue_said (length a.front) me (set_of s me) (records_at a.records me) now own.order settled.whole (nested_settled (set_of s me) settled)
     (all_from IsNumbered (set_of s me) settled.numbered) own.stands
 
-expired_means : (me : ℕ) (s : State) (frame now : ℕ) (a b : View) (l : Id) → IsServed me s a → IsLeastOverdue (set_of s me) me now (Some l) → b ≡ next_view a me (Decide l Cancel)
+expired_means : (me : ℕ) (s : State) (frame : Arrival) (now : ℕ) (a b : View) (l : Id) → IsServed me s a → IsLeastOverdue (set_of s me) me now (Some l) → b ≡ next_view a me (Decide l Cancel)
     → (r : CommandReply) → reply_at s me (Decide l Cancel) ≡ r → Means me s frame now Expire (expired l r) b
 expired_means me s frame now a b l served least next = by
   where
@@ -104,7 +104,7 @@ expired_means me s frame now a b l served least next = by
     by Told e = Something (Tick me now) (DidExpire l) t refl refl (ticks Told e refl) refl holds
     by Purged e = Something (Tick me now) (DidExpire l) t refl refl (ticks Purged e refl) refl holds
 
-expiry_means : (me : ℕ) (s : State) (frame now : ℕ) (a b : View) (late : Option Id) → IsServed me s a → IsLeastOverdue (set_of s me) me now late → b ≡ view_expired a me late
+expiry_means : (me : ℕ) (s : State) (frame : Arrival) (now : ℕ) (a b : View) (late : Option Id) → IsServed me s a → IsLeastOverdue (set_of s me) me now late → b ≡ view_expired a me late
     → Means me s frame now Expire (expire_reply a me late) b
 expiry_means me s frame now a b None served least next = Nothing refl (as_it_was me s a b served next)
 expiry_means me s frame now a b (Some l) served least next =
@@ -114,22 +114,25 @@ expiry_means me s frame now a b (Some l) served least next =
 -- Frames that are taken
 
 -- what a frame tells is what its bytes encode
-pub encoded_in_two : (s : State) (number : ℕ) (delta : Frame) (told : IsTold s number delta) → IsDelta delta → IsEncoded s.history told.sent (encoding delta)
-encoded_in_two s number delta told rules =
+pub encoded_as : (v : Version) (s : State) (number : ℕ) (delta : Frame) (told : IsToldAs v s number delta) → IsDeltaAs v delta → IsEncoded s.history told.sent (encoding_as v delta)
+encoded_as v s number delta told rules =
     record {
       view = told.view;
       sender = told.sender;
-      rules = subst (λ (v : Version). IsDeltaAs v (frame_of told.view told.sent.base)) (sym told.version) (subst IsDelta told.told rules);
-      encodes = ap encoding told.told ∙ ap (λ (v : Version). encoding_as v (frame_of told.view told.sent.base)) (sym told.version);
+      rules = subst (λ (w : Version). IsDeltaAs w (frame_of told.view told.sent.base)) (sym told.version) (subst (IsDeltaAs v) told.told rules);
+      encodes = ap (encoding_as v) told.told ∙ ap (λ (w : Version). encoding_as w (frame_of told.view told.sent.base)) (sym told.version);
     }
 
-took_means : (me : ℕ) (s : State) (frame now : ℕ) (a b : View) (delta : Frame) → IsServed me s a → Takes a delta b → IsTold s frame delta → IsDelta delta → Means me s frame now (Take delta) Took b
+took_means : (me : ℕ) (s : State) (frame : Arrival) (now : ℕ) (a b : View) (delta : Frame) → IsServed me s a → Takes a delta b → IsToldAs frame.version s frame.number delta → IsDeltaAs frame.version delta
+    → Means me s frame now (Take delta) Took b
 took_means me s frame now a b delta served takes told spelt =
-    Something (Deliver frame me (length (encoding delta))) DidTake t refl refl
-    (at_node s t me (Comes s me (frame_at s frame) (length (encoding delta)) DidTake t) DidTake served.node comes) refl holds
+    Something (Deliver frame.number me (length bytes)) DidTake t refl refl (at_node s t me (Comes s me (frame_at s frame.number) (length bytes) DidTake t) DidTake served.node comes) refl holds
   where
     v : List ℕ
     v = front_of s me
+
+    bytes : List ℕ
+    bytes = encoding_as frame.version delta
 
     sent : SentFrame
     sent = told.sent
@@ -149,16 +152,14 @@ took_means me s frame now a b delta served takes told spelt =
     below : IsBelow sent.base v
     below = subst (λ (u : List ℕ). IsBelow sent.base u) served.holds.counts (subst (λ (u : List ℕ). IsBelow u a.front) base takes.reached)
 
-    encoded : IsEncoded s.history sent (encoding delta)
-    encoded = encoded_in_two s frame delta told spelt
+    encoded : IsEncoded s.history sent bytes
+    encoded = encoded_as frame.version s frame.number delta told spelt
 
-    comes : Comes s me (frame_at s frame) (length (encoding delta)) DidTake t
-    comes =
-        subst (λ (o : Option SentFrame). Comes s me o (length (encoding delta)) DidTake t) (sym told.numbered)
-        (encoding delta, encoded, inr (inr (inr (refl, below, refl, refl))))
+    comes : Comes s me (frame_at s frame.number) (length bytes) DidTake t
+    comes = subst (λ (o : Option SentFrame). Comes s me o (length bytes) DidTake t) (sym told.numbered) (bytes, encoded, inr (inr (inr (refl, below, refl, refl))))
 
     from : IsClosed s.history sent.front
-    from = (served.world.sent sent (frame_in s frame sent told.numbered)).closed
+    from = (served.world.sent sent (frame_in s frame.number sent told.numbered)).closed
 
     tells : IsFrame (facts s.history sent.front) sent.base delta
     tells = subst (IsFrame (facts s.history sent.front) sent.base) (sym told.told) (frame_stands (facts s.history sent.front) told.view sent.base told.sender.stands)
@@ -179,7 +180,7 @@ took_means me s frame now a b delta served takes told spelt =
         subst (λ (u : List ℕ). IsViewOf s.history u b) (sym is_front)
         (record { stands = stands; counts = takes.taken.front ∙ ap (λ (u : List ℕ). join_fronts u delta.front) served.holds.counts ∙ ap (join_fronts v) front })
 
-take_means : (me : ℕ) (s : State) (frame now : ℕ) (a b : View) (delta : Frame) (reply : BookReply) → IsServed me s a → IsTakeReply a delta reply b → WasSent s frame (Take delta) reply
+take_means : (me : ℕ) (s : State) (frame : Arrival) (now : ℕ) (a b : View) (delta : Frame) (reply : BookReply) → IsServed me s a → IsTakeReply a delta reply b → WasSent s frame (Take delta) reply
     → Means me s frame now (Take delta) reply b
 take_means me s frame now a b delta reply served (inl (is, takes)) sent =
     let was = subst (WasSent s frame (Take delta)) is sent in
@@ -212,7 +213,7 @@ meet_nodes [] w e = refl
 meet_nodes (a ∷ v) [] e = absurd cc
 meet_nodes (a ∷ v) (b ∷ w) e = ap suc (meet_nodes v w (omega (arith, e)))
 
-gave_means : (me : ℕ) (s : State) (frame now : ℕ) (a b : View) (body asker : List ℕ) → IsServed me s a → length asker ≡ length a.front → b ≡ a
+gave_means : (me : ℕ) (s : State) (frame : Arrival) (now : ℕ) (a b : View) (body asker : List ℕ) → IsServed me s a → length asker ≡ length a.front → b ≡ a
     → Means me s frame now (Pull body) (Gave (frame_of a (meet_fronts asker a.front))) b
 gave_means me s frame now a b body asker served nodes same =
     Something (Send me base Two) (Sent number) t refl refl (at_node s t me (Sends s me base Two (Sent number) t) (Sent number) served.node sends) (number, refl, told) (as_it_was me s a b served same)
@@ -242,14 +243,14 @@ gave_means me s frame now a b body asker served nodes same =
     told : IsTold t number (frame_of a base)
     told = record { sent = added; numbered = last_numbered s.sent added number refl; version = refl; view = a; sender = served.holds; told = refl }
 
-pull_means : (me : ℕ) (s : State) (frame now : ℕ) (a b : View) (body : List ℕ) (o : Result (List ℕ) Refusal) → IsServed me s a → asked (length a.front) body ≡ o → b ≡ a
+pull_means : (me : ℕ) (s : State) (frame : Arrival) (now : ℕ) (a b : View) (body : List ℕ) (o : Result (List ℕ) Refusal) → IsServed me s a → asked (length a.front) body ≡ o → b ≡ a
     → Means me s frame now (Pull body) (pull_reply a o) b
 pull_means me s frame now a b body (Ok asker) served asks same = gave_means me s frame now a b body asker served (asked_nodes (length a.front) body asker asks) same
 pull_means me s frame now a b body (Err refusal) served asks same = Nothing refl (as_it_was me s a b served same)
 
 -- Every entry
 
-pub entry_means : (me : ℕ) (s : State) (frame now : ℕ) (a b : View) (call : Call) (reply : BookReply) → IsServed me s a → IsNext me a call now reply b → WasSent s frame call reply
+pub entry_means : (me : ℕ) (s : State) (frame : Arrival) (now : ℕ) (a b : View) (call : Call) (reply : BookReply) → IsServed me s a → IsNext me a call now reply b → WasSent s frame call reply
     → Means me s frame now call reply b
 entry_means me s frame now a b (Enter c) reply served (is, next) sent = entered_means me s frame now a b c reply served is next
 entry_means me s frame now a b (Take delta) reply served takes sent = take_means me s frame now a b delta reply served takes sent

@@ -1,6 +1,6 @@
 -- What a short trail is in the world.
 use Rattle.std.proofs.Common.{◌≡◌, [], ◌∷◌, refl, None}
-use Rattle.std.specs.Prelude.{List}
+use Rattle.std.specs.Prelude.{List, length}
 use Rattle.lra_id.specs.Ids.{Id}
 use Rattle.lra_states.specs.declared.outcome.Verdict.TheVariants.{Close}
 use Rattle.lra_states.specs.declared.status.LraStatus.TheVariants.{Closed}
@@ -8,13 +8,14 @@ use Rattle.lra_facts.specs.declared.refusal.Refusal.TheVariants.{NotHeld}
 use Rattle.lra_history.specs.declared.command.Command.TheVariants.{Begin, Decide}
 use Rattle.lra_history.specs.declared.command.CommandReply.TheVariants.{Began, Refused as NotEntered}
 use Rattle.lra_delta.specs.Frames.{Frame}
-use Rattle.lra_delta.specs.declared.version.Version.TheVariants.{Two}
-use Rattle.lra_world.specs.declared.event.Event.TheVariants.{Act, Restart, Send, Tick}
-use Rattle.lra_world.specs.declared.event.Reply.TheVariants.{Restarted}
-use Rattle.lra_book.specs.declared.calls.Call.TheVariants.{Command as Enter, Pull, Status, Expire}
-use Rattle.lra_book.specs.declared.calls.Reply.TheVariants.{Command as Entered, Gave, Shown, Expired, Quiet}
+use Rattle.lra_delta.specs.Encoding.{encoding_as}
+use Rattle.lra_delta.specs.declared.version.Version.TheVariants.{One, Two}
+use Rattle.lra_world.specs.declared.event.Event.TheVariants.{Act, Deliver, Restart, Send, Tick}
+use Rattle.lra_world.specs.declared.event.Reply.TheVariants.{Restarted, Sent}
+use Rattle.lra_book.specs.declared.calls.Call.TheVariants.{Command as Enter, Pull, Status, Take, Expire}
+use Rattle.lra_book.specs.declared.calls.Reply.TheVariants.{Command as Entered, Gave, Shown, Expired, Quiet, Took}
 use Rattle.lra_book.specs.Trails.{entry}
-use Rattle.lra_trail.specs.NodeTrails.{Elsewhere, Here, Item, events_of}
+use Rattle.lra_trail.specs.NodeTrails.{Arrival, Elsewhere, Here, Item, events_of}
 
 abbrev one : Id
 one = record { home = 1; num = 1 }
@@ -25,17 +26,34 @@ other = record { home = 1; num = 7 }
 abbrev frame : Frame
 frame = record { base = 0 ∷ 0 ∷ []; front = 2 ∷ 0 ∷ []; purges = 0 ∷ 0 ∷ []; live = None ∷ None ∷ []; records = [] ∷ [] ∷ [] }
 
+-- beside what takes no frame
+abbrev nothing : Arrival
+nothing = record { number = 0; version = Two }
+
 abbrev items : List Item
 items =
-    Here (entry (Enter (Begin None 9)) 5 (Entered (Began one 0))) 0
+    Here (entry (Enter (Begin None 9)) 5 (Entered (Began one 0))) nothing
     ∷ Elsewhere (Restart 2) Restarted
-    ∷ Here (entry (Enter (Decide other Close)) 6 (Entered (NotEntered NotHeld))) 0
-    ∷ Here (entry Expire 7 Quiet) 0
-    ∷ Here (entry Expire 9 (Expired one)) 0
-    ∷ Here (entry (Pull []) 9 (Gave frame)) 0
-    ∷ Here (entry (Status one) 9 (Shown one Closed)) 0
+    ∷ Here (entry (Enter (Decide other Close)) 6 (Entered (NotEntered NotHeld))) nothing
+    ∷ Here (entry Expire 7 Quiet) nothing
+    ∷ Here (entry Expire 9 (Expired one)) nothing
+    ∷ Here (entry (Pull []) 9 (Gave frame)) nothing
+    ∷ Here (entry (Status one) 9 (Shown one Closed)) nothing
     ∷ []
 
 -- what is refused, quiet or a question is no event
 happened : events_of 1 items ≡ Act 1 (Begin None 9) ∷ Restart 2 ∷ Tick 1 9 ∷ Send 1 (0 ∷ 0 ∷ []) Two ∷ []
 happened = refl
+
+-- a frame that was sent in version 1 is taken as its bytes of version 1 come, and one in version 2 as those of version 2
+abbrev arrivals : List Item
+arrivals =
+    Elsewhere (Send 2 (0 ∷ 0 ∷ []) One) (Sent 1)
+    ∷ Here (entry (Take frame) 5 Took) (record { number = 1; version = One })
+    ∷ Elsewhere (Send 2 (0 ∷ 0 ∷ []) Two) (Sent 2)
+    ∷ Here (entry (Take frame) 6 Took) (record { number = 2; version = Two })
+    ∷ []
+
+arrived : events_of 1 arrivals
+    ≡ Send 2 (0 ∷ 0 ∷ []) One ∷ Deliver 1 1 (length (encoding_as One frame)) ∷ Send 2 (0 ∷ 0 ∷ []) Two ∷ Deliver 2 1 (length (encoding_as Two frame)) ∷ []
+arrived = refl

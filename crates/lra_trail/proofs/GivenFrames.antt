@@ -6,10 +6,10 @@ use Rattle.lra_facts.specs.declared.refusal.Refusal.{Refusal}
 use Rattle.lra_history.specs.Views.{View}
 use Rattle.lra_delta.specs.Frames.{Frame, frame_of}
 use Rattle.lra_delta.specs.Grammar.{IsOfGrammar}
-use Rattle.lra_delta.specs.Rules.{IsDelta}
-use Rattle.lra_delta.specs.Encoding.{encoding}
+use Rattle.lra_delta.specs.Rules.{IsDelta, IsDeltaAs}
+use Rattle.lra_delta.specs.Encoding.{encoding_as}
 use Rattle.lra_delta.specs.Typed.{IsTyped}
-use Rattle.lra_delta.specs.declared.version.Version.TheVariants.{Two}
+use Rattle.lra_delta.specs.declared.version.Version.{Version}
 use Rattle.lra_delta.proofs.FrameCodes.{one_delta}
 use Rattle.lra_delta.proofs.Grammar.{grammar_law}
 use Rattle.lra_delta.proofs.HaveEncodings.{is_delta}
@@ -19,20 +19,21 @@ use Rattle.lra_book.specs.declared.calls.Call.TheVariants.{Pull}
 use Rattle.lra_book.specs.declared.calls.Reply.{Reply}
 use Rattle.lra_book.specs.declared.calls.Reply.TheVariants.{Gave}
 use Rattle.lra_book.specs.Next.{IsNext, pull_reply}
-use Rattle.lra_trail.specs.NodeTrails.{IsServed, IsTold}
-use Rattle.lra_trail.proofs.Entries.{asked_nodes, encoded_in_two, meet_nodes}
+use Rattle.lra_trail.specs.NodeTrails.{IsServed, IsToldAs}
+use Rattle.lra_trail.proofs.Entries.{asked_nodes, encoded_as, meet_nodes}
 use Rattle.lra_trail.proofs.OwnCommands.{current_of}
 
 -- what a frame tells is what its bytes encode
 
-pub told_encoded : (s : State) (number : ℕ) (delta : Frame) → IsDelta delta → IsTold s number delta
-    → (sent : SentFrame) × (frame_at s number ≡ Some sent) × IsEncoded s.history sent (encoding delta)
-told_encoded s number delta rules told =
-    (told.sent, told.numbered, encoded_in_two s number delta told rules)
+pub told_encoded : (v : Version) (s : State) (number : ℕ) (delta : Frame) → IsDeltaAs v delta → IsToldAs v s number delta
+    → (sent : SentFrame) × (frame_at s number ≡ Some sent) × IsEncoded s.history sent (encoding_as v delta)
+told_encoded v s number delta rules told =
+    (told.sent, told.numbered, encoded_as v s number delta told rules)
 
-pub encoded_told : (s : State) (number : ℕ) (sent : SentFrame) (delta : Frame) → IsDelta delta → frame_at s number ≡ Some sent → IsEncoded s.history sent (encoding delta) → IsTold s number delta
-encoded_told s number sent delta rules numbered encoded =
-    let one = one_delta Two sent.version delta (frame_of encoded.view sent.base) [] [] rules encoded.rules (ap (λ (bytes : List ℕ). bytes ++ []) encoded.encodes) in
+pub encoded_told : (v : Version) (s : State) (number : ℕ) (sent : SentFrame) (delta : Frame) → IsDeltaAs v delta → frame_at s number ≡ Some sent → IsEncoded s.history sent (encoding_as v delta)
+    → IsToldAs v s number delta
+encoded_told v s number sent delta rules numbered encoded =
+    let one = one_delta v sent.version delta (frame_of encoded.view sent.base) [] [] rules encoded.rules (ap (λ (bytes : List ℕ). bytes ++ []) encoded.encodes) in
     record {
       sent = sent;
       numbered = numbered;

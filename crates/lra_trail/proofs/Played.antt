@@ -19,7 +19,7 @@ use Rattle.lra_book.specs.declared.calls.Reply.{Reply as BookReply}
 use Rattle.lra_book.specs.declared.calls.Reply.TheVariants.{Command as Entered, Took, Gave, Shown, ShownMember, Listed, Due, Quiet, Expired, Refused}
 use Rattle.lra_book.specs.Next.{IsFoundBehind, IsNext}
 use Rattle.lra_book.specs.Trails.{LeadsTo, entry}
-use Rattle.lra_trail.specs.NodeTrails.{AreReplies, Elsewhere, Follows, Happen, Here, IsPlayed, IsReplied, IsRun, IsServed, IsTold, Item, Leaves, Says, WasSent, event_of, events_of, node_of, trail_of, with_event}
+use Rattle.lra_trail.specs.NodeTrails.{AreReplies, Arrival, Elsewhere, Follows, Happen, Here, IsPlayed, IsReplied, IsRun, IsServed, IsTold, Item, Leaves, Says, WasSent, event_of, events_of, node_of, trail_of, with_event}
 use Rattle.lra_trail.proofs.AtOtherNodes.{node_still, served_still}
 use Rattle.lra_trail.proofs.Entries.{Means, Nothing, Something, entry_means}
 use Rattle.lra_trail.proofs.KeptFrames.{run_told}
@@ -91,7 +91,7 @@ something_meant me s a b reply event is u mid served own steps says holds (other
           (is ∷ left, (u, steps, runs), (is, refl, says_still u t reply is (λ number delta told. run_told u t events left number delta kept.world runs told) says));
     })
 
-pub entry_meant : (me : ℕ) (s : State) (frame : ℕ) (a b : View) (entry : Entry) (mid : State) → IsServed me s a → IsNext me a entry.call entry.moment entry.reply b
+pub entry_meant : (me : ℕ) (s : State) (frame : Arrival) (a b : View) (entry : Entry) (mid : State) → IsServed me s a → IsNext me a entry.call entry.moment entry.reply b
     → WasSent s frame entry.call entry.reply → Follows s (event_of me frame entry) mid → IsMeant me s (event_of me frame entry) entry.reply mid b
 entry_meant me s frame a b entry mid served next sent follows = by (entry_means me s frame entry.moment a b entry.call entry.reply served next sent)
   where
@@ -156,7 +156,7 @@ played_runs me s t a b items played =
 
 -- An entry can happen
 
-pub entry_happens : (me : ℕ) (s : State) (a b : View) (entry : Entry) (frame : ℕ) → IsServed me s a → IsNext me a entry.call entry.moment entry.reply b → WasSent s frame entry.call entry.reply
+pub entry_happens : (me : ℕ) (s : State) (a b : View) (entry : Entry) (frame : Arrival) → IsServed me s a → IsNext me a entry.call entry.moment entry.reply b → WasSent s frame entry.call entry.reply
     → (t : State) × Follows s (event_of me frame entry) t
 entry_happens me s a b entry frame served next sent = by (entry_means me s frame entry.moment a b entry.call entry.reply served next sent)
   where
@@ -166,7 +166,7 @@ entry_happens me s a b entry frame served next sent = by (entry_means me s frame
 
 -- A call whose answer was lost
 
-pub lost_answer : (me : ℕ) (s : State) (a b found : View) (entry : Entry) (frame : ℕ) → IsServed me s a → IsNext me a entry.call entry.moment entry.reply b → WasSent s frame entry.call entry.reply
+pub lost_answer : (me : ℕ) (s : State) (a b found : View) (entry : Entry) (frame : Arrival) → IsServed me s a → IsNext me a entry.call entry.moment entry.reply b → WasSent s frame entry.call entry.reply
     → (found ≡ a) ⊎ (found ≡ b) → (t : State) × ((t ≡ s) ⊎ Follows s (event_of me frame entry) t) × IsServed me t found
 lost_answer me s a b found entry frame served next sent (inl same) = (s, inl refl, subst (IsServed me s) (sym same) served)
 lost_answer me s a b found entry frame served next sent (inr same) =
@@ -174,7 +174,7 @@ lost_answer me s a b found entry frame served next sent (inr same) =
     let meant = entry_meant me s frame a b entry went.0 served next sent went.1 in
     (went.0, inr went.1, subst (IsServed me went.0) (sym same) meant.served)
 
-pub found_answer : (me : ℕ) (s : State) (a found : View) (asked : Call) (now frame : ℕ) → IsServed me s a → ((reply : BookReply) → IsNext me a asked now reply found → WasSent s frame asked reply)
+pub found_answer : (me : ℕ) (s : State) (a found : View) (asked : Call) (now : ℕ) (frame : Arrival) → IsServed me s a → ((reply : BookReply) → IsNext me a asked now reply found → WasSent s frame asked reply)
     → IsFoundBehind me a asked now found → (t : State) × ((t ≡ s) ⊎ IsReplied me s a asked now frame found t) × IsServed me t found
 found_answer me s a found asked now frame served sent (inl same) = (s, inl refl, subst (IsServed me s) (sym same) served)
 found_answer me s a found asked now frame served sent (inr it) =
@@ -188,7 +188,7 @@ module _ (rules : (h : History) (v : List ℕ) (view : View) → IsLawful h → 
   pub held_rules : (me : ℕ) (s : State) (a : View) → IsServed me s a → length a.front ≤ 8 → AreTyped a → KeepsRules a
   held_rules me s a served few typed = rules s.history (front_of s me) a served.world.lawful (served.world.current me served.node.some served.node.there).closed served.holds.stands few typed
 
-  pub next_rules : (me now frame : ℕ) (s : State) (a b : View) (call : Call) (reply : BookReply) → IsServed me s a → IsNext me a call now reply b → WasSent s frame call reply
+  pub next_rules : (me now : ℕ) (frame : Arrival) (s : State) (a b : View) (call : Call) (reply : BookReply) → IsServed me s a → IsNext me a call now reply b → WasSent s frame call reply
       → length b.front ≤ 8 → AreTyped b → KeepsRules b
   next_rules me now frame s a b call reply served next sent few typed =
       let went = entry_happens me s a b (entry call now reply) frame served next sent in

@@ -12,13 +12,13 @@ use Rattle.lra_book.specs.declared.calls.Entry.{Entry}
 use Rattle.lra_book.specs.declared.calls.Reply.TheVariants.{Shown}
 use Rattle.lra_book.specs.Next.{IsNext}
 use Rattle.lra_book.specs.Trails.{LeadsTo}
-use Rattle.lra_trail.specs.NodeTrails.{Follows, IsServed, Leaves, WasSent, event_of, with_event}
+use Rattle.lra_trail.specs.NodeTrails.{Arrival, Follows, IsServed, Leaves, WasSent, event_of, with_event}
 
--- what happens next: the next entry of a node's trail, with the number of the frame where it takes one
+-- what happens next: the next entry of a node's trail, with the frame that came where it takes one
 pub record Turn : Type 0 where
   pub node : ℕ
   pub entry : Entry
-  pub frame : ℕ
+  pub frame : Arrival
 
 -- the trail of a node
 abbrev pub trail_at : ℕ → List Turn → List Entry

@@ -7,8 +7,9 @@ ghost use Rattle.lra_states.specs.declared.status.LraStatus.{LraStatus};
 ghost use Rattle.lra_states.specs.declared.status.MemberStatus.{MemberStatus};
 ghost use Rattle.lra_history.specs.Views.{StandsFor, View, empty_view};
 ghost use Rattle.lra_delta.specs.Frames.{Frame};
-ghost use Rattle.lra_delta.specs.Rules.{IsDelta};
-ghost use Rattle.lra_delta.specs.Encoding.{encoding};
+ghost use Rattle.lra_delta.specs.Rules.{IsDelta, IsDeltaAs};
+ghost use Rattle.lra_delta.specs.Encoding.{encoding_as};
+ghost use Rattle.lra_delta.specs.declared.version.Version.{Version};
 ghost use Rattle.lra_delta.specs.Typed.{IsTyped};
 ghost use Rattle.lra_world.specs.Headline.{IsNode, member_at, shown_at};
 ghost use Rattle.lra_world.specs.Worlds.{IsEncoded, IsWorld, SentFrame, State, frame_at, front_of, nodes_of, set_of, start};
@@ -21,7 +22,7 @@ ghost use Rattle.lra_book.specs.Next.{IsFoundBehind, IsNext};
 ghost use Rattle.lra_book.specs.OfSets.{IsReplyOf};
 ghost use Rattle.lra_trail.specs.Servers.{AnswersConverge, AreOneRun, AreTrails, Turn};
 ghost use Rattle.lra_journal.specs.Ruled.{AreTyped, KeepsRules};
-ghost use Rattle.lra_trail.specs.NodeTrails.{Follows, IsPlayed, IsReplied, IsRun, IsServed, IsTold, Item, WasSent, event_of};
+ghost use Rattle.lra_trail.specs.NodeTrails.{Arrival, Follows, IsPlayed, IsReplied, IsRun, IsServed, IsToldAs, Item, WasSent, event_of};
 
 use lra_journal::laws::views_of_a_history_keep_the_rules;
 
@@ -33,9 +34,9 @@ pub fn a_trail_is_a_run_of_the_world()
         IsPlayed me s a items t b → IsRun me s items t b }
 {}
 
-/// An entry that is legal next can always happen next in the world, where a frame that it takes was sent.
+/// An entry that is legal next can always happen next in the world, where a frame that it takes was sent, in either version.
 pub fn an_entry_can_happen()
-    ensures { (me : ℕ) (s : State) (a b : View) (entry : Entry) (frame : ℕ) → IsServed me s a →
+    ensures { (me : ℕ) (s : State) (a b : View) (entry : Entry) (frame : Arrival) → IsServed me s a →
         IsNext me a entry.call entry.moment entry.reply b → WasSent s frame entry.call entry.reply →
         (t : State) × Follows s (event_of me frame entry) t }
 {}
@@ -44,11 +45,11 @@ pub fn an_entry_can_happen()
 /// before the call, or what it holds behind it, the call is no event in the world, or the one that its entry is; and the node is served
 /// by what was found. That a start finds nothing else is the law `a_start_finds_the_records_before_or_after` of `lra_book`.
 pub fn a_lost_answer_is_at_most_one_event()
-    ensures entry { (me : ℕ) (s : State) (a b found : View) (entry : Entry) (frame : ℕ) →
+    ensures entry { (me : ℕ) (s : State) (a b found : View) (entry : Entry) (frame : Arrival) →
         IsServed me s a → IsNext me a entry.call entry.moment entry.reply b →
         WasSent s frame entry.call entry.reply → (found ≡ a) ⊎ (found ≡ b) → (t : State)
         × ((t ≡ s) ⊎ Follows s (event_of me frame entry) t) × IsServed me t found }
-    ensures found { (me : ℕ) (s : State) (a found : View) (asked : Call) (now frame : ℕ) →
+    ensures found { (me : ℕ) (s : State) (a found : View) (asked : Call) (now : ℕ) (frame : Arrival) →
         IsServed me s a →
         ((reply : Reply) → IsNext me a asked now reply found → WasSent s frame asked reply) →
         IsFoundBehind me a asked now found → (t : State)
@@ -60,7 +61,7 @@ pub fn a_lost_answer_is_at_most_one_event()
 pub fn what_a_node_holds_keeps_the_rules()
     ensures held { (me : ℕ) (s : State) (a : View) →
         IsServed me s a → length a.front ≤ 8 → AreTyped a → KeepsRules a }
-    ensures next { (me now frame : ℕ) (s : State) (a b : View) (call : Call) (reply : Reply) →
+    ensures next { (me now : ℕ) (frame : Arrival) (s : State) (a b : View) (call : Call) (reply : Reply) →
         IsServed me s a → IsNext me a call now reply b → WasSent s frame call reply →
         length b.front ≤ 8 → AreTyped b → KeepsRules b }
 {
@@ -91,15 +92,15 @@ pub fn a_view_that_stands_is_served()
         IsNode s me → length a.front ≡ nodes_of s → StandsFor (set_of s me) a → IsServed me s a }
 {}
 
-/// A frame that a node gives can be taken by another. What a frame tells is what its bytes encode; and what a node gives has a
-/// encoding, where its types say that its numbers and texts fit.
+/// A frame that a node gives can be taken by another. What a frame tells is what its bytes encode, in the version in which it was
+/// sent; and what a node gives has an encoding, where its types say that its numbers and texts fit.
 pub fn a_frame_that_is_given_can_be_taken()
-    ensures encoded { (s : State) (number : ℕ) (delta : Frame) →
-        IsDelta delta → IsTold s number delta → (sent : SentFrame)
-        × (frame_at s number ≡ Some sent) × IsEncoded s.history sent (encoding delta) }
-    ensures told { (s : State) (number : ℕ) (sent : SentFrame) (delta : Frame) →
-        IsDelta delta → frame_at s number ≡ Some sent →
-        IsEncoded s.history sent (encoding delta) → IsTold s number delta }
+    ensures encoded { (v : Version) (s : State) (number : ℕ) (delta : Frame) →
+        IsDeltaAs v delta → IsToldAs v s number delta → (sent : SentFrame)
+        × (frame_at s number ≡ Some sent) × IsEncoded s.history sent (encoding_as v delta) }
+    ensures told { (v : Version) (s : State) (number : ℕ) (sent : SentFrame) (delta : Frame) →
+        IsDeltaAs v delta → frame_at s number ≡ Some sent →
+        IsEncoded s.history sent (encoding_as v delta) → IsToldAs v s number delta }
     ensures given { (me now : ℕ) (s : State) (a b : View) (body : List ℕ) (delta : Frame) →
         IsServed me s a →
         IsNext me a (Pull body) now (Gave delta) b → IsTyped delta → IsDelta delta }

@@ -2,7 +2,7 @@
 ghost use Rattle.std.specs.Prelude.{◌≤◌};
 
 use lra_http::{OverRead, OverWrite};
-use lra_script::{ScriptFault, asked_nodes, script};
+use lra_script::{Ended, ScriptFault, asked_nodes, script};
 use std::alloc::{AllocError, Global};
 use std::test::Fail;
 
@@ -191,12 +191,12 @@ fn words_of(alloc: Global, text: &str) -> Result<Vec<String>, Fail> {
     Ok(words)
 }
 
-/// The exit status of a program with these words that is given an input, and what it writes.
-fn ended(alloc: Global, words: &[String], input: &[u8]) -> (u8, Vec<u8>) {
+/// How a program with these words ends that is given an input, and what it writes.
+fn ended(alloc: Global, words: &[String], input: &[u8]) -> (Ended, Vec<u8>) {
     let mut reader = OverRead::new(input);
     let mut writer = OverWrite::new(Vec::new(alloc));
-    let status = lra_script::run(alloc, words, &mut reader, &mut writer);
-    (status, writer.into_inner())
+    let ended = lra_script::run(alloc, words, &mut reader, &mut writer);
+    (ended, writer.into_inner())
 }
 
 #[test]
@@ -215,8 +215,9 @@ fn words_that_ask_for_no_script_end_with_2(rt: HostRuntime) -> Result<(), Fail> 
     ] {
         let words = words_of(alloc, text)?;
         assert_eq!(rt; asked_nodes(&words), None);
-        let (status, text) = ended(alloc, &words, b"begin 1 0");
-        assert_eq!(rt; status, 2);
+        let (ended, text) = ended(alloc, &words, b"begin 1 0");
+        assert_eq!(rt; ended, Ended::NotAsked);
+        assert_eq!(rt; ended.status(), 2);
         assert!(rt; text.is_empty());
     }
     Ok(())
@@ -228,8 +229,9 @@ fn a_script_that_is_asked_for_ends_with_0(rt: HostRuntime) -> Result<(), Fail> {
     for (text, nodes) in [("script 1", 1), ("script 8", 8)] {
         let words = words_of(alloc, text)?;
         assert_eq!(rt; asked_nodes(&words), Some(nodes));
-        let (status, text) = ended(alloc, &words, b"begin 1 0");
-        assert_eq!(rt; status, 0);
+        let (ended, text) = ended(alloc, &words, b"begin 1 0");
+        assert_eq!(rt; ended, Ended::Ran);
+        assert_eq!(rt; ended.status(), 0);
         assert!(rt; text.as_slice() == b"began 1.1\n".as_slice());
     }
     Ok(())
