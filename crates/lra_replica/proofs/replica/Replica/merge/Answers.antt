@@ -10,7 +10,7 @@ use Rattle.lra_history.proofs.TellingAll.{absorbed_from, merged_from}
 use Rattle.lra_replica.proofs.replica.Replica.merge.Goals as goal
 
 new_view : (c : goal.After-apply) → patched c.in-Ok.patch (view_of c.args.self.now) ≡ view_of c.apply.new.self
-new_view c = sym (c.apply.ensures ∙ ap (patched c.in-Ok.patch) c.in-Ok.ensures.view)
+new_view c = sym (c.apply.ensures.view ∙ ap (patched c.in-Ok.patch) c.in-Ok.ensures.view)
 
 made : (c : goal.After-apply) → IsMerged (view_of c.args.self.now) (view_of c.args.other.now) (view_of c.apply.new.self)
 made c =
