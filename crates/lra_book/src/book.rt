@@ -10,8 +10,9 @@ ghost use Rattle.lra_replica.specs.Replicas.{Fits, view_of};
 ghost use Rattle.lra_book.specs.Books.{IsBegun, IsEntered, IsEnded, IsLegal, IsNotBegun, IsNotEntered, IsOpened, MayCommit, Stays, has_room_for, moves_in, refusal_at_once};
 ghost use Rattle.lra_journal.specs.Broken.{IsBrokenAt};
 ghost use Rattle.lra_journal.specs.Keeping.{IsOwn, Keeps};
-ghost use Rattle.lra_journal.specs.NewStores.{IsFirst, IsNew, MayLeaveOpened};
-ghost use Rattle.lra_journal.specs.Ruled.{KeepsRules};
+ghost use Rattle.lra_journal.specs.NewStores.{IsNew, MayLeaveOpened};
+ghost use Rattle.lra_journal.specs.Rewriting.{IsUnwritable};
+ghost use Rattle.lra_journal.specs.Ruled.{KeepsRules, KeepsRulesAs};
 ghost use Rattle.lra_journal.specs.Stands.{Stands, StandsAs};
 ghost use Rattle.lra_delta.specs.declared.version.Version.{Version};
 ghost use Rattle.lra_journal.specs.Tables.{IsJournal};
@@ -216,13 +217,14 @@ impl<S: Alter> Book<S> {
         ensures opened { IfOk result (λ book. IsOpened me nodes book
             × (book.journal.opened ≡ connection)) }
         ensures rows { IfOk result (λ book. Keeps S.Store me book.journal book.records) }
-        // A new store gets the rows of a view of no facts; of a journal's rows, in version 1 or 2, the records are those that they
-        // stand for.
+        // A new store gets the rows of a view of no facts. Of a journal's rows, in version 1 or 2, the records are those that they
+        // stand for, by the rules of that version.
         ensures made { IfOk result (λ book. HasCleanDisk (state S.Store book.journal.connection) →
             IsNew (state S.Store connection) → book.records ≡ empty_view nodes) }
         ensures reads { IfOk result (λ book. HasCleanDisk (state S.Store book.journal.connection) →
             IsJournal (state S.Store connection) → (version : Version)
-            × StandsAs version me (state S.Store connection).now.trees book.records) }
+            × StandsAs version me (state S.Store connection).now.trees book.records
+            × KeepsRulesAs version book.records) }
         // The records keep the rules by which rows are read. So rows that break them aren't opened, where none stands twice.
         ensures ruled { IfOk result (λ book. HasCleanDisk (state S.Store book.journal.connection) →
             IsOwn (state S.Store connection) → KeepsRules book.records) }
@@ -239,12 +241,12 @@ impl<S: Alter> Book<S> {
         // A connection whose transaction is on is refused, before all else, and comes back as it was.
         ensures busy { connection.in_transaction ≡ true →
             MatchResult result (λ _. ⊥) (λ e. (e.0 ≡ JournalFailed) × (e.1 ≡ connection)) }
-        // Of a journal E18 else comes only where the disk failed, or where rows of version 1 were to be written anew.
+        // Of a journal E18 else comes only where the disk failed, or where SQL refuses to write rows of version 1 anew.
         ensures failed { IfErr result (λ e. HasCleanDisk (state S.Store e.1) →
             IsJournal (state S.Store connection) → connection.in_transaction ≡ false →
             connection.step_limit ≡ None → e.0 ≡ JournalFailed →
             MoreFaults (state S.Store connection).faults (state S.Store e.1).faults
-            ⊎ IsFirst me (state S.Store connection).now.trees) }
+            ⊎ IsUnwritable me (state S.Store connection).now.trees) }
         ensures cause { IfErr result (λ e. (e.0 ≡ NoMemory)
             ⊎ ((e.0 ≡ JournalFailed) ⊎ ((k : ℕ) × (e.0 ≡ BadFrame k)))) }
         // Of a journal of version 2 a stop leaves what it left before. Of one of version 1 it may also leave its rows in version 2,

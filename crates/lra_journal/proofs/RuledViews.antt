@@ -16,13 +16,15 @@ use Rattle.lra_history.specs.Histories.{History, IsClosed, IsLawful, facts}
 use Rattle.lra_history.specs.Views.{StandsFor, View, records_at}
 use Rattle.lra_history.specs.ViewShape.{HasShape}
 use Rattle.lra_delta.specs.declared.version.Version.{Version}
+use Rattle.lra_delta.specs.declared.version.Version.TheVariants.{One}
 use Rattle.lra_delta.specs.Frames.{frame_of}
 use Rattle.lra_delta.specs.Versions.{version_mark}
 use Rattle.lra_delta.specs.Grammar.{IsOfGrammar}
 use Rattle.lra_delta.specs.OneRecord.{IsRecordUnder, KeepsRulesUnder}
 use Rattle.lra_delta.specs.Typed.{IsTypedRecord}
 use Rattle.lra_journal.specs.Ruled.{AreTyped, KeepsRules, KeepsRulesAs}
-use Rattle.lra_journal.specs.Stands.{IsHeld, StandsAs}
+use Rattle.lra_journal.specs.NewStores.{IsRewritten}
+use Rattle.lra_journal.specs.Stands.{IsHeld, Stands, StandsAs}
 use Rattle.lra_journal.specs.Tables.{HasFront, signed}
 use Rattle.lra_journal.proofs.OneViewOfRows.{one_view, same_mark}
 use Rattle.lra_journal.proofs.ToldViews.{no_count}
@@ -79,6 +81,10 @@ one_ruled_view v me db a b left right rules others =
     let size = left.whole.purges in
     let purges = same_number_lists a.purges b.purges (size ∙ long ∙ sym right.whole.purges) (λ k within. (counted_in v me db a b left right rules others k (omega (arith, within, size))).purged) in
     one_view v me db a b fronts purges left right rules.records others.records
+
+pub rewritten_stands : (me : ℕ) (old new : Trees) (view : View) → StandsAs One me old view → KeepsRulesAs One view → IsRewritten me old new → Stands me new view
+rewritten_stands me old new view stands rules did =
+    subst (λ (a : View). Stands me new a) (one_ruled_view One me old did.view view did.before stands did.rules rules) did.after
 
 -- ---- the views of a history
 

@@ -10,8 +10,9 @@ ghost use Rattle.lra_history.specs.Views.{View, empty_view};
 ghost use Rattle.lra_delta.specs.declared.version.Version.{Version};
 ghost use Rattle.lra_journal.specs.Broken.{IsBrokenAt};
 ghost use Rattle.lra_journal.specs.Keeping.{IsCounted, IsOwn, Keeps};
-ghost use Rattle.lra_journal.specs.NewStores.{IsFirst, IsNew, MayLeaveOpened};
-ghost use Rattle.lra_journal.specs.Ruled.{KeepsRules};
+ghost use Rattle.lra_journal.specs.NewStores.{IsNew, MayLeaveOpened};
+ghost use Rattle.lra_journal.specs.Rewriting.{IsUnwritable};
+ghost use Rattle.lra_journal.specs.Ruled.{KeepsRules, KeepsRulesAs};
 ghost use Rattle.lra_journal.specs.Stands.{IsPatchOf, Stands, StandsAs};
 ghost use Rattle.lra_journal.specs.Tables.{IsJournal};
 ghost use Rattle.lra_replica.specs.Replicas.{view_of};
@@ -70,10 +71,12 @@ impl<S: Alter> Journal<S> {
         ensures made { IfOk result (λ r. HasCleanDisk (state S.Store r.0.connection) →
             IsNew (state S.Store connection) → (view_of r.1 ≡ empty_view nodes)
             × Stands me (state S.Store r.0.connection).now.trees (empty_view nodes)) }
-        // Of a journal's rows it is the replica that they stand for, in version 1 or 2.
+        // Of a journal's rows it is the replica that they stand for, in version 1 or 2, by the rules of that version. So none is
+        // made up that the rows of version 1 can't tell: nobody listens, and nobody was told.
         ensures reads { IfOk result (λ r. HasCleanDisk (state S.Store r.0.connection) →
             IsJournal (state S.Store connection) → (version : Version)
-            × StandsAs version me (state S.Store connection).now.trees (view_of r.1)) }
+            × StandsAs version me (state S.Store connection).now.trees (view_of r.1)
+            × KeepsRulesAs version (view_of r.1)) }
         // The replica keeps the rules by which rows are read. So rows that break them aren't opened, where none stands twice.
         ensures ruled { IfOk result (λ r. HasCleanDisk (state S.Store r.0.connection) →
             IsOwn (state S.Store connection) → KeepsRules (view_of r.1)) }
@@ -93,12 +96,12 @@ impl<S: Alter> Journal<S> {
         // A connection whose transaction is on is refused, before all else, and comes back as it was.
         ensures busy { connection.in_transaction ≡ true →
             MatchResult result (λ _. ⊥) (λ e. (e.0 ≡ JournalFailed) × (e.1 ≡ connection)) }
-        // Of a journal E18 else comes only where the disk failed, or where rows of version 1 were to be written anew.
+        // Of a journal E18 else comes only where the disk failed, or where SQL refuses to write rows of version 1 anew.
         ensures failed { IfErr result (λ e. HasCleanDisk (state S.Store e.1) →
             IsJournal (state S.Store connection) → connection.in_transaction ≡ false →
             connection.step_limit ≡ None → e.0 ≡ JournalFailed →
             MoreFaults (state S.Store connection).faults (state S.Store e.1).faults
-            ⊎ IsFirst me (state S.Store connection).now.trees) }
+            ⊎ IsUnwritable me (state S.Store connection).now.trees) }
         ensures cause { IfErr result (λ e. (e.0 ≡ NoMemory)
             ⊎ ((e.0 ≡ JournalFailed) ⊎ ((k : ℕ) × (e.0 ≡ BadFrame k)))) }
         // Of a journal of version 2 a stop leaves what it left before. Of one of version 1 it may also leave its rows in version 2,

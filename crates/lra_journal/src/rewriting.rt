@@ -1,10 +1,11 @@
 // The rows of a journal of version 1, written anew in version 2.
-ghost use Rattle.std.specs.Prelude.{◌≡◌, ◌<◌, false, true, IsTrue, OnErr, OnOk};
+ghost use Rattle.std.specs.Prelude.{◌≡◌, ◌<◌, None, false, true, IfErr, IsTrue, OnErr, OnOk};
 ghost use Rattle.sqlite.specs.Held.{state};
 ghost use Rattle.sqlite.specs.State.{HasCleanDisk, KeepsCommit, Survives};
 ghost use Rattle.lra_delta.specs.declared.version.Version.TheVariants.{One};
-ghost use Rattle.lra_journal.specs.Rewriting.{Rewrites, all_records};
+ghost use Rattle.lra_journal.specs.Rewriting.{MakesRow, RefusesOneOf, RefusesRewriting, Rewrites, all_records};
 ghost use Rattle.lra_journal.specs.Stands.{PutsRecord, Stands, StandsAs};
+ghost use Rattle.lra_journal.specs.Statements.{HasFailed};
 ghost use Rattle.lra_journal.specs.Tables.{GoesOn, IsJournal, IsWriting};
 ghost use Rattle.lra_journal.specs.Turns.{InTurn};
 ghost use Rattle.lra_replica.specs.Replicas.{records_in, view_of};
@@ -33,6 +34,17 @@ fn put_records<S: Alter>(
         IsWriting (state S.Store tx.old.conn.now) →
         OnOk result (GoesOn (InTurn PutsRecord records.entry)
         (state S.Store tx.old.conn.now) (state S.Store tx.new.conn.now)) }
+    ensures made { HasCleanDisk (state S.Store tx.new.conn.now) →
+        IsWriting (state S.Store tx.old.conn.now) →
+        (state S.Store tx.old.conn.now).step_limit ≡ None →
+        OnOk result (InTurn MakesRow records.entry (state S.Store tx.old.conn.now).now.trees
+        (state S.Store tx.new.conn.now).now.trees) }
+    ensures failed { HasCleanDisk (state S.Store tx.new.conn.now) →
+        IsWriting (state S.Store tx.old.conn.now) →
+        (state S.Store tx.old.conn.now).step_limit ≡ None →
+        IfErr result (λ e. HasFailed e (state S.Store tx.old.conn.now).faults
+        (state S.Store tx.new.conn.now).faults
+        (RefusesOneOf records.entry (state S.Store tx.old.conn.now).now.trees)) }
 {
     'records: for kept in records {
         put_record(alloc, tx, kept)?;
@@ -54,6 +66,17 @@ fn put_homes<S: Alter>(
         IsWriting (state S.Store tx.old.conn.now) →
         OnOk result (GoesOn (InTurn PutsRecord (all_records (records_in homes.now)))
         (state S.Store tx.old.conn.now) (state S.Store tx.new.conn.now)) }
+    ensures made { HasCleanDisk (state S.Store tx.new.conn.now) →
+        IsWriting (state S.Store tx.old.conn.now) →
+        (state S.Store tx.old.conn.now).step_limit ≡ None →
+        OnOk result (InTurn MakesRow (all_records (records_in homes.now)) (state S.Store tx.old.conn.now).now.trees
+        (state S.Store tx.new.conn.now).now.trees) }
+    ensures failed { HasCleanDisk (state S.Store tx.new.conn.now) →
+        IsWriting (state S.Store tx.old.conn.now) →
+        (state S.Store tx.old.conn.now).step_limit ≡ None →
+        IfErr result (λ e. HasFailed e (state S.Store tx.old.conn.now).faults
+        (state S.Store tx.new.conn.now).faults
+        (RefusesOneOf (all_records (records_in homes.now)) (state S.Store tx.old.conn.now).now.trees)) }
 {
     'homes: for home in homes {
         put_records(alloc, tx, home.records())?;
@@ -77,6 +100,12 @@ fn put_rows<S: Alter>(
         IsWriting (state S.Store tx.old.conn.now) →
         OnOk result (GoesOn (Rewrites me (view_of replica.now).records)
         (state S.Store tx.old.conn.now) (state S.Store tx.new.conn.now)) }
+    ensures failed { HasCleanDisk (state S.Store tx.new.conn.now) →
+        IsWriting (state S.Store tx.old.conn.now) →
+        (state S.Store tx.old.conn.now).step_limit ≡ None →
+        IfErr result (λ e. HasFailed e (state S.Store tx.old.conn.now).faults
+        (state S.Store tx.new.conn.now).faults
+        (RefusesRewriting me (view_of replica.now).records (state S.Store tx.old.conn.now).now.trees)) }
 {
     put_homes(alloc, tx, replica.homes())?;
     put_front(tx, 0, u64::from(me.number()), VERSION)
@@ -101,11 +130,18 @@ fn put_anew<S: Alter>(
         IsWriting (state S.Store tx.old.conn.now) →
         OnOk result (GoesOn (Rewrites me (view_of replica.now).records)
         (state S.Store tx.old.conn.now) (state S.Store tx.new.conn.now)) }
+    ensures failed { HasCleanDisk (state S.Store tx.new.conn.now) →
+        IsWriting (state S.Store tx.old.conn.now) →
+        (state S.Store tx.old.conn.now).step_limit ≡ None →
+        IfErr result (λ e. HasFailed e (state S.Store tx.old.conn.now).faults
+        (state S.Store tx.new.conn.now).faults
+        (RefusesRewriting me (view_of replica.now).records (state S.Store tx.old.conn.now).now.trees)) }
 {
     let _ = select_front(tx)?;
     put_rows(alloc, tx, me, replica)
 }
 
+#[tactic(auto, using(crate::proofs::StatementsFail::begun_failed, crate::proofs::StatementsFail::begun_free, crate::proofs::StatementsFail::begun_writing))]
 fn write_anew<S: Alter>(
     alloc: Global,
     connection: &mut Connection<S>,
@@ -133,6 +169,11 @@ fn write_anew<S: Alter>(
     ensures crash { Survives (state S.Store connection.old) (state S.Store connection.new)
         (λ db. IsJournal (state S.Store connection.old) →
         Rewrites me (view_of replica.now).records (state S.Store connection.old).now.trees db) }
+    ensures failed { HasCleanDisk (state S.Store connection.new) →
+        IsJournal (state S.Store connection.old) → connection.old.step_limit ≡ None →
+        IfErr result (λ e. HasFailed e (state S.Store connection.old).faults
+        (state S.Store connection.new).faults
+        (RefusesRewriting me (view_of replica.now).records (state S.Store connection.old).now.trees)) }
 {
     let mut tx = connection.transaction();
     put_anew(alloc, &mut tx, me, replica)?;
@@ -168,6 +209,12 @@ pub(crate) fn rewrite<S: Alter>(
         (IsJournal (state S.Store connection.old) →
         StandsAs One me (state S.Store connection.old).now.trees (view_of replica.now) →
         Stands me db (view_of replica.now))) }
+    // It fails for lack of memory, where the disk fails, or where SQL refuses one of the rows.
+    ensures failed { HasCleanDisk (state S.Store connection.new) →
+        IsJournal (state S.Store connection.old) → connection.old.step_limit ≡ None →
+        IfErr result (λ e. HasFailed e (state S.Store connection.old).faults
+        (state S.Store connection.new).faults
+        (RefusesRewriting me (view_of replica.now).records (state S.Store connection.old).now.trees)) }
 {
     write_anew(alloc, connection, me, replica)
 }

@@ -1,5 +1,5 @@
 -- What the arguments of a program that plays scripts ask for, and how that ended.
-use Rattle.std.specs.Prelude.{◌≡◌, ◌≤◌, ◌⊎◌, ℕ, List, [], ◌∷◌, codes}
+use Rattle.std.specs.Prelude.{◌≡◌, ◌⊎◌, ℕ, List, [], ◌∷◌, codes}
 use Rattle.std.specs.Fmt.{decimal}
 use Rattle.lra_http.specs.Streams.{Calls, GivenBytes, TakenBytes}
 use Rattle.lra_script.specs.declared.course.ScriptFault.TheVariants.{Read}

@@ -1,6 +1,7 @@
-use Rattle.std.proofs.Common.{◌≡◌, take}
+use Rattle.std.proofs.Common.{◌≡◌, None, take}
 use Rattle.sqlite.specs.Held.{state}
 use Rattle.sqlite.specs.State.{HasCleanDisk, KeepsCommit, Survives}
+use Rattle.lra_journal.specs.Rewriting.{MakesRow}
 use Rattle.lra_journal.specs.Stands.{PutsRecord}
 use Rattle.lra_journal.specs.Tables.{GoesOn, IsWriting}
 use Rattle.lra_journal.specs.Turns.{InTurn}
@@ -13,3 +14,4 @@ invariant-homes g l =
     let now = state g.S.Store l.tx.conn.now in
     (l.tx.conn.ghost_name ≡ l.fn.tx.conn.ghost_name) × Survives old now (λ _. ⊥) × (HasCleanDisk now → KeepsCommit old now)
     × (HasCleanDisk now → IsWriting old → GoesOn (InTurn PutsRecord (records_of (take l.home-index l.homes))) old now)
+    × (HasCleanDisk now → IsWriting old → old.step_limit ≡ None → InTurn MakesRow (records_of (take l.home-index l.homes)) old.now.trees now.now.trees)
