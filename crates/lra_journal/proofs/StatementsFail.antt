@@ -25,7 +25,7 @@ use Rattle.sqlite_schema.specs.declared.command.Upsert.{Upsert}
 use Rattle.sqlite_tied.specs.Compute.{everything}
 use Rattle.sqlite_trees.specs.declared.error.StoreError.{StoreError}
 use Rattle.sqlite_trees.specs.declared.error.StoreError.TheVariants.{OutOfMemory, Io, Corrupt, Full, Broken, Unstorable}
-use Rattle.lra_journal.specs.Statements.{ComesTo, HasFailed, IsRefusedOn, Makes, on_journal, put_front, put_lra}
+use Rattle.lra_journal.specs.Statements.{ComesTo, FailsFor, IsRefusedOn, Makes, on_journal, put_front, put_lra}
 use Rattle.lra_journal.specs.Schema.{journal_schema}
 use Rattle.lra_journal.specs.Tables.{IsFormed, IsJournal, IsWriting}
 use Rattle.lra_facts.specs.declared.refusal.Refusal.{Refusal}
@@ -80,7 +80,7 @@ module _ (sql : List ℕ) (old new : State) (values : Row) (at : ℕ) (way : Con
       (wrote.tally, subst (λ (d : Database). ComesTo sql values old.now.trees (Ok (wrote.tally, d))) after (comes c found (Ok (wrote.tally, new.now)) wrote.changed))
 
   by_cause : (e : Error) (too_big : Type 0) → IsTrue old.is_open → (cause : StoreError) → e ≡ store_error cause → HasCause old new too_big cause → (too_big → IsRefusedOn sql values old.now.trees)
-      → HasFailed e old.faults new.faults (IsRefusedOn sql values old.now.trees)
+      → FailsFor e old.faults new.faults (IsRefusedOn sql values old.now.trees)
   by_cause e too_big on OutOfMemory is h big = inl is
   by_cause e too_big on Io is h big = inr (inl h)
   by_cause e too_big on Corrupt is h big = inr (inl h)
@@ -114,12 +114,12 @@ module _ (sql : List ℕ) (old new : State) (values : Row) (at : ℕ) (way : Con
     stays_in (c, it, inr (name, inl releases, _)) = let both = sym (command c it.is) ∙ releases in cc
     stays_in (c, it, inr (name, inr goes, _)) = let both = sym (command c it.is) ∙ goes in cc
 
-    ran : (c : Compiled) (found : understood old.now.schema sql ≡ Ok c) → RunsCommand old new sql c values (Err e) → HasFailed e old.faults new.faults (IsRefusedOn sql values old.now.trees)
+    ran : (c : Compiled) (found : understood old.now.schema sql ≡ Ok c) → RunsCommand old new sql c values (Err e) → FailsFor e old.faults new.faults (IsRefusedOn sql values old.now.trees)
     ran c found (inl (inl misplaced, _)) = absurd (placed c found misplaced)
     ran c found (inl (inr does, _)) = inr (inr (Some e, comes c found (Err (Some e)) does.1))
     ran c found (inr fails) = by_cause e _ on fails.0 fails.1 fails.2 (λ big. (None, comes c found (Err None) big))
 
-    pub refused : ExecutesInside 0 sql values old new (Err e) → HasFailed e old.faults new.faults (IsRefusedOn sql values old.now.trees)
+    pub refused : ExecutesInside 0 sql values old new (Err e) → FailsFor e old.faults new.faults (IsRefusedOn sql values old.now.trees)
     unfolding ExecutesIn IsNotRun
     refused (inl (inl (inl none), _)) = absurd (no_statement none.0)
     refused (inl (inl (inr fails), _)) = by_cause e ⊥ on fails.0 fails.1 fails.2 (λ big. absurd big)
@@ -154,10 +154,10 @@ module _ (old new : State) (a b c : Value) (has : old.now.schema ≡ journal_sch
   pub front_made : (count : ℕ) → new.now.schema ≡ journal_schema → Executes put_front (a ∷ b ∷ c ∷ []) old new (Ok count) → Makes put_front (a ∷ b ∷ c ∷ []) old.now.trees new.now.trees
   front_made = made put_front old new (a ∷ b ∷ c ∷ []) _ _ _ _ has free put_front_is front_plain
 
-  pub lra_refused : (e : Error) → IsTrue old.is_open → ExecutesInside 0 put_lra (a ∷ b ∷ c ∷ []) old new (Err e) → HasFailed e old.faults new.faults (IsRefusedOn put_lra (a ∷ b ∷ c ∷ []) old.now.trees)
+  pub lra_refused : (e : Error) → IsTrue old.is_open → ExecutesInside 0 put_lra (a ∷ b ∷ c ∷ []) old new (Err e) → FailsFor e old.faults new.faults (IsRefusedOn put_lra (a ∷ b ∷ c ∷ []) old.now.trees)
   lra_refused e on = refused put_lra old new (a ∷ b ∷ c ∷ []) _ _ _ _ has free put_lra_is lra_plain e on lra_whole
 
-  pub front_refused : (e : Error) → IsTrue old.is_open → ExecutesInside 0 put_front (a ∷ b ∷ c ∷ []) old new (Err e) → HasFailed e old.faults new.faults (IsRefusedOn put_front (a ∷ b ∷ c ∷ []) old.now.trees)
+  pub front_refused : (e : Error) → IsTrue old.is_open → ExecutesInside 0 put_front (a ∷ b ∷ c ∷ []) old new (Err e) → FailsFor e old.faults new.faults (IsRefusedOn put_front (a ∷ b ∷ c ∷ []) old.now.trees)
   front_refused e on = refused put_front old new (a ∷ b ∷ c ∷ []) _ _ _ _ has free put_front_is front_plain e on front_whole
 
 -- ---- in what follows
@@ -170,13 +170,13 @@ more_since a b c up more = omega (arith, up, more)
 pub more_until : (a b c : ℕ) → b ≤ c → MoreFaults a b → MoreFaults a c
 more_until a b c up more = omega (arith, up, more)
 
-pub failed_since : (e : Error) (a b c : ℕ) (P Q : Type 0) → a ≤ b → (P → Q) → HasFailed e b c P → HasFailed e a c Q
+pub failed_since : (e : Error) (a b c : ℕ) (P Q : Type 0) → a ≤ b → (P → Q) → FailsFor e b c P → FailsFor e a c Q
 failed_since e a b c P Q up then (inl memory) = inl memory
 failed_since e a b c P Q up then (inr (inl more)) = inr (inl (more_since a b c up more))
 failed_since e a b c P Q up then (inr (inr why)) = inr (inr (then why))
 
 -- a SELECT before them fails for the first two of these alone
-pub asked_first : (e : Error) (a b : ℕ) (P : Type 0) → (e ≡ SqliteFailure code.OutOfMemory) ⊎ MoreFaults a b → HasFailed e a b P
+pub asked_first : (e : Error) (a b : ℕ) (P : Type 0) → (e ≡ SqliteFailure code.OutOfMemory) ⊎ MoreFaults a b → FailsFor e a b P
 asked_first e a b P (inl memory) = inl memory
 asked_first e a b P (inr more) = inr (inl more)
 
@@ -198,11 +198,11 @@ module _ {S : Type 0} (g : Ghosts S) (c b : Held S) where
   pub begun_free : b ≡ record c { in_transaction = true } → (state g c).step_limit ≡ None → (state g b).step_limit ≡ None
   begun_free is free = subst (λ (h : Held S). (state g h).step_limit ≡ None) (sym is) free
 
-  pub begun_failed : (e : Error) (mid new : ℕ) (P : Trees → Type 0) → b ≡ record c { in_transaction = true } → mid ≤ new → HasFailed e (state g b).faults mid (P (state g b).now.trees)
-      → HasFailed e (state g c).faults new (P (state g c).now.trees)
-  begun_failed e mid new P is up failed = later (subst (λ (h : Held S). HasFailed e (state g h).faults mid (P (state g h).now.trees)) is failed)
+  pub begun_failed : (e : Error) (mid new : ℕ) (P : Trees → Type 0) → b ≡ record c { in_transaction = true } → mid ≤ new → FailsFor e (state g b).faults mid (P (state g b).now.trees)
+      → FailsFor e (state g c).faults new (P (state g c).now.trees)
+  begun_failed e mid new P is up failed = later (subst (λ (h : Held S). FailsFor e (state g h).faults mid (P (state g h).now.trees)) is failed)
     where
-      later : HasFailed e (state g c).faults mid (P (state g c).now.trees) → HasFailed e (state g c).faults new (P (state g c).now.trees)
+      later : FailsFor e (state g c).faults mid (P (state g c).now.trees) → FailsFor e (state g c).faults new (P (state g c).now.trees)
       later (inl memory) = inl memory
       later (inr (inl more)) = inr (inl (more_until _ mid new up more))
       later (inr (inr why)) = inr (inr why)
@@ -210,7 +210,7 @@ module _ {S : Type 0} (g : Ghosts S) (c b : Held S) where
 -- and told as E18 it has one of the other two causes
 pub told_so : (refusal : Refusal) (e : Error) (a b : ℕ) (P : Type 0)
     → ((refusal ≡ NoMemory) × (e ≡ SqliteFailure code.OutOfMemory)) ⊎ ((refusal ≡ JournalFailed) × (e ≢ SqliteFailure code.OutOfMemory))
-    → refusal ≡ JournalFailed → HasFailed e a b P → MoreFaults a b ⊎ P
+    → refusal ≡ JournalFailed → FailsFor e a b P → MoreFaults a b ⊎ P
 told_so refusal e a b P (inl none) is failed = absurd (let both = sym none.0 ∙ is in cc)
 told_so refusal e a b P (inr told) is (inl memory) = absurd (told.1 memory)
 told_so refusal e a b P (inr told) is (inr why) = why

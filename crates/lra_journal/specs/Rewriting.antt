@@ -23,17 +23,17 @@ pub record Rewrites (me : ℕ) (homes : List (List Record)) (old new : Trees) : 
   pub records : InTurn PutsRecord (all_records homes) old mid
   pub version : SetsFront 0 (pos me) (pos 2) mid new
 
--- Why they can't be written
+-- Why they can't be written. They are written in the order of `Rewrites`
 
 -- the values of the row of a record
 abbrev pub row_values : Record → Row
 row_values r = lra_values r.home (signed r.num) (record_text r)
 
--- the statement that writes the row of this record makes these tables of those
+-- the statement that writes this record's row turns the old tables into the new
 abbrev pub MakesRow : Record → Trees → Trees → Type 0
 MakesRow r old new = Makes put_lra (row_values r) old new
 
--- the statement that writes the row of this record is refused on these tables
+-- the statement that writes this record's row is refused on these tables
 abbrev pub RefusesRow : Record → Trees → Type 0
 RefusesRow r db = IsRefusedOn put_lra (row_values r) db
 

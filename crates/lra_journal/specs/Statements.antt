@@ -45,6 +45,6 @@ Makes sql values db next = (tally : Tally) × ComesTo sql values db (Ok (tally, 
 abbrev pub IsRefusedOn : (sql : List ℕ) → (values : Row) → Trees → Type 0
 IsRefusedOn sql values db = (stop : Option Error) × ComesTo sql values db (Err stop)
 
--- why it failed: memory was wanting, the disk failed, or it was refused so
-abbrev pub HasFailed : Error → (before after : ℕ) → (refused : Type 0) → Type 0
-HasFailed e before after refused = (e ≡ SqliteFailure OutOfMemory) ⊎ (MoreFaults before after ⊎ refused)
+-- why a statement fails: memory was wanting, the disk failed, or the statement is refused so
+abbrev pub FailsFor : Error → (before after : ℕ) → (refused : Type 0) → Type 0
+FailsFor e before after refused = (e ≡ SqliteFailure OutOfMemory) ⊎ (MoreFaults before after ⊎ refused)

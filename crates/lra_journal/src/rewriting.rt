@@ -5,7 +5,7 @@ ghost use Rattle.sqlite.specs.State.{HasCleanDisk, KeepsCommit, Survives};
 ghost use Rattle.lra_delta.specs.declared.version.Version.TheVariants.{One};
 ghost use Rattle.lra_journal.specs.Rewriting.{MakesRow, RefusesOneOf, RefusesRewriting, Rewrites, all_records};
 ghost use Rattle.lra_journal.specs.Stands.{PutsRecord, Stands, StandsAs};
-ghost use Rattle.lra_journal.specs.Statements.{HasFailed};
+ghost use Rattle.lra_journal.specs.Statements.{FailsFor};
 ghost use Rattle.lra_journal.specs.Tables.{GoesOn, IsJournal, IsWriting};
 ghost use Rattle.lra_journal.specs.Turns.{InTurn};
 ghost use Rattle.lra_replica.specs.Replicas.{records_in, view_of};
@@ -42,7 +42,7 @@ fn put_records<S: Alter>(
     ensures failed { HasCleanDisk (state S.Store tx.new.conn.now) →
         IsWriting (state S.Store tx.old.conn.now) →
         (state S.Store tx.old.conn.now).step_limit ≡ None →
-        IfErr result (λ e. HasFailed e (state S.Store tx.old.conn.now).faults
+        IfErr result (λ e. FailsFor e (state S.Store tx.old.conn.now).faults
         (state S.Store tx.new.conn.now).faults
         (RefusesOneOf records.entry (state S.Store tx.old.conn.now).now.trees)) }
 {
@@ -74,7 +74,7 @@ fn put_homes<S: Alter>(
     ensures failed { HasCleanDisk (state S.Store tx.new.conn.now) →
         IsWriting (state S.Store tx.old.conn.now) →
         (state S.Store tx.old.conn.now).step_limit ≡ None →
-        IfErr result (λ e. HasFailed e (state S.Store tx.old.conn.now).faults
+        IfErr result (λ e. FailsFor e (state S.Store tx.old.conn.now).faults
         (state S.Store tx.new.conn.now).faults
         (RefusesOneOf (all_records (records_in homes.now)) (state S.Store tx.old.conn.now).now.trees)) }
 {
@@ -103,7 +103,7 @@ fn put_rows<S: Alter>(
     ensures failed { HasCleanDisk (state S.Store tx.new.conn.now) →
         IsWriting (state S.Store tx.old.conn.now) →
         (state S.Store tx.old.conn.now).step_limit ≡ None →
-        IfErr result (λ e. HasFailed e (state S.Store tx.old.conn.now).faults
+        IfErr result (λ e. FailsFor e (state S.Store tx.old.conn.now).faults
         (state S.Store tx.new.conn.now).faults
         (RefusesRewriting me (view_of replica.now).records (state S.Store tx.old.conn.now).now.trees)) }
 {
@@ -133,7 +133,7 @@ fn put_anew<S: Alter>(
     ensures failed { HasCleanDisk (state S.Store tx.new.conn.now) →
         IsWriting (state S.Store tx.old.conn.now) →
         (state S.Store tx.old.conn.now).step_limit ≡ None →
-        IfErr result (λ e. HasFailed e (state S.Store tx.old.conn.now).faults
+        IfErr result (λ e. FailsFor e (state S.Store tx.old.conn.now).faults
         (state S.Store tx.new.conn.now).faults
         (RefusesRewriting me (view_of replica.now).records (state S.Store tx.old.conn.now).now.trees)) }
 {
@@ -171,7 +171,7 @@ fn write_anew<S: Alter>(
         Rewrites me (view_of replica.now).records (state S.Store connection.old).now.trees db) }
     ensures failed { HasCleanDisk (state S.Store connection.new) →
         IsJournal (state S.Store connection.old) → connection.old.step_limit ≡ None →
-        IfErr result (λ e. HasFailed e (state S.Store connection.old).faults
+        IfErr result (λ e. FailsFor e (state S.Store connection.old).faults
         (state S.Store connection.new).faults
         (RefusesRewriting me (view_of replica.now).records (state S.Store connection.old).now.trees)) }
 {
@@ -212,7 +212,7 @@ pub(crate) fn rewrite<S: Alter>(
     // It fails for lack of memory, where the disk fails, or where SQL refuses one of the rows.
     ensures failed { HasCleanDisk (state S.Store connection.new) →
         IsJournal (state S.Store connection.old) → connection.old.step_limit ≡ None →
-        IfErr result (λ e. HasFailed e (state S.Store connection.old).faults
+        IfErr result (λ e. FailsFor e (state S.Store connection.old).faults
         (state S.Store connection.new).faults
         (RefusesRewriting me (view_of replica.now).records (state S.Store connection.old).now.trees)) }
 {

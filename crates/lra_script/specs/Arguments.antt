@@ -16,11 +16,11 @@ asked_words nodes = codes "script" ∷ decimal nodes ∷ []
 abbrev pub AskScript : List (List ℕ) → ℕ → Type 0
 AskScript words nodes = IsNodeOf 8 nodes × (words ≡ asked_words nodes)
 
--- The exit status of a program that ended so
-abbrev pub status_of : Ended → ℕ
-status_of Ran = 0
-status_of (Stopped fault) = 1
-status_of NotAsked = 2
+-- the exit status of a program that ended so
+abbrev pub exit_status : Ended → ℕ
+exit_status Ran = 0
+exit_status (Stopped fault) = 1
+exit_status NotAsked = 2
 
 -- A script of so many nodes ended so. It has run to the end of its input. Or it stopped at a fault that has its cause, and what it
 -- wrote is a part of what such a run writes; after a read fault every line that was given whole is answered whole

@@ -1,5 +1,5 @@
 // A script that a program's arguments ask for, over the streams that it is given.
-ghost use Rattle.lra_script.specs.Arguments.{AskScript, EndsWith, IsRunOf, status_of};
+ghost use Rattle.lra_script.specs.Arguments.{AskScript, EndsWith, IsRunOf, exit_status};
 ghost use Rattle.std.specs.Prelude.{◌≡◌, ℕ, IfOk, MatchOption, drop, map, string_bytes};
 ghost use Rattle.std.specs.Vec.Iter.{into_iter_items};
 
@@ -24,7 +24,7 @@ pub enum Ended {
 impl Ended {
     /// The exit status: 0 where the script ran, 1 where it stopped, and 2 where none was asked for.
     pub fn status(self) -> u8
-        ensures { result ≡ status_of self }
+        ensures { result ≡ exit_status self }
     {
         match self {
             Ended::Ran => 0,
