@@ -247,7 +247,7 @@ def refusals(folder):
     server = Server(2, other, PORT + 70)
     server.process.wait(20)
     check("a journal of another node", server.end() == (1, "journal 1\n"))
-    for words in ([], ["serve", "9", "8070", "."], ["serve", "1", "80", "."], ["serve", "01", "8070", "."]):
+    for words in ([], ["serve", "9", "8070", "."], ["serve", "1", "80", "."], ["serve", "1", "65529", "."], ["serve", "01", "8070", "."]):
         ran = subprocess.run([Server.program, *words], stdin=subprocess.DEVNULL, capture_output=True)
         check("other arguments: " + " ".join(words), ran.returncode == 2 and ran.stderr.startswith(b"usage: "), ran)
 

@@ -53,7 +53,8 @@ def words(kit, name, libraries):
     missing = [dep for dep, at in built.items() if not os.path.isdir(f"{at}/{dep}.rlib")]
     if missing:
         sys.exit(f"{name}: not tried: its libraries {', '.join(missing)} aren't built: run `rt ci` first, in this clone")
-    said = ["--crate-name", name, "src/lib.rt", "--extern", f"std={kit}/rlibs/std.rlib"]
+    root = "src/main.rt" if os.path.isfile(f"{TOP}/crates/{name}/src/main.rt") else "src/lib.rt"
+    said = ["--crate-name", name, root, "--extern", f"std={kit}/rlibs/std.rlib"]
     for dep in libraries[name]:
         said += ["--extern", f"{dep}={built.get(dep, f'{kit}/rlibs')}/{dep}.rlib"]
     for at in [f"{kit}/rlibs", *built.values()]:
