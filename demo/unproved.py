@@ -152,7 +152,8 @@ def tell_when_up(server, ports):
     """Says when the server answers at all its ports, unless it ends before."""
     while server.poll() is None:
         if listens_at(server.pid, ports):
-            return say(f"the ports {ports[0]} to {ports[-1]} answer. Ctrl-C ends it.")
+            which = f"port {ports[0]} answers" if len(ports) == 1 else f"the ports {ports[0]} to {ports[-1]} answer"
+            return say(f"{which}. Ctrl-C ends it.")
         time.sleep(0.05)
 
 
