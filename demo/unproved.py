@@ -1,16 +1,16 @@
 #!/usr/bin/env python3
-"""The server without proofs, to try it out: ./coordinator --unproved N PORT DIR calls this. Standard library alone.
+"""The server without proofs, to try it out: ./coordinator --unproved N PORT DIR calls this (start.py). Standard library alone.
 
 `rt try` compiles a program with checks, runs it in a folder that goes with it, and shows what it printed once it has ended. A server is to
 stay. So this has `rt try` play a long script by the program of crates/lra_node, copies the program while it runs, and keeps it in
 demo/out/unproved, for the text that it was compiled from. An address sanitizer watches it."""
+import contextlib
 import glob
 import hashlib
 import os
 import shlex
 import shutil
 import signal
-import socket
 import subprocess
 import sys
 import tempfile
@@ -21,15 +21,32 @@ KEPT = f"{TOP}/demo/out/unproved"
 PARTS = ("crates.txt", "crates/*/src/**/*.rt", "crates/*/specs/**/*.antt")
 # Lines of a script that runs for some minutes.
 LINES = 2_000_000
+# Seconds from one line on a build to the next.
+EACH = 15
 
 
 def say(text):
     print(f"coordinator: {text}", file=sys.stderr, flush=True)
 
 
-def text_sum():
-    """What the program is compiled from: the kit, and each file of the crates."""
-    told = hashlib.sha256(subprocess.run(["rt", "doc"], capture_output=True).stdout)
+class Progress:
+    """Says now and then what a build is at, and how long it has taken."""
+
+    def __init__(self, what):
+        self.what, self.began = what, time.monotonic()
+        self.due = self.began + EACH
+
+    def tick(self):
+        now = time.monotonic()
+        if now >= self.due:
+            self.due = now + EACH
+            minutes, seconds = divmod(int(now - self.began), 60)
+            say(f"{self.what}, {minutes} min {seconds} s")
+
+
+def text_sum(kit=b""):
+    """What a program is compiled from: the kit, where it counts, and each file of the crates."""
+    told = hashlib.sha256(kit)
     for part in PARTS:
         for path in sorted(glob.glob(part, root_dir=TOP, recursive=True)):
             with open(f"{TOP}/{path}", "rb") as file:
@@ -78,11 +95,13 @@ def compile_for(text):
             stderr=said,
             start_new_session=True,
         )
+        progress = Progress("compiling")
         try:
             while trial.poll() is None:
                 words = running_in(folder)
                 if words:
                     return keep(words, text)
+                progress.tick()
                 time.sleep(0.1)
         finally:
             if trial.poll() is None:
@@ -94,7 +113,7 @@ def compile_for(text):
 
 def built():
     """The path of the program, which is compiled where it isn't there for this text."""
-    text = text_sum()
+    text = text_sum(subprocess.run(["rt", "doc"], capture_output=True).stdout)
     try:
         with open(f"{KEPT}/text", encoding="utf-8") as file:
             is_kept = file.read() == text
@@ -110,33 +129,43 @@ def program_of(word):
     return built() if word == "--unproved" else word
 
 
-def is_open(port):
-    with socket.socket() as it:
-        return it.connect_ex(("127.0.0.1", port)) == 0
+def sockets_of(process):
+    """What /proc names the sockets and files that a process has open."""
+    folder = f"/proc/{process}/fd"
+    with contextlib.suppress(OSError):  # it has ended
+        for it in os.listdir(folder):
+            with contextlib.suppress(OSError):  # it was closed just now
+                yield os.readlink(f"{folder}/{it}")
 
 
-def tell_when_up(server, words):
-    """Says when all ports answer, unless the server ends before: where its words are wrong it tells how they must be."""
+def listens_at(process, ports):
+    """Whether a process itself listens at all these ports of 127.0.0.1: that another answers there says nothing of it."""
+    own = set(sockets_of(process))
+    with open("/proc/net/tcp", encoding="ascii") as file:
+        rows = [line.split() for line in file.readlines()[1:]]
+    # Of a row the second field is the address, the fourth the state, where 0A stands for listening, and the tenth the socket.
+    held = {row[1] for row in rows if row[3] == "0A" and f"socket:[{row[9]}]" in own}
+    return all(f"0100007F:{port:04X}" in held for port in ports)
+
+
+def tell_when_up(server, ports):
+    """Says when the server answers at all its ports, unless it ends before."""
     while server.poll() is None:
-        ports = range(int(words[1]), int(words[1]) + int(words[0])) if len(words) == 3 and all(map(str.isdigit, words[:2])) else ()
-        if ports and all(map(is_open, ports)):
-            return say(f"the ports {ports[0]} to {ports[-1]} answer. Ctrl-C ends it.")
+        if listens_at(server.pid, ports):
+            which = f"port {ports[0]} answers" if len(ports) == 1 else f"the ports {ports[0]} to {ports[-1]} answer"
+            return say(f"{which}. Ctrl-C ends it.")
         time.sleep(0.05)
 
 
 def serve(words):
-    """Runs the server until Ctrl-C, and gives its status."""
+    """Runs the server, whose words are right, until Ctrl-C, and gives its status."""
     program = built()
-    say("this is the unproved build, for trying out: it is slow.")
+    say("this is the unproved build, for trying out. It checks each access to memory, and is slow.")
     # In a group of its own: Ctrl-C is for this program, which then ends the server's input.
     server = subprocess.Popen([program, "serve", *words], stdin=subprocess.PIPE, process_group=0)
     try:
-        tell_when_up(server, words)
+        tell_when_up(server, range(int(words[1]), int(words[1]) + int(words[0])))
         return server.wait()
     except KeyboardInterrupt:
         server.stdin.close()
         return server.wait()
-
-
-if __name__ == "__main__":
-    sys.exit(serve(sys.argv[1:]))

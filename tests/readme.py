@@ -2,10 +2,12 @@
 """Does what README and docs/HTTP.md say, and compares: python3 tests/readme.py [PROGRAM]. Standard library alone.
 
 PROGRAM is crates/lra_node/out/lra_node, which ./coordinator builds. It runs each table of a script through `lra_node script N`; the
-curl lines, in one shell, against `lra_node serve` with the numbers that README has; and the calls that HTTP.md has byte by byte. The
-status is 1 where something else comes. The ports of README, 8070 to 8072, have to be free."""
+curl lines, in one shell, against `lra_node serve` with the numbers that README has, beside the participant that README starts; and the
+calls that HTTP.md has byte by byte. The status is 1 where something else comes. The ports of README, 8070 to 8072 and 9001, have to be
+free."""
 import os
 import re
+import select
 import socket
 import subprocess
 import sys
@@ -31,17 +33,22 @@ def scripts():
         yield int(part[len("With `script ")]), rows
 
 
-def curl_lines():
-    """The server's words, and the lines of the quick start, each with what README says that it prints, if it says so."""
-    block = re.search(r"\./coordinator --unproved (\d) (\d+) .*?\n\n(?=The participant)", README, re.S)
-    lines = [it.strip() for it in block[0].split("\n") if it.startswith("    ")]
-    pairs = []
-    for line in lines:
-        if line.startswith("# "):
-            pairs[-1] = (pairs[-1][0], line[2:])
-        elif "coordinator" not in line:
-            pairs.append((line, None))
-    return block[1], block[2], pairs
+def quick_start():
+    """The server's words, the participant's command, and what is done then: each line with what README says that it prints, if it says
+    so, and in its place what the participant prints, as a line that isn't there."""
+    block = re.search(r"\./coordinator --unproved (\d) (\d+) .*?(?=\n`python3 demo/trip)", README, re.S)
+    command, steps = None, []
+    for line in block[0].split("\n"):
+        printed = re.match(r"The participant prints `(.*?)`", line)
+        if printed:
+            steps.append((None, printed[1]))
+        elif line.startswith("    # "):
+            steps[-1] = (steps[-1][0], line[6:])
+        elif line.startswith("    python3 "):
+            command = line.split()
+        elif line.startswith("    "):
+            steps.append((line.strip(), None))
+    return block[1], block[2], command, steps
 
 
 def waits_for(port):
@@ -62,23 +69,40 @@ def try_scripts():
         check(f"script {nodes} prints {len(rows)} lines, and ends well", (len(rows), 0), (len(printed), ran.returncode))
 
 
-def try_curl():
-    nodes, port, pairs = curl_lines()
+def is_question(line):
+    """Whether a line asks and changes nothing, so that it may be asked again until what is under way has come about."""
+    return line.startswith("curl ") and " -X " not in line
+
+
+def try_quick_start():
+    nodes, port, command, steps = quick_start()
     with tempfile.TemporaryDirectory() as folder:
         server = subprocess.Popen([PROGRAM, "serve", nodes, port, folder], stdin=subprocess.PIPE)
+        participant = subprocess.Popen(command, cwd=TOP, stdout=subprocess.PIPE, text=True)
         shell = subprocess.Popen(["sh"], stdin=subprocess.PIPE, stdout=subprocess.PIPE, text=True, bufsize=1)
         try:
             for i in range(int(nodes)):
                 waits_for(int(port) + i)
-            for line, wanted in pairs:
-                if line.startswith("curl -s 127.0.0.1:8071"):
-                    time.sleep(1)  # README: as soon as there is something
-                shell.stdin.write(f"{line}\necho\necho =end=\n")
-                printed = "".join(iter(shell.stdout.readline, "=end=\n")).strip()
+            waits_for(9001)
+            for line, wanted in steps:
+                if not line:
+                    is_told = select.select([participant.stdout], [], [], 20)[0]
+                    check("the participant's line", wanted, participant.stdout.readline().strip() if is_told else "nothing")
+                    continue
+                end = time.monotonic() + (20 if is_question(line) else 0)
+                while True:
+                    shell.stdin.write(f"{line}\necho\necho =end=\n")
+                    printed = "".join(iter(shell.stdout.readline, "=end=\n")).strip()
+                    if printed == (wanted or "") or time.monotonic() > end:
+                        break
+                    time.sleep(0.05)
                 check(line, wanted or "", printed)
         finally:
             shell.stdin.close()
+            participant.kill()
+            more = participant.communicate()[0]
             server.stdin.close()
+            check("the participant is called once", "", more)
             check("the server ends with its input", 0, server.wait(20))
 
 
@@ -110,7 +134,7 @@ def sent(port, text):
 
 
 try_scripts()
-try_curl()
+try_quick_start()
 try_calls()
 print(f"{len(failures)} failed")
 sys.exit(1 if failures else 0)

@@ -1,0 +1,24 @@
+#!/usr/bin/env python3
+"""A participant at 127.0.0.1:9001, which prints each call and answers 200: python3 demo/participant.py. Standard library alone."""
+import http.server
+
+
+class Participant(http.server.BaseHTTPRequestHandler):
+    def do_PUT(self):
+        body = self.rfile.read(int(self.headers.get("Content-Length", 0))).decode()
+        print(self.command, self.path, self.headers.get("Long-Running-Action", ""), body, flush=True)
+        self.send_response(200)
+        # A length, since the coordinator takes no answer in chunks.
+        self.send_header("Content-Length", "0")
+        self.end_headers()
+
+    do_GET = do_DELETE = do_PUT
+
+    def log_message(self, *words):
+        pass
+
+
+try:
+    http.server.ThreadingHTTPServer(("127.0.0.1", 9001), Participant).serve_forever()
+except KeyboardInterrupt:
+    pass
