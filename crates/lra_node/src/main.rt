@@ -4,15 +4,16 @@
 ghost use Rattle.lra_node.specs.Arguments.{AskServer};
 ghost use Rattle.std.specs.Prelude.{ℕ, List, MatchOption, map, string_bytes};
 
-use log::sink::Console;
 use log::{Level, Logged};
 use lra_http::{OverRead, OverWrite};
 use lra_id::MAX_NODES;
 use lra_script::{Ended, arguments, code_of, node_of, play};
 use lra_server::{Folder, serve};
+use lra_threads::{ToLines, lines_of};
 use sqlite::Start;
 use std::fs::File;
 use std::process::ExitCode;
+use std::time::Duration;
 use std::{env, io};
 
 const USAGE: &str = "usage: lra_node script N | serve N PORT DIR";
@@ -22,6 +23,9 @@ const FIRST_PORT: u16 = 1_024;
 
 /// The greatest: eight nodes have their ports behind it.
 const LAST_PORT: u16 = 65_528;
+
+/// How long the last warnings have to be written at the end, in milliseconds.
+const LAST_LINES: u64 = 500;
 
 /// Runs a server until standard input ends, or plays a script over standard input. Each gives its exit status, as `serve` and
 /// `play` say. Where the arguments ask for something else it ends with 2, and the usage.
@@ -36,10 +40,21 @@ fn main(rt: HostRuntime) -> ExitCode {
         return ExitCode::from(played(&rt, &words).status());
     };
     let _held = (hold(&rt), hold(&rt), hold(&rt));
-    let logged = Logged::new(&rt, Level::Warn, Console(&rt));
-    let folder = folder_of(rt, words);
     let (alloc, input) = (rt.alloc(), rt.reader());
-    ExitCode::from(serve(&rt, &logged, rt, alloc, nodes, port, &folder, input))
+    let Some(lines) = lines_of(&rt, rt, alloc) else {
+        let _ = eprintln!(rt; "run 1");
+        return ExitCode::from(1);
+    };
+    let to_lines = ToLines {
+        rt: &rt,
+        alloc,
+        lines: &lines,
+    };
+    let logged = Logged::new(&rt, Level::Warn, to_lines);
+    let folder = folder_of(rt, words);
+    let status = serve(&rt, &logged, rt, alloc, nodes, port, &folder, input);
+    lines.wait(&rt, Duration::from_millis(LAST_LINES));
+    ExitCode::from(status)
 }
 
 /// Plays a script from standard input to standard output.

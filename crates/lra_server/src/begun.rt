@@ -6,6 +6,13 @@ use lra_book::Book;
 use sqlite::Alter;
 use std::alloc::Global;
 
+/// A book on which no run is on.
+#[derive(Drop)]
+pub struct Shut<S: Alter + Drop> {
+    pub book: Book<S>,
+    ghost shut: { book.opening ≡ None },
+}
+
 /// A book in which a run has just begun.
 #[derive(Drop)]
 pub struct Begun<S: Alter + Drop> {
@@ -13,12 +20,11 @@ pub struct Begun<S: Alter + Drop> {
     ghost fresh: { IsFresh book },
 }
 
-/// A book with a run begun, if one can be started.
-pub fn begun_by<S: Alter + Drop>(alloc: Global, mut book: Book<S>) -> Option<Begun<S>>
-    requires { book.opening ≡ None }
-{
+/// A book with a run begun; the same book where there is no memory for one.
+pub fn begun_by<S: Alter + Drop>(alloc: Global, shut: Shut<S>) -> Result<Begun<S>, Shut<S>> {
+    let Shut { mut book } = shut;
     match book.start_run(alloc) {
-        Ok(_) => Some(Begun { book }),
-        Err(_) => None,
+        Ok(_) => Ok(Begun { book }),
+        Err(_) => Err(Shut { book }),
     }
 }

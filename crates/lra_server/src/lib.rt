@@ -10,7 +10,8 @@ mod scribe;
 mod seat;
 mod server;
 mod setbacks;
+mod sweeping;
 mod taken;
 
 pub use opening::{Folder, Stores, Unopened};
-pub use server::serve;
+pub use server::{Members, serve, serve_members};

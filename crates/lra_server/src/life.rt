@@ -1,7 +1,7 @@
 // The life of a node: its runs, one after another, and the threads that outlive them.
 ghost use Rattle.std.specs.Prelude.{◌≡◌, IfOk, IfSome, None};
 
-use crate::begun::{Begun, begun_by};
+use crate::begun::{Begun, Shut, begun_by};
 use crate::crew::named_run;
 use crate::refusals::refusal_of;
 use crate::setbacks::Setbacks;
@@ -11,7 +11,7 @@ use lra_api::Paths;
 use lra_book::Book;
 use lra_facts::Refusal;
 use lra_id::NodeId;
-use lra_threads::{Node, Over, accept, address_of, call_out, pull_in_turn};
+use lra_threads::{Node, Over, accept, call_out, follow, pull_in_turn, watch};
 use sqlite::Alter;
 use std::alloc::Global;
 use std::net::{Net, TcpListener, TcpStream};
@@ -20,7 +20,8 @@ use std::thread;
 use std::thread::Threads;
 use std::time::{Clock, Duration};
 
-/// The threads that outlive runs: one that pulls, four that call participants, and one that accepts.
+/// The threads that outlive runs: one that pulls, four that call participants, and one that accepts. Where the other nodes are in
+/// processes of their own the first warns of a full home, and behind these come those that pull, one from each.
 const HELPERS: usize = 6;
 
 /// The place of the one that accepts.
@@ -28,6 +29,9 @@ const ACCEPTING: usize = 5;
 
 /// How long a node waits where no memory can be had for its table of paths, in milliseconds.
 const PAUSE: u64 = 10;
+
+/// How many files a journal takes, with its log and the look at its folder.
+const FILES: u8 = 4;
 
 /// What a node couldn't do.
 #[derive(Clone, Copy, PartialEq, Eq, Debug)]
@@ -58,10 +62,26 @@ pub fn open_book<S: Stores>(
     }
 }
 
+/// Warns that a journal can't be opened again, once a second at most.
+fn warn_of_journal<R: Clock, L: Log>(rt: &R, log: &L, node: &Node, setbacks: &mut Setbacks) {
+    let now = rt.monotonic().unwrap_or(Duration::from_millis(0));
+    if setbacks.may_warn(now) {
+        warn!(log; "node {}: its journal can't be opened again yet", node.number);
+    }
+}
+
+/// Closes the connections that have waited longest for a worker, so that a journal and its log find a file each.
+fn close_some<R: Wait>(rt: &R, node: &Node) {
+    for _turn in 0..FILES {
+        node.queue.close_first(rt);
+    }
+}
+
 /// The book of a node whose journal failed: it is closed, and opened again once that can be done; none where the program is to end
 /// before. Each time it rests longer before it tries.
-fn reopened<R: Wait + Clock, S: Stores>(
+fn reopened<R: Wait + Clock, L: Log, S: Stores>(
     rt: &R,
+    log: &L,
     alloc: Global,
     node: &Node,
     stores: &S,
@@ -73,26 +93,30 @@ fn reopened<R: Wait + Clock, S: Stores>(
     // (it holds the file's lock until it is dropped)
     drop(book.close());
     for _ in rt.forever() {
-        node.signal.rest(rt, setbacks.next_pause());
+        node.signal.rest(rt, setbacks.next_rest());
         if node.signal.has_ended(rt) {
             return Ok(None);
         }
         match open_book(alloc, stores, node) {
             Ok(book) => {
-                node.post.hold(rt, setbacks.pause());
+                setbacks.end_rest();
+                node.post.hold(rt, setbacks.next_pause());
                 return Ok(Some(book));
             }
             Err(Unopened::ForNow) => {}
+            Err(Unopened::NoFile) => close_some(rt, node),
             Err(Unopened::ForGood) => return Err(Failure::Journal),
         }
+        warn_of_journal(rt, log, node, setbacks);
     }
     unreachable!()
 }
 
 /// The book that the next run is on, by why the last is over: the same, or, where the journal failed, one whose journal is opened
-/// again; none where the program is to end.
-fn next_book<R: Wait + Clock, S: Stores>(
+/// again; none where the program is to end. Where no thread or no memory could be had it rests before; at the start that is a failure.
+fn next_book<R: Wait + Clock, L: Log, S: Stores>(
     rt: &R,
+    log: &L,
     alloc: Global,
     node: &Node,
     stores: &S,
@@ -105,15 +129,22 @@ fn next_book<R: Wait + Clock, S: Stores>(
 {
     match over {
         Some(Over::Program) => Ok(None),
-        Some(Over::Full | Over::RunFull | Over::TrailLost(_)) => Ok(Some(book)),
-        Some(Over::JournalFailed | Over::Stopped) => {
-            reopened(rt, alloc, node, stores, book, setbacks)
+        Some(Over::Full | Over::RunFull | Over::TrailLost(_)) | None => {
+            setbacks.note_run();
+            Ok(Some(book))
         }
-        Some(Over::Starved) | None => Err(Failure::Run),
+        Some(Over::JournalFailed | Over::Stopped) => {
+            reopened(rt, log, alloc, node, stores, book, setbacks)
+        }
+        Some(Over::Starved) if setbacks.has_run() => {
+            node.signal.rest(rt, setbacks.next_rest());
+            Ok(Some(book))
+        }
+        Some(Over::Starved) => Err(Failure::Run),
     }
 }
 
-/// Warns of the refusal for which a run is over, if it is one, once a second at most.
+/// Warns of what a run is over for, if a refusal or a want is, once a second at most.
 fn warn_of<R: Clock, L: Log>(
     rt: &R,
     log: &L,
@@ -122,13 +153,36 @@ fn warn_of<R: Clock, L: Log>(
     setbacks: &mut Setbacks,
 ) {
     let now = rt.monotonic().unwrap_or(Duration::from_millis(0));
-    if let Some(over) = over {
-        if let Some(refusal) = refusal_of(over) {
-            if setbacks.may_warn(now) {
-                warn!(log; "node {}: {}", node.number, refusal);
-            }
+    let Some(over) = over else {
+        return;
+    };
+    if let Some(refusal) = refusal_of(over) {
+        if setbacks.may_warn(now) {
+            warn!(log; "node {}: {}", node.number, refusal);
         }
+    } else if over == Over::Starved && setbacks.may_warn(now) {
+        warn!(log; "node {}: no thread or no memory can be had for a run", node.number);
     }
+}
+
+/// A book with a run begun, once there is memory for one; none where the program is to end before.
+fn begun_in_time<R: Wait + Clock, S: Alter + Drop>(
+    rt: &R,
+    alloc: Global,
+    node: &Node,
+    mut shut: Shut<S>,
+) -> Option<Begun<S>> {
+    for _ in rt.forever() {
+        match begun_by(alloc, shut) {
+            Ok(begun) => return Some(begun),
+            Err(same) => shut = same,
+        }
+        if node.signal.has_ended(rt) {
+            return None;
+        }
+        thread::sleep(rt, Duration::from_millis(PAUSE));
+    }
+    unreachable!()
 }
 
 /// The next run, begun, or none where the program is to end.
@@ -148,16 +202,13 @@ fn next_run<R: Wait + Clock, L: Log, S: Stores>(
     }
     let over = node.signal.over(rt);
     warn_of(rt, log, node, over, setbacks);
-    let Some(book) = next_book(rt, alloc, node, stores, book, over, setbacks)? else {
+    let Some(book) = next_book(rt, log, alloc, node, stores, book, over, setbacks)? else {
         return Ok(None);
     };
     if !node.signal.begin(rt) {
         return Ok(None);
     }
-    match begun_by(alloc, book) {
-        Some(begun) => Ok(Some(begun)),
-        None => Err(Failure::Run),
-    }
+    Ok(begun_in_time(rt, alloc, node, Shut { book }))
 }
 
 /// A table of paths, once there is memory for it; none where the program is to end before.
@@ -204,20 +255,50 @@ where
     unreachable!()
 }
 
-/// What the thread at a place does besides the runs: the first pulls, the last accepts, and the others call.
-fn help<R: Wait + Clock + Net<Listener = TcpListener, Stream = TcpStream>>(
+/// Pulls from the other nodes in processes of their own, each from a thread: the one at this place behind the others.
+fn pull_apart<R: Wait + Clock + Net<Listener = TcpListener, Stream = TcpStream>, L: Log>(
     rt: &R,
+    log: &L,
+    alloc: Global,
+    node: &Node,
+    place: usize,
+) {
+    for number in 1..=node.nodes {
+        if usize::from(number) == place && number != node.number && node.site.is_apart() {
+            follow(rt, log, alloc, node, number);
+        }
+    }
+}
+
+/// What the thread at a place does besides the runs: the first pulls, or warns of a full home; the sixth accepts, those between call, and
+/// those behind pull from one other node each.
+fn help<R: Wait + Clock + Net<Listener = TcpListener, Stream = TcpStream>, L: Log>(
+    rt: &R,
+    log: &L,
     alloc: Global,
     node: &Node,
     listener: &TcpListener,
     place: usize,
 ) {
-    if place == ACCEPTING {
+    if place > ACCEPTING {
+        pull_apart(rt, log, alloc, node, place - ACCEPTING);
+    } else if place == ACCEPTING {
         accept(rt, node, listener);
     } else if place > 0 {
         call_out(rt, alloc, node);
+    } else if node.site.is_apart() {
+        watch(rt, log, node);
     } else if node.nodes > 1 {
         pull_in_turn(rt, alloc, node);
+    }
+}
+
+/// How many threads outlive the runs.
+fn helpers_of(node: &Node) -> usize {
+    if node.site.is_apart() {
+        HELPERS + usize::from(node.nodes)
+    } else {
+        HELPERS
     }
 }
 
@@ -244,7 +325,7 @@ pub fn life_of<R: Net<Listener = TcpListener, Stream = TcpStream>, S: Alter + Dr
     node: &Node,
     begun: Begun<S>,
 ) -> Option<Life<S>> {
-    match TcpListener::bind(rt, address_of(node.first_port, node.number)) {
+    match TcpListener::bind(rt, node.site.listen) {
         Ok(listener) => Some(Life { begun, listener }),
         Err(_) => None,
     }
@@ -266,9 +347,9 @@ where
     let Life { begun, listener } = life;
     let listener = &listener;
     thread::scope(thread::scope_env(), rt, move |scope| {
-        for place in 0..HELPERS {
+        for place in 0..helpers_of(node) {
             if scope
-                .spawn(move || help(rt, alloc, node, listener, place))
+                .spawn(move || help(rt, log, alloc, node, listener, place))
                 .is_err()
             {
                 end_helpers(rt, node);

@@ -6,9 +6,11 @@ use std::string::String;
 /// Why a journal can't be opened.
 #[derive(Clone, Copy, PartialEq, Eq, Debug)]
 pub enum Unopened {
-    /// For want of room or memory, or since the disk failed: it may be opened later.
+    /// For a reason of the moment: want of room or of memory, a lock, a disk that failed. It may be opened later.
     ForNow,
-    /// For another reason.
+    /// No file can be had, or there is no right or no folder. It may be opened later, too.
+    NoFile,
+    /// What is there is no journal of this node.
     ForGood,
 }
 
@@ -35,13 +37,11 @@ impl<T: Start + Send + Copy> Folder<T> {
     }
 }
 
-/// Whether a journal that can't be opened so may be opened later.
+/// Why a journal can't be opened that is answered so.
 fn unopened_by(error: Error) -> Unopened {
     match error {
-        Error::SqliteFailure(
-            ErrorCode::DiskFull | ErrorCode::SystemIoFailure | ErrorCode::OutOfMemory,
-        ) => Unopened::ForNow,
-        _ => Unopened::ForGood,
+        Error::SqliteFailure(ErrorCode::CannotOpen) => Unopened::NoFile,
+        _ => Unopened::ForNow,
     }
 }
 

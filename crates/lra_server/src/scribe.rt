@@ -1,12 +1,15 @@
 // The thread that enters what the others hear, in each run of a node.
 
 use crate::refusals::over_by;
+use crate::sweeping::sweep;
 use crate::taken::moment;
-use lra_book::{Call, Clerk, Reply};
+use lra_book::{Call, Clerk, PullBody, Reply};
 use lra_callback::{Duties, Heard};
 use lra_delta::Delta;
 use lra_facts::Refusal;
 use lra_history::Command;
+use lra_id::{Front, LAST_NUMBER};
+use lra_peer::pull_body;
 use lra_threads::{Letter, Node, Task};
 use lra_work::ending_by;
 use std::alloc::Global;
@@ -122,14 +125,36 @@ fn expire<R: Wait + Clock, C: Clerk>(
     Ok(())
 }
 
-/// Does what is to be done next.
+/// The body of a pull by one that has all facts that there can be of so many nodes.
+fn body_of_all(alloc: Global, nodes: u8) -> Result<PullBody, Refusal> {
+    let counts = [LAST_NUMBER; 8];
+    let nodes = usize::from(nodes.clamp(1, 8));
+    match pull_body(alloc, &Front::from_counts(&counts[..nodes])) {
+        Ok(bytes) => Ok(PullBody::new(bytes)),
+        Err(_) => Err(Refusal::NoMemory),
+    }
+}
+
+/// Asks as one that has all facts: so nothing is told but how many this node has. Behind that the others are asked, and hear of it
+/// (`Node::hear_front`).
+fn count<R: Wait + Clock, C: Clerk>(
+    rt: &R,
+    alloc: Global,
+    node: &Node,
+    clerk: &mut C,
+) -> Result<(), Refusal> {
+    let body = body_of_all(alloc, node.nodes)?;
+    clerk.call(alloc, Call::Pull(body), moment(rt))
+}
+
+/// Does what is to be done next. It waits for that, unless the home is to be swept.
 fn attend<R: Wait + Clock, C: Clerk>(
     rt: &R,
     alloc: Global,
     node: &Node,
     clerk: &mut C,
 ) -> Result<(), Refusal> {
-    match node.post.next(rt) {
+    match node.post.next(rt, node.sweep.is_due(rt)) {
         Task::Enter(letter) => enter(rt, alloc, node, clerk, letter),
         Task::Take(delta) => take(rt, alloc, node, clerk, delta),
         Task::Ask => match ask(rt, alloc, node, clerk) {
@@ -140,6 +165,13 @@ fn attend<R: Wait + Clock, C: Clerk>(
             }
         },
         Task::Tick => expire(rt, alloc, node, clerk),
+        Task::Count => match count(rt, alloc, node, clerk) {
+            Ok(()) => Ok(()),
+            Err(refusal) => {
+                node.post.want_count(rt);
+                Err(refusal)
+            }
+        },
         Task::Rest => Ok(()),
     }
 }
@@ -156,7 +188,7 @@ fn rest<R: Wait + Clock + Net<Listener = TcpListener, Stream = TcpStream>>(
     }
 }
 
-/// Enters what the threads that call and pull hear, and looks for deadlines, until the run is over. It gives the clerk back.
+/// Enters what the threads that call and pull hear, looks for deadlines, and sweeps, until the run is over. It gives the clerk back.
 pub fn enter_all<
     R: Wait + Clock + Net<Listener = TcpListener, Stream = TcpStream>,
     C: Clerk + Drop,
@@ -168,6 +200,8 @@ pub fn enter_all<
             return clerk;
         }
         if let Err(refusal) = attend(rt, alloc, node, &mut clerk) {
+            rest(rt, node, refusal);
+        } else if let Err(refusal) = sweep(rt, alloc, node, &mut clerk) {
             rest(rt, node, refusal);
         }
     }

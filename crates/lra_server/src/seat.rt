@@ -4,10 +4,13 @@ use lra_book::{Call, Clerk, Reply};
 use lra_delta::Delta;
 use lra_facts::Refusal;
 use lra_history::{Command, CommandReply};
+use lra_id::{Front, LraId};
+use lra_peer::front_of_pull;
 use lra_states::Act;
 use lra_threads::Node;
 use std::alloc::Global;
 use std::sync::Wait;
+use std::time::Clock;
 
 /// How many facts of a frame, or duties of a list, count as one call more. The trail keeps each frame and list, so a run with long
 /// ones ends early.
@@ -75,6 +78,61 @@ fn weight_of_reply(reply: &Reply) -> u64 {
     }
 }
 
+/// Whether behind this reply an LRA may have ended.
+fn may_end(reply: &Reply) -> bool {
+    matches!(
+        reply,
+        Reply::Took
+            | Reply::Expired(_)
+            | Reply::Command(CommandReply::Decided(_, _) | CommandReply::Reported)
+    )
+}
+
+/// Whether a call enters a command.
+fn enters(call: &Call) -> bool {
+    matches!(call, Call::Command(_) | Call::Expire)
+}
+
+/// The LRA of which a command says that a participant was told what it was to be told.
+fn told_by(command: &Command) -> Option<LraId> {
+    match command {
+        Command::Forgot { id, .. } | Command::Told { id, .. } => Some(*id),
+        _ => None,
+    }
+}
+
+/// The LRA of which a call says so.
+fn freed_by(call: &Call) -> Option<LraId> {
+    match call {
+        Call::Command(command) => told_by(command),
+        _ => None,
+    }
+}
+
+/// Notes what a reply says of the home: that an LRA was begun, couldn't be begun, or may have ended.
+fn note_home(node: &Node, reply: &Reply) {
+    match reply {
+        Reply::Command(CommandReply::Began(_, _)) => node.sweep.note_begun(),
+        Reply::Command(CommandReply::Refused(Refusal::LrasFull)) => node.sweep.note_full(),
+        _ => {
+            if may_end(reply) {
+                node.sweep.stir();
+            }
+        }
+    }
+}
+
+/// How many facts one has that pulls, where that is to be heard: the other nodes are in processes of their own.
+fn front_of(node: &Node, call: &Call) -> Option<Front> {
+    let Call::Pull(body) = call else {
+        return None;
+    };
+    if !node.site.is_apart() || node.nodes == 0 || node.nodes > 8 {
+        return None;
+    }
+    front_of_pull(usize::from(node.nodes), body.as_slice()).ok()
+}
+
 /// Whether a fact was stored before this reply.
 fn is_stored(reply: &Reply) -> bool {
     match reply {
@@ -92,17 +150,18 @@ fn is_own_fact(reply: &Reply) -> bool {
 /// Notes what the other threads and nodes are to go on with behind a reply (`Node::pass_on`).
 fn tell<R: Wait>(rt: &R, node: &Node, reply: &Reply, is_completion: bool) {
     if let Reply::Gave(delta) = reply {
-        node.post.learn(rt, &delta.front());
+        node.post.count(rt, &delta.front());
     }
     if stirs(reply) {
         node.post.stir(rt, is_completion);
     }
+    note_home(node, reply);
     if is_own_fact(reply) {
         node.note_fact();
     }
 }
 
-impl<'n, R: Wait, C: Clerk + Drop> Clerk for Seat<'n, R, C> {
+impl<'n, R: Wait + Clock, C: Clerk + Drop> Clerk for Seat<'n, R, C> {
     ghost receipts = { λ s. C.receipts s.clerk };
 
     ghost called = { λ old new. C.called old.clerk new.clerk };
@@ -110,12 +169,22 @@ impl<'n, R: Wait, C: Clerk + Drop> Clerk for Seat<'n, R, C> {
     fn call(&mut self, alloc: Global, call: Call, now: u64) -> Result<(), Refusal> {
         let (is_move, completes) = (call.is_move(), is_completion(&call));
         let weight = weight_of_call(&call);
+        let (front, freed) = (front_of(self.node, &call), freed_by(&call));
+        if self.node.site.is_apart() && enters(&call) {
+            self.node.post.wait_to_enter(self.rt);
+        }
         match self.clerk.call(alloc, call, now) {
             Ok(()) => {
                 let reply = self.clerk.reply();
                 let calls = weight.saturating_add(weight_of_reply(reply));
                 self.node.tally.count(calls, is_move, is_stored(reply));
                 tell(self.rt, self.node, reply, completes);
+                if let Some(front) = front {
+                    self.node.hear_front(self.rt, &front);
+                }
+                if let Some(id) = freed {
+                    self.node.sweep.free(self.rt, id);
+                }
                 Ok(())
             }
             Err(refusal) => Err(refusal),

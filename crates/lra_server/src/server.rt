@@ -1,16 +1,16 @@
 // All nodes of a program.
-ghost use Rattle.std.specs.Prelude.{◌≡◌, ◌≤◌, None};
+ghost use Rattle.std.specs.Prelude.{◌≤◌, vec_len};
 
 use crate::Stores;
-use crate::begun::{Begun, begun_by};
+use crate::begun::{Begun, Shut, begun_by};
 use crate::life::{Failure, Life, life_of, live, open_book};
 use log::Log;
 use lra_book::{Book, MAX_ENTRIES, MAX_MOVES};
-use lra_threads::{End, Ends, News, Node, Over, Tally, drain, port_of};
+use lra_threads::{End, Ends, Keep, News, Node, Over, Peer, Site, Tally, drain};
 use sqlite::Alter;
 use std::alloc::{AllocError, Global};
 use std::io::Read;
-use std::net::{Net, TcpListener, TcpStream};
+use std::net::{Net, SocketAddr, TcpListener, TcpStream};
 use std::sync::{Arc, Wait};
 use std::thread;
 use std::thread::{Scope, Threads};
@@ -39,13 +39,6 @@ fn tell<R: Eprint>(rt: &R, trouble: Trouble) {
     };
 }
 
-/// A book on which no run is on.
-#[derive(Drop)]
-struct Shut<S: Alter + Drop> {
-    book: Book<S>,
-    ghost shut: { book.opening ≡ None },
-}
-
 /// The books of all nodes, or the first node whose journal can't be opened.
 fn books_of<S: Stores>(
     alloc: Global,
@@ -65,17 +58,18 @@ fn books_of<S: Stores>(
 }
 
 /// All books with a run on, or the first node whose run can't be started.
-fn begun_of<S: Alter + Drop>(alloc: Global, books: Vec<Shut<S>>) -> Result<Vec<Begun<S>>, Trouble> {
+fn begun_of<S: Alter + Drop>(
+    alloc: Global,
+    nodes: &[Node],
+    books: Vec<Shut<S>>,
+) -> Result<Vec<Begun<S>>, Trouble> {
     let mut begun = Vec::new(alloc);
-    let mut number = 0u8;
-    for shut in books {
-        number = number.saturating_add(1);
-        let Shut { book } = shut;
-        let Some(next) = begun_by(alloc, book) else {
-            return Err(Trouble::Run(number));
+    for (node, shut) in nodes.iter().zip(books) {
+        let Ok(next) = begun_by(alloc, shut) else {
+            return Err(Trouble::Run(node.number));
         };
         if begun.push(next).is_err() {
-            return Err(Trouble::Run(number));
+            return Err(Trouble::Run(node.number));
         }
     }
     Ok(begun)
@@ -91,7 +85,7 @@ fn lives_of<R: Net<Listener = TcpListener, Stream = TcpStream>, S: Alter + Drop>
     let mut lives = Vec::new(alloc);
     for (node, begun) in nodes.iter().zip(books) {
         let Some(life) = life_of(rt, node, begun) else {
-            return Err(Trouble::Port(port_of(node.first_port, node.number)));
+            return Err(Trouble::Port(node.site.listen.port()));
         };
         if lives.push(life).is_err() {
             return Err(Trouble::Run(node.number));
@@ -108,15 +102,74 @@ fn tally() -> Tally {
     )
 }
 
+/// The same places of news once more.
+fn same_news(alloc: Global, all: &[Arc<News>]) -> Result<Vec<Arc<News>>, AllocError> {
+    let mut same = Vec::new(alloc);
+    for news in all {
+        same.push(Arc::try_clone(news)?)?;
+    }
+    Ok(same)
+}
+
 /// What the nodes share with their threads.
 fn nodes_of(alloc: Global, nodes: u8, port: u16) -> Result<Vec<Node>, AllocError>
     requires { (1 ≤ nodes) × (nodes ≤ 8) }
 {
     let news = Arc::new(alloc, News::new())?;
+    let keep = Keep {
+        ended: None,
+        failed: None,
+    };
     let mut all = Vec::new(alloc);
     for number in 1..=nodes {
         let shared = Arc::try_clone(&news)?;
-        all.push(Node::new(alloc, number, nodes, port, tally(), shared))?;
+        let mut told = Vec::new(alloc);
+        told.push(Arc::try_clone(&news)?)?;
+        let site = Site::here(port, number);
+        all.push(Node::new(alloc, number, nodes, site, keep, tally(), shared, told))?;
+    }
+    Ok(all)
+}
+
+/// Nodes of a group that run in this process, while the others run in processes of their own.
+#[derive(Drop)]
+pub struct Members {
+    /// The first and the last of them.
+    pub first: u8,
+    pub last: u8,
+    /// Where all nodes of the group are reached, in order.
+    pub peers: Vec<Peer>,
+    /// Where each listens, if that is said; else on the loopback interface, at the port where it is reached.
+    pub listen: Option<SocketAddr>,
+    /// How long each keeps roots that have ended.
+    pub keep: Keep,
+}
+
+/// What members of a group share with their threads.
+fn nodes_of_members(alloc: Global, members: Members) -> Result<Vec<Node>, AllocError>
+    requires { (1 ≤ vec_len members.peers) × (vec_len members.peers ≤ 8) }
+{
+    let Members {
+        first,
+        last,
+        peers,
+        listen,
+        keep,
+    } = members;
+    let nodes = peers.len() as u8;
+    let peers = Arc::new(alloc, peers)?;
+    let mut news = Vec::new(alloc);
+    for _number in first..=last {
+        news.push(Arc::new(alloc, News::new())?)?;
+    }
+    let mut all = Vec::new(alloc);
+    let mut number = first;
+    for own in news.iter() {
+        let site = Site::apart(listen, number, Arc::try_clone(&peers)?);
+        let own = Arc::try_clone(own)?;
+        let told = same_news(alloc, &news)?;
+        all.push(Node::new(alloc, number, nodes, site, keep, tally(), own, told))?;
+        number = number.saturating_add(1);
     }
     Ok(all)
 }
@@ -219,27 +272,64 @@ fn begin<R: Net<Listener = TcpListener, Stream = TcpStream>, S: Stores>(
     stores: &S,
 ) -> Result<Vec<Life<S::Store>>, Trouble> {
     let books = books_of(alloc, nodes, stores)?;
-    let begun = begun_of(alloc, books)?;
+    let begun = begun_of(alloc, nodes, books)?;
     lives_of(rt, alloc, nodes, begun)
 }
 
-/// Has a thread read the input, which tells its end.
+/// Has a thread read the input, which tells its end. Where that can't be had, the run of this node can't be started.
 fn watch<R: Threads, H: Wait + Send + Drop + 'static, I: Read + Send + Drop + 'static>(
     rt: &R,
     alloc: Global,
     host: H,
+    first: u8,
     input: I,
 ) -> Result<Arc<Ends>, Trouble> {
     let Ok(ends) = Arc::new(alloc, Ends::new()) else {
-        return Err(Trouble::Run(1));
+        return Err(Trouble::Run(first));
     };
     let Ok(theirs) = Arc::try_clone(&ends) else {
-        return Err(Trouble::Run(1));
+        return Err(Trouble::Run(first));
     };
     if thread::spawn(rt, move || drain(&host, input, &theirs)).is_err() {
-        return Err(Trouble::Run(1));
+        return Err(Trouble::Run(first));
     }
     Ok(ends)
+}
+
+/// Runs these nodes, of which the first has this number. It gives the exit status.
+fn serve_these<R, L, H, S, I>(
+    rt: &R,
+    log: &L,
+    host: H,
+    alloc: Global,
+    first: u8,
+    nodes: &[Node],
+    stores: &S,
+    input: I,
+) -> u8
+where
+    R: Threads + Wait + Clock + Net<Listener = TcpListener, Stream = TcpStream> + Eprint + Sync,
+    L: Log + Sync,
+    H: Wait + Send + Drop + 'static,
+    S: Stores + Sync,
+    I: Read + Send + Drop + 'static,
+{
+    let lives = match begin(rt, alloc, nodes, stores) {
+        Ok(lives) => lives,
+        Err(trouble) => {
+            tell(rt, trouble);
+            return 1;
+        }
+    };
+    let ends = match watch(rt, alloc, host, first, input) {
+        Ok(ends) => ends,
+        Err(trouble) => {
+            tell(rt, trouble);
+            return 1;
+        }
+    };
+    live_all(rt, log, alloc, nodes, stores, lives, &ends);
+    u8::from(ends.has_failed(rt))
 }
 
 /// Runs so many nodes, 1 to 8, whose journals lie in these stores; node I listens at the port + I - 1 of the loopback interface.
@@ -267,20 +357,32 @@ where
         tell(rt, Trouble::Run(1));
         return 1;
     };
-    let lives = match begin(rt, alloc, &all, stores) {
-        Ok(lives) => lives,
-        Err(trouble) => {
-            tell(rt, trouble);
-            return 1;
-        }
+    serve_these(rt, log, host, alloc, 1, &all, stores, input)
+}
+
+/// Runs some nodes of a group, 1 to 8, whose journals lie in these stores. They pull from the others where those are reached. It ends as
+/// `serve` does.
+pub fn serve_members<R, L, H, S, I>(
+    rt: &R,
+    log: &L,
+    host: H,
+    alloc: Global,
+    members: Members,
+    stores: &S,
+    input: I,
+) -> u8
+where
+    R: Threads + Wait + Clock + Net<Listener = TcpListener, Stream = TcpStream> + Eprint + Sync,
+    L: Log + Sync,
+    H: Wait + Send + Drop + 'static,
+    S: Stores + Sync,
+    I: Read + Send + Drop + 'static,
+    requires nodes { (1 ≤ vec_len members.peers) × (vec_len members.peers ≤ 8) }
+{
+    let first = members.first;
+    let Ok(all) = nodes_of_members(alloc, members) else {
+        tell(rt, Trouble::Run(first));
+        return 1;
     };
-    let ends = match watch(rt, alloc, host, input) {
-        Ok(ends) => ends,
-        Err(trouble) => {
-            tell(rt, trouble);
-            return 1;
-        }
-    };
-    live_all(rt, log, alloc, &all, stores, lives, &ends);
-    u8::from(ends.has_failed(rt))
+    serve_these(rt, log, host, alloc, first, &all, stores, input)
 }

@@ -1,6 +1,5 @@
-// The thread that pulls from the other nodes in turn. It outlives the runs of its node.
+// The thread that pulls from the other nodes of its process in turn. It outlives the runs of its node.
 
-use crate::address::address_of;
 use crate::line::{Times, line_over};
 use crate::news::Counts;
 use crate::node::Node;
@@ -16,9 +15,6 @@ use std::time::{Clock, Duration};
 /// How long another node may take to answer, in milliseconds.
 const PATIENCE: u64 = 10_000;
 
-/// How long it may take to be reached, in milliseconds.
-const REACH: u64 = 1_000;
-
 /// How long a node pauses behind each pull, in milliseconds.
 const PAUSE: u64 = 50;
 
@@ -28,16 +24,14 @@ const SHORT_ROUND: u64 = 500;
 /// How long it takes at rest, in milliseconds.
 const LONG_ROUND: u64 = 5_000;
 
-/// What another node has beyond a front.
-fn pull_from<R: Wait + Clock + Net<Listener = TcpListener, Stream = TcpStream>>(
+/// What another node has beyond a front, over a connection to it.
+pub(crate) fn pull_over<R: Wait + Clock>(
     rt: &R,
     alloc: Global,
     node: &Node,
-    other: u8,
     front: &Front,
+    stream: TcpStream,
 ) -> Option<Delta> {
-    let address = address_of(node.first_port, other);
-    let stream = TcpStream::connect_timeout(rt, &address, Duration::from_millis(REACH)).ok()?;
     stream
         .set_read_timeout(Some(Duration::from_millis(SLICE)))
         .ok()?;
@@ -70,7 +64,10 @@ fn pull_one<R: Wait + Clock + Net<Listener = TcpListener, Stream = TcpStream>>(
     other: u8,
 ) -> Pulled {
     let front = node.post.front(rt);
-    let Some(delta) = pull_from(rt, alloc, node, other, &front) else {
+    let Ok(stream) = node.site.reach(rt, &node.signal, other) else {
+        return Pulled::Failed;
+    };
+    let Some(delta) = pull_over(rt, alloc, node, &front, stream) else {
         return Pulled::Failed;
     };
     let told = delta.front();

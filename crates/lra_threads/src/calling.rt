@@ -1,59 +1,21 @@
 // The threads that call participants. They outlive the runs of their node.
-ghost use Rattle.std.specs.Iterator.{IsFinite};
 
 use crate::line::{Times, line_over};
 use crate::node::Node;
 use crate::patient::{Haste, SLICE};
+use crate::reaching::connect_to_one;
 use crate::signal::Signal;
 use lra_callback::{Answer, Duty, Heard, NetCaller, hear, request_of};
 use std::alloc::Global;
 use std::io;
 use std::io::{Error, ErrorKind};
-use std::net::{Net, SocketAddr, TcpListener, TcpStream, ToSocketAddrs};
+use std::net::{Net, TcpListener, TcpStream, ToSocketAddrs};
 use std::sync::Wait;
 use std::time::{Clock, Duration};
 use url::{Host, Url};
 
 /// How long a participant may take to be reached, to take its request, and to answer, in milliseconds each.
 const PATIENCE: u64 = 10_000;
-
-/// A connection to one address, tried until this moment; none where the program is to end.
-fn connect_until<R: Wait + Clock + Net<Stream = TcpStream>>(
-    rt: &R,
-    signal: &Signal,
-    address: SocketAddr,
-    until: Duration,
-) -> io::Result<TcpStream> {
-    if signal.has_ended(rt) {
-        return Err(Error::from(ErrorKind::TimedOut));
-    }
-    let left = until.saturating_sub(rt.monotonic()?);
-    if left.is_zero() {
-        return Err(Error::from(ErrorKind::TimedOut));
-    }
-    TcpStream::connect_timeout(rt, &address, left)
-}
-
-/// The first of some addresses that answers. All of them together have the patience of one.
-fn connect_to_one<R: Wait + Clock + Net<Stream = TcpStream>, A: Iterator<Item = SocketAddr>>(
-    rt: &R,
-    signal: &Signal,
-    addresses: A,
-) -> io::Result<TcpStream>
-    requires { A.can_next addresses × IsFinite (A.remaining addresses) }
-{
-    let until = rt
-        .monotonic()?
-        .saturating_add(Duration::from_millis(PATIENCE));
-    let mut last = Error::from(ErrorKind::NotFound);
-    for address in addresses {
-        match connect_until(rt, signal, address, until) {
-            Ok(stream) => return Ok(stream),
-            Err(error) => last = error,
-        }
-    }
-    Err(last)
-}
 
 /// A connection to the host of a link.
 fn connect<R: Wait + Clock + Net<Stream = TcpStream>>(
@@ -62,10 +24,13 @@ fn connect<R: Wait + Clock + Net<Stream = TcpStream>>(
     url: &Url,
 ) -> io::Result<TcpStream> {
     let port = url.port_or_known_default().unwrap_or(80);
+    let time = Duration::from_millis(PATIENCE);
     match url.host() {
-        Some(Host::Domain(name)) => connect_to_one(rt, signal, (name, port).to_socket_addrs(rt)?),
-        Some(Host::Ipv4(ip)) => connect_to_one(rt, signal, (ip, port).to_socket_addrs(rt)?),
-        Some(Host::Ipv6(ip)) => connect_to_one(rt, signal, (ip, port).to_socket_addrs(rt)?),
+        Some(Host::Domain(name)) => {
+            connect_to_one(rt, signal, (name, port).to_socket_addrs(rt)?, time)
+        }
+        Some(Host::Ipv4(ip)) => connect_to_one(rt, signal, (ip, port).to_socket_addrs(rt)?, time),
+        Some(Host::Ipv6(ip)) => connect_to_one(rt, signal, (ip, port).to_socket_addrs(rt)?, time),
         None => Err(Error::from(ErrorKind::NotFound)),
     }
 }
@@ -119,7 +84,7 @@ pub fn call_out<R: Wait + Clock + Net<Listener = TcpListener, Stream = TcpStream
     node: &Node,
 ) {
     for _ in rt.forever() {
-        let Some(duty) = node.post.next_duty(rt, alloc) else {
+        let Some(duty) = node.post.next_duty(rt) else {
             return;
         };
         let began = rt.monotonic().unwrap_or(Duration::from_millis(0));

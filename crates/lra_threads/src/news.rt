@@ -80,6 +80,26 @@ impl News {
         self.came.notify_all();
     }
 
+    /// Waits so long until this node has told it more often than was seen. It gives how often it did, or nothing once the program is to
+    /// end.
+    pub(crate) fn wait_for<R: Wait + Clock>(
+        &self,
+        rt: &R,
+        other: u8,
+        seen: u64,
+        time: Duration,
+    ) -> Option<u64> {
+        let (told, _) = self
+            .came
+            .wait_timeout_while(rt, self.told.lock(rt), time, |told| {
+                !told.ended && told.counts.of(other) <= seen
+            });
+        if told.ended {
+            return None;
+        }
+        Some(told.counts.of(other))
+    }
+
     /// Waits so long until another node has told more than was seen. It gives what all have told, or nothing once the program is to
     /// end.
     pub(crate) fn wait<R: Wait + Clock>(

@@ -1,12 +1,14 @@
 // What the threads of a node share.
 ghost use Rattle.std.specs.Prelude.{◌≤◌};
 
-use crate::address::address_of;
 use crate::news::News;
 use crate::post::Post;
 use crate::queue::Queue;
 use crate::signal::{Over, Signal};
+use crate::site::Site;
+use crate::sweep::{Keep, Sweep};
 use crate::tally::Tally;
+use lra_id::Front;
 use std::alloc::Global;
 use std::io::ErrorKind;
 use std::net::{Net, TcpListener, TcpStream};
@@ -29,36 +31,45 @@ const MAX_TURNS: u32 = 100;
 pub struct Node {
     pub number: u8,
     pub nodes: u8,
-    pub first_port: u16,
+    pub site: Site,
     pub queue: Queue,
     pub signal: Signal,
     pub tally: Tally,
     pub post: Post,
+    pub sweep: Sweep,
+    /// Where it hears that others have something new.
     pub news: Arc<News>,
+    /// Where it tells that it has: where the nodes of its process hear it.
+    told: Vec<Arc<News>>,
     has_news: AtomicBool,
 }
 
 impl Node {
-    /// One of so many nodes, of which the first listens at this port. Its runs are as long as the tally says, and all share the news.
+    /// One of so many nodes, at this site. It keeps roots that have ended so long. Its runs are as long as the tally says. It hears news
+    /// in one place, and tells it in those where the nodes of its process do.
     pub fn new(
         alloc: Global,
         number: u8,
         nodes: u8,
-        first_port: u16,
+        site: Site,
+        keep: Keep,
         tally: Tally,
         news: Arc<News>,
+        told: Vec<Arc<News>>,
     ) -> Node
         requires { (1 ≤ nodes) × (nodes ≤ 8) }
     {
         Node {
             number,
             nodes,
-            first_port,
             queue: Queue::new(alloc),
             signal: Signal::new(),
             tally,
-            post: Post::new(alloc, nodes),
+            post: Post::new(alloc, nodes, nodes > 1 && site.is_apart()),
+            sweep: Sweep::new(alloc, number, keep, site.is_apart()),
+            site,
             news,
+            told,
             has_news: AtomicBool::new(false),
         }
     }
@@ -73,7 +84,25 @@ impl Node {
     pub fn pass_on<R: Wait>(&self, rt: &R) {
         self.post.pass_on(rt);
         if self.has_news.swap(false, Ordering::SeqCst) {
-            self.news.tell(rt, self.number);
+            for news in self.told.iter() {
+                news.tell(rt, self.number);
+            }
+            if self.nodes > 1 && self.site.is_apart() {
+                self.post.want_count(rt);
+            }
+        }
+    }
+
+    /// Hears how many facts of each node one has that asks this one. Where that is more of another node's than this one has, that node is
+    /// asked. So who asks tells thereby that it has something new.
+    pub fn hear_front<R: Wait>(&self, rt: &R, front: &Front) {
+        let known = self.post.front(rt);
+        let mut number = 0u8;
+        for (theirs, ours) in front.as_slice().iter().zip(known.as_slice()) {
+            number = number.saturating_add(1);
+            if number != self.number && *theirs > *ours {
+                self.news.tell(rt, number);
+            }
         }
     }
 
@@ -108,7 +137,7 @@ impl Node {
     // ends with its time: that thread has others to take then, and looks behind each. Where no socket can be had it tries again: that
     // thread, too, gets none then, and looks each time.
     fn knock<R: Wait + Clock + Net<Listener = TcpListener, Stream = TcpStream>>(&self, rt: &R) {
-        let address = address_of(self.first_port, self.number);
+        let address = self.site.own_door();
         for _turn in 0..MAX_TURNS {
             match TcpStream::connect_timeout(rt, &address, Duration::from_millis(REACH)) {
                 Err(error) if error.kind() != ErrorKind::TimedOut => {}

@@ -3,12 +3,13 @@
 
 ghost use Rattle.std.specs.Prelude.{◌≤◌};
 
-use crate::hosts::{Hosts, Pace};
+use crate::calls::{Called, Calls};
+use crate::hosts::Pace;
 use lra_callback::{Duties, Duty, Heard, Kind};
 use lra_delta::Delta;
-use lra_id::{Front, LraId};
+use lra_id::Front;
 use lra_states::{Act, Outcome};
-use std::alloc::{AllocError, Global};
+use std::alloc::Global;
 use std::collections::VecDeque;
 use std::sync::{Condvar, CondvarTimeouts, Mutex, Wait};
 use std::time::{Clock, Duration};
@@ -16,11 +17,17 @@ use std::time::{Clock, Duration};
 /// How often deadlines are looked at, in milliseconds.
 const TICK: u64 = 500;
 
-/// The first pause before a participant is called again, in milliseconds.
-const FIRST_PAUSE: u64 = 250;
+/// How often it is asked at most how many facts the node has, in milliseconds.
+const FRONT: u64 = 50;
 
-/// The longest, in milliseconds.
-const LAST_PAUSE: u64 = 30_000;
+/// How long a start waits at most for what other nodes tell, in milliseconds, before it enters anything of its own.
+const OPENING: u64 = 1_000;
+
+/// How long the thread that enters rests at most, in milliseconds.
+const REST: u64 = 250;
+
+/// How long after it was last asked who is to be called that is asked anew, whatever happens, in milliseconds.
+const ASK: u64 = 30_000;
 
 /// From how long a call on its host is slow, in milliseconds.
 const SLOW: u64 = 1_000;
@@ -43,55 +50,33 @@ pub enum Task {
     Ask,
     /// Look for a deadline that has passed.
     Tick,
+    /// Ask how many facts the node has, to tell the others.
+    Count,
     /// Look whether the run is over.
     Rest,
 }
 
-/// A participant that is being called, or is called again only after a pause. It is told of the end apart from the rest, so that a
-/// link to forget that never answers doesn't hold that up.
-#[derive(Drop)]
-struct Slip {
-    id: LraId,
-    member: u8,
-    of_end: bool,
-    pause: u64,
-    /// When it may be called again; none while it is called.
-    until: Option<Duration>,
-    /// Whether it was to be called when that was last asked.
-    due: bool,
+/// Which kind of task was looked for last.
+#[derive(Clone, Copy, PartialEq, Eq)]
+enum Turn {
+    Tick,
+    Count,
+    Letter,
+    Delta,
+    Ask,
 }
 
-impl Slip {
-    /// Of a duty that is called from here on.
-    fn of(duty: &Duty) -> Slip {
-        Slip {
-            id: duty.id,
-            member: duty.member,
-            of_end: duty.kind == Kind::After,
-            pause: 0,
-            until: None,
-            due: true,
-        }
-    }
+/// How many kinds there are.
+const KINDS: u32 = 5;
 
-    /// Has it pause, longer than the last time.
-    fn pause_from(&mut self, now: Duration) {
-        let pause = self.pause.saturating_mul(2).clamp(FIRST_PAUSE, LAST_PAUSE);
-        self.pause = pause;
-        self.until = Some(now.saturating_add(Duration::from_millis(pause)));
-    }
-
-    fn is_of(&self, duty: &Duty) -> bool {
-        self.id == duty.id
-            && self.member == duty.member
-            && self.of_end == (duty.kind == Kind::After)
-    }
-
-    /// Whether it may be called again.
-    fn is_over(&self, now: Duration) -> bool {
-        match self.until {
-            Some(until) => until <= now,
-            None => false,
+impl Turn {
+    fn next(self) -> Turn {
+        match self {
+            Turn::Tick => Turn::Count,
+            Turn::Count => Turn::Letter,
+            Turn::Letter => Turn::Delta,
+            Turn::Delta => Turn::Ask,
+            Turn::Ask => Turn::Tick,
         }
     }
 }
@@ -117,158 +102,182 @@ fn pace_of(time: Duration) -> Pace {
 // What lies under the lock.
 #[derive(Drop)]
 struct Mail {
-    due: VecDeque<Duty>,
-    hosts: Hosts,
-    slips: Vec<Slip>,
+    calls: Calls,
     letters: VecDeque<Letter>,
     delta: Option<Delta>,
     front: Front,
+    /// Whether it is known how many facts the node had of its own at some moment of this life.
+    counted: bool,
+    /// Whether it is to be asked how many it has.
+    to_count: bool,
+    counts_at: Duration,
     stirred: bool,
     /// Whether it is to be asked at the next tick.
     later: bool,
+    asked_at: Duration,
     ticks_at: Duration,
     /// Until when nothing is entered: the journal failed.
     held_until: Duration,
+    /// Which kind of task was looked for last.
+    turn: Turn,
     /// Whether the thread that enters is to look whether the run is over.
     hurried: bool,
+    /// Whether commands are entered. At a start that waits for what other nodes tell.
+    open: bool,
+    /// When they are at the latest.
+    opens_at: Option<Duration>,
+    /// How many other nodes weren't asked yet.
+    unasked: u8,
+    /// How many facts of each node the others told of.
+    awaited: Front,
     ended: bool,
 }
 
 impl Mail {
-    /// Whether it is to be asked who is to be called: something happened, or a pause is over.
-    fn is_to_ask(&self, now: Duration) -> bool {
-        self.stirred || self.slips.iter().any(|slip| slip.is_over(now))
-    }
-
     /// Has it asked who is to be called: at once, or, where nobody else is to be called before, when those have been called that wait.
     /// A list of all that is due may be long.
     fn stir(&mut self, is_last: bool) {
-        if is_last && !self.due.is_empty() {
+        if is_last && self.calls.is_any_due() {
             self.later = true;
         } else {
             self.stirred = true;
         }
     }
 
-    /// Whether the thread that enters has something to do.
+    /// Whether the thread that enters has something to do. Before commands are entered it takes what others told, and no more.
     fn has_task(&self, now: Duration) -> bool {
         self.held_until <= now
-            && (self.ticks_at <= now
-                || !self.letters.is_empty()
+            && (self.is_to_count(now)
                 || self.delta.is_some()
-                || self.is_to_ask(now))
+                || (self.open
+                    && (self.ticks_at <= now || !self.letters.is_empty() || self.stirred)))
+    }
+
+    /// Has commands entered from here on, if all others were asked and what they told is taken, or the time for that is over. It says
+    /// whether that begins now.
+    fn opens(&mut self, now: Duration) -> bool {
+        if self.open {
+            return false;
+        }
+        let until = match self.opens_at {
+            Some(until) => until,
+            None => now.saturating_add(Duration::from_millis(OPENING)),
+        };
+        self.opens_at = Some(until);
+        self.open = until <= now || (self.unasked == 0 && self.awaited.below(&self.front));
+        self.open
+    }
+
+    /// Whether deadlines are looked at now.
+    fn take_tick(&mut self, now: Duration) -> Option<Task> {
+        if !self.open || self.ticks_at > now {
+            return None;
+        }
+        self.ticks_at = now.saturating_add(Duration::from_millis(TICK));
+        self.stirred = self.stirred || self.is_to_ask_again(now);
+        self.later = false;
+        Some(Task::Tick)
+    }
+
+    /// Whether it is asked now how many facts the node has.
+    fn take_count(&mut self, now: Duration) -> Option<Task> {
+        if !self.is_to_count(now) {
+            return None;
+        }
+        self.to_count = false;
+        self.counts_at = now.saturating_add(Duration::from_millis(FRONT));
+        Some(Task::Count)
+    }
+
+    /// The letter that is entered now.
+    fn take_letter(&mut self) -> Option<Task> {
+        match self.letters.pop_front() {
+            Some(letter) => Some(Task::Enter(letter)),
+            None => None,
+        }
+    }
+
+    /// What another node told, if that is taken now.
+    fn take_delta(&mut self) -> Option<Task> {
+        match self.delta.take() {
+            Some(delta) => Some(Task::Take(delta)),
+            None => None,
+        }
+    }
+
+    /// Whether it is asked now who is to be called.
+    fn take_ask(&mut self, now: Duration) -> Option<Task> {
+        if !self.open || !self.stirred {
+            return None;
+        }
+        self.stirred = false;
+        self.asked_at = now;
+        Some(Task::Ask)
+    }
+
+    /// What the thread that enters does now. The kinds take turns, so that none waits for ever for others where each call takes long.
+    fn take_task(&mut self, now: Duration) -> Task {
+        for _kind in 0..KINDS {
+            self.turn = self.turn.next();
+            let task = match self.turn {
+                Turn::Tick => self.take_tick(now),
+                Turn::Count => self.take_count(now),
+                Turn::Letter => self.take_letter(),
+                Turn::Delta => self.take_delta(),
+                Turn::Ask => self.take_ask(now),
+            };
+            if let Some(task) = task {
+                return task;
+            }
+        }
+        Task::Rest
+    }
+
+    /// Whether it is to be asked at a tick who is to be called: that was put off, or it is long since.
+    fn is_to_ask_again(&self, now: Duration) -> bool {
+        let since = now.saturating_sub(self.asked_at);
+        self.later || (!self.calls.is_empty() && since >= Duration::from_millis(ASK))
+    }
+
+    /// Whether it is to be asked now how many facts the node has.
+    fn is_to_count(&self, now: Duration) -> bool {
+        self.to_count && self.counts_at <= now
     }
 
     /// When there is something to do at the latest, whatever comes.
     fn rests_until(&self) -> Duration {
-        self.ticks_at.max(self.held_until)
-    }
-
-    /// Whether a duty's participant may be called now, and isn't called or in a pause. It counts as called from here on.
-    fn may_call(&mut self, duty: &Duty, now: Duration) -> Result<bool, AllocError> {
-        for slip in self.slips.iter_mut() {
-            if slip.is_of(duty) {
-                slip.due = true;
-                if !slip.is_over(now) {
-                    return Ok(false);
-                }
-                slip.until = None;
-                return Ok(true);
-            }
-        }
-        match self.slips.push(Slip::of(duty)) {
-            Ok(()) => Ok(true),
-            Err(_) => Err(AllocError),
-        }
-    }
-
-    /// Hands a duty to those who call, unless its participant is called now or pauses. One for which there is no memory waits for
-    /// the next time that it is asked.
-    fn put_due(&mut self, duty: Duty, now: Duration) {
-        match self.may_call(&duty, now) {
-            Ok(true) => {
-                if let Err(refused) = self.due.push_back(duty) {
-                    self.drop_slip(&refused.value);
-                    self.later = true;
-                }
-            }
-            Ok(false) => {}
-            Err(_) => self.later = true,
-        }
-    }
-
-    /// The duty that is called for next, if one may be. Its call counts as begun.
-    fn take_duty(&mut self, alloc: Global) -> Option<Duty> {
-        let place = self.hosts.next_of(&self.due)?;
-        let duty = self.due.remove(place)?;
-        self.hosts.begin(alloc, &duty);
-        Some(duty)
-    }
-
-    /// Takes the duties back that no thread has begun with: who is to be called may be others by now.
-    fn recall(&mut self) {
-        for _turn in 0..self.due.len() {
-            if let Some(duty) = self.due.pop_front() {
-                self.release(&duty);
-            }
-        }
-    }
-
-    /// Lets a participant be called at once, if it is to be called. How long it paused is kept.
-    fn release(&mut self, duty: &Duty) {
-        for slip in self.slips.iter_mut() {
-            if slip.is_of(duty) {
-                slip.until = Some(Duration::from_millis(0));
-            }
-        }
-    }
-
-    /// Has a participant wait before it is called again, each time longer.
-    fn pause(&mut self, duty: &Duty, now: Duration) {
-        for slip in self.slips.iter_mut() {
-            if slip.is_of(duty) {
-                slip.pause_from(now);
-            }
-        }
+        let soon = match self.opens_at {
+            Some(until) if !self.open => until,
+            _ => self.ticks_at,
+        };
+        let until = if self.to_count {
+            soon.min(self.counts_at)
+        } else {
+            soon
+        };
+        self.calls.resumes_by(until.max(self.held_until))
     }
 
     /// Puts a letter last. One for which there is no memory is lost, and the participant is called again.
     fn put_letter(&mut self, letter: Letter) {
         if let Err(refused) = self.letters.push_back(letter) {
-            self.drop_slip(&refused.value.duty);
+            self.calls.forget(Called::of(&refused.value.duty));
             self.later = true;
         }
     }
 
-    /// Hands those who are to be called to the threads that call, in place of those that no thread has begun with, and says how many
-    /// wait. Who is no longer among them is forgotten, unless it is called now.
-    fn put_duties(&mut self, duties: Duties, now: Duration) -> usize {
-        self.recall();
-        for slip in self.slips.iter_mut() {
-            slip.due = false;
-        }
-        for duty in duties.into_vec() {
-            self.put_due(duty, now);
-        }
-        self.slips.retain(|slip| slip.due || slip.until.is_none());
-        self.due.len()
-    }
-
-    /// Puts what was heard of a participant, and says how many wait to be called. One that is to be called again pauses first.
-    fn hear(&mut self, duty: Duty, pace: Pace, heard: Heard, now: Duration) -> usize {
-        self.hosts.end(&duty, pace);
+    /// Puts what was heard of a participant. One that is to be called again pauses first.
+    fn hear(&mut self, duty: Duty, pace: Pace, heard: Heard, now: Duration) {
+        self.calls.end(&duty, pace);
         match heard {
-            Heard::Again => self.pause(&duty, now),
+            Heard::Again => {
+                let who = Called::of(&duty);
+                self.calls.pause(who, Some(duty), now);
+            }
             Heard::Told(_) | Heard::Forgotten | Heard::Informed => {
                 self.put_letter(Letter { duty, heard });
             }
         }
-        self.due.len()
-    }
-
-    /// Forgets that a participant was called.
-    fn drop_slip(&mut self, duty: &Duty) {
-        self.slips.retain(|slip| !slip.is_of(duty));
     }
 }
 
@@ -285,23 +294,31 @@ pub struct Post {
 }
 
 impl Post {
-    /// With nothing in it. Of the node's own front nothing is known yet.
-    pub fn new(alloc: Global, nodes: u8) -> Post
+    /// With nothing in it. Of the node's own front nothing is known yet. Where the others are in processes of their own it is asked
+    /// first, and then they are, before commands are entered.
+    pub fn new(alloc: Global, nodes: u8, are_apart: bool) -> Post
         requires { (1 ≤ nodes) × (nodes ≤ 8) }
     {
         Post {
             mail: Mutex::new(Mail {
-                due: VecDeque::new(alloc),
-                hosts: Hosts::new(alloc),
-                slips: Vec::new(alloc),
+                calls: Calls::new(alloc),
                 letters: VecDeque::new(alloc),
                 delta: None,
                 front: Front::zero(usize::from(nodes)),
+                counted: false,
+                to_count: are_apart,
+                counts_at: Duration::from_millis(0),
                 stirred: true,
                 later: false,
+                asked_at: Duration::from_millis(0),
                 ticks_at: Duration::from_millis(0),
                 held_until: Duration::from_millis(0),
+                turn: Turn::Ask,
                 hurried: false,
+                open: !are_apart,
+                opens_at: None,
+                unasked: nodes.saturating_sub(1),
+                awaited: Front::zero(usize::from(nodes)),
                 ended: false,
             }),
             came: Condvar::new(),
@@ -351,65 +368,109 @@ impl Post {
         }
     }
 
+    /// Tells how many facts of each node this one has now.
+    pub fn count<R: Wait>(&self, rt: &R, front: &Front) {
+        self.learn(rt, front);
+        self.mail.lock(rt).counted = true;
+        self.over.notify_all();
+    }
+
+    /// Notes that it is to be asked how many facts the node has.
+    pub fn want_count<R: Wait>(&self, rt: &R) {
+        self.mail.lock(rt).to_count = true;
+        self.came.notify_all();
+    }
+
+    /// Waits until it is known how many facts the node has, or until the program is to end. It says whether it is to end.
+    pub(crate) fn wait_for_count<R: Wait>(&self, rt: &R) -> bool {
+        let mail = self.over.wait_while(
+            rt,
+            self.mail.lock(rt),
+            |mail| !mail.counted && !mail.ended,
+        );
+        mail.ended
+    }
+
+    /// Whether nothing of the node's own is to be entered now: the journal failed, or the other nodes aren't heard yet.
+    pub fn is_held<R: Wait + Clock>(&self, rt: &R) -> bool {
+        let now = rt.monotonic().unwrap_or(Duration::from_millis(0));
+        let mail = self.mail.lock(rt);
+        mail.held_until > now || !mail.open
+    }
+
+    /// Tells that another node was asked for the first time since the start; what it told is handed over, if it did.
+    pub(crate) fn note_asked<R: Wait>(&self, rt: &R) {
+        let mut mail = self.mail.lock(rt);
+        mail.unasked = mail.unasked.saturating_sub(1);
+        self.came.notify_all();
+    }
+
+    /// Waits until commands are entered, or until the program is to end; a second at most.
+    pub fn wait_to_enter<R: Wait + Clock>(&self, rt: &R) {
+        let time = Duration::from_millis(OPENING);
+        let _ = self.over.wait_timeout_while(
+            rt,
+            self.mail.lock(rt),
+            time,
+            |mail| !mail.open && !mail.ended,
+        );
+    }
+
     /// How many facts of each node this one has at least.
     pub(crate) fn front<R: Wait>(&self, rt: &R) -> Front {
         self.mail.lock(rt).front
     }
 
-    /// What the thread that enters does next. It waits for half a second at most.
-    pub fn next<R: Wait + Clock>(&self, rt: &R) -> Task {
+    /// What the thread that enters does next. It waits for half a second at most, and not where it has something else to do.
+    pub fn next<R: Wait + Clock>(&self, rt: &R, is_busy: bool) -> Task {
         let now = rt.monotonic().unwrap_or(Duration::from_millis(0));
         let mut mail = self.mail.lock(rt);
-        if !mail.has_task(now) && !mail.hurried {
+        if mail.opens(now) {
+            self.over.notify_all();
+        }
+        if mail.calls.resume(now) {
+            self.due.notify_all();
+        }
+        let is_busy = is_busy && mail.open && mail.held_until <= now;
+        if !mail.has_task(now) && !mail.hurried && !is_busy {
             let rest = mail.rests_until().saturating_sub(now);
             let (waited, _) = self
                 .came
-                .wait_timeout(rt, mail, rest.min(Duration::from_millis(FIRST_PAUSE)));
+                .wait_timeout(rt, mail, rest.min(Duration::from_millis(REST)));
             mail = waited;
         }
         if mail.hurried || !mail.has_task(now) {
             mail.hurried = false;
             return Task::Rest;
         }
-        if mail.ticks_at <= now {
-            mail.ticks_at = now.saturating_add(Duration::from_millis(TICK));
-            mail.stirred = mail.stirred || mail.later;
-            mail.later = false;
-            return Task::Tick;
+        let task = mail.take_task(now);
+        if matches!(&task, Task::Take(_)) {
+            self.over.notify_all();
         }
-        if let Some(letter) = mail.letters.pop_front() {
-            return Task::Enter(letter);
-        }
-        if let Some(delta) = mail.delta.take() {
-            return Task::Take(delta);
-        }
-        if mail.is_to_ask(now) {
-            mail.stirred = false;
-            return Task::Ask;
-        }
-        Task::Rest
+        task
     }
 
     /// Hands those who are to be called to the threads that call.
     pub fn put_duties<R: Wait + Clock>(&self, rt: &R, duties: Duties) {
         let now = rt.monotonic().unwrap_or(Duration::from_millis(0));
-        let waiting = self.mail.lock(rt).put_duties(duties, now);
-        match waiting {
-            0 => {}
-            1 => self.due.notify_one(),
-            _ => self.due.notify_all(),
+        let mut mail = self.mail.lock(rt);
+        if !mail.calls.put_all(duties.into_vec(), now) {
+            mail.later = true;
+        }
+        if mail.calls.may_take() {
+            self.due.notify_all();
         }
     }
 
     /// A participant that is to be called. It waits for one whose host may be called, and gives none once the program is to end.
-    pub(crate) fn next_duty<R: Wait>(&self, rt: &R, alloc: Global) -> Option<Duty> {
+    pub(crate) fn next_duty<R: Wait>(&self, rt: &R) -> Option<Duty> {
         let mut mail = self.due.wait_while(rt, self.mail.lock(rt), |mail| {
-            mail.hosts.next_of(&mail.due).is_none() && !mail.ended
+            !mail.calls.may_take() && !mail.ended
         });
         if mail.ended {
             return None;
         }
-        mail.take_duty(alloc)
+        mail.calls.take()
     }
 
     /// Tells what was heard of a participant that was called at this moment. Its host may be called once more then, by another thread
@@ -417,9 +478,10 @@ impl Post {
     pub(crate) fn tell<R: Wait + Clock>(&self, rt: &R, duty: Duty, began: Duration, heard: Heard) {
         let now = rt.monotonic().unwrap_or(Duration::from_millis(0));
         let pace = pace_of(now.saturating_sub(began));
-        let waiting = self.mail.lock(rt).hear(duty, pace, heard, now);
+        let mut mail = self.mail.lock(rt);
+        mail.hear(duty, pace, heard, now);
         self.came.notify_all();
-        if waiting > 0 {
+        if mail.calls.may_take() {
             self.due.notify_one();
         }
     }
@@ -438,9 +500,10 @@ impl Post {
     pub fn is_entered<R: Wait + Clock>(&self, rt: &R, letter: &Letter) {
         let now = rt.monotonic().unwrap_or(Duration::from_millis(0));
         let mut mail = self.mail.lock(rt);
+        let who = Called::of(&letter.duty);
         match letter.heard {
-            Heard::Told(Outcome::Busy) => mail.pause(&letter.duty, now),
-            _ => mail.drop_slip(&letter.duty),
+            Heard::Told(Outcome::Busy) => mail.calls.pause(who, None, now),
+            _ => mail.calls.forget(who),
         }
         mail.stir(calls_nobody(&letter.duty));
     }
@@ -451,6 +514,22 @@ impl Post {
         if mail.delta.is_some() {
             return false;
         }
+        mail.delta = Some(delta);
+        self.came.notify_all();
+        true
+    }
+
+    /// Hands over what another node told, once nothing else waits. It says whether it did: not where nothing of it is new by then, nor
+    /// where the program is to end.
+    pub(crate) fn hand_over<R: Wait>(&self, rt: &R, delta: Delta) -> bool {
+        let mut mail = self.over.wait_while(rt, self.mail.lock(rt), |mail| {
+            mail.delta.is_some() && !mail.ended
+        });
+        let told = delta.front();
+        if mail.ended || told.nodes() != mail.front.nodes() || told.below(&mail.front) {
+            return false;
+        }
+        mail.awaited = mail.awaited.join(&told);
         mail.delta = Some(delta);
         self.came.notify_all();
         true

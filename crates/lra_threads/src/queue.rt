@@ -189,7 +189,7 @@ impl Queue {
     }
 
     /// Closes the connection that has waited longest.
-    pub(crate) fn close_first<R: Wait>(&self, rt: &R) {
+    pub fn close_first<R: Wait>(&self, rt: &R) {
         let mut waiting = self.waiting.lock(rt);
         let _closed = waiting.pop();
         let _left = self.tell(&waiting);

@@ -1,11 +1,14 @@
 // Nodes on loopback.
+ghost use Rattle.std.specs.Prelude.{◌≤◌, IfSome, vec_len};
 
 use crate::hanging;
 use crate::loopback::{InMemory, Until, address, answers, comes_to, needs, stopped, take_part};
 use log::sink::Console;
 use log::{Level, Log, Logged};
-use lra_server::serve;
+use lra_server::{Members, serve, serve_members};
+use lra_threads::{Keep, Peer};
 use std::alloc::Global;
+use std::io::Read;
 use std::net::{Net, TcpListener, TcpStream};
 use std::sync::atomic::{AtomicU64, Ordering};
 use std::sync::{Arc, Wait};
@@ -42,6 +45,15 @@ const STATUS: &str = "GET /lra/00000000-0000-8001-8000-000000000001 HTTP/1.1\r\n
 
 const CLOSED: &str =
     "HTTP/1.1 200 OK\r\nContent-Type: application/json\r\nContent-Length: 64\r\nConnection: close\r\n\r\n{\"lra\":\"00000000-0000-8001-8000-000000000001\",\"status\":\"Closed\"}";
+
+/// Where the nodes of the group listen that pull from one another as if they were apart.
+const APART: u16 = 18_492;
+
+const ACTIVE: &str =
+    "HTTP/1.1 200 OK\r\nContent-Type: application/json\r\nContent-Length: 64\r\nConnection: close\r\n\r\n{\"lra\":\"00000000-0000-8001-8000-000000000001\",\"status\":\"Active\"}";
+
+const GONE: &str =
+    "HTTP/1.1 410 Gone\r\nContent-Type: application/json\r\nContent-Length: 24\r\nConnection: close\r\n\r\n{\"refused\":\"E3 NotHeld\"}";
 
 /// Begins an LRA at node 1, has a participant join, closes it, and waits until node 2 shows it closed; while four connections say
 /// nothing and two have sent half a request.
@@ -101,6 +113,109 @@ where
 fn two_nodes_on_loopback(rt: HostRuntime) -> Result<(), Fail> {
     let logged = Logged::new(&rt, Level::Warn, Console(&rt));
     let status = two_serve(&rt, &logged, rt, rt, rt.alloc())?;
+    assert_eq!(&rt; status, 0);
+    Ok(())
+}
+
+/// Begins an LRA at node 1 of a group, which node 2 shows, and closes it; then it is purged by itself at both.
+fn visit_group<R: Net<Listener = TcpListener, Stream = TcpStream> + Clock>(
+    rt: &R,
+) -> Result<(), Fail> {
+    needs(comes_to(rt, APART, BEGIN, BEGUN)?, "no LRA was begun")?;
+    needs(
+        comes_to(rt, APART + 1, STATUS, ACTIVE)?,
+        "node 2 doesn't show it",
+    )?;
+    needs(answers(rt, APART, CLOSE, CLOSED)?, "it isn't closed")?;
+    needs(comes_to(rt, APART, STATUS, GONE)?, "it isn't purged")?;
+    needs(
+        comes_to(rt, APART + 1, STATUS, GONE)?,
+        "node 2 still shows it",
+    )
+}
+
+/// Where a node of the group is reached.
+fn peer(alloc: Global, port: u16) -> Option<Peer> {
+    let host = String::from_str(alloc, "127.0.0.1").ok()?;
+    Some(Peer { host, port })
+}
+
+/// Both nodes of the group, in this process, which purge what has ended at once.
+fn group(alloc: Global) -> Option<Members>
+    ensures { IfSome result (λ members. (1 ≤ vec_len members.peers) × (vec_len members.peers ≤ 8)) }
+{
+    let mut peers = Vec::new(alloc);
+    for port in APART..=APART + 1 {
+        if peers.push(peer(alloc, port)?).is_err() {
+            return None;
+        }
+    }
+    if peers.is_empty() || peers.len() > 8 {
+        return None;
+    }
+    Some(Members {
+        first: 1,
+        last: 2,
+        peers,
+        listen: None,
+        keep: Keep {
+            ended: Some(0),
+            failed: None,
+        },
+    })
+}
+
+/// Serves the group until the input ends.
+fn serve_group<R, L, H, I>(
+    rt: &R,
+    log: &L,
+    host: H,
+    alloc: Global,
+    stores: &InMemory,
+    input: I,
+) -> u8
+where
+    R: Threads + Wait + Clock + Net<Listener = TcpListener, Stream = TcpStream> + Eprint + Sync,
+    L: Log + Sync,
+    H: Wait + Send + Drop + 'static,
+    I: Read + Send + Drop + 'static,
+{
+    let Some(members) = group(alloc) else {
+        return 1;
+    };
+    serve_members(rt, log, host, alloc, members, stores, input)
+}
+
+/// Two nodes of a group serve until the visit is over.
+fn two_members_serve<R, L, H>(rt: &R, log: &L, host: H, clock: H, alloc: Global) -> Result<u8, Fail>
+where
+    R: Threads + Wait + Clock + Net<Listener = TcpListener, Stream = TcpStream> + Eprint + Sync,
+    L: Log + Sync,
+    H: Wait + Clock + Send + Drop + 'static,
+{
+    let over = Arc::new(alloc, AtomicU64::new(0))?;
+    let input = Until {
+        clock,
+        over: Arc::try_clone(&over)?,
+    };
+    let stores = InMemory { alloc };
+    let (status, visited) = join(
+        rt,
+        || serve_group(rt, log, host, alloc, &stores, input),
+        || {
+            let visited = visit_group(rt);
+            over.store(1, Ordering::SeqCst);
+            visited
+        },
+    );
+    visited?;
+    Ok(status)
+}
+
+#[test]
+fn two_members_on_loopback(rt: HostRuntime) -> Result<(), Fail> {
+    let logged = Logged::new(&rt, Level::Warn, Console(&rt));
+    let status = two_members_serve(&rt, &logged, rt, rt, rt.alloc())?;
     assert_eq!(&rt; status, 0);
     Ok(())
 }

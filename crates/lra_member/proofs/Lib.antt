@@ -1,0 +1,5 @@
+mod Addresses
+mod ChoiceWords
+mod DecimalNumbers
+mod EachWord
+mod NodeWords

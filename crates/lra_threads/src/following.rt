@@ -1,0 +1,223 @@
+// The threads that pull from nodes in processes of their own, one from each. They outlive the runs of their node.
+
+use crate::asking::pull_over;
+use crate::node::Node;
+use log::{Log, warn};
+use lra_delta::Delta;
+use lra_id::Front;
+use std::alloc::Global;
+use std::net::{Net, TcpListener, TcpStream};
+use std::sync::Wait;
+use std::time::{Clock, Duration};
+
+/// How long a node pauses behind each pull, in milliseconds.
+const PAUSE: u64 = 50;
+
+/// How long it waits for news of another node where something was new the last time, in milliseconds.
+const SHORT_ROUND: u64 = 500;
+
+/// How long it waits at rest, and where the other can't be reached, in milliseconds.
+const LONG_ROUND: u64 = 5_000;
+
+/// For how long nothing can be had of another node before that is told, in milliseconds.
+const SILENCE: u64 = 5_000;
+
+/// What a pull came to.
+#[derive(Clone, Copy, PartialEq, Eq)]
+enum Pulled {
+    /// Something new is handed over.
+    New,
+    /// Nothing is new.
+    Nothing,
+    /// The other can't be reached.
+    Unreached,
+    /// It gives no frame.
+    Unanswered,
+    /// It has fewer facts of its own than it told before.
+    Older,
+    /// It has more facts of this node than this node's journal.
+    Newer,
+}
+
+/// What is remembered of another node, to tell what is wrong with it: once, until it is well again.
+#[derive(Drop)]
+struct Outlook {
+    /// Since when nothing can be had of it.
+    since: Option<Duration>,
+    /// Whether that was told.
+    is_told: bool,
+    /// Whether it was told that its journal, or this node's, is older than what was told.
+    is_odd: bool,
+}
+
+impl Outlook {
+    fn new() -> Outlook {
+        Outlook {
+            since: None,
+            is_told: false,
+            is_odd: false,
+        }
+    }
+
+    /// Whether it is to be told now that nothing can be had.
+    fn fails(&mut self, now: Duration) -> bool {
+        let since = match self.since {
+            Some(since) => since,
+            None => now,
+        };
+        self.since = Some(since);
+        let is_due = !self.is_told && now.saturating_sub(since) >= Duration::from_millis(SILENCE);
+        self.is_told = self.is_told || is_due;
+        is_due
+    }
+
+    /// Whether it is to be told now that it answers again.
+    fn answers(&mut self) -> bool {
+        let was_told = self.is_told;
+        self.since = None;
+        self.is_told = false;
+        was_told
+    }
+
+    /// Notes that no journal is older.
+    fn is_well(&mut self) {
+        self.is_odd = false;
+    }
+
+    /// Whether it is to be told now that a journal is older.
+    fn is_strange(&mut self) -> bool {
+        let was_odd = self.is_odd;
+        self.is_odd = true;
+        !was_odd
+    }
+}
+
+/// How many facts of a node a front counts.
+fn count_of(front: &Front, number: u8) -> u64 {
+    match front.as_slice().get(usize::from(number.saturating_sub(1))) {
+        Some(count) => *count,
+        None => 0,
+    }
+}
+
+/// Hands over what another node told, if that is more than a front counts. It says whether it did.
+fn hand_over<R: Wait>(rt: &R, node: &Node, front: &Front, delta: Delta) -> bool {
+    if delta.front().below(front) {
+        return false;
+    }
+    node.post.hand_over(rt, delta)
+}
+
+/// What comes of what another node told, beyond the front from which it was asked.
+fn take_over<R: Wait>(rt: &R, node: &Node, other: u8, front: &Front, delta: Delta) -> Pulled {
+    let told = delta.front();
+    if told.nodes() != front.nodes() {
+        return Pulled::Unanswered;
+    }
+    let is_older = count_of(&told, other) < count_of(front, other);
+    // What this node gave until now it knows of.
+    let is_newer = count_of(&told, node.number) > count_of(&node.post.front(rt), node.number);
+    let is_new = hand_over(rt, node, front, delta);
+    if is_newer {
+        return Pulled::Newer;
+    }
+    if is_older {
+        return Pulled::Older;
+    }
+    if is_new { Pulled::New } else { Pulled::Nothing }
+}
+
+/// Pulls from another node once, and hands over what is new.
+fn pull_once<R: Wait + Clock + Net<Listener = TcpListener, Stream = TcpStream>>(
+    rt: &R,
+    alloc: Global,
+    node: &Node,
+    other: u8,
+) -> Pulled {
+    let front = node.post.front(rt);
+    let Ok(stream) = node.site.reach(rt, &node.signal, other) else {
+        return Pulled::Unreached;
+    };
+    match pull_over(rt, alloc, node, &front, stream) {
+        Some(delta) => take_over(rt, node, other, &front, delta),
+        None => Pulled::Unanswered,
+    }
+}
+
+/// Warns of what a pull shows of another node: that nothing can be had of it, that it answers again, and that a journal is older than
+/// what its node told before.
+fn warn_of<R: Clock, L: Log>(
+    rt: &R,
+    log: &L,
+    node: &Node,
+    other: u8,
+    pulled: Pulled,
+    outlook: &mut Outlook,
+) {
+    let now = rt.monotonic().unwrap_or(Duration::from_millis(0));
+    let number = node.number;
+    if pulled == Pulled::Unreached || pulled == Pulled::Unanswered {
+        if outlook.fails(now) {
+            let what = if pulled == Pulled::Unreached {
+                "can't be reached"
+            } else {
+                "gives no frame"
+            };
+            warn!(log; "node {}: node {} {}", number, other, what);
+        }
+        return;
+    }
+    if outlook.answers() {
+        warn!(log; "node {}: node {} answers again", number, other);
+    }
+    if pulled == Pulled::New || pulled == Pulled::Nothing {
+        outlook.is_well();
+    }
+    if pulled == Pulled::Older && outlook.is_strange() {
+        warn!(log; "node {}: node {} told of more facts of its own before: its journal is older", number, other);
+    }
+    if pulled == Pulled::Newer && outlook.is_strange() {
+        warn!(log; "node {}: node {} has more facts of this node: the journal here is older", number, other);
+    }
+}
+
+/// How long a round is, by what the last pull came to.
+fn round_behind(pulled: Pulled, round: u64) -> u64 {
+    match pulled {
+        Pulled::New | Pulled::Newer => SHORT_ROUND,
+        _ => round.saturating_mul(2).min(LONG_ROUND),
+    }
+}
+
+/// Pulls from another node, until the program is to end: at once where it is known to have something new, or is to hear that this one
+/// has, if there was a pause behind the last pull; else twice a second while that brings anything, and every five seconds at rest.
+pub fn follow<R: Wait + Clock + Net<Listener = TcpListener, Stream = TcpStream>, L: Log>(
+    rt: &R,
+    log: &L,
+    alloc: Global,
+    node: &Node,
+    other: u8,
+) {
+    if node.post.wait_for_count(rt) {
+        return;
+    }
+    let mut outlook = Outlook::new();
+    let mut seen = 0u64;
+    let first = pull_once(rt, alloc, node, other);
+    node.post.note_asked(rt);
+    warn_of(rt, log, node, other, first, &mut outlook);
+    let mut round = round_behind(first, SHORT_ROUND);
+    for _ in rt.forever() {
+        if node.post.sleep(rt, Duration::from_millis(PAUSE)) {
+            return;
+        }
+        let time = Duration::from_millis(round);
+        let Some(told) = node.news.wait_for(rt, other, seen, time) else {
+            return;
+        };
+        let pulled = pull_once(rt, alloc, node, other);
+        warn_of(rt, log, node, other, pulled, &mut outlook);
+        seen = told;
+        round = round_behind(pulled, round);
+    }
+}

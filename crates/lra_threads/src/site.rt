@@ -1,0 +1,129 @@
+// Where a node listens, and where it reaches the others.
+ghost use Rattle.std.specs.Prelude.{◌≡◌, ◌+◌, ◌-◌, ◌^◌, IfNone, min};
+ghost use Rattle.std.specs.Net.Socket.{socket_ip, socket_port};
+
+use crate::address::address_of;
+use crate::reaching::connect_to_one;
+use crate::signal::Signal;
+use std::io;
+use std::io::{Error, ErrorKind};
+use std::net::{IpAddr, Ipv4Addr, Ipv6Addr, Net, SocketAddr, TcpStream, ToSocketAddrs};
+use std::sync::{Arc, Wait};
+use std::time::{Clock, Duration};
+
+/// How long another node may take to be reached, in milliseconds.
+const REACH: u64 = 1_000;
+
+/// Where a node is reached: a host, by its name or its IP address, and a port.
+#[derive(Drop)]
+pub struct Peer {
+    pub host: String,
+    pub port: u16,
+}
+
+/// Where the other nodes are.
+#[derive(Drop)]
+enum Others {
+    /// In this process, of which the first node listens at this port.
+    Here(u16),
+    /// Where they are reached, maybe in other processes: all nodes in order, the node itself too.
+    Apart(Arc<Vec<Peer>>),
+}
+
+/// The node of this number, if there is one.
+fn peer_at(peers: &[Peer], number: u8) -> Option<&Peer> {
+    peers.get(usize::from(number.saturating_sub(1)))
+}
+
+/// Where a node listens that is reached at this port: on the loopback interface there, unless something else is said.
+fn listens_at(said: Option<SocketAddr>, port: u16) -> SocketAddr
+    ensures { IfNone said (socket_ip result ≡ IpAddr.V4 Ipv4Addr.LOCALHOST) }
+{
+    match said {
+        Some(address) => address,
+        None => address_of(port, 1),
+    }
+}
+
+/// A connection to a node.
+fn connect<R: Wait + Clock + Net<Stream = TcpStream>>(
+    rt: &R,
+    signal: &Signal,
+    peer: &Peer,
+) -> io::Result<TcpStream> {
+    let (host, time) = (peer.host.as_str(), Duration::from_millis(REACH));
+    connect_to_one(rt, signal, (host, peer.port).to_socket_addrs(rt)?, time)
+}
+
+/// Where a node listens, and where it reaches the others.
+#[derive(Drop)]
+pub struct Site {
+    pub listen: SocketAddr,
+    others: Others,
+}
+
+impl Site {
+    /// Of one of the nodes of a process, of which the first listens at this port of the loopback interface.
+    pub fn here(first_port: u16, number: u8) -> Site
+        ensures ip { socket_ip result.listen ≡ IpAddr.V4 Ipv4Addr.LOCALHOST }
+        ensures port { socket_port result.listen ≡ min (first_port + (number - 1)) (2 ^ 16 - 1) }
+    {
+        Site {
+            listen: address_of(first_port, number),
+            others: Others::Here(first_port),
+        }
+    }
+
+    /// Of a node that reaches the others at these addresses, in order, as it is reached itself. Where it isn't said where it listens, it
+    /// does so on the loopback interface, at its own port there.
+    pub fn apart(said: Option<SocketAddr>, number: u8, peers: Arc<Vec<Peer>>) -> Site
+        ensures { IfNone said (socket_ip result.listen ≡ IpAddr.V4 Ipv4Addr.LOCALHOST) }
+    {
+        let port = match peer_at(peers.as_slice(), number) {
+            Some(peer) => peer.port,
+            None => 0,
+        };
+        Site {
+            listen: listens_at(said, port),
+            others: Others::Apart(peers),
+        }
+    }
+
+    /// Whether the other nodes may be in other processes.
+    pub fn is_apart(&self) -> bool {
+        matches!(&self.others, Others::Apart(_))
+    }
+
+    /// Where the node reaches its own port: one that listens on every interface does so on the loopback interface.
+    pub(crate) fn own_door(&self) -> SocketAddr {
+        let port = self.listen.port();
+        match self.listen.ip() {
+            IpAddr::V4(ip) if ip.is_unspecified() => {
+                SocketAddr::new(IpAddr::V4(Ipv4Addr::LOCALHOST), port)
+            }
+            IpAddr::V6(ip) if ip.is_unspecified() => {
+                SocketAddr::new(IpAddr::V6(Ipv6Addr::LOCALHOST), port)
+            }
+            _ => self.listen,
+        }
+    }
+
+    /// A connection to another node.
+    pub(crate) fn reach<R: Wait + Clock + Net<Stream = TcpStream>>(
+        &self,
+        rt: &R,
+        signal: &Signal,
+        other: u8,
+    ) -> io::Result<TcpStream> {
+        match &self.others {
+            Others::Here(first) => {
+                let time = Duration::from_millis(REACH);
+                TcpStream::connect_timeout(rt, &address_of(*first, other), time)
+            }
+            Others::Apart(peers) => match peer_at(peers.as_slice(), other) {
+                Some(peer) => connect(rt, signal, peer),
+                None => Err(Error::from(ErrorKind::NotFound)),
+            },
+        }
+    }
+}

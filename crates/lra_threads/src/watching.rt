@@ -1,0 +1,91 @@
+// The thread that warns of a home that fills up. It outlives the runs of its node.
+
+use crate::node::Node;
+use crate::sweep::{Fill, PLACES};
+use log::{Log, warn};
+use std::sync::Wait;
+use std::time::{Clock, Duration};
+
+/// How often it looks, in milliseconds.
+const LOOK: u64 = 1_000;
+
+/// From how many places of a hundred on it warns.
+const MANY: u64 = 75;
+
+/// From how many on it warns once more.
+const MOST: u64 = 90;
+
+/// What stands for more than all.
+const REFUSED: u64 = 101;
+
+/// How long a level isn't told again, in milliseconds.
+const QUIET: u64 = 60_000;
+
+/// What was told of a home.
+#[derive(Drop)]
+struct Warned {
+    level: u64,
+    since: Duration,
+}
+
+/// What is to be told of a home, in places of a hundred: from which on it warns, or 0.
+fn level_of(fill: &Fill) -> u64 {
+    let hundred = fill.taken.saturating_mul(100);
+    if fill.is_refused {
+        REFUSED
+    } else if hundred >= MOST * PLACES {
+        MOST
+    } else if hundred >= MANY * PLACES {
+        MANY
+    } else {
+        0
+    }
+}
+
+impl Warned {
+    fn new() -> Warned {
+        Warned {
+            level: 0,
+            since: Duration::from_millis(0),
+        }
+    }
+
+    /// Whether it is to be told now how full the home is: a level is reached that wasn't told since the home was well.
+    fn is_due(&mut self, fill: &Fill, now: Duration) -> bool {
+        let level = level_of(fill);
+        if level == 0 && now.saturating_sub(self.since) >= Duration::from_millis(QUIET) {
+            self.level = 0;
+        }
+        if level <= self.level {
+            return false;
+        }
+        self.level = level;
+        self.since = now;
+        true
+    }
+}
+
+/// Warns of a home of which so many places are taken.
+fn warn_of<L: Log>(log: &L, number: u8, fill: &Fill) {
+    if fill.is_refused {
+        warn!(log; "node {}: an LRA couldn't be begun (E13): its home holds {}", number, PLACES);
+    } else {
+        warn!(log; "node {}: {} of the {} places of its home are taken", number, fill.taken, PLACES);
+    }
+}
+
+/// Warns when three quarters and nine tenths of the home's places are taken, and when an LRA couldn't be begun, until the program is to
+/// end. It tells each once, and again once there was room and a minute is over.
+pub fn watch<R: Wait + Clock, L: Log>(rt: &R, log: &L, node: &Node) {
+    let mut warned = Warned::new();
+    for _ in rt.forever() {
+        if node.post.sleep(rt, Duration::from_millis(LOOK)) {
+            return;
+        }
+        let now = rt.monotonic().unwrap_or(Duration::from_millis(0));
+        let fill = node.sweep.fill(rt);
+        if warned.is_due(&fill, now) {
+            warn_of(log, node.number, &fill);
+        }
+    }
+}
