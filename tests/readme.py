@@ -1,7 +1,7 @@
 #!/usr/bin/env python3
-"""Does what README and docs/HTTP.md say, and compares: python3 tests/readme.py [PROGRAM]. Standard library alone.
+"""Does what README, docs/FORMATS.md and docs/HTTP.md say, and compares: python3 tests/readme.py [PROGRAM]. Standard library alone.
 
-PROGRAM is crates/lra_node/out/lra_node, which ./coordinator builds. It runs each table of a script through `lra_node script N`; the
+PROGRAM is crates/lra_node/out/lra_node, which ./coordinator builds. It runs each table of a script in FORMATS through `lra_node script N`; the
 curl lines, in one shell, against `lra_node serve` with the numbers that README has, beside the participant that README starts; and the
 calls that HTTP.md has byte by byte. The status is 1 where something else comes. The ports of README, 8070 to 8072 and 9001, have to be
 free."""
@@ -17,6 +17,7 @@ import time
 TOP = os.path.dirname(os.path.dirname(os.path.abspath(__file__)))
 PROGRAM = sys.argv[1] if len(sys.argv) > 1 else f"{TOP}/crates/lra_node/out/lra_node"
 README = open(f"{TOP}/README.md", encoding="utf-8").read()
+FORMATS = open(f"{TOP}/docs/FORMATS.md", encoding="utf-8").read()
 failures = []
 
 
@@ -27,8 +28,8 @@ def check(what, wanted, seen):
 
 
 def scripts():
-    """Each script of README: how many nodes it has, and its lines with what they print."""
-    for part in re.split(r"(?=With `script \d`)", README)[1:]:
+    """Each script of FORMATS: how many nodes it has, and its lines with what they print."""
+    for part in re.split(r"(?=With `script \d`)", FORMATS)[1:]:
         rows = re.findall(r"^\| `(.+?)` \| `(.+?)` \|$", part.split("\n## ")[0], re.M)
         yield int(part[len("With `script ")]), rows
 

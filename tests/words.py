@@ -1,11 +1,12 @@
 #!/usr/bin/env python3
-"""Tests what ./coordinator makes of its words before any build: python3 tests/words.py. Standard library alone; a second or two.
+"""Tests what ./coordinator makes of its words before any build: python3 tests/words.py. Standard library alone; some seconds.
 
 An `rt` stands first in PATH that tells that it was called, so a build that begins is seen. Then such an `rt` stands in for the kit's, in
 a repository that isn't one, to see what is said while a proof runs. Each check prints a line; the status is 1 where one fails."""
 import contextlib
 import io
 import os
+import re
 import shutil
 import socket
 import subprocess
@@ -24,16 +25,17 @@ sleep 0.3
 echo '{last}' >&2
 exit 2
 """
-# An rt that builds a program, which tells its words and hands on its input.
+# An rt that builds the program of its folder, which tells its words and hands on its input.
 BUILD_ANOTHER = """#!/bin/sh
+name=$(basename "$PWD")
 mkdir out
-cat >out/lra_node <<'END'
+cat >"out/$name" <<'END'
 #!/bin/sh
-if [ "$2" = 0 ]; then echo 'usage: lra_node script N' >&2; exit 2; fi
-echo "$*" && exec cat
+if [ "$2" = 0 ]; then echo "usage: $(basename "$0") .." >&2; exit 2; fi
+echo "$(basename "$0") $*" && exec cat
 END
-chmod +x out/lra_node
-exec out/lra_node serve 0 0 .
+chmod +x "out/$name"
+exec "out/$name" serve 0 0 .
 """
 
 
@@ -47,7 +49,7 @@ def words(folder):
     """What comes of words: the status, and the first line of each output."""
     write_rt(folder, '#!/bin/sh\necho "rt was called: $*" >&2\ntouch "$(dirname "$0")/called"\nexit 99\n')
     environment = {**os.environ, "PATH": f"{folder}:{os.environ['PATH']}"}
-    usage = "usage: ./coordinator [--unproved] N PORT DIR"
+    usage = "usage: ./coordinator [--unproved] [--keep MS] [--keep-failed MS] N PORT DIR"
     with socket.create_server(("127.0.0.1", 0)) as other:
         # It is the second node's port, unless somebody has the one before it too.
         taken = other.getsockname()[1]
@@ -61,7 +63,12 @@ def words(folder):
             (["3", "8070", f"{folder}/none"], 1, "", f"coordinator: there is no folder '{folder}/none': make it first"),
             (["2", str(first), folder], 1, "", f"coordinator: port {taken} is in use"),
         ]
-        cases = [([*way, *given], *wanted) for given, *wanted in cases for way in ([], ["--unproved"])]
+        ways = ([], ["--unproved"], ["--unproved", "--keep-failed", "1", "--keep", "1"])
+        cases = [([*way, *given], *wanted) for given, *wanted in cases for way in ways]
+        times = [("--keep", "01"), ("--keep", "8070s"), ("--keep-failed", "-1"), ("--keep-failed", "18446744073709551616")]
+        for option, word in times:
+            told = f"coordinator: MS of {option} has to be a number of milliseconds, not '{word}'"
+            cases.append(([option, word, "3", "8070", folder], 2, "", told))
         how = {"env": environment, "stdin": subprocess.DEVNULL, "stdout": subprocess.PIPE, "stderr": subprocess.PIPE, "text": True}
         runs = [subprocess.Popen([f"{TOP}/coordinator", *given], **how) for given, *_ in cases]
         for run, (given, *wanted) in zip(runs, cases):
@@ -71,12 +78,14 @@ def words(folder):
     check("no build began", not os.path.exists(f"{folder}/called"))
 
 
-def start_in(folder):
+def start_in(folder, *options):
     """What comes of ./coordinator in a copy: the status, what it prints, and its last line on standard error."""
     environment = {**os.environ, "PATH": f"{folder}:{os.environ['PATH']}"}
-    port = next(it for it in range(18290, 18390) if start.is_free(it))
-    ran = subprocess.run([f"{folder}/coordinator", "1", str(port), folder], env=environment, input="input\n", capture_output=True, text=True)
-    return ran.returncode, ran.stdout.replace(f"{port} {folder}", "PORT DIR"), ran.stderr.split("\n")[-2:][0]
+    port = next(it for it in range(18290, 18390) if start.is_free(it) and start.is_free(it + 1))
+    words = [f"{folder}/coordinator", *options, "2", str(port), folder]
+    ran = subprocess.run(words, env=environment, input="input\n", capture_output=True, text=True)
+    told = ran.stdout.replace(folder, "DIR").replace(str(port), "PORT").replace(str(port + 1), "NEXT")
+    return ran.returncode, told, ran.stderr.split("\n")[-2:][0]
 
 
 def builds(folder):
@@ -84,20 +93,30 @@ def builds(folder):
     for file in ("coordinator", "demo/start.py", "demo/unproved.py"):
         os.makedirs(os.path.dirname(f"{folder}/{file}"), exist_ok=True)
         shutil.copy(f"{TOP}/{file}", f"{folder}/{file}")
-    os.makedirs(f"{folder}/crates/lra_node/src")
-    for file in ("crates.txt", "crates/lra_node/src/main.rt"):
-        shutil.copy(f"{TOP}/{file}", f"{folder}/{file}")
-    write_rt(folder, BUILD_ANOTHER)
-    right = (0, "serve 1 PORT DIR\ninput\n")
-    seen = start_in(folder)
-    check("the program is built, and has the words and the input", seen[:2] == right, seen)
-    write_rt(folder, "#!/bin/sh\nexit 1\n")
-    seen = start_in(folder)
-    check("it isn't built again for the same text", seen == (*right, ""), seen)
+    for name in ("lra_node", "lra_member"):
+        os.makedirs(f"{folder}/crates/{name}/src")
+        shutil.copy(f"{TOP}/crates/{name}/src/main.rt", f"{folder}/crates/{name}/src/main.rt")
+    shutil.copy(f"{TOP}/crates.txt", f"{folder}/crates.txt")
+    ended, failed, addresses = ("--keep", "5"), ("--keep-failed", "7"), "127.0.0.1:PORT 127.0.0.1:NEXT"
+    ways = [
+        ((), "lra_node serve 2 PORT DIR"),
+        (ended, f"lra_member 1-2 DIR keep=5 {addresses}"),
+        (failed, f"lra_member 1-2 DIR keep-failed=7 {addresses}"),
+        ((*failed, *ended), f"lra_member 1-2 DIR keep=5 keep-failed=7 {addresses}"),
+    ]
+    for options, line in ways:
+        write_rt(folder, BUILD_ANOTHER)
+        right = (0, f"{line}\ninput\n")
+        seen = start_in(folder, *options)
+        check(f"{line.split()[0]} is there, and has the words of {options} and the input", seen[:2] == right, seen)
+        write_rt(folder, "#!/bin/sh\nexit 1\n")
+        seen = start_in(folder, *options)
+        check("it isn't built again for the same text", seen == (*right, ""), seen)
     with open(f"{folder}/crates/lra_node/src/main.rt", "a", encoding="utf-8") as file:
         file.write("// more\n")
-    seen = start_in(folder)
-    check("one of another text doesn't run", seen[:2] == (1, "") and "was not built" in seen[2], seen)
+    for options in ((), ended):
+        seen = start_in(folder, *options)
+        check("one of another text doesn't run", seen[:2] == (1, "") and "was not built" in seen[2], seen)
 
 
 def numbers(folder):
@@ -108,7 +127,13 @@ def numbers(folder):
     for word in ("1023", "65529", "08070", "8070 ", "8_070", "", "9" * 5000):
         check(f"PORT isn't {word[:9]!r}", start.wrong_with("3", word, folder)[0] == 2)
     check("a file is no folder", start.wrong_with(*right[:2], file) == (1, f"there is no folder {file!r}: make it first"))
-    for given in (right[:2], (*right, "more"), ("--proved", *right), (right[0], "--unproved", *right[1:])):
+    for word in ("0", "60000", str(2**64 - 1)):
+        check(f"MS may be {word}", start.wrong_with("9", *right[1:], [("--keep", word)])[1].startswith("N has"))
+    for word in (str(2**64), "00", "+1", "1.5", "", "1\n"):
+        check(f"MS isn't {word!r}", start.wrong_with(*right, [("--keep", word)])[0] == 2)
+    others = [right[:2], (*right, "more"), ("--proved", *right), (right[0], "--unproved", *right[1:])]
+    others += [("--keep",), ("--keep", *right), ("--keep", "1", "--keep", "1", *right), (*right, "--keep-failed", "1")]
+    for given in others:
         with contextlib.redirect_stderr(io.StringIO()) as said:
             check(f"{len(given)} words are told the usage", (start.main(list(given)), said.getvalue()) == (2, f"{start.USAGE}\n"))
 
@@ -130,16 +155,18 @@ def progress(folder):
         file.write("# Crates\nlra_node: lra_low url\nlra_low: lra_lowest\nlra_lowest: uuid\ntest_low: lra_low\n")
     check("crates come as they are built", start.crates_for(folder, "lra_node") == ["lra_lowest", "lra_low", "lra_node"])
     os.environ["PATH"], unproved.EACH = f"{folder}:{os.environ['PATH']}", 0.1
-    for last, is_built in (("usage: lra_node script N", True), ("rt: the library lra_low did not build", False)):
+    lasts = [("usage: lra_node script N", True), ("usage: lra_member I", False), ("rt: the library lra_low did not build", False)]
+    for last, is_built in lasts:
         write_rt(folder, BUILD.format(last=last))
         said = io.StringIO()
         with contextlib.redirect_stderr(said):
             try:
-                start.prove(folder)
+                start.prove("lra_node", folder)
                 ended = ""
             except SystemExit as error:
                 ended = str(error)
-        check("it says which crate is proved", "coordinator: lra_low (2 of 3), 3 of 8 functions, 0 min 0 s\n" in said.getvalue(), said.getvalue())
+        line = re.search(r"^coordinator: lra_low \(2 of 3\), 3 of 8 functions, \d+ min \d+ s$", said.getvalue(), re.M)
+        check("it says which crate is proved", line, said.getvalue())
         check("it says whether the program was built", (ended == "", last in said.getvalue()) == (is_built, not is_built), ended + said.getvalue())
 
 
