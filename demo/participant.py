@@ -1,12 +1,14 @@
 #!/usr/bin/env python3
-"""A participant at 127.0.0.1:9001, which prints each call and answers 200: python3 demo/participant.py. Standard library alone."""
+"""A participant at 127.0.0.1:9001, or at the port that is given, which prints each call and answers 200: python3 demo/participant.py [PORT].
+Standard library alone."""
 import http.server
+import sys
 
 
 class Participant(http.server.BaseHTTPRequestHandler):
     def do_PUT(self):
         body = self.rfile.read(int(self.headers.get("Content-Length", 0))).decode()
-        print(self.command, self.path, self.headers.get("Long-Running-Action", ""), body, flush=True)
+        print(f"{self.command} {self.path} {self.headers.get('Long-Running-Action', '')} {body}".rstrip(), flush=True)
         self.send_response(200)
         # A length, since the coordinator takes no answer in chunks.
         self.send_header("Content-Length", "0")
@@ -19,6 +21,6 @@ class Participant(http.server.BaseHTTPRequestHandler):
 
 
 try:
-    http.server.ThreadingHTTPServer(("127.0.0.1", 9001), Participant).serve_forever()
+    http.server.ThreadingHTTPServer(("127.0.0.1", int(sys.argv[1]) if len(sys.argv) > 1 else 9001), Participant).serve_forever()
 except KeyboardInterrupt:
     pass

@@ -17,16 +17,21 @@ import unproved
 from unproved import TOP, Progress, say
 
 USAGE = """\
-usage: ./coordinator [--unproved] N PORT DIR
-  N            how many nodes, 1 to 8
-  PORT         where node 1 listens on 127.0.0.1, 1024 to 65528; the others take the ports behind it
-  DIR          a folder for the journals, which is there and may be written
-  --unproved   compile the server in minutes, without proving it: to try it out, since it is slow"""
+usage: ./coordinator [--unproved] [--keep MS] [--keep-failed MS] N PORT DIR
+  N                  how many nodes, 1 to 8
+  PORT               where node 1 listens on 127.0.0.1, 1024 to 65528; the others take the ports behind it
+  DIR                a folder for the journals, which is there and may be written
+  --unproved         compile the server in minutes, without proving it: to try it out, since it is slow
+  --keep MS          purge roots that are closed or cancelled, MS milliseconds after they were first seen so
+  --keep-failed MS   purge roots that failed to close or to cancel likewise"""
+# The options that a time follows, and of each option how many words it is.
+TIMES = ("--keep", "--keep-failed")
+OPTIONS = {"--unproved": 1, **dict.fromkeys(TIMES, 2)}
 
 
 def is_number(word, least, most):
     """Whether a word is what the server reads as such a number: decimal, without leading zeros."""
-    return re.fullmatch("[1-9][0-9]{0,4}", word) is not None and least <= int(word) <= most
+    return re.fullmatch("0|[1-9][0-9]{0,19}", word) is not None and least <= int(word) <= most
 
 
 def is_free(port):
@@ -40,8 +45,15 @@ def is_free(port):
     return True
 
 
-def wrong_with(nodes, port, folder):
-    """The status, and a line on what is wrong, or nothing where all is well."""
+def ports_of(nodes, port):
+    return range(int(port), int(port) + int(nodes))
+
+
+def wrong_with(nodes, port, folder, times=()):
+    """The status, and a line on what is wrong, or nothing where all is well. The times are options, each with its word."""
+    for option, word in times:
+        if not is_number(word, 0, 2**64 - 1):
+            return 2, f"MS of {option} has to be a number of milliseconds, not {word!r}"
     if not is_number(nodes, 1, 8):
         return 2, f"N has to be a number from 1 to 8, not {nodes!r}"
     if not is_number(port, 1024, 65528):
@@ -50,7 +62,7 @@ def wrong_with(nodes, port, folder):
         return 1, f"there is no folder {folder!r}: make it first"
     if not os.access(folder, os.W_OK | os.X_OK):
         return 1, f"the folder {folder!r} may not be written"
-    taken = [it for it in range(int(port), int(port) + int(nodes)) if not is_free(it)]
+    taken = [it for it in ports_of(nodes, port) if not is_free(it)]
     return (1, f"port {taken[0]} is in use") if taken else None
 
 
@@ -79,13 +91,13 @@ def told_by(line, crates, now):
     return f"{now.split(',')[0]}, {counted[1]}" if counted else now
 
 
-def prove(top=TOP):
-    """Has rt prove and build the program. It is built if it has answered: to words that it doesn't take, with its usage."""
+def prove(name, top=TOP):
+    """Has rt prove and build a program. It is built if it has answered: to words that it doesn't take, with its usage."""
     say("building. This proves every crate once, which takes about three quarters of an hour on four processors.")
-    crates, last, progress = crates_for(top, "lra_node"), collections.deque(maxlen=12), Progress("reading all crates")
+    crates, last, progress = crates_for(top, name), collections.deque(maxlen=12), Progress("reading all crates")
     words = ["rt", "run", "--", "serve", "0", "0", "."]
     how = {"stdin": subprocess.DEVNULL, "stdout": subprocess.PIPE, "stderr": subprocess.STDOUT, "text": True, "errors": "replace"}
-    with subprocess.Popen(words, cwd=f"{top}/crates/lra_node", **how) as build:
+    with subprocess.Popen(words, cwd=f"{top}/crates/{name}", **how) as build:
 
         def read():
             for line in build.stdout:
@@ -97,14 +109,14 @@ def prove(top=TOP):
         while reader.is_alive():
             reader.join(0.2)
             progress.tick()
-    if not any(line.startswith("usage: lra_node") for line in last):
+    if not any(line.startswith(f"usage: {name}") for line in last):
         sys.stderr.writelines(last)
-        raise SystemExit("coordinator: the program was not built: run 'rt check' in crates/lra_node to see why")
+        raise SystemExit(f"coordinator: the program was not built: run 'rt check' in crates/{name} to see why")
 
 
-def proved():
-    """The path of the proved program, which is built where it isn't there for this text."""
-    program, text = f"{TOP}/crates/lra_node/out/lra_node", unproved.text_sum()
+def proved(name):
+    """The path of a proved program, which is built where it isn't there for this text."""
+    program, text = f"{TOP}/crates/{name}/out/{name}", unproved.text_sum()
     try:
         with open(f"{program}.text", encoding="utf-8") as file:
             is_kept = file.read() == text and os.access(program, os.X_OK)
@@ -112,7 +124,7 @@ def proved():
         is_kept = False
     if not is_kept:
         needs_rt()
-        prove()
+        prove(name)
         with open(f"{program}.text", "w", encoding="utf-8") as file:
             file.write(text)
     return program
@@ -123,28 +135,46 @@ def needs_rt():
         raise SystemExit("coordinator: there is no command rt, which builds the server: it comes with the kit of Rattle")
 
 
+def options_of(words):
+    """The options that stand first, each at most once, in any order, with the word of a time; and the words behind them."""
+    options = {}
+    while words and words[0] not in options and len(words) >= OPTIONS.get(words[0], len(words) + 1):
+        count = OPTIONS[words[0]]
+        options[words[0]], words = words[count - 1], words[count:]
+    return options, words
+
+
+def program_for(nodes, port, folder, times):
+    """The program that runs such nodes, and its words: lra_node, or where roots are to be purged lra_member, with all in one process."""
+    if not times:
+        return "lra_node", ["serve", nodes, port, folder]
+    said = [f"{option.removeprefix('--')}={word}" for option, word in times]
+    return "lra_member", [f"1-{nodes}", folder, *said, *(f"127.0.0.1:{it}" for it in ports_of(nodes, port))]
+
+
 def main(words):
     if {"-h", "--help"} & set(words):
         print(USAGE)
         return 0
-    is_unproved = words[:1] == ["--unproved"]
-    words = words[is_unproved:]
+    options, words = options_of(words)
     if len(words) != 3:
         print(USAGE, file=sys.stderr)
         return 2
-    wrong = wrong_with(*words)
+    times = [(it, options[it]) for it in TIMES if it in options]
+    wrong = wrong_with(*words, times)
     if wrong:
         say(wrong[1])
         return wrong[0]
-    if is_unproved:
+    name, given = program_for(*words, times)
+    if "--unproved" in options:
         needs_rt()
-        return unproved.serve(words)
+        return unproved.serve(name, given, ports_of(*words[:2]))
     # `rt run` hands standard input on as a file, so a server that it starts ends at once. This becomes the program, which is to
     # find its signals as a shell leaves them: Python ignores these two.
-    program = proved()
+    program = proved(name)
     for it in (signal.SIGPIPE, signal.SIGXFSZ):
         signal.signal(it, signal.SIG_DFL)
-    os.execv(program, [program, "serve", *words])
+    os.execv(program, [program, *given])
 
 
 if __name__ == "__main__":

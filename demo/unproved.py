@@ -1,9 +1,9 @@
 #!/usr/bin/env python3
-"""The server without proofs, to try it out: ./coordinator --unproved N PORT DIR calls this (start.py). Standard library alone.
+"""The server without proofs, to try it out: ./coordinator --unproved .. calls this (start.py). Standard library alone.
 
 `rt try` compiles a program with checks, runs it in a folder that goes with it, and shows what it printed once it has ended. A server is to
-stay. So this has `rt try` play a long script by the program of crates/lra_node, copies the program while it runs, and keeps it in
-demo/out/unproved, for the text that it was compiled from. An address sanitizer watches it."""
+stay. So this has `rt try` run the program for a while, copies it meanwhile, and keeps it for the text that it was compiled from: lra_node
+in demo/out/unproved, lra_member in demo/out/unproved-member. An address sanitizer watches it."""
 import contextlib
 import glob
 import hashlib
@@ -17,10 +17,14 @@ import tempfile
 import time
 
 TOP = os.path.dirname(os.path.dirname(os.path.abspath(__file__)))
-KEPT = f"{TOP}/demo/out/unproved"
+KEPT = f"{TOP}/demo/out"
 PARTS = ("crates.txt", "crates/*/src/**/*.rt", "crates/*/specs/**/*.antt")
-# Lines of a script that runs for some minutes.
-LINES = 2_000_000
+# Of each program the folder in which it is kept, the words with which it runs for a while, and the input of that: lra_node plays a script
+# of some minutes; lra_member has a node, which reads an input of nothing to its end. rt hands on 64 MiB at most.
+PROGRAMS = {
+    "lra_node": ("unproved", ["script", "1"], "show 1 1.1\n" * 2_000_000),
+    "lra_member": ("unproved-member", ["1", ".", "127.0.0.1:24999"], "." * 60_000_000),
+}
 # Seconds from one line on a build to the next.
 EACH = 15
 
@@ -68,27 +72,33 @@ def running_in(folder):
     return None
 
 
-def keep(words, text):
+def folder_of(name):
+    return f"{KEPT}/{PROGRAMS[name][0]}"
+
+
+def keep(name, words, text):
     """Keeps a program that runs, with the words that load it."""
-    shutil.rmtree(KEPT, ignore_errors=True)
-    os.makedirs(KEPT)
-    shutil.copy(words[-1], f"{KEPT}/program")
-    with open(f"{KEPT}/lra_node", "w", encoding="utf-8") as file:
-        file.write(f"#!/bin/sh\nexec {shlex.join([*words[:-1], f'{KEPT}/program'])} \"$@\"\n")
-    os.chmod(f"{KEPT}/lra_node", 0o755)
-    with open(f"{KEPT}/text", "w", encoding="utf-8") as file:
+    kept = folder_of(name)
+    shutil.rmtree(kept, ignore_errors=True)
+    os.makedirs(kept)
+    shutil.copy(words[-1], f"{kept}/program")
+    with open(f"{kept}/{name}", "w", encoding="utf-8") as file:
+        file.write(f"#!/bin/sh\nexec {shlex.join([*words[:-1], f'{kept}/program'])} \"$@\"\n")
+    os.chmod(f"{kept}/{name}", 0o755)
+    with open(f"{kept}/text", "w", encoding="utf-8") as file:
         file.write(text)
 
 
-def compile_for(text):
-    """Has `rt try` compile the program, and keeps it."""
-    say("compiling the server without proofs. This takes some three minutes, once.")
+def compile_for(name, text):
+    """Has `rt try` compile a program, and keeps it."""
+    say(f"compiling {name} without proofs. This takes some three minutes, once.")
+    _, words_to_run, given = PROGRAMS[name]
     with tempfile.TemporaryDirectory() as folder, open(f"{folder}/script", "w+") as script, open(f"{folder}/said", "w+") as said:
-        script.write("show 1 1.1\n" * LINES)
+        script.write(given)
         script.seek(0)
         trial = subprocess.Popen(
-            ["rt", "try", "--seconds", "3600", "--", "script", "1"],
-            cwd=f"{TOP}/crates/lra_node",
+            ["rt", "try", "--seconds", "3600", "--", *words_to_run],
+            cwd=f"{TOP}/crates/{name}",
             env={**os.environ, "TMPDIR": folder},
             stdin=script,
             stdout=said,
@@ -100,9 +110,9 @@ def compile_for(text):
             while trial.poll() is None:
                 words = running_in(folder)
                 if words:
-                    return keep(words, text)
+                    return keep(name, words, text)
                 progress.tick()
-                time.sleep(0.1)
+                time.sleep(0.02)
         finally:
             if trial.poll() is None:
                 os.killpg(trial.pid, signal.SIGKILL)
@@ -111,22 +121,23 @@ def compile_for(text):
         raise SystemExit(f"coordinator: rt try didn't come to run the program:\n{said.read()[-2000:]}")
 
 
-def built():
-    """The path of the program, which is compiled where it isn't there for this text."""
+def built(name="lra_node"):
+    """The path of a program, which is compiled where it isn't there for this text."""
+    kept = folder_of(name)
     text = text_sum(subprocess.run(["rt", "doc"], capture_output=True).stdout)
     try:
-        with open(f"{KEPT}/text", encoding="utf-8") as file:
+        with open(f"{kept}/text", encoding="utf-8") as file:
             is_kept = file.read() == text
     except OSError:
         is_kept = False
     if not is_kept:
-        compile_for(text)
-    return f"{KEPT}/lra_node"
+        compile_for(name, text)
+    return f"{kept}/{name}"
 
 
-def program_of(word):
+def program_of(word, name="lra_node"):
     """The program that a demonstration or a test runs: a path, or the unproved build."""
-    return built() if word == "--unproved" else word
+    return built(name) if word == "--unproved" else word
 
 
 def sockets_of(process):
@@ -157,14 +168,14 @@ def tell_when_up(server, ports):
         time.sleep(0.05)
 
 
-def serve(words):
-    """Runs the server, whose words are right, until Ctrl-C, and gives its status."""
-    program = built()
+def serve(name, words, ports):
+    """Runs a program with words that are right, which listens at these ports, until Ctrl-C, and gives its status."""
+    program = built(name)
     say("this is the unproved build, for trying out. It checks each access to memory, and is slow.")
     # In a group of its own: Ctrl-C is for this program, which then ends the server's input.
-    server = subprocess.Popen([program, "serve", *words], stdin=subprocess.PIPE, process_group=0)
+    server = subprocess.Popen([program, *words], stdin=subprocess.PIPE, process_group=0)
     try:
-        tell_when_up(server, range(int(words[1]), int(words[1]) + int(words[0])))
+        tell_when_up(server, ports)
         return server.wait()
     except KeyboardInterrupt:
         server.stdin.close()
