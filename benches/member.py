@@ -1,6 +1,6 @@
 #!/usr/bin/env python3
 """Measures members in processes of their own: python3 benches/member.py [PROGRAM]. How soon what one begins is shown by another, and how
-many LRAs go through one home a second with keep=0. PROGRAM is crates/lra_member/out/lra_member. Half a minute; standard library alone."""
+many LRAs go through one home a second with keep=0. PROGRAM is crates/lra_member/out/lra_member. A minute; standard library alone."""
 import multiprocessing
 import os
 import statistics
@@ -12,13 +12,14 @@ TOP = os.path.dirname(os.path.dirname(os.path.abspath(__file__)))
 sys.path += [f"{TOP}/tests", f"{TOP}/demo"]
 from group import Group
 
-# How many begins are looked for at the other node, for how long LRAs go through, and by how many clients.
-BEGINS, SECONDS, CLIENTS = 200, 10, 8
+# How many begins are looked for at the other node, how long nothing is stored before each, for how long LRAs go through, and by how many
+# clients. Behind each pull a node pauses for a twentieth of a second.
+BEGINS, QUIET, SECONDS, CLIENTS = 100, 0.3, 10, 8
 
 
 def news(folder):
-    """From a begin at node 1 to its being shown by node 2: the middle, and 99 of 100."""
-    group = Group(2, folder, "keep=0").start()
+    """From a begin at node 1, where nothing was stored for a while, to its being shown by node 2: the middle, and 99 of 100."""
+    group = Group(2, folder).start()
     late = []
     for _ in range(BEGINS):
         lra = group.begin(1)
@@ -27,7 +28,7 @@ def news(folder):
             pass
         late.append(time.monotonic() - began)
         group.finish(1, lra)
-        time.sleep(0.05)
+        time.sleep(QUIET)
     group.end()
     late.sort()
     print(f"from a begin to its being shown by another process: {1000 * statistics.median(late):.1f} ms, 99 of 100 within {1000 * late[BEGINS * 99 // 100 - 1]:.1f}")
