@@ -1,3 +1,4 @@
+pub mod Children
 pub mod Dues
 pub mod Forests
 pub mod Gathering

@@ -84,7 +84,7 @@ is_heard_at at num m act outcome =
 
 -- a participant of it, or of what is nested in it at most 7 levels down, shows a status that passes the test
 abbrev pub some_shows_at : (MemberStatus → Bool) → (ℕ → Option Record) → ℕ → Bool
-some_shows_at test at num = list_any (shows_within 7 test at (want_at at num)) (members_at at num)
+some_shows_at test at num = list_any (shows_within 7 test at num (want_at at num)) (members_at at num)
 
 -- it wants something, and each participant under it is final
 abbrev pub is_ended_at : (ℕ → Option Record) → ℕ → Bool

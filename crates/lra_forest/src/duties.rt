@@ -169,7 +169,7 @@ impl Forest {
     {
         match member {
             Member::Nested(child) => {
-                let Some(record) = self.numbered(*child) else {
+                let Some(record) = self.child_of(number, *child) else {
                     return None;
                 };
                 if levels == 0 {
@@ -253,8 +253,8 @@ impl Forest {
     }
 
     /// The compensations that are due: under each LRA that is cancelled, and that is nested in no cancelled one, at most one,
-    /// by the number of that LRA. It looks up the records under these LRAs: each at most once in a history, and of forged records
-    /// each as often as it is named.
+    /// by the number of that LRA. It looks up the records under these LRAs: each at most once. It goes on in a nested LRA only
+    /// from the parent that its record names, and so through forged records too at most once.
     pub fn next_compensations(&self, alloc: Global) -> Result<Vec<Due>, AllocError>
         ensures says { IfOk result (λ dues. dues.items ≡ due_to_compensate self.now.home
             (found_at self.now.home self.now.records) self.now.records) }
@@ -293,7 +293,7 @@ impl Forest {
             return false;
         };
         let want = self.wanted(num);
-        let seen = self.seen(want, kept.members.as_slice(), MAX_DEPTH - 1);
+        let seen = self.seen(num, want, kept.members.as_slice(), MAX_DEPTH - 1);
         seen.is_ended(want)
     }
 
