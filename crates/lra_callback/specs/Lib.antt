@@ -3,5 +3,6 @@ pub mod CallDuties
 pub mod CallRequests
 pub mod CallWords
 pub mod Errands
+pub mod HeardCommands
 pub mod OneCall
 pub mod ViewDuties

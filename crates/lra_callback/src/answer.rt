@@ -1,9 +1,12 @@
 // What is heard of a participant's answer.
 ghost use Rattle.std.specs.Prelude.{◌≡◌, Some};
 ghost use Rattle.lra_callback.specs.CallWords.{heard_name, kind_name};
+ghost use Rattle.lra_callback.specs.HeardCommands.{command_heard};
 ghost use Rattle.lra_callback.specs.Answers.{done_status, failed_status, heard_by_act, heard_by_after, heard_by_forget, heard_by_status, heard_of, unquoted, without_leading, without_trailing};
 
+use lra_history::Command;
 use lra_http::Bytes;
+use lra_id::LraId;
 use lra_states::{Act, MemberStatus, Outcome};
 use std::fmt;
 
@@ -70,6 +73,24 @@ impl Heard {
             Heard::Forgotten => "Forgotten",
             Heard::Informed => "Told",
             Heard::Again => "Again",
+        }
+    }
+
+    /// The command that enters it, where it was heard of a participant in a call for this act: a report of the act, a forgot or a told;
+    /// none where the participant is to be called again.
+    pub fn command(self, id: LraId, member: u8, act: Act) -> Option<Command>
+        ensures { result ≡ command_heard id member act self }
+    {
+        match self {
+            Heard::Told(outcome) => Some(Command::Report {
+                id,
+                member,
+                act,
+                outcome,
+            }),
+            Heard::Forgotten => Some(Command::Forgot { id, member }),
+            Heard::Informed => Some(Command::Told { id, member }),
+            Heard::Again => None,
         }
     }
 }

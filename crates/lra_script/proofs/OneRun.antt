@@ -18,10 +18,11 @@ use Rattle.lra_world.specs.declared.event.Reply.TheVariants.{Answered}
 use Rattle.lra_world.specs.Worlds.{Acts, IfNode, IsWorld, Leads, State, Steps, after_command, front_of, is_node, nodes_of, reply_at, set_of, start}
 use Rattle.lra_world.proofs.Converging.{led_converges, leads_none, leads_on, one_step}
 use Rattle.lra_world.proofs.Moving.{run_keeps, start_is}
+use Rattle.lra_callback.specs.HeardCommands.{command_heard}
 use Rattle.lra_script.specs.declared.asking.Ask.{Ask}
 use Rattle.lra_script.specs.declared.asking.Ask.TheVariants.{Enter, Tick, Send, SendOld, Deliver, Restart, Show, Member, Duties, Hear, Front, Same, Text, Read}
 use Rattle.lra_script.specs.Asks.{IsInRange, IsNodeOf}
-use Rattle.lra_script.specs.CallLines.{act_asked, command_of}
+use Rattle.lra_script.specs.CallLines.{act_asked}
 use Rattle.lra_script.specs.Scripts.{Answers, AreOneRun, Does, Plays, PrintsReply, ScriptText, after_answer, after_heard}
 
 -- A line leads from its state to the one after it
@@ -50,7 +51,7 @@ heard_leads s node (Some c) w is =
 
 answer_leads : (s : State) (node : ℕ) (id : Id) (m : ℕ) (kind : Kind) (answer : Answer) (act : Result Act Refusal) → IsWorld s → IsNodeOf (nodes_of s) node → Leads s (after_answer s node id m kind answer act)
 answer_leads s node id m kind answer (Err r) w is = leads_none s w
-answer_leads s node id m kind answer (Ok act) w is = heard_leads s node (command_of id m act (heard_of act kind answer)) w is
+answer_leads s node id m kind answer (Ok act) w is = heard_leads s node (command_heard id m act (heard_of act kind answer)) w is
 
 does_lead : (s t : State) (ask : Ask) (out : List ℕ) → IsWorld s → IsInRange (nodes_of s) ask → Does s ask out t → Leads s t
 does_lead s t (Enter node command) out w range h = prints_lead s t (ActEvent node command) out w h

@@ -11,12 +11,8 @@ use Rattle.lra_facts.specs.declared.refusal.Refusal.{Refusal}
 use Rattle.lra_facts.specs.declared.refusal.Refusal.TheVariants.{NotDue}
 use Rattle.lra_facts.specs.Sets.{want}
 use Rattle.lra_history.specs.Replies.{member_shown}
-use Rattle.lra_history.specs.declared.command.Command.{Command}
-use Rattle.lra_history.specs.declared.command.Command.TheVariants.{Report, Forgot, Told as ToldAsked}
 use Rattle.lra_callback.specs.declared.answer.Answer.{Answer}
 use Rattle.lra_callback.specs.declared.answer.Answer.TheVariants.{Code, Broken}
-use Rattle.lra_callback.specs.declared.answer.Heard.{Heard}
-use Rattle.lra_callback.specs.declared.answer.Heard.TheVariants.{Told, Forgotten, Informed, Again}
 use Rattle.lra_callback.specs.declared.answer.Kind.{Kind}
 use Rattle.lra_callback.specs.declared.answer.Kind.TheVariants.{Complete, Compensate, Status, Forget, After}
 use Rattle.lra_callback.specs.declared.duty.Duty.{Duty}
@@ -60,13 +56,6 @@ act_asked S front Compensate id m = Ok CompensateAct
 act_asked S front Status id m = act_where (member_shown S front id m) (act_demanded (act_wanted (want S id)))
 act_asked S front Forget id m = Ok CompleteAct
 act_asked S front After id m = Ok CompleteAct
-
--- what is heard is reported, or entered as forgotten or told; where the participant is to be called again, nothing is entered
-abbrev pub command_of : Id → ℕ → Act → Heard → Option Command
-command_of id m act (Told outcome) = Some (Report id m act outcome)
-command_of id m act Forgotten = Some (Forgot id m)
-command_of id m act Informed = Some (ToldAsked id m)
-command_of id m act Again = None
 
 -- Duties
 

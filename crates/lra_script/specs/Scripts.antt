@@ -29,10 +29,11 @@ use Rattle.lra_callback.specs.declared.duty.Duty.{Duty}
 use Rattle.lra_callback.specs.Answers.{heard_of}
 use Rattle.lra_callback.specs.CallDuties.{IsDuty, comes_first}
 use Rattle.lra_callback.specs.CallWords.{heard_name}
+use Rattle.lra_callback.specs.HeardCommands.{command_heard}
 use Rattle.lra_script.specs.declared.asking.Ask.{Ask}
 use Rattle.lra_script.specs.declared.asking.Ask.TheVariants.{Enter, Tick, Send, SendOld, Deliver, Restart, Show, Member, Duties, Hear, Front, Same, Text, Read}
 use Rattle.lra_script.specs.Asks.{Spells}
-use Rattle.lra_script.specs.CallLines.{act_asked, command_of, duties_text}
+use Rattle.lra_script.specs.CallLines.{act_asked, duties_text}
 use Rattle.lra_script.specs.NodeHoldings.{AreComing}
 
 -- a line of at most so many bytes is read
@@ -116,11 +117,11 @@ after_heard s node (Some c) = after_command s node c
 abbrev pub answer_line : State → ℕ → Id → ℕ → Kind → Answer → Result Act Refusal → List ℕ
 answer_line s node id m kind answer (Err r) = refused r
 answer_line s node id m kind answer (Ok act) =
-    heard_line s node (heard_of act kind answer) (command_of id m act (heard_of act kind answer))
+    heard_line s node (heard_of act kind answer) (command_heard id m act (heard_of act kind answer))
 
 abbrev pub after_answer : State → ℕ → Id → ℕ → Kind → Answer → Result Act Refusal → State
 after_answer s node id m kind answer (Err r) = s
-after_answer s node id m kind answer (Ok act) = after_heard s node (command_of id m act (heard_of act kind answer))
+after_answer s node id m kind answer (Ok act) = after_heard s node (command_heard id m act (heard_of act kind answer))
 
 -- `same` where this holds, and `differ` where it doesn't
 abbrev pub TellsSame : Type 0 → List ℕ → Type 0

@@ -10,7 +10,7 @@ ghost use Rattle.lra_history.specs.Replies.{member_shown};
 ghost use Rattle.lra_world.specs.Machines.{IsWorldOf};
 ghost use Rattle.lra_world.specs.Worlds.{State, front_of, set_of};
 ghost use Rattle.lra_script.specs.Asks.{IsNodeOf};
-ghost use Rattle.lra_script.specs.CallLines.{act_asked, act_demanded, act_where, command_of, duties_text, duty_text, further_text};
+ghost use Rattle.lra_script.specs.CallLines.{act_asked, act_demanded, act_where, duties_text, duty_text, further_text};
 ghost use Rattle.lra_script.specs.Scripts.{IsNothing, after_answer, after_heard, answer_line, heard_line, heard_reply_line, printed};
 ghost use Rattle.lra_script.specs.NodeHoldings.{Holds};
 
@@ -92,13 +92,7 @@ pub fn hear_answer(
     match act_asked(held(world, node), kind, id, member) {
         Ok(act) => {
             let heard = hear(act, kind, answer);
-            enter_heard(
-                alloc,
-                world,
-                node,
-                heard,
-                command_of(id, member, act, heard),
-            )
+            enter_heard(alloc, world, node, heard, heard.command(id, member, act))
         }
         Err(refusal) => refusal_line(alloc, refusal),
     }
@@ -134,22 +128,6 @@ fn act_demanded(replica: &Replica, id: LraId) -> Result<Act, Refusal>
     match replica.want(id) {
         Ok(want) => act_wanted(want).ok_or(Refusal::NotDue(LraStatus::Active)),
         Err(refusal) => Err(refusal),
-    }
-}
-
-fn command_of(id: LraId, member: u8, act: Act, heard: Heard) -> Option<Command>
-    ensures { result ≡ command_of id member act heard }
-{
-    match heard {
-        Heard::Told(outcome) => Some(Command::Report {
-            id,
-            member,
-            act,
-            outcome,
-        }),
-        Heard::Forgotten => Some(Command::Forgot { id, member }),
-        Heard::Informed => Some(Command::Told { id, member }),
-        Heard::Again => None,
     }
 }
 
