@@ -2,6 +2,7 @@
 import http.client
 import json
 import os
+import re
 import socket
 import subprocess
 import sys
@@ -38,6 +39,11 @@ def is_open(port):
         return it.connect_ex(("127.0.0.1", port)) == 0
 
 
+def without_starts(text):
+    """What stood on standard error, without the lines that say where a node listens."""
+    return re.sub(r"^\[INFO .*\] node \d: listens on [0-9.:\[\]]+\n", "", text, flags=re.M)
+
+
 class Server:
     """Nodes in one process, over a folder."""
 
@@ -65,9 +71,9 @@ class Server:
         self.process.communicate()
 
     def end(self):
-        """Ends the input, and gives the status and what stood on standard error."""
+        """Ends the input, and gives the status and what stood on standard error, but for where the nodes listen."""
         text = self.process.communicate(timeout=60)[1].decode()
-        return self.process.returncode, text
+        return self.process.returncode, without_starts(text)
 
 
 def ask(method, path, body=None, node=1, port=PORT):

@@ -8,7 +8,7 @@ import subprocess
 import threading
 import time
 
-from coordinator import TOP, comes_to, is_open
+from coordinator import TOP, comes_to, is_open, without_starts
 import start
 
 PORT = 24000
@@ -60,7 +60,7 @@ class Group:
 
     def log(self, number):
         with open(f"{self.folder}/{number}.log", encoding="utf-8") as file:
-            return file.read()
+            return without_starts(file.read())
 
     def kill(self, *numbers):
         for number in numbers:

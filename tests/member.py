@@ -34,7 +34,7 @@ def in_ms(seconds):
 
 def lines_of(group, number):
     """What a node told on standard error, without the level and the place of the code."""
-    return [re.sub(r"^\[WARN +lra_threads::\w+\] ", "", line) for line in group.log(number).splitlines()]
+    return [re.sub(r"^\[WARN +lra_\w+::\w+\] ", "", line) for line in group.log(number).splitlines()]
 
 
 def words(folder):
@@ -81,9 +81,9 @@ def words(folder):
     own, other, third, fourth = ports(4)
     with socket.create_server(("127.0.0.1", own)):
         ran = subprocess.run([Group.program, "1", folder, f"h:{own}"], **SILENT)
-        check("a port in use", (ran.returncode, ran.stderr) == (1, f"port {own}\n".encode()), ran)
+        check("a port in use", (ran.returncode, ran.stderr) == (1, f"node 1: port {own} can't be had: it is in use\nport {own}\n".encode()), ran)
     ran = subprocess.run([Group.program, "2", f"{folder}/none", "h:1", f"h:{other}"], **SILENT)
-    check("a folder that isn't there", (ran.returncode, ran.stderr) == (1, b"journal 2\n"), ran)
+    check("a folder that isn't there", (ran.returncode, ran.stderr) == (1, b"node 2: its journal can't be opened: there is no folder, or no right to it, or no file is left\njournal 2\n"), ran)
     every = ["keep=0", "keep-failed=18446744073709551615"]
     node = subprocess.Popen([Group.program, "1", folder, f"listen=0.0.0.0:{third}", *every, f"elsewhere:{fourth}"], stdin=subprocess.PIPE)
     check("it listens where it is told to", comes_to(SLOW, lambda: is_open(third)) and not is_open(fourth))

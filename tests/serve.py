@@ -234,11 +234,11 @@ def refusals(folder):
     taken.listen()
     server = Server(2, folder, PORT + 50)
     server.process.wait(20)
-    check("a port in use", server.end() == (1, f"port {PORT + 51}\n"))
+    check("a port in use", server.end() == (1, f"node 2: port {PORT + 51} can't be had: it is in use\nport {PORT + 51}\n"))
     taken.close()
     server = Server(1, folder + "/none", PORT + 60)
     server.process.wait(20)
-    check("a folder that isn't there", server.end() == (1, "journal 1\n"))
+    check("a folder that isn't there", server.end() == (1, "node 1: its journal can't be opened: there is no folder, or no right to it, or no file is left\njournal 1\n"))
     other = folder + "/other"
     os.mkdir(other)
     for file in os.listdir(folder):
@@ -246,7 +246,9 @@ def refusals(folder):
             shutil.copy(f"{folder}/{file}", f"{other}/node-1{file[6:]}")
     server = Server(2, other, PORT + 70)
     server.process.wait(20)
-    check("a journal of another node", server.end() == (1, "journal 1\n"))
+    ended = server.end()
+    is_said = ended[1].startswith("node 1: its journal can't be opened: the row after ") and ended[1].endswith("\njournal 1\n")
+    check("a journal of another node", ended[0] == 1 and is_said, ended)
     for words in ([], ["serve", "9", "8070", "."], ["serve", "1", "80", "."], ["serve", "1", "65529", "."], ["serve", "01", "8070", "."]):
         ran = subprocess.run([Server.program, *words], stdin=subprocess.DEVNULL, capture_output=True)
         check("other arguments: " + " ".join(words), ran.returncode == 2 and ran.stderr.startswith(b"usage: "), ran)

@@ -50,7 +50,7 @@ fn main(rt: HostRuntime) -> ExitCode {
         alloc,
         lines: &lines,
     };
-    let logged = Logged::new(&rt, Level::Warn, to_lines);
+    let logged = Logged::new(&rt, Level::Info, to_lines);
     let folder = Folder::new(rt, folder, UnknownFiles);
     let input = rt.reader();
     let status = serve_members(&rt, &logged, rt, alloc, members, &folder, input);

@@ -50,7 +50,7 @@ fn main(rt: HostRuntime) -> ExitCode {
         alloc,
         lines: &lines,
     };
-    let logged = Logged::new(&rt, Level::Warn, to_lines);
+    let logged = Logged::new(&rt, Level::Info, to_lines);
     let folder = folder_of(rt, words);
     let status = serve(&rt, &logged, rt, alloc, nodes, port, &folder, input);
     lines.wait(&rt, Duration::from_millis(LAST_LINES));

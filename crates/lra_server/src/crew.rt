@@ -33,18 +33,21 @@ fn serve_all<
     S: Alter + Drop,
 >(rt: &R, alloc: Global, node: &Node, paths: &Paths, clerk: DeskClerk<'_, J, S, R>) -> DeskPass<J> {
     let mut taken = Taken::new(rt, alloc, node);
-    let seat = Seat { rt, node, clerk };
-    let (seat, ending) = work(rt, alloc, paths, &mut taken, seat, &Open);
-    taken.close_served();
-    if let Some(refusal) = ending {
-        node.end_run(rt, over_by(refusal));
+    let mut seat = Seat::of_worker(rt, node, clerk);
+    for _ in rt.forever() {
+        let (back, ending) = work(rt, alloc, paths, &mut taken, seat, &Open);
+        taken.close_served();
+        seat = back;
+        // A command that was held back ends no run.
+        if seat.take_held() {
+            continue;
+        }
+        if let Some(refusal) = ending {
+            node.end_run(rt, over_by(refusal));
+        }
+        return seat.into_clerk().into_pass();
     }
-    let Seat {
-        rt: _,
-        node: _,
-        clerk,
-    } = seat;
-    clerk.into_pass()
+    unreachable!()
 }
 
 /// Enters what others hear, until the run is over.
@@ -53,13 +56,8 @@ fn write_all<
     J: Run,
     S: Alter + Drop,
 >(rt: &R, alloc: Global, node: &Node, clerk: DeskClerk<'_, J, S, R>) -> DeskPass<J> {
-    let seat = enter_all(rt, alloc, node, Seat { rt, node, clerk });
-    let Seat {
-        rt: _,
-        node: _,
-        clerk,
-    } = seat;
-    clerk.into_pass()
+    let seat = enter_all(rt, alloc, node, Seat::new(rt, node, clerk));
+    seat.into_clerk().into_pass()
 }
 
 /// What the thread with the pass at a place does until the run is over. It gives its pass back.

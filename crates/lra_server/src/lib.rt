@@ -2,6 +2,7 @@
 #![tactic(auto)]
 
 mod begun;
+mod closed;
 mod crew;
 mod life;
 mod opening;

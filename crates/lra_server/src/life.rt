@@ -2,9 +2,11 @@
 ghost use Rattle.std.specs.Prelude.{◌≡◌, IfOk, IfSome, None};
 
 use crate::begun::{Begun, Shut, begun_by};
+use crate::closed::Closed;
 use crate::crew::named_run;
 use crate::refusals::refusal_of;
 use crate::setbacks::Setbacks;
+use crate::taken::Taken;
 use crate::{Stores, Unopened};
 use log::{Log, warn};
 use lra_api::Paths;
@@ -12,20 +14,32 @@ use lra_book::Book;
 use lra_facts::Refusal;
 use lra_id::NodeId;
 use lra_threads::{Node, Over, accept, call_out, follow, pull_in_turn, watch};
+use lra_work::{Open, work};
 use sqlite::Alter;
 use std::alloc::Global;
 use std::net::{Net, TcpListener, TcpStream};
 use std::sync::Wait;
-use std::thread;
 use std::thread::Threads;
 use std::time::{Clock, Duration};
+use std::{io, thread};
 
-/// The threads that outlive runs: one that pulls, four that call participants, and one that accepts. Where the other nodes are in
-/// processes of their own the first warns of a full home, and behind these come those that pull, one from each.
-const HELPERS: usize = 6;
+/// How many threads that call participants.
+const CALLERS: usize = 4;
 
-/// The place of the one that accepts.
-const ACCEPTING: usize = 5;
+/// What a thread does that outlives the runs of its node.
+#[derive(Clone, Copy, PartialEq, Eq)]
+enum Role {
+    /// It warns of a full home, and of connections that were closed.
+    Watch,
+    /// It calls participants.
+    Call,
+    /// It takes connections.
+    Accept,
+    /// It pulls from the other nodes of its process in turn.
+    Pull,
+    /// It pulls from this node, in a process of its own.
+    Follow(u8),
+}
 
 /// How long a node waits where no memory can be had for its table of paths, in milliseconds.
 const PAUSE: u64 = 10;
@@ -36,7 +50,7 @@ const FILES: u8 = 4;
 /// What a node couldn't do.
 #[derive(Clone, Copy, PartialEq, Eq, Debug)]
 pub enum Failure {
-    Journal,
+    Journal(Unopened),
     Run,
 }
 
@@ -49,24 +63,31 @@ pub fn open_book<S: Stores>(
     ensures { IfOk result (λ b. b.opening ≡ None) }
 {
     let Ok(me) = NodeId::new(node.number) else {
-        return Err(Unopened::ForGood);
+        return Err(Unopened::Broken(0));
     };
     if node.number > node.nodes || node.nodes > 8 {
-        return Err(Unopened::ForGood);
+        return Err(Unopened::Broken(0));
     }
     let connection = stores.open(node.number)?;
     match Book::open(alloc, connection, me, usize::from(node.nodes)) {
         Ok(book) => Ok(book),
-        Err((Refusal::BadFrame(_), _)) => Err(Unopened::ForGood),
-        Err(_) => Err(Unopened::ForNow),
+        Err((Refusal::BadFrame(place), _)) => Err(Unopened::Broken(place)),
+        Err((Refusal::NoMemory, _)) => Err(Unopened::NoMemory),
+        Err(_) => Err(Unopened::NoJournal),
     }
 }
 
 /// Warns that a journal can't be opened again, once a second at most.
-fn warn_of_journal<R: Clock, L: Log>(rt: &R, log: &L, node: &Node, setbacks: &mut Setbacks) {
+fn warn_of_journal<R: Clock, L: Log>(
+    rt: &R,
+    log: &L,
+    node: &Node,
+    why: Unopened,
+    setbacks: &mut Setbacks,
+) {
     let now = rt.monotonic().unwrap_or(Duration::from_millis(0));
     if setbacks.may_warn(now) {
-        warn!(log; "node {}: its journal can't be opened again yet", node.number);
+        warn!(log; "node {}: its journal can't be opened again yet: {}", node.number, why);
     }
 }
 
@@ -77,71 +98,124 @@ fn close_some<R: Wait>(rt: &R, node: &Node) {
     }
 }
 
-/// The book of a node whose journal failed: it is closed, and opened again once that can be done; none where the program is to end
-/// before. Each time it rests longer before it tries.
-fn reopened<R: Wait + Clock, L: Log, S: Stores>(
+/// Answers what comes while the journal is closed: E19, for so long or until the program is to end.
+fn refuse_for<R: Wait + Clock + Net<Listener = TcpListener, Stream = TcpStream>>(
+    rt: &R,
+    alloc: Global,
+    node: &Node,
+    paths: &Paths,
+    time: Duration,
+) {
+    let now = rt.monotonic().unwrap_or(Duration::from_millis(0));
+    let mut taken = Taken::between_runs(rt, alloc, node, now.saturating_add(time));
+    for _ in rt.forever() {
+        let (_clerk, ending) = work(rt, alloc, paths, &mut taken, Closed::new(alloc), &Open);
+        taken.close_served();
+        if ending.is_none() {
+            return;
+        }
+    }
+}
+
+/// The book of a node whose journal was closed, opened again once that can be done; none where the program is to end before. Meanwhile
+/// each request is refused. Each time it is longer before it tries again.
+fn reopened<R, L: Log, S: Stores>(
     rt: &R,
     log: &L,
     alloc: Global,
     node: &Node,
     stores: &S,
-    book: Book<S::Store>,
+    paths: &Paths,
     setbacks: &mut Setbacks,
 ) -> Result<Option<Book<S::Store>>, Failure>
+where
+    R: Wait + Clock + Net<Listener = TcpListener, Stream = TcpStream>,
     ensures { IfOk result (λ next. IfSome next (λ b. b.opening ≡ None)) }
 {
-    // (it holds the file's lock until it is dropped)
-    drop(book.close());
     for _ in rt.forever() {
-        node.signal.rest(rt, setbacks.next_rest());
         if node.signal.has_ended(rt) {
             return Ok(None);
         }
-        match open_book(alloc, stores, node) {
+        let why = match open_book(alloc, stores, node) {
             Ok(book) => {
                 setbacks.end_rest();
                 node.post.hold(rt, setbacks.next_pause());
                 return Ok(Some(book));
             }
-            Err(Unopened::ForNow) => {}
-            Err(Unopened::NoFile) => close_some(rt, node),
-            Err(Unopened::ForGood) => return Err(Failure::Journal),
+            Err(why) => why,
+        };
+        if why.is_for_good() {
+            return Err(Failure::Journal(why));
         }
-        warn_of_journal(rt, log, node, setbacks);
+        warn_of_journal(rt, log, node, why, setbacks);
+        refuse_for(rt, alloc, node, paths, setbacks.next_rest());
+        if why == Unopened::NoFile {
+            close_some(rt, node);
+        }
     }
     unreachable!()
 }
 
-/// The book that the next run is on, by why the last is over: the same, or, where the journal failed, one whose journal is opened
-/// again; none where the program is to end. Where no thread or no memory could be had it rests before; at the start that is a failure.
-fn next_book<R: Wait + Clock, L: Log, S: Stores>(
+/// Whether the next run is on the same book, by why the last is over: it had no fault, or no thread or no memory could be had for it.
+fn goes_on(over: Option<Over>) -> bool {
+    match over {
+        Some(Over::Full | Over::RunFull | Over::TrailLost(_) | Over::Starved) | None => true,
+        Some(Over::Program | Over::JournalFailed | Over::Stopped) => false,
+    }
+}
+
+/// Notes that a run is over which had its threads, or rests where it hadn't. It says whether the node can go on: at the start it can't
+/// without.
+fn rests<R: Wait + Clock>(
+    rt: &R,
+    node: &Node,
+    over: Option<Over>,
+    setbacks: &mut Setbacks,
+) -> bool {
+    if over != Some(Over::Starved) {
+        setbacks.note_run();
+        return true;
+    }
+    if setbacks.has_run() {
+        node.signal.rest(rt, setbacks.next_rest());
+        return true;
+    }
+    false
+}
+
+/// The book that the next run is on, by why the last is over: the same, or, where the journal failed or the desk was lost, one whose
+/// journal is opened again; none where the program is to end.
+fn next_book<R, L: Log, S: Stores>(
     rt: &R,
     log: &L,
     alloc: Global,
     node: &Node,
     stores: &S,
-    book: Book<S::Store>,
+    paths: &Paths,
+    book: Option<Book<S::Store>>,
     over: Option<Over>,
     setbacks: &mut Setbacks,
 ) -> Result<Option<Book<S::Store>>, Failure>
-    requires { book.opening ≡ None }
+where
+    R: Wait + Clock + Net<Listener = TcpListener, Stream = TcpStream>,
+    requires { IfSome book (λ b. b.opening ≡ None) }
     ensures { IfOk result (λ next. IfSome next (λ b. b.opening ≡ None)) }
 {
-    match over {
-        Some(Over::Program) => Ok(None),
-        Some(Over::Full | Over::RunFull | Over::TrailLost(_)) | None => {
-            setbacks.note_run();
-            Ok(Some(book))
-        }
-        Some(Over::JournalFailed | Over::Stopped) => {
-            reopened(rt, log, alloc, node, stores, book, setbacks)
-        }
-        Some(Over::Starved) if setbacks.has_run() => {
-            node.signal.rest(rt, setbacks.next_rest());
-            Ok(Some(book))
-        }
-        Some(Over::Starved) => Err(Failure::Run),
+    if over == Some(Over::Program) {
+        return Ok(None);
     }
+    if goes_on(over) && !rests(rt, node, over, setbacks) {
+        return Err(Failure::Run);
+    }
+    let Some(book) = book else {
+        return reopened(rt, log, alloc, node, stores, paths, setbacks);
+    };
+    if goes_on(over) {
+        return Ok(Some(book));
+    }
+    // (it holds the file's lock until it is dropped)
+    drop(book.close());
+    reopened(rt, log, alloc, node, stores, paths, setbacks)
 }
 
 /// Warns of what a run is over for, if a refusal or a want is, once a second at most.
@@ -185,24 +259,30 @@ fn begun_in_time<R: Wait + Clock, S: Alter + Drop>(
     unreachable!()
 }
 
-/// The next run, begun, or none where the program is to end.
-fn next_run<R: Wait + Clock, L: Log, S: Stores>(
+/// The next run, begun, or none where the program is to end. The last run's book is none where there was no memory for a desk.
+fn next_run<R, L: Log, S: Stores>(
     rt: &R,
     log: &L,
     alloc: Global,
     node: &Node,
     stores: &S,
-    book: Book<S::Store>,
+    paths: &Paths,
+    book: Option<Book<S::Store>>,
     setbacks: &mut Setbacks,
 ) -> Result<Option<Begun<S::Store>>, Failure>
-    requires { book.opening ≡ None }
+where
+    R: Wait + Clock + Net<Listener = TcpListener, Stream = TcpStream>,
+    requires { IfSome book (λ b. b.opening ≡ None) }
 {
     if node.tally.has_stored() {
         setbacks.forget();
     }
-    let over = node.signal.over(rt);
+    let mut over = node.signal.over(rt);
+    if book.is_none() && over != Some(Over::Program) {
+        over = Some(Over::Starved);
+    }
     warn_of(rt, log, node, over, setbacks);
-    let Some(book) = next_book(rt, log, alloc, node, stores, book, over, setbacks)? else {
+    let Some(book) = next_book(rt, log, alloc, node, stores, paths, book, over, setbacks)? else {
         return Ok(None);
     };
     if !node.signal.begin(rt) {
@@ -244,10 +324,8 @@ where
     let mut setbacks = Setbacks::new();
     for _ in rt.forever() {
         let Begun { book } = begun;
-        let Some(ended) = named_run(rt, log, alloc, node, &paths, book) else {
-            return Err(Failure::Run);
-        };
-        match next_run(rt, log, alloc, node, stores, ended, &mut setbacks)? {
+        let ended = named_run(rt, log, alloc, node, &paths, book);
+        match next_run(rt, log, alloc, node, stores, &paths, ended, &mut setbacks)? {
             Some(next) => begun = next,
             None => return Ok(()),
         }
@@ -255,51 +333,60 @@ where
     unreachable!()
 }
 
-/// Pulls from the other nodes in processes of their own, each from a thread: the one at this place behind the others.
-fn pull_apart<R: Wait + Clock + Net<Listener = TcpListener, Stream = TcpStream>, L: Log>(
-    rt: &R,
-    log: &L,
-    alloc: Global,
-    node: &Node,
-    place: usize,
-) {
-    for number in 1..=node.nodes {
-        if usize::from(number) == place && number != node.number && node.site.is_apart() {
-            follow(rt, log, alloc, node, number);
-        }
+/// What the thread at a place does, if there is something for it.
+fn role_of(node: &Node, place: usize) -> Option<Role> {
+    if place == 0 {
+        return Some(Role::Watch);
+    }
+    if place <= CALLERS {
+        return Some(Role::Call);
+    }
+    let behind = place.saturating_sub(CALLERS);
+    if behind == 1 {
+        return Some(Role::Accept);
+    }
+    if !node.site.is_apart() {
+        return if node.nodes > 1 {
+            Some(Role::Pull)
+        } else {
+            None
+        };
+    }
+    let number = u8::try_from(behind.saturating_sub(1)).unwrap_or(node.number);
+    if number == node.number {
+        None
+    } else {
+        Some(Role::Follow(number))
     }
 }
 
-/// What the thread at a place does besides the runs: the first pulls, or warns of a full home; the sixth accepts, those between call, and
-/// those behind pull from one other node each.
+/// Plays a role, until the program is to end.
 fn help<R: Wait + Clock + Net<Listener = TcpListener, Stream = TcpStream>, L: Log>(
     rt: &R,
     log: &L,
     alloc: Global,
     node: &Node,
     listener: &TcpListener,
-    place: usize,
+    role: Role,
 ) {
-    if place > ACCEPTING {
-        pull_apart(rt, log, alloc, node, place - ACCEPTING);
-    } else if place == ACCEPTING {
-        accept(rt, node, listener);
-    } else if place > 0 {
-        call_out(rt, alloc, node);
-    } else if node.site.is_apart() {
-        watch(rt, log, node);
-    } else if node.nodes > 1 {
-        pull_in_turn(rt, alloc, node);
+    match role {
+        Role::Watch => watch(rt, log, node),
+        Role::Call => call_out(rt, log, alloc, node),
+        Role::Accept => accept(rt, node, listener),
+        Role::Pull => pull_in_turn(rt, alloc, node),
+        Role::Follow(number) => follow(rt, log, alloc, node, number),
     }
 }
 
-/// How many threads outlive the runs.
-fn helpers_of(node: &Node) -> usize {
-    if node.site.is_apart() {
-        HELPERS + usize::from(node.nodes)
+/// How many places of threads that outlive the runs a node has: one that watches, those that call, one that accepts, and those that
+/// pull.
+fn places_of(node: &Node) -> usize {
+    let pulling = if node.site.is_apart() {
+        usize::from(node.nodes)
     } else {
-        HELPERS
-    }
+        1
+    };
+    CALLERS.saturating_add(2).saturating_add(pulling)
 }
 
 /// Ends the threads that outlive runs.
@@ -319,16 +406,14 @@ pub struct Life<S: Alter + Drop> {
     pub listener: TcpListener,
 }
 
-/// A life with this run, at the node's port; none where the port can't be bound.
+/// A life with this run, at the node's port; or why the port can't be bound.
 pub fn life_of<R: Net<Listener = TcpListener, Stream = TcpStream>, S: Alter + Drop>(
     rt: &R,
     node: &Node,
     begun: Begun<S>,
-) -> Option<Life<S>> {
-    match TcpListener::bind(rt, node.site.listen) {
-        Ok(listener) => Some(Life { begun, listener }),
-        Err(_) => None,
-    }
+) -> io::Result<Life<S>> {
+    let listener = TcpListener::bind(rt, node.site.listen)?;
+    Ok(Life { begun, listener })
 }
 
 /// The life of a node: its runs, with the threads that accept, call and pull beside them, until the program is to end.
@@ -347,9 +432,12 @@ where
     let Life { begun, listener } = life;
     let listener = &listener;
     thread::scope(thread::scope_env(), rt, move |scope| {
-        for place in 0..helpers_of(node) {
+        for place in 0..places_of(node) {
+            let Some(role) = role_of(node, place) else {
+                continue;
+            };
             if scope
-                .spawn(move || help(rt, log, alloc, node, listener, place))
+                .spawn(move || help(rt, log, alloc, node, listener, role))
                 .is_err()
             {
                 end_helpers(rt, node);

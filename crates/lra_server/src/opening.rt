@@ -1,17 +1,53 @@
 // Where the journals of nodes lie.
 
 use sqlite::{Alter, Connection, Error, ErrorCode, FileFrom, FileStore, Start};
+use std::fmt;
 use std::string::String;
 
 /// Why a journal can't be opened.
 #[derive(Clone, Copy, PartialEq, Eq, Debug)]
 pub enum Unopened {
-    /// For a reason of the moment: want of room or of memory, a lock, a disk that failed. It may be opened later.
-    ForNow,
-    /// No file can be had, or there is no right or no folder. It may be opened later, too.
+    /// Another handle has it open.
+    Locked,
+    /// There is no folder, or no right to the file, or no file is left.
     NoFile,
-    /// What is there is no journal of this node.
-    ForGood,
+    /// The disk failed, or is full.
+    DiskFailed,
+    /// No memory can be had.
+    NoMemory,
+    /// It is no database, or one of other tables; or the disk failed as it was read.
+    NoJournal,
+    /// It isn't this node's journal: behind so many rows comes one that breaks the format, or that another node wrote.
+    Broken(u64),
+}
+
+impl Unopened {
+    /// Whether it can't be opened later either.
+    pub fn is_for_good(self) -> bool {
+        matches!(self, Unopened::Broken(_))
+    }
+}
+
+impl fmt::Display for Unopened {
+    fn fmt<W: fmt::Write>(&self, f: &mut fmt::Formatter<W>) -> fmt::Result {
+        match self {
+            Unopened::Locked => f.write_str("somebody else has it open"),
+            Unopened::NoFile => {
+                f.write_str("there is no folder, or no right to it, or no file is left")
+            }
+            Unopened::DiskFailed => f.write_str("the disk failed, or is full"),
+            Unopened::NoMemory => f.write_str("no memory can be had"),
+            Unopened::NoJournal => {
+                f.write_str("it is no database, or one of other tables, or the disk failed")
+            }
+            Unopened::Broken(place) => {
+                write!(
+                    f,
+                    "the row after {place} of it isn't one of this node's journal"
+                )
+            }
+        }
+    }
 }
 
 /// Where the journals of nodes lie.
@@ -40,8 +76,14 @@ impl<T: Start + Send + Copy> Folder<T> {
 /// Why a journal can't be opened that is answered so.
 fn unopened_by(error: Error) -> Unopened {
     match error {
-        Error::SqliteFailure(ErrorCode::CannotOpen) => Unopened::NoFile,
-        _ => Unopened::ForNow,
+        Error::SqliteFailure(code) => match code {
+            ErrorCode::CannotOpen => Unopened::NoFile,
+            ErrorCode::DatabaseBusy => Unopened::Locked,
+            ErrorCode::OutOfMemory => Unopened::NoMemory,
+            ErrorCode::DiskFull | ErrorCode::SystemIoFailure => Unopened::DiskFailed,
+            _ => Unopened::NoJournal,
+        },
+        _ => Unopened::NoJournal,
     }
 }
 
@@ -51,7 +93,7 @@ impl<T: Start + Send + Copy> Stores for Folder<T> {
     fn open(&self, number: u8) -> Result<Connection<FileStore<FileFrom<T>>>, Unopened> {
         let folder = self.path.as_str();
         let Ok(file) = format!(in self.host.alloc(); "{folder}/node-{number}.db") else {
-            return Err(Unopened::ForNow);
+            return Err(Unopened::NoMemory);
         };
         // (a new file has no sums)
         match Connection::open_from(&self.host, file.as_str(), false, self.start) {

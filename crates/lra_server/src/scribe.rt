@@ -1,13 +1,16 @@
 // The thread that enters what the others hear, in each run of a node.
+ghost use Rattle.std.specs.Prelude.{◌≡◌, IfErr};
+ghost use Rattle.lra_facts.specs.declared.refusal.Refusal.TheVariants.{NoMemory};
+ghost use Rattle.lra_book.specs.declared.calls.Call.TheVariants.{Duties as AskDuties, Expire as AskExpire, Take as TakeDelta};
+ghost use Rattle.lra_server.specs.Entering.{EntersLetter, IsMade, IsMadeInMemory};
 
 use crate::refusals::over_by;
 use crate::sweeping::sweep;
 use crate::taken::moment;
 use lra_book::{Call, Clerk, PullBody, Reply};
-use lra_callback::{Duties, Heard};
+use lra_callback::Duties;
 use lra_delta::Delta;
 use lra_facts::Refusal;
-use lra_history::Command;
 use lra_id::{Front, LAST_NUMBER};
 use lra_peer::pull_body;
 use lra_threads::{Letter, Node, Task};
@@ -21,22 +24,6 @@ use std::time::{Clock, Duration};
 /// How long it rests where memory runs out, in milliseconds.
 const REST: u64 = 20;
 
-/// The command that enters what was heard.
-fn command_of(letter: &Letter) -> Option<Command> {
-    let (id, member) = (letter.duty.id, letter.duty.member);
-    match letter.heard {
-        Heard::Told(outcome) => Some(Command::Report {
-            id,
-            member,
-            act: letter.duty.act,
-            outcome,
-        }),
-        Heard::Forgotten => Some(Command::Forgot { id, member }),
-        Heard::Informed => Some(Command::Told { id, member }),
-        Heard::Again => None,
-    }
-}
-
 /// Enters what was heard. A letter that the clerk refuses goes back.
 fn enter<R: Wait + Clock, C: Clerk>(
     rt: &R,
@@ -44,8 +31,11 @@ fn enter<R: Wait + Clock, C: Clerk>(
     node: &Node,
     clerk: &mut C,
     letter: Letter,
-) -> Result<(), Refusal> {
-    let Some(command) = command_of(&letter) else {
+) -> Result<(), Refusal>
+    ensures { EntersLetter C.Clerk clerk.old clerk.new letter result }
+{
+    let duty = &letter.duty;
+    let Some(command) = letter.heard.command(duty.id, duty.member, duty.act) else {
         return Ok(());
     };
     match clerk.call(alloc, Call::Command(command), moment(rt)) {
@@ -77,7 +67,9 @@ fn take<R: Wait + Clock, C: Clerk>(
     node: &Node,
     clerk: &mut C,
     delta: Delta,
-) -> Result<(), Refusal> {
+) -> Result<(), Refusal>
+    ensures { IsMade C.Clerk clerk.old clerk.new (TakeDelta delta) result }
+{
     let front = delta.front();
     clerk.call(alloc, Call::Take(delta), moment(rt))?;
     if is_taken(clerk.reply()) {
@@ -87,7 +79,9 @@ fn take<R: Wait + Clock, C: Clerk>(
 }
 
 /// The participants that are to be called, by a reply.
-fn duties_of(reply: &Reply) -> Result<Option<Duties>, Refusal> {
+fn duties_of(reply: &Reply) -> Result<Option<Duties>, Refusal>
+    ensures { IfErr result (λ refusal. refusal ≡ NoMemory) }
+{
     match reply {
         Reply::Due(duties) => match duties.clone() {
             Ok(duties) => Ok(Some(duties)),
@@ -103,7 +97,9 @@ fn ask<R: Wait + Clock, C: Clerk>(
     alloc: Global,
     node: &Node,
     clerk: &mut C,
-) -> Result<(), Refusal> {
+) -> Result<(), Refusal>
+    ensures { IsMadeInMemory C.Clerk clerk.old clerk.new AskDuties result }
+{
     clerk.call(alloc, Call::Duties, moment(rt))?;
     if let Some(duties) = duties_of(clerk.reply())? {
         node.post.put_duties(rt, duties);
@@ -117,7 +113,9 @@ fn expire<R: Wait + Clock, C: Clerk>(
     alloc: Global,
     node: &Node,
     clerk: &mut C,
-) -> Result<(), Refusal> {
+) -> Result<(), Refusal>
+    ensures { IsMade C.Clerk clerk.old clerk.new AskExpire result }
+{
     clerk.call(alloc, Call::Expire, moment(rt))?;
     if is_expired(clerk.reply()) {
         node.post.tick(rt);

@@ -1,4 +1,6 @@
 // The clerk of a thread in a run of a node.
+ghost use Rattle.std.specs.Prelude.{◌≡◌, ◌⊎◌, Err};
+ghost use Rattle.lra_facts.specs.declared.refusal.Refusal.TheVariants.{Stopped};
 
 use lra_book::{Call, Clerk, Reply};
 use lra_delta::Delta;
@@ -23,9 +25,56 @@ const MAX_SHARES: u64 = 320;
 /// that makes the calls, once the answer is written (`Node::pass_on`), and so is the end of the run (`Node::end_if_spent`).
 #[derive(Drop)]
 pub struct Seat<'n, R, C: Clerk> {
-    pub rt: &'n R,
-    pub node: &'n Node,
-    pub clerk: C,
+    rt: &'n R,
+    node: &'n Node,
+    clerk: C,
+    /// Whether commands are held back while the journal is spared.
+    holds: bool,
+    /// Whether one was since that was last asked.
+    held: bool,
+}
+
+impl<'n, R, C: Clerk> Seat<'n, R, C> {
+    /// Of the thread that enters what others hear. It holds nothing back: while the journal is spared it has nothing to enter.
+    pub fn new(rt: &'n R, node: &'n Node, clerk: C) -> Seat<'n, R, C> {
+        Seat {
+            rt,
+            node,
+            clerk,
+            holds: false,
+            held: false,
+        }
+    }
+
+    /// Of a worker. While the journal is spared behind a failure it refuses commands (E19), and asks the clerk all else.
+    pub fn of_worker(rt: &'n R, node: &'n Node, clerk: C) -> Seat<'n, R, C> {
+        Seat {
+            rt,
+            node,
+            clerk,
+            holds: true,
+            held: false,
+        }
+    }
+
+    /// Whether a command was held back since this was last asked.
+    pub fn take_held(&mut self) -> bool {
+        let held = self.held;
+        self.held = false;
+        held
+    }
+
+    /// Gives the clerk back.
+    pub fn into_clerk(self) -> C {
+        let Seat {
+            rt: _,
+            node: _,
+            clerk,
+            holds: _,
+            held: _,
+        } = self;
+        clerk
+    }
 }
 
 /// Whether after this reply other participants may be to be called.
@@ -164,14 +213,22 @@ fn tell<R: Wait>(rt: &R, node: &Node, reply: &Reply, is_completion: bool) {
 impl<'n, R: Wait + Clock, C: Clerk + Drop> Clerk for Seat<'n, R, C> {
     ghost receipts = { λ s. C.receipts s.clerk };
 
-    ghost called = { λ old new. C.called old.clerk new.clerk };
+    // The clerk was called; or the command was held back, and the clerk not asked.
+    ghost called = { λ old new call now outcome. C.called old.clerk new.clerk call now outcome
+        ⊎ ((new.clerk ≡ old.clerk) × (outcome ≡ Err Stopped)) };
 
     fn call(&mut self, alloc: Global, call: Call, now: u64) -> Result<(), Refusal> {
         let (is_move, completes) = (call.is_move(), is_completion(&call));
         let weight = weight_of_call(&call);
         let (front, freed) = (front_of(self.node, &call), freed_by(&call));
-        if self.node.site.is_apart() && enters(&call) {
-            self.node.post.wait_to_enter(self.rt);
+        if self.holds && enters(&call) {
+            if self.node.post.is_spared(self.rt) {
+                self.held = true;
+                return Err(Refusal::Stopped);
+            }
+            if self.node.site.is_apart() {
+                self.node.post.wait_to_enter(self.rt);
+            }
         }
         match self.clerk.call(alloc, call, now) {
             Ok(()) => {

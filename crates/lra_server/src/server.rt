@@ -1,15 +1,15 @@
 // All nodes of a program.
 ghost use Rattle.std.specs.Prelude.{◌≤◌, vec_len};
 
-use crate::Stores;
 use crate::begun::{Begun, Shut, begun_by};
 use crate::life::{Failure, Life, life_of, live, open_book};
-use log::Log;
+use crate::{Stores, Unopened};
+use log::{Log, info};
 use lra_book::{Book, MAX_ENTRIES, MAX_MOVES};
 use lra_threads::{End, Ends, Keep, News, Node, Over, Peer, Site, Tally, drain};
 use sqlite::Alter;
 use std::alloc::{AllocError, Global};
-use std::io::Read;
+use std::io::{ErrorKind, Read};
 use std::net::{Net, SocketAddr, TcpListener, TcpStream};
 use std::sync::{Arc, Wait};
 use std::thread;
@@ -22,21 +22,48 @@ const ENTRIES_LEFT: u64 = 64;
 /// How many frames are left, likewise: four workers, and the thread that enters.
 const MOVES_LEFT: u64 = 5;
 
-/// What stands on standard error where the program can't go on.
+/// Why the program can't go on.
 #[derive(Clone, Copy, PartialEq, Eq, Debug)]
 enum Trouble {
-    Journal(u8),
+    /// The journal of this node can't be opened.
+    Journal(u8, Unopened),
+    /// The run of this node can't be started.
     Run(u8),
-    Port(u16),
+    /// The port at which this node is to listen can't be bound.
+    Port(u8, u16, ErrorKind),
 }
 
-/// Tells what can't be had.
+/// Why a port can't be bound.
+fn cause_of(kind: ErrorKind) -> &'static str {
+    match kind {
+        ErrorKind::AddrInUse => "it is in use",
+        ErrorKind::AddrNotAvailable => "this machine has no such address",
+        ErrorKind::PermissionDenied => "there is no right to it",
+        _ => "the system refuses it",
+    }
+}
+
+/// Tells what can't be had, and why, a line each.
 fn tell<R: Eprint>(rt: &R, trouble: Trouble) {
     let _ = match trouble {
-        Trouble::Journal(number) => eprintln!(rt; "journal {}", number),
-        Trouble::Run(number) => eprintln!(rt; "run {}", number),
-        Trouble::Port(port) => eprintln!(rt; "port {}", port),
+        Trouble::Journal(number, why) => eprintln!(rt;
+            "node {number}: its journal can't be opened: {why}\njournal {number}"
+        ),
+        Trouble::Run(number) => eprintln!(rt;
+            "node {number}: no thread or no memory can be had for a run\nrun {number}"
+        ),
+        Trouble::Port(number, port, kind) => {
+            let why = cause_of(kind);
+            eprintln!(rt; "node {number}: port {port} can't be had: {why}\nport {port}")
+        }
     };
+}
+
+/// Tells where each node listens.
+fn tell_of_all<L: Log>(log: &L, nodes: &[Node]) {
+    for node in nodes {
+        info!(log; "node {}: listens on {}", node.number, node.site.listen);
+    }
 }
 
 /// The books of all nodes, or the first node whose journal can't be opened.
@@ -47,8 +74,9 @@ fn books_of<S: Stores>(
 ) -> Result<Vec<Shut<S::Store>>, Trouble> {
     let mut books = Vec::new(alloc);
     for node in nodes {
-        let Ok(book) = open_book(alloc, stores, node) else {
-            return Err(Trouble::Journal(node.number));
+        let book = match open_book(alloc, stores, node) {
+            Ok(book) => book,
+            Err(why) => return Err(Trouble::Journal(node.number, why)),
         };
         if books.push(Shut { book }).is_err() {
             return Err(Trouble::Run(node.number));
@@ -84,8 +112,12 @@ fn lives_of<R: Net<Listener = TcpListener, Stream = TcpStream>, S: Alter + Drop>
 ) -> Result<Vec<Life<S>>, Trouble> {
     let mut lives = Vec::new(alloc);
     for (node, begun) in nodes.iter().zip(books) {
-        let Some(life) = life_of(rt, node, begun) else {
-            return Err(Trouble::Port(node.site.listen.port()));
+        let life = match life_of(rt, node, begun) {
+            Ok(life) => life,
+            Err(error) => {
+                let port = node.site.listen.port();
+                return Err(Trouble::Port(node.number, port, error.kind()));
+            }
         };
         if lives.push(life).is_err() {
             return Err(Trouble::Run(node.number));
@@ -190,7 +222,7 @@ where
 {
     if let Err(failure) = live(rt, log, alloc, node, stores, life) {
         match failure {
-            Failure::Journal => tell(rt, Trouble::Journal(node.number)),
+            Failure::Journal(why) => tell(rt, Trouble::Journal(node.number, why)),
             Failure::Run => tell(rt, Trouble::Run(node.number)),
         }
         ends.tell(rt, End::Failed);
@@ -328,6 +360,7 @@ where
             return 1;
         }
     };
+    tell_of_all(log, nodes);
     live_all(rt, log, alloc, nodes, stores, lives, &ends);
     u8::from(ends.has_failed(rt))
 }

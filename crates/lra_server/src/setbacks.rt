@@ -6,7 +6,7 @@ use std::time::Duration;
 const FIRST_PAUSE: u64 = 100;
 
 /// How long at most.
-const LAST_PAUSE: u64 = 3_200;
+const LAST_PAUSE: u64 = 1_600;
 
 /// How long it waits before it opens its journal again, or begins a run for which no thread could be had, in milliseconds. It doubles
 /// with each try that fails.

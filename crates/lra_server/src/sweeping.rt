@@ -1,4 +1,7 @@
 // Purges of roots that have ended, one call at a time.
+ghost use Rattle.lra_history.specs.declared.command.Command.TheVariants.{Purge};
+ghost use Rattle.lra_book.specs.declared.calls.Call.TheVariants.{Command as Enter, Page as AskPage};
+ghost use Rattle.lra_server.specs.Entering.{IsMade};
 
 use crate::taken::moment;
 use lra_book::{Call, Clerk, Reply};
@@ -66,7 +69,9 @@ fn list<R: Wait + Clock, C: Clerk>(
     node: &Node,
     clerk: &mut C,
     beyond: Option<LraId>,
-) -> Result<(), Refusal> {
+) -> Result<(), Refusal>
+    ensures { IsMade C.Clerk clerk.old clerk.new (AskPage beyond) result }
+{
     clerk.call(alloc, Call::Page(beyond), moment(rt))?;
     note(rt, node, clerk.reply());
     Ok(())
@@ -79,7 +84,9 @@ fn purge<R: Wait + Clock, C: Clerk>(
     node: &Node,
     clerk: &mut C,
     root: LraId,
-) -> Result<(), Refusal> {
+) -> Result<(), Refusal>
+    ensures { IsMade C.Clerk clerk.old clerk.new (Enter (Purge root)) result }
+{
     let command = Command::Purge { root };
     clerk.call(alloc, Call::Command(command), moment(rt))?;
     node.sweep.purged(rt, root, purged_by(clerk.reply()));

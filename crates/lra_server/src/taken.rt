@@ -1,20 +1,22 @@
 // The connections of a node, as its workers take them.
 ghost use Rattle.std.specs.Prelude.{⊤};
 
-use lra_threads::{Guest, Haste, LineReader, LineWriter, Node, Seen, Times, Wire, line_over};
+use lra_threads::{
+    Guest, Haste, LineReader, LineWriter, Node, REQUEST, Seen, Times, Wire, line_over,
+};
 use lra_work::{Arrivals, Connection};
 use std::alloc::Global;
-use std::io;
 use std::net::{Net, TcpListener, TcpStream};
 use std::rc::Rc;
 use std::sync::Wait;
 use std::time::{Clock, Duration};
-
-/// How long a request may take once it has begun, in milliseconds.
-const REQUEST: u64 = 5_000;
+use std::{io, thread};
 
 /// How long its answer may take, in milliseconds.
 const ANSWER: u64 = 10_000;
+
+/// How long is waited for a connection where no run is on, in milliseconds, before it is looked whether the program is to end.
+const LOOK: u64 = 50;
 
 /// How long a worker rests where nothing comes of all that wait, in milliseconds.
 const REST: u64 = 2;
@@ -25,6 +27,8 @@ pub struct Taken<'a, R: Wait + Clock> {
     rt: &'a R,
     alloc: Global,
     node: &'a Node,
+    /// Until when they are taken; none where that is until the run is over.
+    until: Option<Duration>,
     served: Option<Rc<Wire>>,
 }
 
@@ -46,7 +50,52 @@ impl<'a, R: Wait + Clock> Taken<'a, R> {
             rt,
             alloc,
             node,
+            until: None,
             served: None,
+        }
+    }
+
+    /// From this node's queue, where no run is on, until this moment or until the program is to end.
+    pub fn between_runs(rt: &'a R, alloc: Global, node: &'a Node, until: Duration) -> Taken<'a, R> {
+        Taken {
+            rt,
+            alloc,
+            node,
+            until: Some(until),
+            served: None,
+        }
+    }
+
+    // Whether no more are to be taken.
+    fn is_over(&self) -> bool {
+        match self.until {
+            None => self.node.signal.over(self.rt).is_some(),
+            Some(until) => {
+                let now = self.rt.monotonic().unwrap_or(until);
+                now >= until || self.node.signal.has_ended(self.rt)
+            }
+        }
+    }
+
+    // The first connection of the queue, once there is one.
+    fn first(&self) -> Option<Guest> {
+        match self.until {
+            None => self.node.queue.take(self.rt),
+            Some(until) => {
+                let now = self.rt.monotonic().unwrap_or(until);
+                let time = until.saturating_sub(now).min(Duration::from_millis(LOOK));
+                self.node.queue.take_within(self.rt, time)
+            }
+        }
+    }
+
+    // Rests, since nothing comes of all that wait. Where no run is on nobody wakes it.
+    fn rest(&self) {
+        let time = Duration::from_millis(REST);
+        if self.until.is_none() {
+            self.node.queue.rest(self.rt, time);
+        } else {
+            thread::sleep(self.rt, time);
         }
     }
 
@@ -61,7 +110,7 @@ impl<'a, R: Wait + Clock> Taken<'a, R> {
             self.rt,
             self.alloc,
             signal,
-            Haste::WithRun,
+            Haste::WithRun(&self.node.queue),
             stream,
             times,
         )?;
@@ -73,16 +122,30 @@ impl<'a, R: Wait + Clock> Taken<'a, R> {
         })
     }
 
+    // A connection that was served, as it waits for its end: to be given the rest of its answer, or to be read on.
+    fn waiting(&self, wire: Wire) -> io::Result<Guest> {
+        let (stream, kept) = wire.into_parts();
+        if kept.is_empty() {
+            return Guest::closing(self.rt, stream);
+        }
+        let now = self.rt.monotonic()?;
+        Guest::giving(
+            stream,
+            kept,
+            now.saturating_add(Duration::from_millis(ANSWER)),
+        )
+    }
+
     /// Closes the connection that was served, so that its client gets the answer whole.
     pub fn close_served(&mut self) {
         let Some(wire) = self.served.take() else {
             return;
         };
-        if wire.is_done() {
+        if wire.kept() == 0 && wire.is_done() {
             return;
         }
         if let Some(wire) = Rc::into_inner(wire) {
-            if let Ok(guest) = Guest::closing(self.rt, wire.into_stream()) {
+            if let Ok(guest) = self.waiting(wire) {
                 if let Seen::Silent(guest) = guest.look(self.rt) {
                     let _waiting = self.node.queue.put_back(self.rt, guest);
                 }
@@ -106,17 +169,22 @@ impl<'a, R: Wait + Clock + Net<Listener = TcpListener, Stream = TcpStream>> Arri
         self.node.end_if_spent(self.rt);
         let mut silent = 0usize;
         for _ in self.rt.forever() {
-            if self.node.signal.over(self.rt).is_some() {
+            if self.is_over() {
                 return None;
             }
-            let guest = self.node.queue.take(self.rt)?;
+            let Some(guest) = self.first() else {
+                if self.until.is_none() {
+                    return None;
+                }
+                continue;
+            };
             match guest.look(self.rt) {
                 // Who is silent makes room for those who speak.
                 Seen::Silent(guest) => {
                     let waiting = self.node.queue.put_back(self.rt, guest);
                     silent = silent.saturating_add(1);
                     if silent >= waiting {
-                        self.node.queue.rest(self.rt, Duration::from_millis(REST));
+                        self.rest();
                         silent = 0;
                     }
                 }

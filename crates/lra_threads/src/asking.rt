@@ -25,10 +25,10 @@ const SHORT_ROUND: u64 = 500;
 const LONG_ROUND: u64 = 5_000;
 
 /// What another node has beyond a front, over a connection to it.
-pub(crate) fn pull_over<R: Wait + Clock>(
-    rt: &R,
+pub(crate) fn pull_over<'a, R: Wait + Clock>(
+    rt: &'a R,
     alloc: Global,
-    node: &Node,
+    node: &'a Node,
     front: &Front,
     stream: TcpStream,
 ) -> Option<Delta> {

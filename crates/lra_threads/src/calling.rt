@@ -5,13 +5,15 @@ use crate::node::Node;
 use crate::patient::{Haste, SLICE};
 use crate::reaching::connect_to_one;
 use crate::signal::Signal;
+use log::{Log, warn};
 use lra_callback::{Answer, Duty, Heard, NetCaller, hear, request_of};
+use lra_turns::{Came, Plight};
 use std::alloc::Global;
-use std::io;
 use std::io::{Error, ErrorKind};
 use std::net::{Net, TcpListener, TcpStream, ToSocketAddrs};
 use std::sync::Wait;
 use std::time::{Clock, Duration};
+use std::{io, str};
 use url::{Host, Url};
 
 /// How long a participant may take to be reached, to take its request, and to answer, in milliseconds each.
@@ -36,10 +38,10 @@ fn connect<R: Wait + Clock + Net<Stream = TcpStream>>(
 }
 
 /// Calls a participant over a connection.
-fn ask<R: Wait + Clock>(
-    rt: &R,
+fn ask<'a, R: Wait + Clock>(
+    rt: &'a R,
     alloc: Global,
-    node: &Node,
+    node: &'a Node,
     duty: &Duty,
     stream: TcpStream,
 ) -> Option<Answer> {
@@ -58,28 +60,55 @@ fn ask<R: Wait + Clock>(
     caller.ask(alloc, &request).ok()
 }
 
-/// Calls a participant, and tells what is heard. Where it can't be reached, or memory runs out, it is to be called again.
+/// Why a participant is called again that answered so.
+fn came_of(answer: &Answer) -> Came {
+    match answer {
+        Answer::Code(code, _) => Came::Code(*code),
+        Answer::Broken => Came::Broken,
+    }
+}
+
+/// Calls a participant, and gives what is heard. Where that is nothing, or it can't be reached, or memory runs out, it is to be called
+/// again, and it gives why.
 fn call_one<R: Wait + Clock + Net<Listener = TcpListener, Stream = TcpStream>>(
     rt: &R,
     alloc: Global,
     node: &Node,
     duty: &Duty,
-) -> Heard {
+) -> Result<Heard, Came> {
     let Ok(url) = Url::parse(alloc, duty.link.as_str()) else {
-        return Heard::Again;
+        return Err(Came::NoConnection);
     };
     let Ok(stream) = connect(rt, &node.signal, &url) else {
-        return Heard::Again;
+        return Err(Came::NoConnection);
     };
-    match ask(rt, alloc, node, duty, stream) {
-        Some(answer) => hear(duty.act, duty.kind, &answer),
-        None => Heard::Again,
+    let Some(answer) = ask(rt, alloc, node, duty, stream) else {
+        return Err(Came::Broken);
+    };
+    match hear(duty.act, duty.kind, &answer) {
+        Heard::Again => Err(came_of(&answer)),
+        heard => Ok(heard),
     }
 }
 
-/// Calls participants, one after another, until the program is to end.
-pub fn call_out<R: Wait + Clock + Net<Listener = TcpListener, Stream = TcpStream>>(
+/// Warns of a participant that is called in vain, or tells that it answers.
+fn warn_of<L: Log>(log: &L, node: &Node, plight: &Plight) {
+    let id = plight.id.to_text();
+    let id = str::from_utf8(&id).unwrap_or("");
+    let (number, member, kind) = (node.number, plight.member, plight.kind);
+    let (host, calls, seconds) = (plight.host.as_str(), plight.calls, plight.time.as_secs());
+    if plight.is_over {
+        warn!(log; "node {number}: /lra/{id}/member/{member} ({kind}) at {host} answers, after {calls} calls in vain in {seconds} s");
+    } else {
+        let came = plight.came;
+        warn!(log; "node {number}: /lra/{id}/member/{member} ({kind}) at {host} was called in vain, {calls} times in {seconds} s: {came}");
+    }
+}
+
+/// Calls participants, one after another, until the program is to end. It warns of those that are called in vain for a minute.
+pub fn call_out<R: Wait + Clock + Net<Listener = TcpListener, Stream = TcpStream>, L: Log>(
     rt: &R,
+    log: &L,
     alloc: Global,
     node: &Node,
 ) {
@@ -88,7 +117,9 @@ pub fn call_out<R: Wait + Clock + Net<Listener = TcpListener, Stream = TcpStream
             return;
         };
         let began = rt.monotonic().unwrap_or(Duration::from_millis(0));
-        let heard = call_one(rt, alloc, node, &duty);
-        node.post.tell(rt, duty, began, heard);
+        let came = call_one(rt, alloc, node, &duty);
+        if let Some(plight) = node.post.tell(rt, duty, began, came) {
+            warn_of(log, node, &plight);
+        }
     }
 }

@@ -1,27 +1,70 @@
 // A connection that no worker serves now.
 
+use crate::window::{WINDOW, is_partial};
 use std::io;
-use std::io::{ErrorKind, Read};
+use std::io::{ErrorKind, Read, Write};
 use std::net::{Shutdown, TcpStream};
 use std::time::{Clock, Duration};
 
-/// How long a read of a connection waits, in milliseconds, and so the first look for its request: most come with it. A change of run
-/// waits for such a read.
+/// How long a read of a connection waits, in milliseconds, and so the first look for its request: most come with it.
 const WELCOME: u64 = 2;
 
 /// How long a connection may send nothing, in milliseconds.
 const SILENCE: u64 = 30_000;
 
+/// How long a request may take to come once it has begun, in milliseconds.
+pub const REQUEST: u64 = 5_000;
+
 /// How long a connection that is served is kept for what its client still sends, in milliseconds.
 const LINGER: u64 = 1_000;
 
-/// What is still to come of a connection.
+/// The rest of an answer: these bytes from a place on.
+#[derive(Drop)]
+struct Rest {
+    bytes: Vec<u8>,
+    from: usize,
+}
+
+/// What a write of the rest of an answer comes to.
 #[derive(Clone, Copy, PartialEq, Eq)]
+enum Given {
+    All,
+    Part,
+    Nothing,
+}
+
+impl Rest {
+    /// Writes as much as the connection takes. Nothing can be given where its client is gone.
+    fn give(&mut self, mut stream: &TcpStream) -> Given {
+        let rest = self.bytes.as_slice().get(self.from..).unwrap_or(&[]);
+        match stream.write(rest) {
+            Ok(0) => Given::Nothing,
+            Ok(count) => {
+                self.from = self.from.saturating_add(count);
+                if self.from < self.bytes.len() {
+                    Given::Part
+                } else {
+                    Given::All
+                }
+            }
+            Err(error) if error.kind() == ErrorKind::WouldBlock => Given::Part,
+            Err(error) if error.kind() == ErrorKind::Interrupted => Given::Part,
+            Err(_) => Given::Nothing,
+        }
+    }
+}
+
+/// What is still to come of a connection.
+#[derive(Drop)]
 enum Stage {
     /// Its request, for which nobody has looked yet.
     Coming,
     /// Its request.
     Asking,
+    /// The rest of its request.
+    Begun,
+    /// The rest of its answer goes to the client.
+    Giving(Rest),
     /// Its end: it has its answer.
     Closing,
 }
@@ -37,12 +80,27 @@ pub struct Guest {
 /// What a look at a connection finds.
 #[derive(Drop)]
 pub enum Seen {
-    /// A request has begun, or the client is gone: a worker may serve it.
+    /// A whole request is there, or what a worker is to refuse: it may serve it.
     Ready(TcpStream),
-    /// Nothing is there yet.
+    /// Nothing is there yet, or no whole request.
     Silent(Guest),
     /// It is over.
     Gone,
+}
+
+impl Stage {
+    /// Whether it is of a connection of which a look waits.
+    fn is_coming(&self) -> bool {
+        matches!(self, Stage::Coming)
+    }
+
+    /// How many bytes of an answer it keeps.
+    fn kept(&self) -> usize {
+        match self {
+            Stage::Giving(rest) => rest.bytes.len(),
+            _ => 0,
+        }
+    }
 }
 
 impl Guest {
@@ -60,7 +118,12 @@ impl Guest {
 
     /// Whether nobody has looked at it yet.
     pub(crate) fn is_coming(&self) -> bool {
-        self.stage == Stage::Coming
+        self.stage.is_coming()
+    }
+
+    /// How many bytes of its answer wait here.
+    pub(crate) fn kept(&self) -> usize {
+        self.stage.kept()
     }
 
     /// A connection that has its answer. What its client still sends is read on for a moment, so that the answer reaches it; none
@@ -78,6 +141,16 @@ impl Guest {
         })
     }
 
+    /// A connection of whose answer these bytes are still to be given, until this moment.
+    pub fn giving(stream: TcpStream, bytes: Vec<u8>, until: Duration) -> io::Result<Guest> {
+        stream.set_nonblocking(true)?;
+        Ok(Guest {
+            stream,
+            stage: Stage::Giving(Rest { bytes, from: 0 }),
+            until,
+        })
+    }
+
     // Nothing came: it is kept until its time is up.
     fn waits<R: Clock>(self, rt: &R) -> Seen {
         match rt.monotonic() {
@@ -86,22 +159,45 @@ impl Guest {
         }
     }
 
-    // From here on no look waits.
+    // From here on no look waits. It says whether that can be had.
+    fn is_patient(&mut self) -> bool {
+        !self.stage.is_coming() || self.stream.set_nonblocking(true).is_ok()
+    }
+
+    // Nothing has come yet.
     fn is_silent<R: Clock>(mut self, rt: &R) -> Seen {
-        if self.stage == Stage::Coming {
-            if self.stream.set_nonblocking(true).is_err() {
-                return Seen::Gone;
-            }
-            self.stage = Stage::Asking;
+        if !self.is_patient() {
+            return Seen::Gone;
         }
+        self.stage = Stage::Asking;
         self.waits(rt)
     }
 
-    // Looks for the first byte of a request, and leaves it.
+    // Its request has begun. The time for that goes from here; when it is over, the connection is closed.
+    fn begins<R: Clock>(mut self, rt: &R) -> Seen {
+        let Ok(now) = rt.monotonic() else {
+            return Seen::Gone;
+        };
+        if matches!(self.stage, Stage::Begun) {
+            if now < self.until {
+                return Seen::Silent(self);
+            }
+            return self.closes(rt);
+        }
+        if !self.is_patient() {
+            return Seen::Gone;
+        }
+        self.stage = Stage::Begun;
+        self.until = now.saturating_add(Duration::from_millis(REQUEST));
+        Seen::Silent(self)
+    }
+
+    // Looks at what has come of a request, and leaves it.
     fn asks<R: Clock>(self, rt: &R) -> Seen {
-        let mut first = [0u8; 1];
-        match self.stream.peek(&mut first) {
+        let mut bytes = [0u8; WINDOW];
+        match self.stream.peek(&mut bytes) {
             Ok(0) => Seen::Gone,
+            Ok(count) if is_partial(&bytes[..count.min(WINDOW)]) => self.begins(rt),
             Ok(_) => self.is_ready(),
             Err(error) if error.kind() == ErrorKind::WouldBlock => self.is_silent(rt),
             Err(error) if error.kind() == ErrorKind::Interrupted => Seen::Silent(self),
@@ -116,10 +212,36 @@ impl Guest {
             stage,
             until: _,
         } = self;
-        if stage == Stage::Asking && stream.set_nonblocking(false).is_err() {
+        if !stage.is_coming() && stream.set_nonblocking(false).is_err() {
             return Seen::Gone;
         }
         Seen::Ready(stream)
+    }
+
+    // Gives more of its answer.
+    fn gives<R: Clock>(mut self, rt: &R) -> Seen {
+        let given = match &mut self.stage {
+            Stage::Giving(rest) => rest.give(&self.stream),
+            _ => Given::All,
+        };
+        match given {
+            Given::Nothing => Seen::Gone,
+            Given::Part => self.waits(rt),
+            Given::All => self.closes(rt),
+        }
+    }
+
+    // It is closed, and what its client still sends is read on for a moment.
+    fn closes<R: Clock>(self, rt: &R) -> Seen {
+        let Guest {
+            stream,
+            stage: _,
+            until: _,
+        } = self;
+        match Guest::closing(rt, stream) {
+            Ok(guest) => Seen::Silent(guest),
+            Err(_) => Seen::Gone,
+        }
     }
 
     // Reads on behind the request.
@@ -143,11 +265,12 @@ impl Guest {
         }
     }
 
-    /// Looks at what has come. The first look waits a little for it, and others for nothing.
+    /// Looks at what has come, or gives on. The first look waits a little for something, and others for nothing.
     pub fn look<R: Clock>(self, rt: &R) -> Seen {
         match self.stage {
             Stage::Coming => self.is_welcome(rt),
-            Stage::Asking => self.asks(rt),
+            Stage::Asking | Stage::Begun => self.asks(rt),
+            Stage::Giving(_) => self.gives(rt),
             Stage::Closing => self.drains(rt),
         }
     }

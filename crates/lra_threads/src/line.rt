@@ -33,11 +33,11 @@ pub fn line_over<'a, R: Wait + Clock>(
     rt: &'a R,
     alloc: Global,
     signal: &'a Signal,
-    haste: Haste,
+    haste: Haste<'a>,
     stream: TcpStream,
     times: Times,
 ) -> io::Result<(LineReader<'a, R>, LineWriter<'a, R>, Rc<Wire>)> {
-    let Ok(wire) = Rc::new(alloc, Wire::new(stream)) else {
+    let Ok(wire) = Rc::new(alloc, Wire::new(alloc, stream)) else {
         return Err(Error::from(ErrorKind::OutOfMemory));
     };
     let reader = Patient::new(rt, signal, haste, wire.clone()?, times.reading);

@@ -58,6 +58,13 @@ impl Lines {
         }
     }
 
+    /// Counts a line for which there was no memory.
+    fn note_dropped<R: Wait>(&self, rt: &R) {
+        let mut queued = self.queued.lock(rt);
+        queued.dropped = queued.dropped.saturating_add(1);
+        self.came.notify_one();
+    }
+
     /// Waits for the next line. It gives how many were dropped before, too.
     fn next<R: Wait>(&self, rt: &R) -> (u64, Option<String>) {
         let mut queued = self.came.wait_while(rt, self.queued.lock(rt), |queued| {
@@ -91,7 +98,7 @@ fn write_lines<R: Wait + Eprint>(rt: &R, lines: &Lines) {
         let (dropped, line) = lines.next(rt);
         if dropped > 0 {
             let _ = eprintln!(rt;
-                "{} warnings were dropped: standard error is not read",
+                "{} warnings were dropped: standard error is not read, or there is no memory",
                 dropped
             );
         }
@@ -130,8 +137,9 @@ impl<'a, R: Wait> Log for ToLines<'a, R> {
     }
 
     fn log<D: Display, K: Source, S: Spans>(&self, record: &Record<'_, D, K, S>) {
-        if let Ok(line) = format!(in self.alloc; "{}", Line::new(record)) {
-            self.lines.put(self.rt, line);
+        match format!(in self.alloc; "{}", Line::new(record)) {
+            Ok(line) => self.lines.put(self.rt, line),
+            Err(_) => self.lines.note_dropped(self.rt),
         }
     }
 

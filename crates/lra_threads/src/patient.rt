@@ -1,6 +1,8 @@
 // A connection that is read and written with patience, and not for ever.
+ghost use Rattle.std.specs.Prelude.{◌≤◌, IfOk, length};
 
-use crate::signal::Signal;
+use crate::queue::Queue;
+use crate::signal::{Over, Signal};
 use crate::wire::Wire;
 use std::io;
 use std::io::{Error, ErrorKind, Read, Write};
@@ -21,10 +23,10 @@ const GRACE: u64 = 500;
 const MAX_TURNS: u32 = 10_000;
 
 /// When a connection is hurried.
-#[derive(Clone, Copy, PartialEq, Eq)]
-pub enum Haste {
-    /// When the run is over.
-    WithRun,
+#[derive(Clone, Copy)]
+pub enum Haste<'a> {
+    /// When the run is over. What its client hasn't taken of its answer by then goes to this queue, if there is room, and is given on.
+    WithRun(&'a Queue),
     /// When the program is to end.
     WithProgram,
 }
@@ -34,7 +36,7 @@ pub enum Haste {
 pub struct Patient<'a, R: Wait + Clock> {
     rt: &'a R,
     signal: &'a Signal,
-    haste: Haste,
+    haste: Haste<'a>,
     wire: Rc<Wire>,
     patience: Duration,
     until: Option<Duration>,
@@ -50,7 +52,7 @@ impl<'a, R: Wait + Clock> Patient<'a, R> {
     pub fn new(
         rt: &'a R,
         signal: &'a Signal,
-        haste: Haste,
+        haste: Haste<'a>,
         wire: Rc<Wire>,
         patience: Duration,
     ) -> Patient<'a, R> {
@@ -70,14 +72,50 @@ impl<'a, R: Wait + Clock> Patient<'a, R> {
     // Whether there is little time left.
     fn is_hurried(&self) -> bool {
         match self.haste {
-            Haste::WithRun => self.signal.over(self.rt).is_some(),
+            Haste::WithRun(_) => self.signal.over(self.rt).is_some(),
             Haste::WithProgram => self.signal.has_ended(self.rt),
         }
     }
 
-    // Whether a request of which nothing comes now is given up: its run is over, and the next one waits for it.
-    fn is_given_up(&self) -> bool {
-        self.haste == Haste::WithRun && self.is_hurried()
+    // Whether the run is over, and another is to follow.
+    fn has_next_run(&self) -> bool {
+        match self.signal.over(self.rt) {
+            Some(why) => why != Over::Program,
+            None => false,
+        }
+    }
+
+    // Whether so many bytes of the answer are kept for later: some are already, or a next run waits for this one, and there is room.
+    fn is_to_keep(&self, count: usize) -> bool {
+        match self.haste {
+            Haste::WithRun(queue) => {
+                let kept = self.wire.kept();
+                (kept > 0 || self.has_next_run()) && queue.may_keep(kept.saturating_add(count))
+            }
+            Haste::WithProgram => false,
+        }
+    }
+
+    // Keeps more, behind what is kept.
+    fn keep_more(&self, bytes: &[u8]) -> io::Result<usize>
+        ensures { IfOk result (λ count. count ≤ length bytes.now) }
+    {
+        if self.is_to_keep(bytes.len()) {
+            self.keep(bytes)
+        } else {
+            Err(Error::from(ErrorKind::TimedOut))
+        }
+    }
+
+    // Keeps bytes of the answer for later.
+    fn keep(&self, bytes: &[u8]) -> io::Result<usize>
+        ensures { IfOk result (λ count. count ≤ length bytes.now) }
+    {
+        if self.wire.keep(bytes) {
+            Ok(bytes.len())
+        } else {
+            Err(Error::from(ErrorKind::OutOfMemory))
+        }
     }
 
     // Fails once the time is up.
@@ -120,11 +158,7 @@ impl<'a, R: Wait + Clock> Read for Patient<'a, R> {
                     self.wire.has_read(count, buf.len());
                     return Ok(count);
                 }
-                Err(error) if error.kind() == ErrorKind::WouldBlock => {
-                    if self.is_given_up() {
-                        return Err(Error::from(ErrorKind::TimedOut));
-                    }
-                }
+                Err(error) if error.kind() == ErrorKind::WouldBlock => {}
                 Err(error) => return Err(error),
             }
         }
@@ -135,12 +169,19 @@ impl<'a, R: Wait + Clock> Read for Patient<'a, R> {
 impl<'a, R: Wait + Clock> Write for Patient<'a, R> {
     fn write(&mut self, buf: &[u8]) -> io::Result<usize> {
         self.wire.writes(buf);
+        if self.wire.kept() > 0 {
+            return self.keep_more(buf);
+        }
         for _turn in 0..MAX_TURNS {
             self.look()?;
             self.slice(buf.len())?;
             let mut stream = self.wire.stream();
             match stream.write(buf) {
-                Err(error) if error.kind() == ErrorKind::WouldBlock => {}
+                Err(error) if error.kind() == ErrorKind::WouldBlock => {
+                    if self.is_to_keep(buf.len()) {
+                        return self.keep(buf);
+                    }
+                }
                 outcome => return outcome,
             }
         }

@@ -3,12 +3,11 @@
 
 ghost use Rattle.std.specs.Prelude.{◌≤◌};
 
-use crate::calls::{Called, Calls};
-use crate::hosts::Pace;
 use lra_callback::{Duties, Duty, Heard, Kind};
 use lra_delta::Delta;
 use lra_id::Front;
 use lra_states::{Act, Outcome};
+use lra_turns::{Called, Calls, Came, Pace, Plight};
 use std::alloc::Global;
 use std::collections::VecDeque;
 use std::sync::{Condvar, CondvarTimeouts, Mutex, Wait};
@@ -266,16 +265,21 @@ impl Mail {
         }
     }
 
-    /// Puts what was heard of a participant. One that is to be called again pauses first.
-    fn hear(&mut self, duty: Duty, pace: Pace, heard: Heard, now: Duration) {
+    /// Puts what was heard of a participant. One that is to be called again pauses first. It gives what is to be told of calls in vain.
+    fn hear(
+        &mut self,
+        duty: Duty,
+        pace: Pace,
+        came: Result<Heard, Came>,
+        now: Duration,
+    ) -> Option<Plight> {
         self.calls.end(&duty, pace);
-        match heard {
-            Heard::Again => {
-                let who = Called::of(&duty);
-                self.calls.pause(who, Some(duty), now);
-            }
-            Heard::Told(_) | Heard::Forgotten | Heard::Informed => {
+        match came {
+            Err(came) => self.calls.vain(duty, came, now),
+            Ok(heard) => {
+                let plight = self.calls.heard(&duty, now);
                 self.put_letter(Letter { duty, heard });
+                plight
             }
         }
     }
@@ -398,6 +402,12 @@ impl Post {
         mail.held_until > now || !mail.open
     }
 
+    /// Whether the journal failed a moment ago, and is spared: nothing is to be stored.
+    pub fn is_spared<R: Wait + Clock>(&self, rt: &R) -> bool {
+        let now = rt.monotonic().unwrap_or(Duration::from_millis(0));
+        self.mail.lock(rt).held_until > now
+    }
+
     /// Tells that another node was asked for the first time since the start; what it told is handed over, if it did.
     pub(crate) fn note_asked<R: Wait>(&self, rt: &R) {
         let mut mail = self.mail.lock(rt);
@@ -473,17 +483,24 @@ impl Post {
         mail.calls.take()
     }
 
-    /// Tells what was heard of a participant that was called at this moment. Its host may be called once more then, by another thread
-    /// too.
-    pub(crate) fn tell<R: Wait + Clock>(&self, rt: &R, duty: Duty, began: Duration, heard: Heard) {
+    /// Tells what came of a call that began at this moment: what was heard, or why the participant is called again. Its host may be
+    /// called once more then, by another thread too. It gives what is to be told of calls in vain.
+    pub(crate) fn tell<R: Wait + Clock>(
+        &self,
+        rt: &R,
+        duty: Duty,
+        began: Duration,
+        came: Result<Heard, Came>,
+    ) -> Option<Plight> {
         let now = rt.monotonic().unwrap_or(Duration::from_millis(0));
         let pace = pace_of(now.saturating_sub(began));
         let mut mail = self.mail.lock(rt);
-        mail.hear(duty, pace, heard, now);
+        let plight = mail.hear(duty, pace, came, now);
         self.came.notify_all();
         if mail.calls.may_take() {
             self.due.notify_one();
         }
+        plight
     }
 
     /// Has deadlines looked at once more at once.
@@ -502,7 +519,7 @@ impl Post {
         let mut mail = self.mail.lock(rt);
         let who = Called::of(&letter.duty);
         match letter.heard {
-            Heard::Told(Outcome::Busy) => mail.calls.pause(who, None, now),
+            Heard::Told(Outcome::Busy) => mail.calls.pause(who, now),
             _ => mail.calls.forget(who),
         }
         mail.stir(calls_nobody(&letter.duty));

@@ -17,12 +17,17 @@ const MAX_LOOKS: u32 = 10_000;
 /// How many connections wait at most at which nobody has looked yet. More wait in the system.
 const MAX_COMING: usize = 1_024;
 
+/// How many bytes of answers wait at most to be given on: two frames of full homes with the longest links.
+const MAX_KEPT: usize = 64 << 20;
+
 // What lies under the lock.
 #[derive(Drop)]
 struct Waiting {
     guests: VecDeque<Guest>,
     /// At how many of them nobody has looked yet.
     coming: usize,
+    /// How many bytes of answers they have still to take.
+    kept: usize,
     /// Whether a worker looks, and doesn't sleep.
     watched: bool,
     /// How many workers sleep.
@@ -38,21 +43,26 @@ pub struct Queue {
     came: Condvar,
     /// How many wait, for who looks without the lock; `u64::MAX` once the run is over.
     count: AtomicU64,
+    /// How many bytes of answers wait, for who asks without the lock.
+    kept: AtomicU64,
+    /// How many connections were closed for want of files since that was last asked.
+    closed: AtomicU64,
 }
 
 impl Waiting {
     fn push(&mut self, guest: Guest) {
-        let is_coming = guest.is_coming();
-        if self.guests.push_back(guest).is_ok() && is_coming {
-            self.coming = self.coming.saturating_add(1);
+        let (coming, kept) = (usize::from(guest.is_coming()), guest.kept());
+        if self.guests.push_back(guest).is_ok() {
+            self.coming = self.coming.saturating_add(coming);
+            self.kept = self.kept.saturating_add(kept);
         }
     }
 
     fn pop(&mut self) -> Option<Guest> {
         let guest = self.guests.pop_front()?;
-        if guest.is_coming() {
-            self.coming = self.coming.saturating_sub(1);
-        }
+        let coming = usize::from(guest.is_coming());
+        self.coming = self.coming.saturating_sub(coming);
+        self.kept = self.kept.saturating_sub(guest.kept());
         Some(guest)
     }
 }
@@ -63,16 +73,19 @@ impl Queue {
             waiting: Mutex::new(Waiting {
                 guests: VecDeque::new(alloc),
                 coming: 0,
+                kept: 0,
                 watched: false,
                 asleep: 0,
                 ended: false,
             }),
             came: Condvar::new(),
             count: AtomicU64::new(0),
+            kept: AtomicU64::new(0),
+            closed: AtomicU64::new(0),
         }
     }
 
-    // Tells who looks how many wait.
+    // Tells who looks how many wait, and who keeps an answer how much.
     fn tell(&self, waiting: &Waiting) -> usize {
         let count = waiting.guests.len();
         let told = if waiting.ended {
@@ -81,7 +94,14 @@ impl Queue {
             count as u64
         };
         self.count.store(told, Ordering::SeqCst);
+        self.kept.store(waiting.kept as u64, Ordering::SeqCst);
         count
+    }
+
+    /// Whether so many bytes of an answer may wait here besides those that do.
+    pub(crate) fn may_keep(&self, bytes: usize) -> bool {
+        let kept = self.kept.load(Ordering::SeqCst);
+        kept.saturating_add(bytes as u64) <= MAX_KEPT as u64
     }
 
     // Puts a connection last. It says how many wait, and whether the worker that looks takes this one.
@@ -188,11 +208,31 @@ impl Queue {
         first
     }
 
-    /// Closes the connection that has waited longest.
+    /// The first connection, if one comes within this time; also where no run is on.
+    pub fn take_within<R: Wait + Clock>(&self, rt: &R, time: Duration) -> Option<Guest> {
+        let mut waiting = self.waiting.lock(rt);
+        waiting.asleep = waiting.asleep.saturating_add(1);
+        let (mut waiting, _) = self
+            .came
+            .wait_timeout_while(rt, waiting, time, |waiting| waiting.guests.is_empty());
+        waiting.asleep = waiting.asleep.saturating_sub(1);
+        let first = waiting.pop();
+        let _left = self.tell(&waiting);
+        first
+    }
+
+    /// Closes the connection that has waited longest, since no file is left.
     pub fn close_first<R: Wait>(&self, rt: &R) {
         let mut waiting = self.waiting.lock(rt);
-        let _closed = waiting.pop();
+        if waiting.pop().is_some() {
+            self.closed.fetch_add(1, Ordering::SeqCst);
+        }
         let _left = self.tell(&waiting);
+    }
+
+    /// How many connections were closed for want of files since this was last asked.
+    pub(crate) fn take_closed(&self) -> u64 {
+        self.closed.swap(0, Ordering::SeqCst)
     }
 
     /// Sends the workers home.

@@ -1,4 +1,4 @@
-// The thread that warns of a home that fills up. It outlives the runs of its node.
+// The thread that warns of a home that fills up, and of connections that were closed. It outlives the runs of its node.
 
 use crate::node::Node;
 use crate::sweep::{Fill, PLACES};
@@ -74,10 +74,43 @@ fn warn_of<L: Log>(log: &L, number: u8, fill: &Fill) {
     }
 }
 
+/// Connections that were closed for want of files, and when that was last told.
+#[derive(Drop)]
+struct Closed {
+    count: u64,
+    since: Option<Duration>,
+}
+
+impl Closed {
+    fn new() -> Closed {
+        Closed {
+            count: 0,
+            since: None,
+        }
+    }
+
+    /// Adds so many. It gives how many are to be told now: those since the last time, once a minute at most.
+    fn add(&mut self, count: u64, now: Duration) -> Option<u64> {
+        self.count = self.count.saturating_add(count);
+        let is_quiet = match self.since {
+            Some(since) => now.saturating_sub(since) < Duration::from_millis(QUIET),
+            None => false,
+        };
+        if is_quiet || self.count == 0 {
+            return None;
+        }
+        self.since = Some(now);
+        let told = self.count;
+        self.count = 0;
+        Some(told)
+    }
+}
+
 /// Warns when three quarters and nine tenths of the home's places are taken, and when an LRA couldn't be begun, until the program is to
-/// end. It tells each once, and again once there was room and a minute is over.
+/// end. It tells each once, and again once there was room and a minute is over. It warns of connections that were closed since no file
+/// was left, once a minute at most.
 pub fn watch<R: Wait + Clock, L: Log>(rt: &R, log: &L, node: &Node) {
-    let mut warned = Warned::new();
+    let (mut warned, mut closed) = (Warned::new(), Closed::new());
     for _ in rt.forever() {
         if node.post.sleep(rt, Duration::from_millis(LOOK)) {
             return;
@@ -86,6 +119,9 @@ pub fn watch<R: Wait + Clock, L: Log>(rt: &R, log: &L, node: &Node) {
         let fill = node.sweep.fill(rt);
         if warned.is_due(&fill, now) {
             warn_of(log, node.number, &fill);
+        }
+        if let Some(count) = closed.add(node.queue.take_closed(), now) {
+            warn!(log; "node {}: {} connections were closed, since no file is left", node.number, count);
         }
     }
 }

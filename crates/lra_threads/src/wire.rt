@@ -1,6 +1,7 @@
 // A socket that its reader and its writer share.
 
-use std::cell::Cell;
+use std::alloc::Global;
+use std::cell::{Cell, RefCell};
 use std::net::TcpStream;
 
 /// A socket that its reader and its writer share, and what they saw on it. One thread has it.
@@ -11,15 +12,18 @@ pub struct Wire {
     is_dry: Cell<bool>,
     /// Whether what is written is the answer to a request that was read to its end.
     is_heard: Cell<bool>,
+    /// What is left of an answer whose run is over: it is given later.
+    kept: RefCell<Vec<u8>>,
 }
 
 impl Wire {
     /// Over this socket.
-    pub fn new(stream: TcpStream) -> Wire {
+    pub fn new(alloc: Global, stream: TcpStream) -> Wire {
         Wire {
             stream,
             is_dry: Cell::new(false),
             is_heard: Cell::new(false),
+            kept: RefCell::new(Vec::new(alloc)),
         }
     }
 
@@ -27,14 +31,31 @@ impl Wire {
         &self.stream
     }
 
-    /// Gives the socket back.
-    pub fn into_stream(self) -> TcpStream {
+    /// Gives the socket back, and what is left of the answer.
+    pub fn into_parts(self) -> (TcpStream, Vec<u8>) {
         let Wire {
             stream,
             is_dry: _,
             is_heard: _,
+            kept,
         } = self;
-        stream
+        (stream, kept.into_inner())
+    }
+
+    /// Keeps bytes of an answer, to be given later. It says whether there was memory for them.
+    pub(crate) fn keep(&self, bytes: &[u8]) -> bool {
+        match self.kept.try_borrow_mut() {
+            Ok(mut kept) => kept.extend_from_slice(bytes).is_ok(),
+            Err(_) => false,
+        }
+    }
+
+    /// How many bytes of an answer are left.
+    pub fn kept(&self) -> usize {
+        match self.kept.try_borrow() {
+            Ok(kept) => kept.len(),
+            Err(_) => 0,
+        }
     }
 
     /// Notes what a read with so much room came to.

@@ -3,6 +3,8 @@
 #![tactic(auto)]
 
 #[cfg(test)]
+mod halves;
+#[cfg(test)]
 mod hanging;
 #[cfg(test)]
 mod loopback;

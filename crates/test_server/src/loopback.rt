@@ -26,7 +26,7 @@ impl Stores for InMemory {
     fn open(&self, _number: u8) -> Result<Connection<MemStore>, Unopened> {
         match Connection::open_in_memory(self.alloc) {
             Ok(connection) => Ok(connection),
-            Err(_) => Err(Unopened::ForGood),
+            Err(_) => Err(Unopened::NoMemory),
         }
     }
 }

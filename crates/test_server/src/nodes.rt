@@ -1,8 +1,8 @@
 // Nodes on loopback.
 ghost use Rattle.std.specs.Prelude.{◌≤◌, IfSome, vec_len};
 
-use crate::hanging;
 use crate::loopback::{InMemory, Until, address, answers, comes_to, needs, stopped, take_part};
+use crate::{halves, hanging};
 use log::sink::Console;
 use log::{Level, Log, Logged};
 use lra_server::{Members, serve, serve_members};
@@ -80,6 +80,14 @@ fn visit<R: Net<Listener = TcpListener, Stream = TcpStream> + Clock>(rt: &R) -> 
     )
 }
 
+/// The same, and then half a request behind which its run ends.
+fn visit_both<R: Net<Listener = TcpListener, Stream = TcpStream> + Clock>(
+    rt: &R,
+) -> Result<(), Fail> {
+    visit(rt)?;
+    halves::visit(rt, PORT)
+}
+
 /// Two nodes serve until the visit is over.
 fn two_serve<R, L, H>(rt: &R, log: &L, host: H, clock: H, alloc: Global) -> Result<u8, Fail>
 where
@@ -97,7 +105,7 @@ where
         rt,
         || serve(rt, log, host, alloc, 2, PORT, &stores, input),
         || {
-            let visited = match visit(rt) {
+            let visited = match visit_both(rt) {
                 Ok(()) => hanging::visit(rt, alloc, PORT, NEXT),
                 Err(failed) => Err(failed),
             };

@@ -1,0 +1,38 @@
+-- What the thread that enters asks of its clerk.
+use Rattle.std.specs.Prelude.{◌≡◌, ◌⊎◌, ⊤, ℕ, Option, Some, None, Result, Ok, Err}
+use Rattle.lra_facts.specs.declared.refusal.Refusal.{Refusal}
+use Rattle.lra_facts.specs.declared.refusal.Refusal.TheVariants.{NoMemory}
+use Rattle.lra_history.specs.declared.command.Command.{Command}
+use Rattle.lra_callback.specs.HeardCommands.{command_heard}
+use Rattle.lra_book.specs.declared.calls.Call.{Call}
+use Rattle.lra_book.specs.declared.calls.Call.TheVariants as call
+use Rattle.lra_book.specs.declared.calls.Reply.{Reply}
+use Rattle.lra_book.specs.declared.clerk.Clerk.{Ghosts as OfClerk}
+use Rattle.lra_api.specs.Serving.{Makes}
+use Rattle.lra_threads.specs.declared.post.Letter.{Letter}
+
+-- what is told of a call: only why it was refused, if it was
+abbrev pub told : Result Reply Refusal → Result ⊤ Refusal
+told (Ok reply) = Ok tt
+told (Err refusal) = Err refusal
+
+-- the call is made, once, at some moment, and that is told
+abbrev pub IsMade : {C : Type 0} → OfClerk C → (old new : C) → Call → Result ⊤ Refusal → Type 0
+IsMade clerk old new asked result =
+    (now : ℕ) × (outcome : Result Reply Refusal) × Makes clerk old new now asked outcome × (result ≡ told outcome)
+
+-- the same; or the call is made, and then there is no memory for what it tells
+abbrev pub IsMadeInMemory : {C : Type 0} → OfClerk C → (old new : C) → Call → Result ⊤ Refusal → Type 0
+IsMadeInMemory clerk old new asked result =
+    (now : ℕ) × (outcome : Result Reply Refusal) × Makes clerk old new now asked outcome
+    × ((result ≡ told outcome) ⊎ (result ≡ Err NoMemory))
+
+-- the command is entered, if there is one, and nothing else
+abbrev pub EntersIf : {C : Type 0} → OfClerk C → (old new : C) → Option Command → Result ⊤ Refusal → Type 0
+EntersIf clerk old new None result = (new ≡ old) × (result ≡ Ok tt)
+EntersIf clerk old new (Some command) result = IsMade clerk old new (call.Command command) result
+
+-- of a letter, the command by what was heard in the call for its duty
+abbrev pub EntersLetter : {C : Type 0} → OfClerk C → (old new : C) → Letter → Result ⊤ Refusal → Type 0
+EntersLetter clerk old new letter result =
+    EntersIf clerk old new (command_heard letter.duty.id letter.duty.member letter.duty.act letter.heard) result

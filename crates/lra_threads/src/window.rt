@@ -1,0 +1,47 @@
+// Whether more of a request is to come.
+
+use httparse::{EMPTY_HEADER, Header, Request, Status};
+use std::str;
+
+/// How many bytes of a request are looked at while it comes. A worker reads a longer one as it comes.
+pub(crate) const WINDOW: usize = 4_096;
+
+/// How many field lines are looked at. Where there are more, a worker refuses the request.
+const MAX_LINES: usize = 64;
+
+/// The length that a field states, if it is one that states the body's. What is no number is a worker's to refuse.
+fn length_in(header: &Header) -> Option<usize> {
+    if !header.name.eq_ignore_ascii_case("content-length") {
+        return None;
+    }
+    let text = str::from_utf8(header.value).ok()?;
+    usize::from_str_radix(text, 10).ok()
+}
+
+/// The length that a head states for its body; 0 where it states none.
+fn length_of(headers: &[Header]) -> usize {
+    for header in headers {
+        if let Some(length) = length_in(header) {
+            return length;
+        }
+    }
+    0
+}
+
+/// Whether a request of which this has come is still to come in part: its head, or its body. What is no request isn't, nor what is
+/// longer than the window: a worker may have that at once.
+pub(crate) fn is_partial(bytes: &[u8]) -> bool {
+    if bytes.len() >= WINDOW {
+        return false;
+    }
+    let mut headers = [EMPTY_HEADER; MAX_LINES];
+    let mut request = Request::new(&mut headers);
+    match request.parse(bytes) {
+        Ok(Status::Complete(head)) => {
+            let whole = head.saturating_add(length_of(request.headers));
+            bytes.len() < whole && whole < WINDOW
+        }
+        Ok(Status::Partial) => true,
+        Err(_) => false,
+    }
+}

@@ -1,0 +1,39 @@
+-- What comes of a duty of a list, and of one whose pause is over.
+use Rattle.std.specs.Prelude.{◌≡◌, Bool, MatchBool, None, Some, false, true}
+use Rattle.std.specs.declared.time.Duration.{Duration}
+use Rattle.lra_callback.specs.declared.duty.Duty.{Duty}
+use Rattle.lra_turns.specs.declared.slip.Slip.{Slip}
+use Rattle.lra_turns.specs.Slips.{is_called, is_over, waits}
+use Rattle.lra_turns.specs.Turns.{IsPut, Turns, changed_at, listed, place_of, with_hosts}
+
+-- the host of a duty is noted, and whom to call there stays
+abbrev pub noted : Duty → Turns → Turns
+noted duty now = with_hosts (changed_at (place_of duty now.hosts) listed now.hosts) now
+
+-- one who is called now is on the list
+abbrev pub left : Slip → Slip
+left slip = record { who = slip.who; pause = slip.pause; stand = slip.stand; kept = slip.kept; is_listed = true; vain = slip.vain }
+
+-- one who pauses is on the list, and is called for this behind the pause
+abbrev pub keeping : Duty → Slip → Slip
+keeping duty slip = record { who = slip.who; pause = slip.pause; stand = slip.stand; kept = Some duty; is_listed = true; vain = slip.vain }
+
+-- one who may be called waits for a thread, if its duty was put; how long it paused and how it was called in vain is kept
+pub record IsMadeToWait (is_put : Bool) (old new : Slip) : Type 0 where
+  pub who : new.who ≡ old.who
+  pub pause : new.pause ≡ old.pause
+  pub waits : waits new ≡ is_put
+  pub not_called : is_called new ≡ false
+  pub kept : new.kept ≡ None
+  pub listed : new.is_listed ≡ true
+  pub vain : new.vain ≡ old.vain
+
+-- A duty of a list is entered. Who is called now is left as it is, and who pauses keeps its pause: of neither is anything put. The duty
+-- of another is put at its host, and it waits for a thread.
+abbrev pub IsEntered : Duration → Duty → Slip → Slip → Turns → Turns → Bool → Type 0
+IsEntered now duty old new before after is_put =
+    MatchBool (is_called old)
+    ((new ≡ left old) × (after ≡ noted duty before) × (is_put ≡ true))
+    (MatchBool (is_over now old)
+    (IsPut duty before after is_put × IsMadeToWait is_put old new)
+    ((new ≡ keeping duty old) × (after ≡ noted duty before) × (is_put ≡ true)))

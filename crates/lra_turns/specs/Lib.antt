@@ -1,0 +1,6 @@
+pub mod Calling
+pub mod Entering
+pub mod Links
+pub mod Plights
+pub mod Slips
+pub mod Turns

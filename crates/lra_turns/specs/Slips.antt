@@ -1,0 +1,68 @@
+-- Who is called, and what is remembered of each.
+use Rattle.std.specs.Prelude.{◌==◌, ◌&&◌, ℕ, Bool, true, false, List, Option, None, Some, filter, if◌then◌else◌, map, nat_le, not}
+use Rattle.std.specs.List.{position_from}
+use Rattle.std.specs.Duration.{as_nanos}
+use Rattle.std.specs.declared.time.Duration.{Duration}
+use Rattle.lra_id.specs.Ids.{same_id}
+use Rattle.lra_callback.specs.declared.answer.Kind.{Kind}
+use Rattle.lra_callback.specs.declared.answer.Kind.TheVariants.{After}
+use Rattle.lra_callback.specs.declared.duty.Duty.{Duty}
+use Rattle.lra_turns.specs.declared.slip.Called.{Called}
+use Rattle.lra_turns.specs.declared.slip.Slip.{Slip}
+use Rattle.lra_turns.specs.declared.slip.Stand.{Stand}
+use Rattle.lra_turns.specs.declared.slip.Stand.TheVariants.{IsCalled, Pauses, Waits}
+
+abbrev pub is_after : Kind → Bool
+is_after After = true
+is_after _ = false
+
+-- who is called for a duty: the participant, and whether it is told of the end
+abbrev pub called_of : Duty → Called
+called_of duty = record { id = duty.id; member = duty.member; of_end = is_after duty.kind }
+
+abbrev pub same_flag : Bool → Bool → Bool
+same_flag true other = other
+same_flag false other = not other
+
+abbrev pub same_called : Called → Called → Bool
+same_called one other = same_id one.id other.id && ((one.member == other.member) && same_flag one.of_end other.of_end)
+
+abbrev pub waits_in : Stand → Bool
+waits_in Waits = true
+waits_in _ = false
+
+abbrev pub is_called_in : Stand → Bool
+is_called_in IsCalled = true
+is_called_in _ = false
+
+-- whether it waits for a thread
+abbrev pub waits : Slip → Bool
+waits slip = waits_in slip.stand
+
+-- whether it is called now, or what was heard of it isn't entered yet
+abbrev pub is_called : Slip → Bool
+is_called slip = is_called_in slip.stand
+
+-- whether it pauses, and may be called again at this moment
+abbrev pub is_over_in : Duration → Stand → Bool
+is_over_in now (Pauses until) = nat_le (as_nanos until) (as_nanos now)
+is_over_in now _ = false
+
+abbrev pub is_over : Duration → Slip → Bool
+is_over now slip = is_over_in now slip.stand
+
+-- where it stands now
+abbrev pub standing : Stand → Slip → Slip
+standing stand slip = record { who = slip.who; pause = slip.pause; stand = stand; kept = slip.kept; is_listed = slip.is_listed; vain = slip.vain }
+
+-- one to whom a call begins, and the others as they were
+abbrev pub begun_to : Called → Slip → Slip
+begun_to who slip = if same_called slip.who who then standing IsCalled slip else slip
+
+-- those that are left where one is forgotten
+abbrev pub without : Called → List Slip → List Slip
+without who slips = filter (λ (slip : Slip). not (same_called slip.who who)) slips
+
+-- the place of the first slip of somebody, if there is one
+abbrev pub place_of : Called → List Slip → Option ℕ
+place_of who slips = position_from (λ (slip : Slip). same_called slip.who who) 0 slips

@@ -1,0 +1,246 @@
+// Whom the threads that call are to call, whom they call, and whom only after a pause.
+ghost use Rattle.std.specs.Prelude.{◌≡◌, ◌↔◌, [], IsTrue, None, false};
+ghost use Rattle.std.specs.List.{list_any};
+ghost use Rattle.lra_turns.specs.Calling.{IsTakenFrom};
+ghost use Rattle.lra_turns.specs.Entering.{IsEntered};
+ghost use Rattle.lra_turns.specs.Slips.{without};
+ghost use Rattle.lra_turns.specs.Turns.{MayTake, changed_at, is_due, with_end, with_hosts};
+ghost use Rattle.lra_turns.specs.Turns.{place_of as host_place};
+
+use crate::Pace;
+use crate::hosts::Hosts;
+use crate::plight::{Came, Plight, Vain};
+use crate::slip::{Called, Slip, begin_each, forget_each, place_from, place_of};
+use lra_callback::Duty;
+use std::alloc::Global;
+use std::marker::Model;
+use std::time::Duration;
+
+/// Enters a duty of a list. Who is called now is left as it is, and who pauses keeps its pause; another waits for a thread from now on,
+/// with the duty put at its host. It says whether there was memory for that.
+fn enter(slip: &mut Slip, hosts: &mut Hosts, duty: Duty, now: Duration) -> bool
+    ensures { IsEntered now duty slip.old slip.new hosts.old hosts.new result }
+{
+    slip.is_listed = true;
+    if slip.is_called() {
+        hosts.note(&duty);
+        return true;
+    }
+    if !slip.is_over(now) {
+        hosts.note(&duty);
+        slip.kept = Some(duty);
+        return true;
+    }
+    let is_put = hosts.put(duty);
+    slip.wait(is_put);
+    is_put
+}
+
+/// Has those wait for a thread whose pause is over. It gives when the next pause is.
+fn resume_all(slips: &mut [Slip], hosts: &mut Hosts, now: Duration) -> Option<Duration> {
+    let mut next: Option<Duration> = None;
+    for slip in slips.iter_mut() {
+        if slip.is_over(now) {
+            if let Some(duty) = slip.kept.take() {
+                let _ = enter(slip, hosts, duty, now);
+            }
+        } else if let Some(until) = slip.until() {
+            next = match next {
+                Some(other) => Some(other.min(until)),
+                None => Some(until),
+            };
+        }
+    }
+    next
+}
+
+/// Whom the threads are to call. The list of all that are due is asked for once something may have changed it; who is to be called
+/// again is called after a pause, without another list.
+#[derive(Drop)]
+pub struct Calls {
+    alloc: Global,
+    hosts: Hosts,
+    /// In the order of the last list, as far as they stand there.
+    slips: Vec<Slip>,
+    /// When a pause is over at the earliest.
+    resumes_at: Option<Duration>,
+}
+
+impl Model for Calls {
+    ghost use Rattle.lra_turns.specs.Calling.{Calling};
+
+    ghost Value = { Calling };
+
+    ghost view = { λ c. record {
+      now = c.hosts;
+      slips = c.slips.items;
+      resumes_at = c.resumes_at;
+    } };
+}
+
+impl Calls {
+    pub fn new(alloc: Global) -> Calls
+        ensures { result ≡ record { now = record { hosts = []; turns = 0; is_for_new = false }; slips = []; resumes_at = None } }
+    {
+        Calls {
+            alloc,
+            hosts: Hosts::new(alloc),
+            slips: Vec::new(alloc),
+            resumes_at: None,
+        }
+    }
+
+    /// Whether nobody is to be called, is called, or pauses.
+    pub fn is_empty(&self) -> bool
+        ensures { IsTrue result ↔ (self.now.slips ≡ []) }
+    {
+        self.slips.is_empty()
+    }
+
+    /// Whether somebody waits for a thread.
+    pub fn is_any_due(&self) -> bool
+        ensures { result ≡ list_any is_due self.now.now.hosts }
+    {
+        self.hosts.is_any_due()
+    }
+
+    /// Whether a thread may call somebody now.
+    pub fn may_take(&self) -> bool
+        ensures { MayTake self.now.now result }
+    {
+        self.hosts.may_take()
+    }
+
+    /// The duty that is called for next, if one may be. Its call counts as begun.
+    pub fn take(&mut self) -> Option<Duty>
+        ensures { IsTakenFrom self.old self.new result }
+    {
+        let duty = self.hosts.take()?;
+        begin_each(&mut self.slips, &Called::of(&duty));
+        Some(duty)
+    }
+
+    /// Puts the duty at a place of the list, where its slip goes too. It says whether there was memory for that.
+    fn put_at(&mut self, place: usize, duty: Duty, now: Duration) -> bool {
+        let who = Called::of(&duty);
+        let found = match place_from(self.slips.as_slice(), place, &who) {
+            Some(found) => found,
+            None => {
+                if self.slips.push(Slip::of(who)).is_err() {
+                    return false;
+                }
+                self.slips.len().saturating_sub(1)
+            }
+        };
+        if place >= self.slips.len() || found >= self.slips.len() {
+            return false;
+        }
+        self.slips.swap(place, found);
+        enter(&mut self.slips[place], &mut self.hosts, duty, now)
+    }
+
+    /// Puts all that are due, in the order of the list, in place of those that no thread has begun with. Who is no longer among them is
+    /// forgotten, unless it is called now. It says whether there was memory for all.
+    pub fn put_all(&mut self, duties: Vec<Duty>, now: Duration) -> bool {
+        self.hosts.recall();
+        for slip in self.slips.iter_mut() {
+            slip.recall();
+        }
+        let (mut place, mut is_whole) = (0usize, true);
+        for duty in duties {
+            if self.put_at(place, duty, now) {
+                place = place.saturating_add(1);
+            } else {
+                is_whole = false;
+            }
+        }
+        self.slips.retain(|slip| slip.is_listed || slip.is_called());
+        self.hosts.forget();
+        is_whole
+    }
+
+    /// Has those wait for a thread whose pause is over by now, and says whether somebody may be called.
+    pub fn resume(&mut self, now: Duration) -> bool {
+        let Some(at) = self.resumes_at else {
+            return false;
+        };
+        if at > now {
+            return false;
+        }
+        self.resumes_at = resume_all(&mut self.slips, &mut self.hosts, now);
+        self.hosts.may_take()
+    }
+
+    /// When the first pause is over, or the moment that is given, if that comes before.
+    pub fn resumes_by(&self, moment: Duration) -> Duration {
+        match self.resumes_at {
+            Some(at) => at.min(moment),
+            None => moment,
+        }
+    }
+
+    /// Counts a call that is over, and how its host answered.
+    pub fn end(&mut self, duty: &Duty, pace: Pace)
+        ensures { self.new ≡ record { now = with_hosts (changed_at (host_place duty.now self.old.now.hosts) (with_end pace) self.old.now.hosts) self.old.now; slips = self.old.slips; resumes_at = self.old.resumes_at } }
+    {
+        self.hosts.end(duty, pace);
+    }
+
+    /// Notes that a pause is over at this moment.
+    fn resume_by(&mut self, until: Duration) {
+        self.resumes_at = Some(self.resumes_by(until));
+    }
+
+    /// Has a participant that is busy wait before it is called again, each time longer, for what the next list has. It was no call in
+    /// vain.
+    pub fn pause(&mut self, who: Called, now: Duration) {
+        let Some(place) = place_of(&self.slips, &who) else {
+            return;
+        };
+        let slip = &mut self.slips[place];
+        slip.kept = None;
+        slip.vain = None;
+        let until = slip.pause_from(now);
+        self.resume_by(until);
+    }
+
+    /// Has a participant wait before it is called again for this duty, each time longer: the call came to nothing. It gives what is to
+    /// be told of that: once a minute has passed since the first such call in a row, and again each ten minutes.
+    pub fn vain(&mut self, duty: Duty, came: Came, now: Duration) -> Option<Plight> {
+        let place = place_of(&self.slips, &Called::of(&duty))?;
+        let slip = &mut self.slips[place];
+        let mut vain = Vain::after(slip.vain, came, now);
+        let plight = vain.tell(self.alloc, &duty, now);
+        slip.vain = Some(vain);
+        slip.kept = Some(duty);
+        let until = slip.pause_from(now);
+        self.resume_by(until);
+        plight
+    }
+
+    /// Ends the count of the calls in vain, since something was heard. It gives what is to be told of that, if they were told.
+    pub fn heard(&mut self, duty: &Duty, now: Duration) -> Option<Plight> {
+        let place = place_of(&self.slips, &Called::of(duty))?;
+        let vain = self.slips[place].vain.take()?;
+        vain.tell_end(self.alloc, duty, now)
+    }
+
+    /// How somebody was called in vain, if its last call was.
+    pub fn vain_of(&self, who: &Called) -> Option<Vain> {
+        let place = place_of(&self.slips, who)?;
+        self.slips[place].vain
+    }
+
+    /// When somebody is called next; none while it waits for a thread or is called, or if nothing is remembered of it.
+    pub fn next_of(&self, who: &Called) -> Option<Duration> {
+        let place = place_of(&self.slips, who)?;
+        self.slips[place].until()
+    }
+
+    /// Forgets that a participant was called.
+    pub fn forget(&mut self, who: Called)
+        ensures { self.new ≡ record { now = self.old.now; slips = without who self.old.slips; resumes_at = self.old.resumes_at } }
+    {
+        forget_each(&mut self.slips, &who);
+    }
+}

@@ -1,0 +1,140 @@
+// Those who are called in vain, and what is told of them.
+ghost use Rattle.std.specs.Prelude.{◌≡◌, IfNone, IfSome, IsSome, false, true};
+ghost use Rattle.lra_turns.specs.Plights.{Tells, is_told_at, told_at, vain_after};
+
+use crate::host::host_of;
+use lra_callback::{Duty, Kind};
+use lra_id::LraId;
+use std::alloc::Global;
+use std::fmt;
+use std::time::Duration;
+
+/// How long somebody is called in vain before that is told, in nanoseconds.
+const FIRST_TOLD: u128 = 60_000_000_000;
+
+/// How long after that it is told again, in nanoseconds.
+const TOLD_AGAIN: u128 = 600_000_000_000;
+
+/// What came of a call after which the participant is called again.
+#[derive(Clone, Copy, Debug, PartialEq, Eq)]
+pub enum Came {
+    /// Its host couldn't be reached.
+    NoConnection,
+    /// The connection ended, or time ran out, before the answer was whole.
+    Broken,
+    /// An answer with this status, by which it is to be called again.
+    Code(u16),
+}
+
+impl fmt::Display for Came {
+    fn fmt<W: fmt::Write>(&self, f: &mut fmt::Formatter<W>) -> fmt::Result {
+        match *self {
+            Came::NoConnection => f.write_str("no connection"),
+            Came::Broken => f.write_str("no whole answer"),
+            Came::Code(code) => write!(f, "{}", code),
+        }
+    }
+}
+
+/// What is to be told of one who is called in vain, or was.
+#[derive(Debug, Drop)]
+pub struct Plight {
+    pub id: LraId,
+    pub member: u8,
+    /// What it was called for last.
+    pub kind: Kind,
+    /// Where, with its port.
+    pub host: String,
+    /// How many times in a row it was called in vain.
+    pub calls: u32,
+    /// How long ago the first of these calls was over.
+    pub time: Duration,
+    /// What came of the last.
+    pub came: Came,
+    /// Whether it was heard of now.
+    pub is_over: bool,
+}
+
+/// How somebody was called in vain.
+#[derive(Clone, Copy, Debug, PartialEq, Eq)]
+pub struct Vain {
+    /// How many times in a row.
+    pub calls: u32,
+    /// When the first of these calls was over.
+    pub since: Duration,
+    /// What came of the last.
+    pub came: Came,
+    /// When that was last told, if it was.
+    pub told: Option<Duration>,
+}
+
+impl Vain {
+    /// One call more that came to nothing.
+    pub(crate) fn after(earlier: Option<Vain>, came: Came, now: Duration) -> Vain
+        ensures { result ≡ vain_after earlier came now }
+    {
+        match earlier {
+            Some(vain) => Vain {
+                calls: vain.calls.saturating_add(1),
+                since: vain.since,
+                came,
+                told: vain.told,
+            },
+            None => Vain {
+                calls: 1,
+                since: now,
+                came,
+                told: None,
+            },
+        }
+    }
+
+    /// Whether it is told now.
+    fn is_to_be_told(&self, now: Duration) -> bool
+        ensures { result ≡ is_told_at now self.now }
+    {
+        match self.told {
+            Some(told) => now.saturating_sub(told).as_nanos() >= TOLD_AGAIN,
+            None => now.saturating_sub(self.since).as_nanos() >= FIRST_TOLD,
+        }
+    }
+
+    /// What is told of it; none where no memory can be had.
+    fn plight(&self, alloc: Global, duty: &Duty, now: Duration, is_over: bool) -> Option<Plight>
+        ensures { IfSome result (Tells self.now duty.now now is_over) }
+    {
+        let host = String::from_str(alloc, host_of(duty)).ok()?;
+        Some(Plight {
+            id: duty.id,
+            member: duty.member,
+            kind: duty.kind,
+            host,
+            calls: self.calls,
+            time: now.saturating_sub(self.since),
+            came: self.came,
+            is_over,
+        })
+    }
+
+    /// What is to be told of it now, if something is. For want of memory it is told later.
+    pub(crate) fn tell(&mut self, alloc: Global, duty: &Duty, now: Duration) -> Option<Plight>
+        ensures due { IsSome result → is_told_at now self.old ≡ true }
+        ensures told { IfSome result (λ plight. Tells self.old duty.now now false plight × (self.new ≡ told_at now self.old)) }
+        ensures untold { IfNone result (self.new ≡ self.old) }
+    {
+        if !self.is_to_be_told(now) {
+            return None;
+        }
+        let plight = self.plight(alloc, duty, now, false)?;
+        self.told = Some(now);
+        Some(plight)
+    }
+
+    /// What is to be told of its end, if it was told.
+    pub(crate) fn tell_end(&self, alloc: Global, duty: &Duty, now: Duration) -> Option<Plight>
+        ensures { IfSome result (λ plight. IsSome self.now.told × Tells self.now duty.now now true plight) }
+    {
+        let _ = self.told?;
+        self.plight(alloc, duty, now, true)
+    }
+}

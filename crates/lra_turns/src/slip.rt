@@ -1,0 +1,185 @@
+// What is remembered of one who is to be called, is called, or is called again after a pause.
+ghost use Rattle.std.specs.Prelude.{◌≡◌, ◌<◌, IfSome, length, map, true};
+ghost use Rattle.lra_turns.specs.Slips.{begun_to, called_of, is_called, is_over, place_of, same_called, without};
+ghost use Rattle.lra_turns.specs.Entering.{IsMadeToWait};
+
+use crate::plight::Vain;
+use lra_callback::{Duty, Kind};
+use lra_id::LraId;
+use std::time::Duration;
+
+/// The first pause before a participant is called again, in milliseconds.
+const FIRST_PAUSE: u64 = 250;
+
+/// The longest, in milliseconds.
+const LAST_PAUSE: u64 = 30_000;
+
+/// Who is called. A participant is told of the end apart from the rest, so that a link to forget that never answers doesn't hold that
+/// up.
+#[derive(Clone, Copy)]
+pub struct Called {
+    pub id: LraId,
+    pub member: u8,
+    pub of_end: bool,
+}
+
+impl Called {
+    /// Who is called for a duty.
+    pub fn of(duty: &Duty) -> Called
+        ensures { result ≡ called_of duty.now }
+    {
+        Called {
+            id: duty.id,
+            member: duty.member,
+            of_end: matches!(duty.kind, Kind::After),
+        }
+    }
+
+    pub(crate) fn is(&self, other: &Called) -> bool
+        ensures { result ≡ same_called self.now other.now }
+    {
+        let is_same_end = if self.of_end {
+            other.of_end
+        } else {
+            !other.of_end
+        };
+        self.id == other.id && (self.member == other.member && is_same_end)
+    }
+}
+
+/// Where one stands who is to be called.
+#[derive(Clone, Copy)]
+pub(crate) enum Stand {
+    /// It waits for a thread.
+    Waits,
+    /// It is called now, or what was heard of it isn't entered yet.
+    IsCalled,
+    /// It may be called again at this moment.
+    Pauses(Duration),
+}
+
+/// What is remembered of one who is to be called, is called, or is called again after a pause.
+#[derive(Drop)]
+pub(crate) struct Slip {
+    pub(crate) who: Called,
+    pub(crate) pause: u64,
+    pub(crate) stand: Stand,
+    /// For what it is called behind the pause.
+    pub(crate) kept: Option<Duty>,
+    /// Whether it was to be called when that was last asked.
+    pub(crate) is_listed: bool,
+    /// How it was called in vain, if its last call was.
+    pub(crate) vain: Option<Vain>,
+}
+
+impl Slip {
+    /// Of one who may be called at once.
+    pub(crate) fn of(who: Called) -> Slip {
+        Slip {
+            who,
+            pause: 0,
+            stand: Stand::Pauses(Duration::from_millis(0)),
+            kept: None,
+            is_listed: true,
+            vain: None,
+        }
+    }
+
+    /// Has it pause, longer than the last time. It gives when that is over.
+    pub(crate) fn pause_from(&mut self, now: Duration) -> Duration {
+        let pause = self.pause.saturating_mul(2).clamp(FIRST_PAUSE, LAST_PAUSE);
+        let until = now.saturating_add(Duration::from_millis(pause));
+        self.pause = pause;
+        self.stand = Stand::Pauses(until);
+        until
+    }
+
+    /// Whether it is called now, or what was heard of it isn't entered yet.
+    pub(crate) fn is_called(&self) -> bool
+        ensures { result ≡ is_called self.now }
+    {
+        matches!(self.stand, Stand::IsCalled)
+    }
+
+    /// When it may be called again; none while it waits for a thread, or is called.
+    pub(crate) fn until(&self) -> Option<Duration> {
+        match self.stand {
+            Stand::Pauses(until) => Some(until),
+            Stand::Waits | Stand::IsCalled => None,
+        }
+    }
+
+    /// Whether it pauses, and may be called again.
+    pub(crate) fn is_over(&self, now: Duration) -> bool
+        ensures { result ≡ is_over now self.now }
+    {
+        match self.stand {
+            Stand::Pauses(until) => until.as_nanos() <= now.as_nanos(),
+            Stand::Waits | Stand::IsCalled => false,
+        }
+    }
+
+    /// Notes that its call begins, if it is this one.
+    pub(crate) fn begin(&mut self, who: &Called)
+        ensures { self.new ≡ begun_to who.now self.old }
+    {
+        if self.who.is(who) {
+            self.stand = Stand::IsCalled;
+        }
+    }
+
+    /// Has it wait for a thread, or, where there was no memory for that, for the next list.
+    pub(crate) fn wait(&mut self, is_put: bool)
+        requires { self.old.is_listed ≡ true }
+        ensures { IsMadeToWait is_put self.old self.new }
+    {
+        self.kept = None;
+        self.stand = if is_put {
+            Stand::Waits
+        } else {
+            Stand::Pauses(Duration::from_millis(0))
+        };
+    }
+
+    /// Takes it back from those that wait for a thread. How long it paused is kept.
+    pub(crate) fn recall(&mut self) {
+        if matches!(self.stand, Stand::Waits) {
+            self.stand = Stand::Pauses(Duration::from_millis(0));
+        }
+        self.is_listed = false;
+    }
+}
+
+/// The place of a slip, from a place on.
+pub(crate) fn place_from(slips: &[Slip], from: usize, who: &Called) -> Option<usize> {
+    for place in from..slips.len() {
+        if slips[place].who.is(who) {
+            return Some(place);
+        }
+    }
+    None
+}
+
+/// The place of the first slip of somebody, if there is one.
+pub(crate) fn place_of(slips: &[Slip], who: &Called) -> Option<usize>
+    ensures place { result ≡ place_of who.now slips.now }
+    ensures within { IfSome result (λ place. place < length slips.now) }
+{
+    slips.iter().position(|slip| slip.who.is(who))
+}
+
+/// Notes that the call of somebody begins.
+pub(crate) fn begin_each(slips: &mut [Slip], who: &Called)
+    ensures { slips.new ≡ map (begun_to who.now) slips.old }
+{
+    for slip in slips.iter_mut() {
+        slip.begin(who);
+    }
+}
+
+/// Forgets what is remembered of somebody.
+pub(crate) fn forget_each(slips: &mut Vec<Slip>, who: &Called)
+    ensures { slips.new.items ≡ without who.now slips.old.items }
+{
+    slips.retain(|slip| !slip.who.is(who));
+}
