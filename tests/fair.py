@@ -476,6 +476,32 @@ def slow(folder):
     check("it ends with its input", server.end()[0] == 0)
 
 
+def stalled(folder):
+    """Twenty-four clients that send what is no head, or the start of a long request, and no more, again and again."""
+    server = Server(1, folder).wait_until_up()
+    texts = [b"GE\0", b"GET / HTTP/1.1\r\nHo st: x", b"POST /lra HTTP/1.1\r\nHost: x\r\nContent-Length: 5000\r\n\r\n"]
+    others = Others(*[lambda text=text: held(text) for text in texts * 8])
+    until, slowest = time.monotonic() + 10, 0
+    while time.monotonic() < until:
+        asked = time.monotonic()
+        ask("GET", "/lra")
+        slowest = max(slowest, time.monotonic() - asked)
+        time.sleep(0.05)
+    count = others.stop()
+    check(f"beside {count} requests that stall a page takes {slowest * 1000:.0f} ms at most", slowest < 1, slowest)
+    check("it ends with its input", server.end()[0] == 0)
+
+
+def held(text):
+    """Sends this, and waits until the connection is closed."""
+    try:
+        with socket.create_connection(("127.0.0.1", PORT), timeout=10) as it:
+            it.sendall(text)
+            it.recv(100)
+    except OSError:
+        pass
+
+
 def is_closed(it):
     it.setblocking(False)
     try:
@@ -498,5 +524,5 @@ def main():
 
 
 TESTS = {"failing": failing, "silent": silent, "without_files": without_files, "looked_at": looked_at, "gone": gone, "unread": unread, "without_threads": without_threads,
-         "split": split, "facts": facts, "writers": writers, "slow": slow, "frame": frame}
+         "split": split, "facts": facts, "writers": writers, "slow": slow, "stalled": stalled, "frame": frame}
 main()

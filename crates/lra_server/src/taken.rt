@@ -12,6 +12,9 @@ use std::sync::Wait;
 use std::time::{Clock, Duration};
 use std::{io, thread};
 
+/// How long a request may take of which all is there, in milliseconds: nothing more is waited for.
+const THERE: u64 = 50;
+
 /// How long its answer may take, in milliseconds.
 const ANSWER: u64 = 10_000;
 
@@ -30,6 +33,8 @@ pub struct Taken<'a, R: Wait + Clock> {
     /// Until when they are taken; none where that is until the run is over.
     until: Option<Duration>,
     served: Option<Rc<Wire>>,
+    /// Whether the one that is served is a long request, which is read as it comes.
+    is_reading: bool,
 }
 
 /// Milliseconds since 1970, 0 where the clock can't be read.
@@ -52,6 +57,7 @@ impl<'a, R: Wait + Clock> Taken<'a, R> {
             node,
             until: None,
             served: None,
+            is_reading: false,
         }
     }
 
@@ -63,6 +69,7 @@ impl<'a, R: Wait + Clock> Taken<'a, R> {
             node,
             until: Some(until),
             served: None,
+            is_reading: false,
         }
     }
 
@@ -99,10 +106,10 @@ impl<'a, R: Wait + Clock> Taken<'a, R> {
         }
     }
 
-    // A reader and a writer over a socket. It is kept, to be closed when it is served.
-    fn ends_of(&mut self, stream: TcpStream) -> io::Result<Ends<'a, R>> {
+    // A reader and a writer over a socket, on which a request may take so long to be read. It is kept, to be closed when it is served.
+    fn ends_of(&mut self, stream: TcpStream, reading: u64) -> io::Result<Ends<'a, R>> {
         let times = Times {
-            reading: Duration::from_millis(REQUEST),
+            reading: Duration::from_millis(reading),
             writing: Duration::from_millis(ANSWER),
         };
         let signal = &self.node.signal;
@@ -136,8 +143,18 @@ impl<'a, R: Wait + Clock> Taken<'a, R> {
         )
     }
 
+    // Notes that a long request is read as it comes, until it is served.
+    fn note_reading(&mut self) {
+        self.is_reading = true;
+        self.node.queue.note_reading();
+    }
+
     /// Closes the connection that was served, so that its client gets the answer whole.
     pub fn close_served(&mut self) {
+        if self.is_reading {
+            self.is_reading = false;
+            self.node.queue.note_read();
+        }
         let Some(wire) = self.served.take() else {
             return;
         };
@@ -146,7 +163,7 @@ impl<'a, R: Wait + Clock> Taken<'a, R> {
         }
         if let Some(wire) = Rc::into_inner(wire) {
             if let Ok(guest) = self.waiting(wire) {
-                if let Seen::Silent(guest) = guest.look(self.rt) {
+                if let Seen::Silent(guest) = guest.look(self.rt, false) {
                     let _waiting = self.node.queue.put_back(self.rt, guest);
                 }
             }
@@ -178,7 +195,7 @@ impl<'a, R: Wait + Clock + Net<Listener = TcpListener, Stream = TcpStream>> Arri
                 }
                 continue;
             };
-            match guest.look(self.rt) {
+            match guest.look(self.rt, self.node.queue.may_read_on()) {
                 // Who is silent makes room for those who speak.
                 Seen::Silent(guest) => {
                     let waiting = self.node.queue.put_back(self.rt, guest);
@@ -190,7 +207,14 @@ impl<'a, R: Wait + Clock + Net<Listener = TcpListener, Stream = TcpStream>> Arri
                 }
                 Seen::Gone => {}
                 Seen::Ready(stream) => {
-                    if let Ok(connection) = self.ends_of(stream) {
+                    if let Ok(connection) = self.ends_of(stream, THERE) {
+                        self.node.queue.hand_on(self.rt);
+                        return Some(connection);
+                    }
+                }
+                Seen::Long(stream) => {
+                    if let Ok(connection) = self.ends_of(stream, REQUEST) {
+                        self.note_reading();
                         self.node.queue.hand_on(self.rt);
                         return Some(connection);
                     }

@@ -1,6 +1,6 @@
 // A connection that no worker serves now.
 
-use crate::window::{WINDOW, is_partial};
+use crate::window::{Extent, WINDOW, extent_of};
 use std::io;
 use std::io::{ErrorKind, Read, Write};
 use std::net::{Shutdown, TcpStream};
@@ -80,8 +80,10 @@ pub struct Guest {
 /// What a look at a connection finds.
 #[derive(Drop)]
 pub enum Seen {
-    /// A whole request is there, or what a worker is to refuse: it may serve it.
+    /// A whole request is there, or what a worker is to refuse: it may serve it, and has nothing to wait for.
     Ready(TcpStream),
+    /// A long request has begun: a worker may read it as it comes.
+    Long(TcpStream),
     /// Nothing is there yet, or no whole request.
     Silent(Guest),
     /// It is over.
@@ -193,29 +195,41 @@ impl Guest {
     }
 
     // Looks at what has come of a request, and leaves it.
-    fn asks<R: Clock>(self, rt: &R) -> Seen {
+    fn asks<R: Clock>(self, rt: &R, reads_on: bool) -> Seen {
         let mut bytes = [0u8; WINDOW];
         match self.stream.peek(&mut bytes) {
             Ok(0) => Seen::Gone,
-            Ok(count) if is_partial(&bytes[..count.min(WINDOW)]) => self.begins(rt),
-            Ok(_) => self.is_ready(),
+            Ok(count) => self.begins_with(rt, extent_of(&bytes[..count.min(WINDOW)]), reads_on),
             Err(error) if error.kind() == ErrorKind::WouldBlock => self.is_silent(rt),
             Err(error) if error.kind() == ErrorKind::Interrupted => Seen::Silent(self),
             Err(_) => Seen::Gone,
         }
     }
 
+    // So much of its request is there. A long one waits until a worker may read on.
+    fn begins_with<R: Clock>(self, rt: &R, extent: Extent, reads_on: bool) -> Seen {
+        let is_long = extent == Extent::Long;
+        if extent == Extent::Part || (is_long && !reads_on) {
+            return self.begins(rt);
+        }
+        match self.into_waiting() {
+            Some(stream) if is_long => Seen::Long(stream),
+            Some(stream) => Seen::Ready(stream),
+            None => Seen::Gone,
+        }
+    }
+
     // From here on a read waits again.
-    fn is_ready(self) -> Seen {
+    fn into_waiting(self) -> Option<TcpStream> {
         let Guest {
             stream,
             stage,
             until: _,
         } = self;
         if !stage.is_coming() && stream.set_nonblocking(false).is_err() {
-            return Seen::Gone;
+            return None;
         }
-        Seen::Ready(stream)
+        Some(stream)
     }
 
     // Gives more of its answer.
@@ -257,19 +271,20 @@ impl Guest {
     }
 
     // The first look. It says how long a read waits, here and later.
-    fn is_welcome<R: Clock>(self, rt: &R) -> Seen {
+    fn is_welcome<R: Clock>(self, rt: &R, reads_on: bool) -> Seen {
         let wait = Duration::from_millis(WELCOME);
         match self.stream.set_read_timeout(Some(wait)) {
-            Ok(()) => self.asks(rt),
+            Ok(()) => self.asks(rt, reads_on),
             Err(_) => Seen::Gone,
         }
     }
 
-    /// Looks at what has come, or gives on. The first look waits a little for something, and others for nothing.
-    pub fn look<R: Clock>(self, rt: &R) -> Seen {
+    /// Looks at what has come, or gives on. The first look waits a little for something, and others for nothing. A long request is
+    /// there for a worker where one may read on.
+    pub fn look<R: Clock>(self, rt: &R, reads_on: bool) -> Seen {
         match self.stage {
-            Stage::Coming => self.is_welcome(rt),
-            Stage::Asking | Stage::Begun => self.asks(rt),
+            Stage::Coming => self.is_welcome(rt, reads_on),
+            Stage::Asking | Stage::Begun => self.asks(rt, reads_on),
             Stage::Giving(_) => self.gives(rt),
             Stage::Closing => self.drains(rt),
         }

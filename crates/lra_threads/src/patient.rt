@@ -2,7 +2,7 @@
 ghost use Rattle.std.specs.Prelude.{◌≤◌, IfOk, length};
 
 use crate::queue::Queue;
-use crate::signal::{Over, Signal};
+use crate::signal::Signal;
 use crate::wire::Wire;
 use std::io;
 use std::io::{Error, ErrorKind, Read, Write};
@@ -77,11 +77,11 @@ impl<'a, R: Wait + Clock> Patient<'a, R> {
         }
     }
 
-    // Whether the run is over, and another is to follow.
+    // Whether the run is over, and the next one waits for this connection.
     fn has_next_run(&self) -> bool {
-        match self.signal.over(self.rt) {
-            Some(why) => why != Over::Program,
-            None => false,
+        match self.haste {
+            Haste::WithRun(_) => self.is_hurried() && !self.signal.has_ended(self.rt),
+            Haste::WithProgram => false,
         }
     }
 
@@ -158,7 +158,11 @@ impl<'a, R: Wait + Clock> Read for Patient<'a, R> {
                     self.wire.has_read(count, buf.len());
                     return Ok(count);
                 }
-                Err(error) if error.kind() == ErrorKind::WouldBlock => {}
+                Err(error) if error.kind() == ErrorKind::WouldBlock => {
+                    if self.has_next_run() {
+                        return Err(Error::from(ErrorKind::TimedOut));
+                    }
+                }
                 Err(error) => return Err(error),
             }
         }
@@ -173,7 +177,12 @@ impl<'a, R: Wait + Clock> Write for Patient<'a, R> {
             return self.keep_more(buf);
         }
         for _turn in 0..MAX_TURNS {
-            self.look()?;
+            if let Err(error) = self.look() {
+                if self.hurried && self.is_to_keep(buf.len()) {
+                    return self.keep(buf);
+                }
+                return Err(error);
+            }
             self.slice(buf.len())?;
             let mut stream = self.wire.stream();
             match stream.write(buf) {

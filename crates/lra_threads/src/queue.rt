@@ -17,6 +17,9 @@ const MAX_LOOKS: u32 = 10_000;
 /// How many connections wait at most at which nobody has looked yet. More wait in the system.
 const MAX_COMING: usize = 1_024;
 
+/// How many workers read a long request as it comes at most.
+const MAX_READING: u64 = 2;
+
 /// How many bytes of answers wait at most to be given on: two frames of full homes with the longest links.
 const MAX_KEPT: usize = 64 << 20;
 
@@ -45,6 +48,8 @@ pub struct Queue {
     count: AtomicU64,
     /// How many bytes of answers wait, for who asks without the lock.
     kept: AtomicU64,
+    /// How many workers read a long request as it comes.
+    reading: AtomicU64,
     /// How many connections were closed for want of files since that was last asked.
     closed: AtomicU64,
 }
@@ -81,6 +86,7 @@ impl Queue {
             came: Condvar::new(),
             count: AtomicU64::new(0),
             kept: AtomicU64::new(0),
+            reading: AtomicU64::new(0),
             closed: AtomicU64::new(0),
         }
     }
@@ -96,6 +102,21 @@ impl Queue {
         self.count.store(told, Ordering::SeqCst);
         self.kept.store(waiting.kept as u64, Ordering::SeqCst);
         count
+    }
+
+    /// Whether a worker may read a long request as it comes: half of them may.
+    pub fn may_read_on(&self) -> bool {
+        self.reading.load(Ordering::SeqCst) < MAX_READING
+    }
+
+    /// Notes that a worker reads a long request as it comes.
+    pub fn note_reading(&self) {
+        self.reading.fetch_add(1, Ordering::SeqCst);
+    }
+
+    /// Notes that it has read it.
+    pub fn note_read(&self) {
+        self.reading.fetch_sub(1, Ordering::SeqCst);
     }
 
     /// Whether so many bytes of an answer may wait here besides those that do.

@@ -28,20 +28,36 @@ fn length_of(headers: &[Header]) -> usize {
     0
 }
 
-/// Whether a request of which this has come is still to come in part: its head, or its body. What is no request isn't, nor what is
-/// longer than the window: a worker may have that at once.
-pub(crate) fn is_partial(bytes: &[u8]) -> bool {
+/// What has come of a request.
+#[derive(Clone, Copy, PartialEq, Eq, Debug)]
+pub(crate) enum Extent {
+    /// A part of its head, or of its body.
+    Part,
+    /// All of it, or what is no request: a worker has no more to wait for.
+    Whole,
+    /// The start of one that is longer than the window.
+    Long,
+}
+
+/// How much these bytes are of a request.
+pub(crate) fn extent_of(bytes: &[u8]) -> Extent {
     if bytes.len() >= WINDOW {
-        return false;
+        return Extent::Long;
     }
     let mut headers = [EMPTY_HEADER; MAX_LINES];
     let mut request = Request::new(&mut headers);
     match request.parse(bytes) {
         Ok(Status::Complete(head)) => {
             let whole = head.saturating_add(length_of(request.headers));
-            bytes.len() < whole && whole < WINDOW
+            if bytes.len() >= whole {
+                Extent::Whole
+            } else if whole < WINDOW {
+                Extent::Part
+            } else {
+                Extent::Long
+            }
         }
-        Ok(Status::Partial) => true,
-        Err(_) => false,
+        Ok(Status::Partial) => Extent::Part,
+        Err(_) => Extent::Whole,
     }
 }
