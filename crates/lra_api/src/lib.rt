@@ -12,9 +12,10 @@ mod serving;
 mod table;
 mod text;
 
-pub use answers::{Answer, answer};
+pub use answers::{Answer, answer, found, refusal_answer, with_body};
 pub use body::Body;
-pub use path::Paths;
+pub use names::{id_of, member_of};
+pub use path::{Paths, id_part, member_part, part_of, path_of, query_of, rest_of};
 pub use routing::{Unrouted, route};
-pub use serving::{ServeError, serve_one};
-pub use table::Place;
+pub use serving::{ServeError, end, end_refused, serve_fault, serve_one, serve_request};
+pub use table::{Place, Verb, verb_of};

@@ -99,7 +99,7 @@ fn end_with<W: Sink>(
 }
 
 /// Writes an answer, if there was memory to make it, and tells the refusal behind it, if there is one.
-fn end<W: Sink>(
+pub fn end<W: Sink>(
     alloc: Global,
     writer: &mut W,
     made: Result<Answer<'_>, AllocError>,
@@ -114,7 +114,12 @@ fn end<W: Sink>(
     }
 }
 
-fn end_refused<W: Sink>(alloc: Global, writer: &mut W, refusal: &Refusal) -> Result<(), ServeError>
+/// Writes the answer to a call that the clerk refused, and tells the refusal.
+pub fn end_refused<W: Sink>(
+    alloc: Global,
+    writer: &mut W,
+    refusal: &Refusal,
+) -> Result<(), ServeError>
     ensures { Ends W.Sink writer.old writer.new
         (refusal_answer refusal.now) (Some refusal.now) result }
 {
@@ -156,7 +161,8 @@ fn end_unrouted<W: Sink>(
     end(alloc, writer, made, None)
 }
 
-fn serve_request<W: Sink, C: Clerk>(
+/// Serves a request that was read: makes the call that it asks for by the table of paths, and writes the answer.
+pub fn serve_request<W: Sink, C: Clerk>(
     alloc: Global,
     paths: &Paths,
     writer: &mut W,
@@ -185,7 +191,8 @@ fn end_fault<W: Sink>(alloc: Global, writer: &mut W, fault: Fault) -> Result<(),
     end(alloc, writer, made, None)
 }
 
-fn serve_fault<W: Sink>(alloc: Global, writer: &mut W, fault: Fault) -> Result<(), ServeError>
+/// Answers what was no whole request, where an answer can be written.
+pub fn serve_fault<W: Sink>(alloc: Global, writer: &mut W, fault: Fault) -> Result<(), ServeError>
     requires { fault ≢ OnWrite }
     ensures { ServesFault W.Sink writer.old writer.new fault result }
 {

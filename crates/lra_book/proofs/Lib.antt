@@ -3,6 +3,7 @@ mod EachOnce
 mod FittingPatches
 mod FoundBehind
 mod Frames
+mod HoldingsOfSets
 mod KeptBooks
 mod LostBelow
 mod NewPasses

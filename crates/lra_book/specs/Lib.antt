@@ -1,6 +1,7 @@
 pub mod Books
 pub mod Clerks
 pub mod Desks
+pub mod Holdings
 pub mod Looks
 pub mod Next
 pub mod OfSets

@@ -2,6 +2,7 @@
 ghost use Rattle.std.specs.Prelude.{◌≡◌};
 ghost use Rattle.lra_book.specs.Next.{is_move};
 
+use crate::{Holding, Survey};
 use lra_callback::Duties;
 use lra_delta::Delta;
 use lra_facts::Refusal;
@@ -63,6 +64,10 @@ pub enum Call {
     Member { id: LraId, member: u8 },
     /// List the LRAs that are held beyond this one, or from the first on.
     Page(Option<LraId>),
+    /// Show all that is held of an LRA.
+    Record(LraId),
+    /// List the LRAs that are held beyond this one, or from the first on, each with what is held of it in short.
+    Survey(Option<LraId>),
     /// Name the participants that are to be called.
     Duties,
     /// Cancel an LRA of this node whose deadline has passed.
@@ -96,6 +101,10 @@ pub enum Reply {
     ShownMember(LraId, u8, MemberStatus),
     /// The LRAs that are held.
     Listed(Page),
+    /// All that is held of an LRA.
+    Held(Holding),
+    /// The LRAs that are held, each in short.
+    Surveyed(Survey),
     /// The participants that are to be called.
     Due(Duties),
     /// This LRA was cancelled since its deadline had passed.

@@ -8,6 +8,7 @@ mod clerk;
 mod copies;
 mod crossing;
 mod desk;
+mod holdings;
 pub mod laws;
 mod pass;
 mod preparing;
@@ -22,4 +23,5 @@ pub use crossing::{
     receipts_cross, share_crosses,
 };
 pub use desk::{Desk, DeskPass, Run};
+pub use holdings::{Holding, MemberStatuses, Summary, Survey};
 pub use pass::Pass;

@@ -16,6 +16,7 @@ ghost use Rattle.lra_book.specs.declared.calls.Reply.TheVariants.{Due};
 ghost use Rattle.lra_book.specs.Books.{IsStoreFault};
 ghost use Rattle.lra_book.specs.Next.{IsListing, IsNext, IsTakeReply, expire_reply, expired, member_reply, pull_reply, status_reply, view_expired, with_patch};
 
+use crate::holdings::{hold, survey_beyond};
 use crate::{Call, PullBody, Reply};
 use lra_callback::pick;
 use lra_delta::Delta;
@@ -37,7 +38,7 @@ pub struct Step {
 }
 
 /// Prepares a command. Only memory can be wanting: a refusal is its reply.
-fn act(
+pub fn act(
     alloc: Global,
     replica: &mut Replica,
     me: NodeId,
@@ -218,6 +219,8 @@ pub fn prepare(
         Call::Status(id) => answer(Ok(show(replica, id))),
         Call::Member { id, member } => answer(Ok(show_member(replica, id, member))),
         Call::Page(after) => answer(list(alloc, replica, after)),
+        Call::Record(id) => answer(hold(alloc, replica, me, id)),
+        Call::Survey(after) => answer(survey_beyond(alloc, replica, after)),
         Call::Duties => answer(duties(alloc, replica, me)),
         Call::Expire => expire(alloc, replica, me, now),
     }

@@ -1,8 +1,8 @@
 // Whether calls and replies are the same.
 ghost use Rattle.std.specs.Prelude.{◌≡◌};
-ghost use Rattle.lra_book.specs.Sameness.{same_call, same_command, same_duties, same_page, same_reply};
+ghost use Rattle.lra_book.specs.Sameness.{same_call, same_command, same_duties, same_holding, same_page, same_reply, same_survey};
 
-use crate::{Call, Reply};
+use crate::{Call, Holding, Reply, Survey};
 use lra_callback::Duties;
 use lra_history::Command;
 use lra_replica::Page;
@@ -89,6 +89,8 @@ pub fn same_call(a: &Call, b: &Call) -> bool
             },
         ) => *id == *other && *member == *number,
         (Call::Page(a), Call::Page(b)) => *a == *b,
+        (Call::Record(a), Call::Record(b)) => *a == *b,
+        (Call::Survey(a), Call::Survey(b)) => *a == *b,
         (Call::Duties, Call::Duties) | (Call::Expire, Call::Expire) => true,
         _ => false,
     }
@@ -106,6 +108,21 @@ fn same_duties(a: &Duties, b: &Duties) -> bool
     a.as_slice() == b.as_slice()
 }
 
+fn same_holding(a: &Holding, b: &Holding) -> bool
+    ensures { result ≡ same_holding a.now b.now }
+{
+    a.id == b.id
+        && (a.status == b.status
+            && (a.record == b.record
+                && (a.members.as_slice() == b.members.as_slice() && a.purge == b.purge)))
+}
+
+fn same_survey(a: &Survey, b: &Survey) -> bool
+    ensures { result ≡ same_survey a.now b.now }
+{
+    a.rows() == b.rows() && a.more() == b.more()
+}
+
 /// Whether two replies are the same.
 pub fn same_reply(a: &Reply, b: &Reply) -> bool
     ensures { result ≡ same_reply a.now b.now }
@@ -119,6 +136,8 @@ pub fn same_reply(a: &Reply, b: &Reply) -> bool
             *id == *other && (*member == *number && *status == *shown)
         }
         (Reply::Listed(a), Reply::Listed(b)) => same_page(a, b),
+        (Reply::Held(a), Reply::Held(b)) => same_holding(a, b),
+        (Reply::Surveyed(a), Reply::Surveyed(b)) => same_survey(a, b),
         (Reply::Due(a), Reply::Due(b)) => same_duties(a, b),
         (Reply::Expired(a), Reply::Expired(b)) => *a == *b,
         (Reply::Refused(a), Reply::Refused(b)) => *a == *b,

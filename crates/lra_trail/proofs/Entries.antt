@@ -34,7 +34,7 @@ use Rattle.lra_world.specs.declared.event.Reply.TheVariants.{Answered, Sent, Exp
 use Rattle.lra_world.specs.Worlds.{Acts, Comes, IsEncoded, IsViewOf, SentFrame, Sends, State, Steps, Ticks, after_command, expired as did_expire, frame_at, front_of, reply_at, set_of, with_front}
 use Rattle.lra_world.proofs.Moving.{frame_in}
 use Rattle.lra_book.specs.declared.calls.Call.{Call}
-use Rattle.lra_book.specs.declared.calls.Call.TheVariants.{Command as Enter, Take, Pull, Status, Member, Page, Duties, Expire}
+use Rattle.lra_book.specs.declared.calls.Call.TheVariants.{Command as Enter, Take, Pull, Status, Member, Page, Record as Show, Survey, Duties, Expire}
 use Rattle.lra_book.specs.declared.calls.Reply.{Reply as BookReply}
 use Rattle.lra_book.specs.declared.calls.Reply.TheVariants.{Command as Entered, Took, Gave}
 use Rattle.lra_book.specs.Next.{IsNext, IsTakeReply, Takes, expire_reply, expired, pull_reply, view_expired}
@@ -259,6 +259,8 @@ entry_means me s frame now a b (Pull body) reply served (is, same) sent =
 entry_means me s frame now a b (Status l) reply served (is, same) sent = Nothing refl (as_it_was me s a b served same)
 entry_means me s frame now a b (Member l m) reply served (is, same) sent = Nothing refl (as_it_was me s a b served same)
 entry_means me s frame now a b (Page after) reply served (is, same) sent = Nothing refl (as_it_was me s a b served same)
+entry_means me s frame now a b (Show l) reply served (is, same) sent = Nothing refl (as_it_was me s a b served same)
+entry_means me s frame now a b (Survey after) reply served (is, same) sent = Nothing refl (as_it_was me s a b served same)
 entry_means me s frame now a b Duties reply served (is, same) sent = Nothing refl (as_it_was me s a b served same)
 entry_means me s frame now a b Expire reply served (is, next) sent =
     subst (λ (r : BookReply). Means me s frame now Expire r b) (sym is) (expiry_means me s frame now a b (overdue_on a me now) served (overdue_of me s now a served) next)

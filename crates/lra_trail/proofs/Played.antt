@@ -16,7 +16,7 @@ use Rattle.lra_world.proofs.StatusesRise.{statuses_rise}
 use Rattle.lra_book.specs.declared.calls.Call.{Call}
 use Rattle.lra_book.specs.declared.calls.Entry.{Entry}
 use Rattle.lra_book.specs.declared.calls.Reply.{Reply as BookReply}
-use Rattle.lra_book.specs.declared.calls.Reply.TheVariants.{Command as Entered, Took, Gave, Shown, ShownMember, Listed, Due, Quiet, Expired, Refused}
+use Rattle.lra_book.specs.declared.calls.Reply.TheVariants.{Command as Entered, Took, Gave, Shown, ShownMember, Listed, Held, Surveyed, Due, Quiet, Expired, Refused}
 use Rattle.lra_book.specs.Next.{IsFoundBehind, IsNext}
 use Rattle.lra_book.specs.Trails.{LeadsTo, entry}
 use Rattle.lra_trail.specs.NodeTrails.{AreReplies, Arrival, Elsewhere, Follows, Happen, Here, IsPlayed, IsReplied, IsRun, IsServed, IsTold, Item, Leaves, Says, WasSent, event_of, events_of, node_of, trail_of, with_event}
@@ -50,6 +50,8 @@ says_still s t (Gave delta) is still (number, e, told) = (number, e, still numbe
 says_still s t (Shown l status) is still says = absurd says
 says_still s t (ShownMember l m status) is still says = absurd says
 says_still s t (Listed page) is still says = absurd says
+says_still s t (Held holding) is still says = absurd says
+says_still s t (Surveyed survey) is still says = absurd says
 says_still s t (Due duties) is still says = absurd says
 says_still s t (Expired l) is still says = says
 says_still s t Quiet is still says = absurd says

@@ -24,7 +24,7 @@ use Rattle.lra_world.specs.Headline.{IsNode}
 use Rattle.lra_world.specs.Worlds.{State, front_of}
 use Rattle.lra_world.proofs.Moving.{IsKeptBy, run_keeps}
 use Rattle.lra_book.specs.declared.calls.Call.{Call}
-use Rattle.lra_book.specs.declared.calls.Call.TheVariants.{Command as Enter, Duties, Expire, Member, Page, Pull, Status, Take}
+use Rattle.lra_book.specs.declared.calls.Call.TheVariants.{Command as Enter, Duties, Expire, Member, Page, Pull, Record as Show, Status, Survey, Take}
 use Rattle.lra_book.specs.declared.calls.Entry.{Entry}
 use Rattle.lra_book.specs.declared.calls.Reply.{Reply}
 use Rattle.lra_book.specs.declared.calls.Reply.TheVariants.{Gave, Took}
@@ -97,6 +97,8 @@ next_above me a (Pull body) now reply b next = stays a b next.1
 next_above me a (Status l) now reply b next = stays a b next.1
 next_above me a (Member l m) now reply b next = stays a b next.1
 next_above me a (Page after) now reply b next = stays a b next.1
+next_above me a (Show l) now reply b next = stays a b next.1
+next_above me a (Survey after) now reply b next = stays a b next.1
 next_above me a Duties now reply b next = stays a b next.1
 next_above me a Expire now reply b next = subst (λ (view : View). IsBelow a.front view.front) (sym next.1) (expired_above a me (overdue_on a me now))
 

@@ -1,0 +1,51 @@
+-- All that is held of an LRA, and what is held of many in short.
+use Rattle.std.specs.Prelude.{◌++◌, ◌∷◌, ℕ, zero, suc, Bool, Option, Some, None, List, [], Result, Ok, Err, length, map}
+use Rattle.std.specs.Option.{option_map}
+use Rattle.lra_id.specs.Ids.{Id}
+use Rattle.lra_states.specs.declared.status.LraStatus.{LraStatus}
+use Rattle.lra_states.specs.declared.status.MemberStatus.{MemberStatus}
+use Rattle.lra_facts.specs.declared.refusal.Refusal.{Refusal}
+use Rattle.lra_forest.specs.declared.record.Place.{Place}
+use Rattle.lra_forest.specs.declared.record.Record.{Record}
+use Rattle.lra_history.specs.declared.command.CommandReply.{CommandReply}
+use Rattle.lra_replica.specs.declared.page.Row.{Row}
+use Rattle.lra_replica.specs.Pages.{PageRows}
+use Rattle.lra_book.specs.declared.holdings.Holding.{Holding}
+use Rattle.lra_book.specs.declared.holdings.Summary.{Summary}
+
+-- One LRA
+
+-- what is shown of a participant; none where there is no such one
+abbrev pub shown_in : Result MemberStatus Refusal → Option MemberStatus
+shown_in (Ok status) = Some status
+shown_in (Err refusal) = None
+
+-- what each of the members 1 to n shows, by what is shown of a number
+abbrev pub statuses_of : (ℕ → Result MemberStatus Refusal) → (n : ℕ) → List (Option MemberStatus)
+statuses_of shown zero = []
+statuses_of shown (suc n) = statuses_of shown n ++ shown_in (shown (suc n)) ∷ []
+
+-- all that is held of an LRA: what it shows, its record, what is shown of its members, and what its purge would be replied
+abbrev pub holding_of : Id → LraStatus → Record → (ℕ → Result MemberStatus Refusal) → CommandReply → Holding
+holding_of l status r shown purge =
+    record { id = l; status = status; «record» = r; members = statuses_of shown (length r.members); purge = purge }
+
+-- Many
+
+-- rows, and whether more follow
+pub record SurveyRows : Type 0 where
+  pub rows : List Summary
+  pub more : Bool
+
+-- a row with what the record of its LRA says
+abbrev pub summary_of : Row → Option Record → Summary
+summary_of row None = record { id = row.id; status = row.status; parent = None; members = 0; deadline = 0 }
+summary_of row (Some r) =
+    record { id = row.id; status = row.status; parent = option_map (λ (p : Place). p.number) r.parent; members = length r.members; deadline = r.deadline }
+
+-- each row with what the record of its LRA says
+abbrev pub summaries_of : (Id → Option Record) → List Row → List Summary
+summaries_of record_of rows = map (λ row. summary_of row (record_of row.id)) rows
+
+abbrev pub survey_of : (Id → Option Record) → PageRows → SurveyRows
+survey_of record_of page = record { rows = summaries_of record_of page.rows; more = page.more }
