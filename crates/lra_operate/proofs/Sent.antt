@@ -1,0 +1,36 @@
+-- What was written at an operator's port.
+use Rattle.std.specs.Prelude.{⊤}
+use Rattle.std.proofs.Common.{◌≡◌, ℕ, Option, Some, None, Result, Ok, Err, IfOk, refl, subst, sym}
+use Rattle.lra_facts.specs.declared.refusal.Refusal.{Refusal}
+use Rattle.lra_facts.specs.declared.refusal.Refusal.TheVariants.{BadText}
+use Rattle.lra_http.specs.declared.Sink.{Ghosts as OfSink}
+use Rattle.lra_http.specs.ByteResponses.{Response}
+use Rattle.lra_http.specs.declared.message.Request.{Request}
+use Rattle.lra_api.specs.Answers.{refusal_answer}
+use Rattle.lra_api.specs.Serving.{Ends}
+use Rattle.lra_api.specs.declared.serving.ServeError.{ServeError}
+use Rattle.lra_book.specs.declared.calls.Call.{Call}
+use Rattle.lra_book.specs.declared.calls.Reply.{Reply}
+use Rattle.lra_operate.specs.Serving.{ServesCall, ServesWanted, answer_at, call_of}
+use Rattle.lra_operate.specs.declared.wanted.Wanted.{Wanted}
+
+-- the answer to what came of a call
+pub replied : {W : Type 0} (w : Wanted) (makes : Result Reply Refusal → Type 0) (sink : OfSink W) (old new : W) (seen reply : Reply) (result : Result ⊤ ServeError)
+    → makes (Ok reply) → seen ≡ reply → Ends sink old new (answer_at w seen) None result → ServesCall w makes sink old new result
+replied w makes sink old new seen reply result made is ends =
+    (Ok reply, made, subst (λ (r : Reply). Ends sink old new (answer_at w r) None result) is ends)
+
+-- some answer was made, or none, and then any will do
+pub some_answer : {E : Type 0} (made : Result Response E) (written : Response → Type 0)
+    → ((right : Response) → IfOk made (λ (response : Response). response ≡ right) → written right) → (response : Response) × written response
+some_answer (Ok response) written right = (response, right response refl)
+some_answer (Err e) written right = (refusal_answer BadText, right (refusal_answer BadText) tt)
+
+-- a call was made for what is wanted
+pub called : {W : Type 0} (same : Type 0) (makes : Call → Result Reply Refusal → Type 0) (sink : OfSink W) (old new : W) (now : ℕ) (request : Request)
+    (w seen : Wanted) (c : Call) (result : Result ⊤ ServeError)
+    → seen ≡ w → call_of seen ≡ Some c → ServesCall seen (makes c) sink old new result
+    → ServesWanted same makes sink old new now request w (call_of w) result
+called same makes sink old new now request w seen c result is calls served =
+    subst (λ (v : Wanted). ServesWanted same makes sink old new now request v (call_of v) result) is
+    (subst (λ (o : Option Call). ServesWanted same makes sink old new now request seen o result) (sym calls) served)

@@ -1,0 +1,72 @@
+-- What one request at an operator's port comes to.
+use Rattle.std.specs.Prelude.{⊤, ℕ, Option, Some, None, Result, Ok, Err}
+use Rattle.lra_facts.specs.declared.refusal.Refusal.{Refusal}
+use Rattle.lra_facts.specs.declared.refusal.Refusal.TheVariants.{BadText}
+use Rattle.lra_history.specs.declared.command.Command.TheVariants as command
+use Rattle.lra_http.specs.declared.Sink.{Ghosts as OfSink}
+use Rattle.lra_http.specs.declared.fault.Fault.{Fault}
+use Rattle.lra_http.specs.declared.message.Request.{Request}
+use Rattle.lra_http.specs.ByteResponses.{Response}
+use Rattle.lra_book.specs.declared.calls.Call.{Call}
+use Rattle.lra_book.specs.declared.calls.Call.TheVariants as call
+use Rattle.lra_book.specs.declared.calls.Reply.{Reply}
+use Rattle.lra_book.specs.declared.calls.Reply.TheVariants.{Held, Surveyed}
+use Rattle.lra_api.specs.Answers.{answer_of, found, refusal_answer}
+use Rattle.lra_api.specs.Routes.{routed}
+use Rattle.lra_api.specs.Serving.{Ends, ServesFault, ServesRequest, refusal_in}
+use Rattle.lra_api.specs.declared.serving.ServeError.{ServeError}
+use Rattle.lra_operate.specs.Records.{record_body}
+use Rattle.lra_operate.specs.Surveys.{survey_body}
+use Rattle.lra_operate.specs.Wanted.{wanted}
+use Rattle.lra_operate.specs.declared.wanted.Wanted.{Wanted}
+use Rattle.lra_operate.specs.declared.wanted.Wanted.TheVariants.{Page, Health, Ready, Metrics, Calls, List as AskList, Record, Forgot, Told, Broken, Other}
+
+-- the call of what is wanted, where it is one
+abbrev pub call_of : Wanted → Option Call
+call_of (AskList f) = Some (call.Survey f.after)
+call_of (Record id) = Some (call.Record id)
+call_of (Forgot id m) = Some (call.Command (command.Forgot id m))
+call_of (Told id m) = Some (call.Command (command.Told id m))
+call_of Page = None
+call_of Health = None
+call_of Ready = None
+call_of Metrics = None
+call_of Calls = None
+call_of Broken = None
+call_of Other = None
+
+-- the answer to its reply: a list shows those of its filter, a record all that is held; else the interface's answer
+abbrev pub answer_at : Wanted → Reply → Response
+answer_at (AskList f) (Surveyed s) = found (survey_body f s)
+answer_at (Record id) (Held h) = found (record_body h)
+answer_at w reply = answer_of reply
+
+abbrev pub answer_to : Wanted → Result Reply Refusal → Response
+answer_to w (Ok reply) = answer_at w reply
+answer_to w (Err refusal) = refusal_answer refusal
+
+-- a call is made, and the answer to what comes of it is written
+abbrev pub ServesCall : {W : Type 0} → Wanted → (makes : Result Reply Refusal → Type 0) → OfSink W → (old new : W) → Result ⊤ ServeError → Type 0
+ServesCall w makes sink old new result =
+    (outcome : Result Reply Refusal) × makes outcome × Ends sink old new (answer_to w outcome) (refusal_in outcome) result
+
+-- no call is made, and an answer is written, of which nothing is said
+abbrev pub Tells : {W : Type 0} → (same : Type 0) → OfSink W → (old new : W) → Result ⊤ ServeError → Type 0
+Tells same sink old new result = same × ((response : Response) × Ends sink old new response None result)
+
+-- what is wanted is served where it is no call: a broken text is E1, and what the interface has is served as it serves it
+abbrev pub ServesOther : {W : Type 0} → (same : Type 0) → (makes : Call → Result Reply Refusal → Type 0) → OfSink W → (old new : W) → ℕ → Request → Wanted → Result ⊤ ServeError → Type 0
+ServesOther same makes sink old new now request Broken result = same × Ends sink old new (refusal_answer BadText) None result
+ServesOther same makes sink old new now request Other result = ServesRequest same makes sink old new (routed now request) result
+ServesOther same makes sink old new now request _ result = Tells same sink old new result
+
+abbrev pub ServesWanted : {W : Type 0} → (same : Type 0) → (makes : Call → Result Reply Refusal → Type 0) → OfSink W → (old new : W) → ℕ → Request → Wanted → Option Call → Result ⊤ ServeError → Type 0
+ServesWanted same makes sink old new now request w (Some c) result = ServesCall w (makes c) sink old new result
+ServesWanted same makes sink old new now request w None result = ServesOther same makes sink old new now request w result
+
+-- What was read is served: a request by what it wants, and a fault as the interface does. `same`: no call is made. `makes`: this
+-- call is made, once, and this comes of it
+abbrev pub Serves : {W : Type 0} → (same : Type 0) → (makes : Call → Result Reply Refusal → Type 0) → OfSink W → (old new : W) → ℕ → Result Request Fault → Result ⊤ ServeError → Type 0
+Serves same makes sink old new now (Ok request) result =
+    ServesWanted same makes sink old new now request (wanted request) (call_of (wanted request)) result
+Serves same makes sink old new now (Err f) result = same × ServesFault sink old new f result

@@ -1,0 +1,124 @@
+// Which LRAs a list shows.
+ghost use Rattle.std.specs.Prelude.{◌≡◌};
+ghost use Rattle.std.specs.Option.{option_copied};
+ghost use Rattle.lra_operate.specs.Filters.{after_at, filter_by, filter_in, shows, status_at, status_named};
+ghost use Rattle.lra_operate.specs.Filters as spec;
+
+use lra_api::id_of;
+use lra_book::Summary;
+use lra_id::LraId;
+use lra_states::LraStatus;
+
+/// Which LRAs a list shows: of those beyond one, those with a status, and roots alone.
+#[derive(Clone, Copy, Debug, PartialEq, Eq)]
+pub struct Filter {
+    pub after: Option<LraId>,
+    pub status: Option<LraStatus>,
+    pub is_of_roots: bool,
+}
+
+fn status_named(name: &str) -> Option<LraStatus>
+    ensures { result ≡ status_named name.now }
+{
+    match name {
+        "Active" => Some(LraStatus::Active),
+        "Closing" => Some(LraStatus::Closing),
+        "Closed" => Some(LraStatus::Closed),
+        "FailedToClose" => Some(LraStatus::FailedToClose),
+        "Cancelling" => Some(LraStatus::Cancelling),
+        "Cancelled" => Some(LraStatus::Cancelled),
+        "FailedToCancel" => Some(LraStatus::FailedToCancel),
+        _ => None,
+    }
+}
+
+/// The id behind `after=`, if a text is that.
+fn after_at(text: &str) -> Option<LraId>
+    ensures { result ≡ after_at text.now }
+{
+    let Some(id) = text.strip_prefix("after=") else {
+        return None;
+    };
+    id_of(id)
+}
+
+/// The status behind `status=`, if a text is that.
+fn status_at(text: &str) -> Option<LraStatus>
+    ensures { result ≡ status_at text.now }
+{
+    let Some(name) = text.strip_prefix("status=") else {
+        return None;
+    };
+    status_named(name)
+}
+
+/// One part of a query: an id, or a status.
+fn one_of(text: &str, is_of_roots: bool) -> Option<Filter>
+    ensures { result ≡ spec.one_of text.now is_of_roots }
+{
+    if let Some(after) = after_at(text) {
+        return Some(Filter {
+            after: Some(after),
+            status: None,
+            is_of_roots,
+        });
+    }
+    match status_at(text) {
+        Some(status) => Some(Filter {
+            after: None,
+            status: Some(status),
+            is_of_roots,
+        }),
+        None => None,
+    }
+}
+
+/// Two parts: an id, and then a status.
+fn both_of(first: &str, second: &str, is_of_roots: bool) -> Option<Filter>
+    ensures { result ≡ spec.both_of first.now second.now is_of_roots }
+{
+    match (after_at(first), status_at(second)) {
+        (Some(after), Some(status)) => Some(Filter {
+            after: Some(after),
+            status: Some(status),
+            is_of_roots,
+        }),
+        _ => None,
+    }
+}
+
+fn filter_by(query: &str, is_of_roots: bool) -> Option<Filter>
+    ensures { result ≡ filter_by query.now is_of_roots }
+{
+    match query.split_once('&') {
+        Some((first, second)) => both_of(first, second, is_of_roots),
+        None => one_of(query, is_of_roots),
+    }
+}
+
+/// What a query asks for: all, `after=ID`, `status=S`, or both in this order.
+pub(crate) fn filter_in(query: Option<&str>, is_of_roots: bool) -> Option<Filter>
+    ensures { result ≡ filter_in (option_copied query.entry) is_of_roots }
+{
+    match query {
+        Some(query) => filter_by(query, is_of_roots),
+        None => Some(Filter {
+            after: None,
+            status: None,
+            is_of_roots,
+        }),
+    }
+}
+
+impl Filter {
+    /// Whether it shows an LRA.
+    pub(crate) fn shows(&self, summary: &Summary) -> bool
+        ensures { result ≡ shows self.now summary.now }
+    {
+        let is_of_status = match self.status {
+            Some(status) => status == summary.status,
+            None => true,
+        };
+        is_of_status && (!self.is_of_roots || summary.parent.is_none())
+    }
+}
