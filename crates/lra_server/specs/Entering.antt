@@ -27,6 +27,11 @@ IsMadeInMemory clerk old new asked result =
     (now : ℕ) × (outcome : Result Reply Refusal) × Makes clerk old new now asked outcome
     × ((result ≡ told outcome) ⊎ (result ≡ Err NoMemory))
 
+-- the call is made, once, and what came of it is handed on; or there is no memory for a copy
+abbrev pub IsMadeAndCopied : {C : Type 0} → OfClerk C → (old new : C) → (now : ℕ) → Call → Result Reply Refusal → Type 0
+IsMadeAndCopied clerk old new now asked result =
+    (outcome : Result Reply Refusal) × Makes clerk old new now asked outcome × ((result ≡ outcome) ⊎ (result ≡ Err NoMemory))
+
 -- the command is entered, if there is one, and nothing else
 abbrev pub EntersIf : {C : Type 0} → OfClerk C → (old new : C) → Option Command → Result ⊤ Refusal → Type 0
 EntersIf clerk old new None result = (new ≡ old) × (result ≡ Ok tt)

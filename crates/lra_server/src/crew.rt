@@ -4,6 +4,8 @@ ghost use Rattle.sqlite.specs.Held.{state};
 ghost use Rattle.lra_journal.specs.Keeping.{IsOwn};
 ghost use Rattle.lra_server.specs.Running.{IsFresh};
 
+use crate::errands::Errands;
+use crate::hall::Hall;
 use crate::refusals::over_by;
 use crate::scribe::enter_all;
 use crate::seat::Seat;
@@ -31,9 +33,16 @@ fn serve_all<
     R: Wait + Clock + Net<Listener = TcpListener, Stream = TcpStream>,
     J: Run,
     S: Alter + Drop,
->(rt: &R, alloc: Global, node: &Node, paths: &Paths, clerk: DeskClerk<'_, J, S, R>) -> DeskPass<J> {
+>(
+    rt: &R,
+    alloc: Global,
+    node: &Node,
+    paths: &Paths,
+    desk: &Desk<J, S>,
+    pass: DeskPass<J>,
+) -> DeskPass<J> {
     let mut taken = Taken::new(rt, alloc, node);
-    let mut seat = Seat::of_worker(rt, node, clerk);
+    let mut seat = Seat::of_worker(rt, node, DeskClerk::new(rt, desk, pass));
     for _ in rt.forever() {
         let (back, ending) = work(rt, alloc, paths, &mut taken, seat, &Open);
         taken.close_served();
@@ -55,44 +64,33 @@ fn write_all<
     R: Wait + Clock + Net<Listener = TcpListener, Stream = TcpStream>,
     J: Run,
     S: Alter + Drop,
->(rt: &R, alloc: Global, node: &Node, clerk: DeskClerk<'_, J, S, R>) -> DeskPass<J> {
-    let seat = enter_all(rt, alloc, node, Seat::new(rt, node, clerk));
-    seat.into_clerk().into_pass()
-}
-
-/// What the thread with the pass at a place does until the run is over. It gives its pass back.
-fn play<R: Wait + Clock + Net<Listener = TcpListener, Stream = TcpStream>, J: Run, S: Alter + Drop>(
+>(
     rt: &R,
     alloc: Global,
     node: &Node,
-    paths: &Paths,
+    errands: &Errands,
     desk: &Desk<J, S>,
     pass: DeskPass<J>,
-    place: usize,
 ) -> DeskPass<J> {
     let clerk = DeskClerk::new(rt, desk, pass);
-    if place == 0 {
-        write_all(rt, alloc, node, clerk)
-    } else {
-        serve_all(rt, alloc, node, paths, clerk)
-    }
+    let seat = enter_all(rt, alloc, node, errands, Seat::new(rt, node, clerk));
+    seat.into_clerk().into_pass()
 }
 
-/// Starts the thread with the pass at a place, or ends the run and gives the pass back.
-fn start<'s, E, J: Run + Send + Sync + 's, S: Alter + Send + Drop + 's, R>(
+/// Starts the thread that enters, or ends the run and gives the pass back.
+fn start_scribe<'s, E, J: Run + Send + Sync + 's, S: Alter + Send + Drop + 's, R>(
     scope: &Scope<'s, E>,
     rt: &'s R,
     alloc: Global,
     node: &'s Node,
-    paths: &'s Paths,
+    errands: &'s Errands,
     desk: &'s Desk<J, S>,
     pass: DeskPass<J>,
-    place: usize,
 ) -> Result<JoinHandle<DeskPass<J>>, DeskPass<J>>
 where
     R: Threads + Wait + Clock + Net<Listener = TcpListener, Stream = TcpStream> + Sync,
 {
-    match scope.spawn(move || play(rt, alloc, node, paths, desk, pass, place)) {
+    match scope.spawn(move || write_all(rt, alloc, node, errands, desk, pass)) {
         Ok(thread) => Ok(thread),
         Err(refused) => {
             // The run is over, so this comes back at once.
@@ -102,13 +100,57 @@ where
     }
 }
 
+/// Starts a worker, or ends the run and gives the pass back.
+fn start_worker<'s, E, J: Run + Send + Sync + 's, S: Alter + Send + Drop + 's, R>(
+    scope: &Scope<'s, E>,
+    rt: &'s R,
+    alloc: Global,
+    node: &'s Node,
+    paths: &'s Paths,
+    desk: &'s Desk<J, S>,
+    pass: DeskPass<J>,
+) -> Result<JoinHandle<DeskPass<J>>, DeskPass<J>>
+where
+    R: Threads + Wait + Clock + Net<Listener = TcpListener, Stream = TcpStream> + Sync,
+{
+    match scope.spawn(move || serve_all(rt, alloc, node, paths, desk, pass)) {
+        Ok(thread) => Ok(thread),
+        Err(refused) => {
+            // The run is over, so this comes back at once.
+            node.end_run(rt, Over::Starved);
+            Err((refused.value)())
+        }
+    }
+}
+
+/// Starts the thread with the pass at a place: the first enters, and the others are workers.
+fn start<'s, E, J: Run + Send + Sync + 's, S: Alter + Send + Drop + 's, R>(
+    scope: &Scope<'s, E>,
+    rt: &'s R,
+    alloc: Global,
+    node: &'s Node,
+    hall: &'s Hall,
+    desk: &'s Desk<J, S>,
+    pass: DeskPass<J>,
+    place: usize,
+) -> Result<JoinHandle<DeskPass<J>>, DeskPass<J>>
+where
+    R: Threads + Wait + Clock + Net<Listener = TcpListener, Stream = TcpStream> + Sync,
+{
+    if place == 0 {
+        start_scribe(scope, rt, alloc, node, &hall.errands, desk, pass)
+    } else {
+        start_worker(scope, rt, alloc, node, &hall.paths, desk, pass)
+    }
+}
+
 /// Starts a thread for each pass. What can't be started gives its pass back at once.
 fn start_all<'s, E, J: Run + Send + Sync + 's, S: Alter + Send + Drop + 's, R>(
     scope: &Scope<'s, E>,
     rt: &'s R,
     alloc: Global,
     node: &'s Node,
-    paths: &'s Paths,
+    hall: &'s Hall,
     desk: &'s Desk<J, S>,
     passes: Vec<DeskPass<J>>,
     threads: &mut Vec<JoinHandle<DeskPass<J>>>,
@@ -118,7 +160,7 @@ where
     R: Threads + Wait + Clock + Net<Listener = TcpListener, Stream = TcpStream> + Sync,
 {
     for (place, pass) in passes.into_iter().enumerate() {
-        match start(scope, rt, alloc, node, paths, desk, pass, place) {
+        match start(scope, rt, alloc, node, hall, desk, pass, place) {
             Ok(thread) => {
                 let _ = threads.push(thread);
             }
@@ -144,7 +186,7 @@ fn crew<J: Run + Send + Sync, S: Alter + Send + Drop, R>(
     rt: &R,
     alloc: Global,
     node: &Node,
-    paths: &Paths,
+    hall: &Hall,
     desk: &Desk<J, S>,
     passes: Vec<DeskPass<J>>,
 ) -> Vec<DeskPass<J>>
@@ -161,7 +203,7 @@ where
             rt,
             alloc,
             node,
-            paths,
+            hall,
             desk,
             passes,
             &mut threads,
@@ -184,7 +226,7 @@ fn run<J: Run + Send + Sync, S: Alter + Send + Drop, R, L>(
     log: &L,
     alloc: Global,
     node: &Node,
-    paths: &Paths,
+    hall: &Hall,
     book: Book<S>,
     blank: Blank,
 ) -> Option<Book<S>>
@@ -202,7 +244,7 @@ where
     };
     node.tally.begin();
     node.queue.begin(rt);
-    let passes = crew(rt, alloc, node, paths, &desk, passes);
+    let passes = crew(rt, alloc, node, hall, &desk, passes);
     if passes.len() != SEATS {
         return None;
     }
@@ -219,7 +261,7 @@ pub fn named_run<S: Alter + Send + Drop, R, L>(
     log: &L,
     alloc: Global,
     node: &Node,
-    paths: &Paths,
+    hall: &Hall,
     book: Book<S>,
 ) -> Option<Book<S>>
 where
@@ -228,5 +270,5 @@ where
     requires { IsFresh book }
     ensures { IfSome result (λ b. b.opening ≡ None) }
 {
-    run::<Brand, S, R, L>(rt, log, alloc, node, paths, book, Blank::new(5))
+    run::<Brand, S, R, L>(rt, log, alloc, node, hall, book, Blank::new(5))
 }

@@ -3,9 +3,14 @@
 
 mod begun;
 mod closed;
+mod counting;
 mod crew;
+mod errands;
+mod hall;
+mod known;
 mod life;
 mod opening;
+mod operating;
 mod refusals;
 mod scribe;
 mod seat;
@@ -13,6 +18,7 @@ mod server;
 mod setbacks;
 mod sweeping;
 mod taken;
+mod window;
 
 pub use opening::{Folder, Stores, Unopened};
 pub use server::{Members, serve, serve_members};

@@ -4,6 +4,9 @@ ghost use Rattle.std.specs.Prelude.{◌≡◌, IfOk, IfSome, None};
 use crate::begun::{Begun, Shut, begun_by};
 use crate::closed::Closed;
 use crate::crew::named_run;
+use crate::errands::Errands;
+use crate::hall::Hall;
+use crate::operating::operate;
 use crate::refusals::refusal_of;
 use crate::setbacks::Setbacks;
 use crate::taken::Taken;
@@ -17,11 +20,12 @@ use lra_threads::{Node, Over, accept, call_out, follow, pull_in_turn, watch};
 use lra_work::{Open, work};
 use sqlite::Alter;
 use std::alloc::Global;
-use std::net::{Net, TcpListener, TcpStream};
+use std::io::ErrorKind;
+use std::net::{Net, SocketAddr, TcpListener, TcpStream};
 use std::sync::Wait;
-use std::thread::Threads;
+use std::thread;
+use std::thread::{Scope, Threads};
 use std::time::{Clock, Duration};
-use std::{io, thread};
 
 /// How many threads that call participants.
 const CALLERS: usize = 4;
@@ -103,13 +107,20 @@ fn refuse_for<R: Wait + Clock + Net<Listener = TcpListener, Stream = TcpStream>>
     rt: &R,
     alloc: Global,
     node: &Node,
-    paths: &Paths,
+    hall: &Hall,
     time: Duration,
 ) {
     let now = rt.monotonic().unwrap_or(Duration::from_millis(0));
     let mut taken = Taken::between_runs(rt, alloc, node, now.saturating_add(time));
     for _ in rt.forever() {
-        let (_clerk, ending) = work(rt, alloc, paths, &mut taken, Closed::new(alloc), &Open);
+        let (_clerk, ending) = work(
+            rt,
+            alloc,
+            &hall.paths,
+            &mut taken,
+            Closed::new(alloc),
+            &Open,
+        );
         taken.close_served();
         if ending.is_none() {
             return;
@@ -125,19 +136,21 @@ fn reopened<R, L: Log, S: Stores>(
     alloc: Global,
     node: &Node,
     stores: &S,
-    paths: &Paths,
+    hall: &Hall,
     setbacks: &mut Setbacks,
 ) -> Result<Option<Book<S::Store>>, Failure>
 where
     R: Wait + Clock + Net<Listener = TcpListener, Stream = TcpStream>,
     ensures { IfOk result (λ next. IfSome next (λ b. b.opening ≡ None)) }
 {
+    node.note_shut(true);
     for _ in rt.forever() {
         if node.signal.has_ended(rt) {
             return Ok(None);
         }
         let why = match open_book(alloc, stores, node) {
             Ok(book) => {
+                node.note_shut(false);
                 setbacks.end_rest();
                 node.post.hold(rt, setbacks.next_pause());
                 return Ok(Some(book));
@@ -147,8 +160,9 @@ where
         if why.is_for_good() {
             return Err(Failure::Journal(why));
         }
+        node.counts.failure(rt);
         warn_of_journal(rt, log, node, why, setbacks);
-        refuse_for(rt, alloc, node, paths, setbacks.next_rest());
+        refuse_for(rt, alloc, node, hall, setbacks.next_rest());
         if why == Unopened::NoFile {
             close_some(rt, node);
         }
@@ -191,7 +205,7 @@ fn next_book<R, L: Log, S: Stores>(
     alloc: Global,
     node: &Node,
     stores: &S,
-    paths: &Paths,
+    hall: &Hall,
     book: Option<Book<S::Store>>,
     over: Option<Over>,
     setbacks: &mut Setbacks,
@@ -208,14 +222,25 @@ where
         return Err(Failure::Run);
     }
     let Some(book) = book else {
-        return reopened(rt, log, alloc, node, stores, paths, setbacks);
+        return reopened(rt, log, alloc, node, stores, hall, setbacks);
     };
     if goes_on(over) {
         return Ok(Some(book));
     }
     // (it holds the file's lock until it is dropped)
     drop(book.close());
-    reopened(rt, log, alloc, node, stores, paths, setbacks)
+    reopened(rt, log, alloc, node, stores, hall, setbacks)
+}
+
+/// Counts a run that is over, and a failure of the journal, if one ended it.
+fn count_of<R: Wait>(rt: &R, node: &Node, over: Option<Over>) {
+    let Some(over) = over else {
+        return;
+    };
+    node.counts.run(rt, over);
+    if over == Over::JournalFailed {
+        node.counts.failure(rt);
+    }
 }
 
 /// Warns of what a run is over for, if a refusal or a want is, once a second at most.
@@ -266,7 +291,7 @@ fn next_run<R, L: Log, S: Stores>(
     alloc: Global,
     node: &Node,
     stores: &S,
-    paths: &Paths,
+    hall: &Hall,
     book: Option<Book<S::Store>>,
     setbacks: &mut Setbacks,
 ) -> Result<Option<Begun<S::Store>>, Failure>
@@ -281,8 +306,9 @@ where
     if book.is_none() && over != Some(Over::Program) {
         over = Some(Over::Starved);
     }
+    count_of(rt, node, over);
     warn_of(rt, log, node, over, setbacks);
-    let Some(book) = next_book(rt, log, alloc, node, stores, paths, book, over, setbacks)? else {
+    let Some(book) = next_book(rt, log, alloc, node, stores, hall, book, over, setbacks)? else {
         return Ok(None);
     };
     if !node.signal.begin(rt) {
@@ -291,11 +317,12 @@ where
     Ok(begun_in_time(rt, alloc, node, Shut { book }))
 }
 
-/// A table of paths, once there is memory for it; none where the program is to end before.
-fn paths_of<R: Wait + Clock>(rt: &R, alloc: Global, node: &Node) -> Option<Paths> {
+/// A table of paths and an empty counter for errands, once there is memory for it; none where the program is to end before.
+fn hall_of<R: Wait + Clock>(rt: &R, alloc: Global, node: &Node) -> Option<Hall> {
     for _ in rt.forever() {
         if let Ok(paths) = Paths::new(alloc) {
-            return Some(paths);
+            let errands = Errands::new();
+            return Some(Hall { paths, errands });
         }
         if node.signal.over(rt).is_some() {
             return None;
@@ -312,20 +339,18 @@ fn live_on<R, L, S: Stores>(
     alloc: Global,
     node: &Node,
     stores: &S,
+    hall: &Hall,
     mut begun: Begun<S::Store>,
 ) -> Result<(), Failure>
 where
     R: Threads + Wait + Clock + Net<Listener = TcpListener, Stream = TcpStream> + Sync,
     L: Log + Sync,
 {
-    let Some(paths) = paths_of(rt, alloc, node) else {
-        return Ok(());
-    };
     let mut setbacks = Setbacks::new();
     for _ in rt.forever() {
         let Begun { book } = begun;
-        let ended = named_run(rt, log, alloc, node, &paths, book);
-        match next_run(rt, log, alloc, node, stores, &paths, ended, &mut setbacks)? {
+        let ended = named_run(rt, log, alloc, node, hall, book);
+        match next_run(rt, log, alloc, node, stores, hall, ended, &mut setbacks)? {
             Some(next) => begun = next,
             None => return Ok(()),
         }
@@ -358,6 +383,14 @@ fn role_of(node: &Node, place: usize) -> Option<Role> {
     } else {
         Some(Role::Follow(number))
     }
+}
+
+/// Where a node's threads take connections.
+#[derive(Drop)]
+pub struct Doors {
+    listener: TcpListener,
+    /// For operators, if they are served.
+    operators: Option<TcpListener>,
 }
 
 /// Plays a role, until the program is to end.
@@ -399,21 +432,110 @@ fn end_helpers<R: Wait + Clock + Net<Listener = TcpListener, Stream = TcpStream>
     node.news.end(rt);
 }
 
-/// A node that is to live: its first run, and its port.
+/// A node that is to live: its first run, and its ports.
 #[derive(Drop)]
 pub struct Life<S: Alter + Drop> {
     pub begun: Begun<S>,
-    pub listener: TcpListener,
+    pub doors: Doors,
 }
 
-/// A life with this run, at the node's port; or why the port can't be bound.
+/// The port of an address, bound; or which can't be, and why.
+fn bound<R: Net<Listener = TcpListener, Stream = TcpStream>>(
+    rt: &R,
+    address: SocketAddr,
+) -> Result<TcpListener, (u16, ErrorKind)> {
+    match TcpListener::bind(rt, address) {
+        Ok(listener) => Ok(listener),
+        Err(error) => Err((address.port(), error.kind())),
+    }
+}
+
+/// A life with this run, at the node's ports; or which port can't be bound, and why.
 pub fn life_of<R: Net<Listener = TcpListener, Stream = TcpStream>, S: Alter + Drop>(
     rt: &R,
     node: &Node,
     begun: Begun<S>,
-) -> io::Result<Life<S>> {
-    let listener = TcpListener::bind(rt, node.site.listen)?;
-    Ok(Life { begun, listener })
+) -> Result<Life<S>, (u16, ErrorKind)> {
+    let listener = bound(rt, node.site.listen)?;
+    let operators = match node.site.operate {
+        Some(address) => Some(bound(rt, address)?),
+        None => None,
+    };
+    let doors = Doors {
+        listener,
+        operators,
+    };
+    Ok(Life { begun, doors })
+}
+
+/// Starts a thread for a role. It says whether one could be had.
+fn start_helper<'s, E, R, L>(
+    scope: &Scope<'s, E>,
+    rt: &'s R,
+    log: &'s L,
+    alloc: Global,
+    node: &'s Node,
+    listener: &'s TcpListener,
+    role: Role,
+) -> bool
+where
+    R: Threads + Wait + Clock + Net<Listener = TcpListener, Stream = TcpStream> + Sync,
+    L: Log + Sync,
+{
+    scope
+        .spawn(move || help(rt, log, alloc, node, listener, role))
+        .is_ok()
+}
+
+/// Starts the thread that serves operators. It says whether one could be had.
+fn start_operator<'s, E, R, L>(
+    scope: &Scope<'s, E>,
+    rt: &'s R,
+    log: &'s L,
+    alloc: Global,
+    node: &'s Node,
+    paths: &'s Paths,
+    errands: &'s Errands,
+    listener: &'s TcpListener,
+) -> bool
+where
+    R: Threads + Wait + Clock + Net<Listener = TcpListener, Stream = TcpStream> + Sync,
+    L: Log + Sync,
+{
+    scope
+        .spawn(move || operate(rt, log, alloc, node, paths, errands, listener))
+        .is_ok()
+}
+
+/// Starts the threads that outlive the runs. It says whether all could be had.
+fn start_helpers<'s, E, R, L>(
+    scope: &Scope<'s, E>,
+    rt: &'s R,
+    log: &'s L,
+    alloc: Global,
+    node: &'s Node,
+    hall: &'s Hall,
+    doors: &'s Doors,
+) -> bool
+where
+    R: Threads + Wait + Clock + Net<Listener = TcpListener, Stream = TcpStream> + Sync,
+    L: Log + Sync,
+{
+    for place in 0..places_of(node) {
+        let Some(role) = role_of(node, place) else {
+            continue;
+        };
+        if !start_helper(scope, rt, log, alloc, node, &doors.listener, role) {
+            return false;
+        }
+    }
+    match &doors.operators {
+        Some(operators) => {
+            let (paths, errands) = (&hall.paths, &hall.errands);
+            start_operator(scope, rt, log, alloc, node, paths, errands, operators)
+        }
+        None => true,
+    }
 }
 
 /// The life of a node: its runs, with the threads that accept, call and pull beside them, until the program is to end.
@@ -429,22 +551,18 @@ where
     R: Threads + Wait + Clock + Net<Listener = TcpListener, Stream = TcpStream> + Sync,
     L: Log + Sync,
 {
-    let Life { begun, listener } = life;
-    let listener = &listener;
+    let Life { begun, doors } = life;
+    node.note_start(rt);
+    let Some(hall) = hall_of(rt, alloc, node) else {
+        return Ok(());
+    };
+    let (doors, hall) = (&doors, &hall);
     thread::scope(thread::scope_env(), rt, move |scope| {
-        for place in 0..places_of(node) {
-            let Some(role) = role_of(node, place) else {
-                continue;
-            };
-            if scope
-                .spawn(move || help(rt, log, alloc, node, listener, role))
-                .is_err()
-            {
-                end_helpers(rt, node);
-                return Err(Failure::Run);
-            }
+        if !start_helpers(scope, rt, log, alloc, node, hall, doors) {
+            end_helpers(rt, node);
+            return Err(Failure::Run);
         }
-        let outcome = live_on(rt, log, alloc, node, stores, begun);
+        let outcome = live_on(rt, log, alloc, node, stores, hall, begun);
         end_helpers(rt, node);
         outcome
     })

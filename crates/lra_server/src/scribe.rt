@@ -2,8 +2,9 @@
 ghost use Rattle.std.specs.Prelude.{◌≡◌, IfErr};
 ghost use Rattle.lra_facts.specs.declared.refusal.Refusal.TheVariants.{NoMemory};
 ghost use Rattle.lra_book.specs.declared.calls.Call.TheVariants.{Duties as AskDuties, Expire as AskExpire, Take as TakeDelta};
-ghost use Rattle.lra_server.specs.Entering.{EntersLetter, IsMade, IsMadeInMemory};
+ghost use Rattle.lra_server.specs.Entering.{EntersLetter, IsMade, IsMadeAndCopied, IsMadeInMemory};
 
+use crate::errands::{Errand, Errands};
 use crate::refusals::over_by;
 use crate::sweeping::sweep;
 use crate::taken::moment;
@@ -145,6 +146,46 @@ fn count<R: Wait + Clock, C: Clerk>(
     clerk.call(alloc, Call::Pull(body), moment(rt))
 }
 
+/// Makes a call, and copies its reply.
+fn make<C: Clerk>(alloc: Global, clerk: &mut C, call: Call, now: u64) -> Result<Reply, Refusal>
+    ensures { IsMadeAndCopied C.Clerk clerk.old clerk.new now call result }
+{
+    match clerk.call(alloc, call, now) {
+        Ok(()) => match clerk.reply().clone() {
+            Ok(reply) => Ok(reply),
+            Err(_) => Err(Refusal::NoMemory),
+        },
+        Err(refusal) => Err(refusal),
+    }
+}
+
+/// Makes the call that operators want, if there is one.
+fn serve_errand<R: Wait + Clock, C: Clerk>(
+    rt: &R,
+    alloc: Global,
+    errands: &Errands,
+    clerk: &mut C,
+) -> Result<(), Refusal> {
+    let Some(errand) = errands.next(rt) else {
+        return Ok(());
+    };
+    let Errand { number, call, now } = errand;
+    let outcome = make(alloc, clerk, call, now);
+    let refusal = refusal_in(&outcome);
+    errands.tell(rt, number, outcome);
+    match refusal {
+        Some(refusal) => Err(refusal),
+        None => Ok(()),
+    }
+}
+
+fn refusal_in(outcome: &Result<Reply, Refusal>) -> Option<Refusal> {
+    match outcome {
+        Ok(_) => None,
+        Err(refusal) => Some(*refusal),
+    }
+}
+
 /// Does what is to be done next. It waits for that, unless the home is to be swept.
 fn attend<R: Wait + Clock, C: Clerk>(
     rt: &R,
@@ -186,11 +227,11 @@ fn rest<R: Wait + Clock + Net<Listener = TcpListener, Stream = TcpStream>>(
     }
 }
 
-/// Enters what the threads that call and pull hear, looks for deadlines, and sweeps, until the run is over. It gives the clerk back.
+/// Enters what the threads that call and pull hear, looks for deadlines, sweeps, and makes the calls that operators want, until the run is over. It gives the clerk back.
 pub fn enter_all<
     R: Wait + Clock + Net<Listener = TcpListener, Stream = TcpStream>,
     C: Clerk + Drop,
->(rt: &R, alloc: Global, node: &Node, mut clerk: C) -> C {
+>(rt: &R, alloc: Global, node: &Node, errands: &Errands, mut clerk: C) -> C {
     for _ in rt.forever() {
         node.pass_on(rt);
         node.end_if_spent(rt);
@@ -200,6 +241,9 @@ pub fn enter_all<
         if let Err(refusal) = attend(rt, alloc, node, &mut clerk) {
             rest(rt, node, refusal);
         } else if let Err(refusal) = sweep(rt, alloc, node, &mut clerk) {
+            rest(rt, node, refusal);
+        }
+        if let Err(refusal) = serve_errand(rt, alloc, errands, &mut clerk) {
             rest(rt, node, refusal);
         }
     }

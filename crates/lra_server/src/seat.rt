@@ -2,6 +2,7 @@
 ghost use Rattle.std.specs.Prelude.{◌≡◌, ◌⊎◌, Err};
 ghost use Rattle.lra_facts.specs.declared.refusal.Refusal.TheVariants.{Stopped};
 
+use crate::counting::{asked_by, number_of, refused_by};
 use lra_book::{Call, Clerk, Reply};
 use lra_delta::Delta;
 use lra_facts::Refusal;
@@ -17,6 +18,9 @@ use std::time::Clock;
 /// How many facts of a frame, or duties of a list, count as one call more. The trail keeps each frame and list, so a run with long
 /// ones ends early.
 const SHARE: u64 = 64;
+
+/// How many members of a record count so.
+const MEMBERS: u64 = 8;
 
 /// How many calls more a frame counts as at most: of the facts that it could tell, many may be purged.
 const MAX_SHARES: u64 = 320;
@@ -123,6 +127,7 @@ fn weight_of_reply(reply: &Reply) -> u64 {
     match reply {
         Reply::Due(duties) => duties.as_slice().len() as u64 / SHARE,
         Reply::Gave(delta) => shares_of(delta),
+        Reply::Held(holding) => holding.record.members.len() as u64 / MEMBERS,
         _ => 0,
     }
 }
@@ -138,7 +143,7 @@ fn may_end(reply: &Reply) -> bool {
 }
 
 /// Whether a call enters a command.
-fn enters(call: &Call) -> bool {
+pub(crate) fn enters(call: &Call) -> bool {
     matches!(call, Call::Command(_) | Call::Expire)
 }
 
@@ -218,12 +223,14 @@ impl<'n, R: Wait + Clock, C: Clerk + Drop> Clerk for Seat<'n, R, C> {
         ⊎ ((new.clerk ≡ old.clerk) × (outcome ≡ Err Stopped)) };
 
     fn call(&mut self, alloc: Global, call: Call, now: u64) -> Result<(), Refusal> {
-        let (is_move, completes) = (call.is_move(), is_completion(&call));
+        let (is_move, completes, asked) = (call.is_move(), is_completion(&call), asked_by(&call));
         let weight = weight_of_call(&call);
         let (front, freed) = (front_of(self.node, &call), freed_by(&call));
         if self.holds && enters(&call) {
             if self.node.post.is_spared(self.rt) {
                 self.held = true;
+                let number = number_of(&Refusal::Stopped);
+                self.node.counts.call(self.rt, asked, Some(number));
                 return Err(Refusal::Stopped);
             }
             if self.node.site.is_apart() {
@@ -236,6 +243,7 @@ impl<'n, R: Wait + Clock, C: Clerk + Drop> Clerk for Seat<'n, R, C> {
                 let calls = weight.saturating_add(weight_of_reply(reply));
                 self.node.tally.count(calls, is_move, is_stored(reply));
                 tell(self.rt, self.node, reply, completes);
+                self.node.counts.call(self.rt, asked, refused_by(reply));
                 if let Some(front) = front {
                     self.node.hear_front(self.rt, &front);
                 }
@@ -244,7 +252,11 @@ impl<'n, R: Wait + Clock, C: Clerk + Drop> Clerk for Seat<'n, R, C> {
                 }
                 Ok(())
             }
-            Err(refusal) => Err(refusal),
+            Err(refusal) => {
+                let number = number_of(&refusal);
+                self.node.counts.call(self.rt, asked, Some(number));
+                Err(refusal)
+            }
         }
     }
 

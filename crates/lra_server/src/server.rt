@@ -63,6 +63,9 @@ fn tell<R: Eprint>(rt: &R, trouble: Trouble) {
 fn tell_of_all<L: Log>(log: &L, nodes: &[Node]) {
     for node in nodes {
         info!(log; "node {}: listens on {}", node.number, node.site.listen);
+        if let Some(address) = node.site.operate {
+            info!(log; "node {}: listens for operators on {}", node.number, address);
+        }
     }
 }
 
@@ -114,10 +117,7 @@ fn lives_of<R: Net<Listener = TcpListener, Stream = TcpStream>, S: Alter + Drop>
     for (node, begun) in nodes.iter().zip(books) {
         let life = match life_of(rt, node, begun) {
             Ok(life) => life,
-            Err(error) => {
-                let port = node.site.listen.port();
-                return Err(Trouble::Port(node.number, port, error.kind()));
-            }
+            Err((port, why)) => return Err(Trouble::Port(node.number, port, why)),
         };
         if lives.push(life).is_err() {
             return Err(Trouble::Run(node.number));
@@ -173,8 +173,17 @@ pub struct Members {
     pub peers: Vec<Peer>,
     /// Where each listens, if that is said; else on the loopback interface, at the port where it is reached.
     pub listen: Option<SocketAddr>,
+    /// Where the first of them listens for operators, if that is said; each other at the port behind.
+    pub operate: Option<SocketAddr>,
     /// How long each keeps roots that have ended.
     pub keep: Keep,
+}
+
+/// An address at the port so many behind one.
+fn behind(address: Option<SocketAddr>, count: u8) -> Option<SocketAddr> {
+    let address = address?;
+    let port = address.port().saturating_add(u16::from(count));
+    Some(SocketAddr::new(address.ip(), port))
 }
 
 /// What members of a group share with their threads.
@@ -186,6 +195,7 @@ fn nodes_of_members(alloc: Global, members: Members) -> Result<Vec<Node>, AllocE
         last,
         peers,
         listen,
+        operate,
         keep,
     } = members;
     let nodes = peers.len() as u8;
@@ -197,7 +207,8 @@ fn nodes_of_members(alloc: Global, members: Members) -> Result<Vec<Node>, AllocE
     let mut all = Vec::new(alloc);
     let mut number = first;
     for own in news.iter() {
-        let site = Site::apart(listen, number, Arc::try_clone(&peers)?);
+        let door = behind(operate, number.saturating_sub(first));
+        let site = Site::apart(listen, door, number, Arc::try_clone(&peers)?);
         let own = Arc::try_clone(own)?;
         let told = same_news(alloc, &news)?;
         all.push(Node::new(alloc, number, nodes, site, keep, tally(), own, told))?;

@@ -8,26 +8,16 @@ use lra_book::{Call, Clerk, Reply};
 use lra_facts::Refusal;
 use lra_history::{Command, CommandReply};
 use lra_id::LraId;
-use lra_states::LraStatus;
-use lra_threads::{Chore, Node, Purged, Standing};
+use lra_threads::{Chore, Node, Purged};
 use std::alloc::Global;
 use std::sync::Wait;
 use std::time::Clock;
-
-/// How an LRA stands that shows this.
-fn seen_by(status: LraStatus) -> Standing {
-    match status {
-        LraStatus::Closed | LraStatus::Cancelled => Standing::Ended,
-        LraStatus::FailedToClose | LraStatus::FailedToCancel => Standing::Failed,
-        LraStatus::Active | LraStatus::Closing | LraStatus::Cancelling => Standing::GoingOn,
-    }
-}
 
 /// Notes what a page shows.
 fn note<R: Wait + Clock>(rt: &R, node: &Node, reply: &Reply) {
     if let Reply::Listed(page) = reply {
         for row in page.rows() {
-            node.sweep.see(rt, row.id, seen_by(row.status));
+            node.sweep.see(rt, row.id, row.status);
         }
         node.sweep.turn(rt, page.more());
     }
@@ -89,6 +79,7 @@ fn purge<R: Wait + Clock, C: Clerk>(
 {
     let command = Command::Purge { root };
     clerk.call(alloc, Call::Command(command), moment(rt))?;
+    node.counts.sweep(rt, purged_by(clerk.reply()));
     node.sweep.purged(rt, root, purged_by(clerk.reply()));
     Ok(())
 }

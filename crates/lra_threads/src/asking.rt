@@ -1,5 +1,6 @@
 // The thread that pulls from the other nodes of its process in turn. It outlives the runs of its node.
 
+use crate::counts::Pull;
 use crate::line::{Times, line_over};
 use crate::news::Counts;
 use crate::node::Node;
@@ -54,6 +55,15 @@ enum Pulled {
     Nothing,
     /// Nothing could be had, or something waits to be taken already.
     Failed,
+}
+
+/// What it is counted as.
+fn counted(pulled: Pulled) -> Pull {
+    match pulled {
+        Pulled::New => Pull::New,
+        Pulled::Nothing => Pull::Nothing,
+        Pulled::Failed => Pull::Failed,
+    }
 }
 
 /// Pulls from another node, and hands over what is new.
@@ -130,6 +140,8 @@ pub fn pull_in_turn<R: Wait + Clock + Net<Listener = TcpListener, Stream = TcpSt
         };
         other = next_teller(node, other, &told, &seen);
         let pulled = pull_one(rt, alloc, node, other);
+        let now = rt.monotonic().unwrap_or(Duration::from_millis(0));
+        node.counts.pull(rt, other, counted(pulled), now);
         if pulled != Pulled::Failed {
             seen.set(other, told.of(other));
         }

@@ -91,6 +91,14 @@ fn call_one<R: Wait + Clock + Net<Listener = TcpListener, Stream = TcpStream>>(
     }
 }
 
+/// What was heard, if something was.
+fn heard_of(came: &Result<Heard, Came>) -> Option<Heard> {
+    match came {
+        Ok(heard) => Some(*heard),
+        Err(_) => None,
+    }
+}
+
 /// Warns of a participant that is called in vain, or tells that it answers.
 fn warn_of<L: Log>(log: &L, node: &Node, plight: &Plight) {
     let id = plight.id.to_text();
@@ -118,6 +126,7 @@ pub fn call_out<R: Wait + Clock + Net<Listener = TcpListener, Stream = TcpStream
         };
         let began = rt.monotonic().unwrap_or(Duration::from_millis(0));
         let came = call_one(rt, alloc, node, &duty);
+        node.counts.callback(rt, duty.kind, heard_of(&came));
         if let Some(plight) = node.post.tell(rt, duty, began, came) {
             warn_of(log, node, &plight);
         }

@@ -1,6 +1,7 @@
 // The threads that pull from nodes in processes of their own, one from each. They outlive the runs of their node.
 
 use crate::asking::pull_over;
+use crate::counts::Pull;
 use crate::node::Node;
 use log::{Log, warn};
 use lra_delta::Delta;
@@ -127,6 +128,15 @@ fn take_over<R: Wait>(rt: &R, node: &Node, other: u8, front: &Front, delta: Delt
     if is_new { Pulled::New } else { Pulled::Nothing }
 }
 
+/// What a pull is counted as.
+fn counted(pulled: Pulled) -> Pull {
+    match pulled {
+        Pulled::New => Pull::New,
+        Pulled::Nothing | Pulled::Older | Pulled::Newer => Pull::Nothing,
+        Pulled::Unreached | Pulled::Unanswered => Pull::Failed,
+    }
+}
+
 /// Pulls from another node once, and hands over what is new.
 fn pull_once<R: Wait + Clock + Net<Listener = TcpListener, Stream = TcpStream>>(
     rt: &R,
@@ -144,9 +154,9 @@ fn pull_once<R: Wait + Clock + Net<Listener = TcpListener, Stream = TcpStream>>(
     }
 }
 
-/// Warns of what a pull shows of another node: that nothing can be had of it, that it answers again, and that a journal is older than
+/// Counts a pull, and warns of what it shows of another node: that nothing can be had of it, that it answers again, and that a journal is older than
 /// what its node told before.
-fn warn_of<R: Clock, L: Log>(
+fn warn_of<R: Wait + Clock, L: Log>(
     rt: &R,
     log: &L,
     node: &Node,
@@ -155,6 +165,7 @@ fn warn_of<R: Clock, L: Log>(
     outlook: &mut Outlook,
 ) {
     let now = rt.monotonic().unwrap_or(Duration::from_millis(0));
+    node.counts.pull(rt, other, counted(pulled), now);
     let number = node.number;
     if pulled == Pulled::Unreached || pulled == Pulled::Unanswered {
         if outlook.fails(now) {

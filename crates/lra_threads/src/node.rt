@@ -1,7 +1,10 @@
 // What the threads of a node share.
 ghost use Rattle.std.specs.Prelude.{◌≤◌};
 
+use crate::counts::Counts;
+use crate::metrics::metrics_of;
 use crate::news::News;
+use crate::plaints::calls_text;
 use crate::post::Post;
 use crate::queue::Queue;
 use crate::signal::{Over, Signal};
@@ -9,10 +12,10 @@ use crate::site::Site;
 use crate::sweep::{Keep, Sweep};
 use crate::tally::Tally;
 use lra_id::Front;
-use std::alloc::Global;
+use std::alloc::{AllocError, Global};
 use std::io::ErrorKind;
-use std::net::{Net, TcpListener, TcpStream};
-use std::sync::atomic::{AtomicBool, Ordering};
+use std::net::{Net, SocketAddr, TcpListener, TcpStream};
+use std::sync::atomic::{AtomicBool, AtomicU64, Ordering};
 use std::sync::{Arc, Wait};
 use std::thread;
 use std::time::{Clock, Duration};
@@ -37,11 +40,17 @@ pub struct Node {
     pub tally: Tally,
     pub post: Post,
     pub sweep: Sweep,
+    pub counts: Counts,
     /// Where it hears that others have something new.
     pub news: Arc<News>,
     /// Where it tells that it has: where the nodes of its process hear it.
     told: Vec<Arc<News>>,
     has_news: AtomicBool,
+    /// Whether its journal is closed, to be opened again.
+    is_shut: AtomicBool,
+    /// When it started: milliseconds by the monotonic clock, and seconds since 1970.
+    started: AtomicU64,
+    start_seconds: AtomicU64,
 }
 
 impl Node {
@@ -66,12 +75,72 @@ impl Node {
             signal: Signal::new(),
             tally,
             post: Post::new(alloc, nodes, nodes > 1 && site.is_apart()),
-            sweep: Sweep::new(alloc, number, keep, site.is_apart()),
+            sweep: Sweep::new(alloc, number, keep, site.is_apart(), site.operate.is_some()),
+            counts: Counts::new(),
             site,
             news,
             told,
             has_news: AtomicBool::new(false),
+            is_shut: AtomicBool::new(false),
+            started: AtomicU64::new(0),
+            start_seconds: AtomicU64::new(0),
         }
+    }
+
+    /// Notes that it starts now.
+    pub fn note_start<R: Clock>(&self, rt: &R) {
+        let now = rt.monotonic().unwrap_or(Duration::from_millis(0));
+        let millis = u64::try_from(now.as_millis()).unwrap_or(0);
+        self.started.store(millis, Ordering::SeqCst);
+        let since = rt.since_1970().unwrap_or(Duration::from_millis(0));
+        self.start_seconds.store(since.as_secs(), Ordering::SeqCst);
+    }
+
+    /// When it started, by the monotonic clock.
+    pub(crate) fn started(&self) -> Duration {
+        Duration::from_millis(self.started.load(Ordering::SeqCst))
+    }
+
+    /// When it started, in seconds since 1970.
+    pub(crate) fn start_seconds(&self) -> u64 {
+        self.start_seconds.load(Ordering::SeqCst)
+    }
+
+    /// Notes whether its journal is closed, to be opened again.
+    pub fn note_shut(&self, is_shut: bool) {
+        self.is_shut.store(is_shut, Ordering::SeqCst);
+    }
+
+    /// Whether its journal is closed, to be opened again.
+    pub fn is_shut(&self) -> bool {
+        self.is_shut.load(Ordering::SeqCst)
+    }
+
+    /// Why it enters no commands now, if it doesn't: `journal` where the journal failed, `behind` where the other nodes aren't heard yet,
+    /// `ending` where the program is to end.
+    pub fn unready<R: Wait + Clock>(&self, rt: &R) -> Option<&'static str> {
+        if self.signal.has_ended(rt) {
+            return Some("ending");
+        }
+        if self.is_shut() || self.post.is_spared(rt) {
+            return Some("journal");
+        }
+        if self.post.is_behind(rt) {
+            return Some("behind");
+        }
+        None
+    }
+
+    /// Whom it calls in vain, as JSON: 256 at most, who is so for longest first.
+    pub fn calls<R: Wait + Clock>(&self, rt: &R, alloc: Global) -> Result<Vec<u8>, AllocError> {
+        let now = rt.monotonic().unwrap_or(Duration::from_millis(0));
+        let plaints = self.post.plaints(rt, alloc, now)?;
+        calls_text(alloc, &plaints)
+    }
+
+    /// Its counts, in the text format of Prometheus.
+    pub fn metrics<R: Wait + Clock>(&self, rt: &R, alloc: Global) -> Result<Vec<u8>, AllocError> {
+        metrics_of(rt, alloc, self)
     }
 
     /// Notes that a fact of the node's own was stored.
@@ -119,7 +188,10 @@ impl Node {
         self.queue.end(rt);
         self.post.wake(rt);
         if why == Over::Program {
-            self.knock(rt);
+            self.knock(rt, self.site.own_door());
+            if let Some(door) = self.site.own_operators_door() {
+                self.knock(rt, door);
+            }
         }
     }
 
@@ -133,11 +205,14 @@ impl Node {
         }
     }
 
-    // Connects once to the node's own port, so that the accepting thread looks at the signal. Where the port's queue is full the try
+    // Connects once to a port of the node's own, so that the thread that accepts there looks at the signal. Where the port's queue is full the try
     // ends with its time: that thread has others to take then, and looks behind each. Where no socket can be had it tries again: that
     // thread, too, gets none then, and looks each time.
-    fn knock<R: Wait + Clock + Net<Listener = TcpListener, Stream = TcpStream>>(&self, rt: &R) {
-        let address = self.site.own_door();
+    fn knock<R: Wait + Clock + Net<Listener = TcpListener, Stream = TcpStream>>(
+        &self,
+        rt: &R,
+        address: SocketAddr,
+    ) {
         for _turn in 0..MAX_TURNS {
             match TcpStream::connect_timeout(rt, &address, Duration::from_millis(REACH)) {
                 Err(error) if error.kind() != ErrorKind::TimedOut => {}

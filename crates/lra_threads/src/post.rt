@@ -3,12 +3,13 @@
 
 ghost use Rattle.std.specs.Prelude.{◌≤◌};
 
+use crate::plaints::{Plaint, Sought, drop_sought, forget_found, in_vain, note_sought, plaints_of};
 use lra_callback::{Duties, Duty, Heard, Kind};
 use lra_delta::Delta;
 use lra_id::Front;
 use lra_states::{Act, Outcome};
 use lra_turns::{Called, Calls, Came, Pace, Plight};
-use std::alloc::Global;
+use std::alloc::{AllocError, Global};
 use std::collections::VecDeque;
 use std::sync::{Condvar, CondvarTimeouts, Mutex, Wait};
 use std::time::{Clock, Duration};
@@ -101,7 +102,10 @@ fn pace_of(time: Duration) -> Pace {
 // What lies under the lock.
 #[derive(Drop)]
 struct Mail {
+    alloc: Global,
     calls: Calls,
+    /// Whose last call was in vain, where it was called.
+    sought: Vec<Sought>,
     letters: VecDeque<Letter>,
     delta: Option<Delta>,
     front: Front,
@@ -275,9 +279,13 @@ impl Mail {
     ) -> Option<Plight> {
         self.calls.end(&duty, pace);
         match came {
-            Err(came) => self.calls.vain(duty, came, now),
+            Err(came) => {
+                note_sought(&mut self.sought, self.alloc, &duty);
+                self.calls.vain(duty, came, now)
+            }
             Ok(heard) => {
                 let plight = self.calls.heard(&duty, now);
+                drop_sought(&mut self.sought, &Called::of(&duty));
                 self.put_letter(Letter { duty, heard });
                 plight
             }
@@ -305,7 +313,9 @@ impl Post {
     {
         Post {
             mail: Mutex::new(Mail {
+                alloc,
                 calls: Calls::new(alloc),
+                sought: Vec::new(alloc),
                 letters: VecDeque::new(alloc),
                 delta: None,
                 front: Front::zero(usize::from(nodes)),
@@ -351,7 +361,7 @@ impl Post {
     }
 
     /// Has the thread that enters look whether the run is over, also where it is only about to wait.
-    pub(crate) fn wake<R: Wait>(&self, rt: &R) {
+    pub fn wake<R: Wait>(&self, rt: &R) {
         self.mail.lock(rt).hurried = true;
         self.came.notify_all();
     }
@@ -406,6 +416,30 @@ impl Post {
     pub fn is_spared<R: Wait + Clock>(&self, rt: &R) -> bool {
         let now = rt.monotonic().unwrap_or(Duration::from_millis(0));
         self.mail.lock(rt).held_until > now
+    }
+
+    /// Whether the other nodes aren't heard yet, so that nothing is to be entered.
+    pub(crate) fn is_behind<R: Wait>(&self, rt: &R) -> bool {
+        !self.mail.lock(rt).open
+    }
+
+    /// How many are called in vain, and how long the one that is so for longest.
+    pub(crate) fn in_vain<R: Wait>(&self, rt: &R, now: Duration) -> (u64, Duration) {
+        let mail = self.mail.lock(rt);
+        in_vain(&mail.sought, &mail.calls, now)
+    }
+
+    /// Those who are called in vain, who is so for longest first.
+    pub(crate) fn plaints<R: Wait>(
+        &self,
+        rt: &R,
+        alloc: Global,
+        now: Duration,
+    ) -> Result<Vec<Plaint>, AllocError> {
+        let mut mail = self.mail.lock(rt);
+        let Mail { sought, calls, .. } = &mut *mail;
+        forget_found(sought, calls);
+        plaints_of(sought, calls, alloc, now)
     }
 
     /// Tells that another node was asked for the first time since the start; what it told is handed over, if it did.

@@ -141,6 +141,11 @@ impl Queue {
         }
     }
 
+    /// How many connections wait.
+    pub(crate) fn waiting<R: Wait>(&self, rt: &R) -> u64 {
+        self.waiting.lock(rt).guests.len() as u64
+    }
+
     /// Whether as many wait as may at which nobody has looked yet.
     pub(crate) fn is_full<R: Wait>(&self, rt: &R) -> bool {
         self.waiting.lock(rt).coming >= MAX_COMING

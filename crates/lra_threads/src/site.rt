@@ -55,10 +55,26 @@ fn connect<R: Wait + Clock + Net<Stream = TcpStream>>(
     connect_to_one(rt, signal, (host, peer.port).to_socket_addrs(rt)?, time)
 }
 
+/// Where one is reached from its own machine that listens here: one that listens on every interface, on the loopback interface.
+fn door_of(address: SocketAddr) -> SocketAddr {
+    let port = address.port();
+    match address.ip() {
+        IpAddr::V4(ip) if ip.is_unspecified() => {
+            SocketAddr::new(IpAddr::V4(Ipv4Addr::LOCALHOST), port)
+        }
+        IpAddr::V6(ip) if ip.is_unspecified() => {
+            SocketAddr::new(IpAddr::V6(Ipv6Addr::LOCALHOST), port)
+        }
+        _ => address,
+    }
+}
+
 /// Where a node listens, and where it reaches the others.
 #[derive(Drop)]
 pub struct Site {
     pub listen: SocketAddr,
+    /// Where it listens for operators, if it does.
+    pub operate: Option<SocketAddr>,
     others: Others,
 }
 
@@ -70,13 +86,19 @@ impl Site {
     {
         Site {
             listen: address_of(first_port, number),
+            operate: None,
             others: Others::Here(first_port),
         }
     }
 
     /// Of a node that reaches the others at these addresses, in order, as it is reached itself. Where it isn't said where it listens, it
-    /// does so on the loopback interface, at its own port there.
-    pub fn apart(said: Option<SocketAddr>, number: u8, peers: Arc<Vec<Peer>>) -> Site
+    /// does so on the loopback interface, at its own port there. It listens for operators where that is said.
+    pub fn apart(
+        said: Option<SocketAddr>,
+        operate: Option<SocketAddr>,
+        number: u8,
+        peers: Arc<Vec<Peer>>,
+    ) -> Site
         ensures { IfNone said (socket_ip result.listen ≡ IpAddr.V4 Ipv4Addr.LOCALHOST) }
     {
         let port = match peer_at(peers.as_slice(), number) {
@@ -85,6 +107,7 @@ impl Site {
         };
         Site {
             listen: listens_at(said, port),
+            operate,
             others: Others::Apart(peers),
         }
     }
@@ -94,17 +117,16 @@ impl Site {
         matches!(&self.others, Others::Apart(_))
     }
 
-    /// Where the node reaches its own port: one that listens on every interface does so on the loopback interface.
+    /// Where the node reaches its own port.
     pub(crate) fn own_door(&self) -> SocketAddr {
-        let port = self.listen.port();
-        match self.listen.ip() {
-            IpAddr::V4(ip) if ip.is_unspecified() => {
-                SocketAddr::new(IpAddr::V4(Ipv4Addr::LOCALHOST), port)
-            }
-            IpAddr::V6(ip) if ip.is_unspecified() => {
-                SocketAddr::new(IpAddr::V6(Ipv6Addr::LOCALHOST), port)
-            }
-            _ => self.listen,
+        door_of(self.listen)
+    }
+
+    /// Where it reaches its own port for operators, if it has one.
+    pub(crate) fn own_operators_door(&self) -> Option<SocketAddr> {
+        match self.operate {
+            Some(address) => Some(door_of(address)),
+            None => None,
         }
     }
 

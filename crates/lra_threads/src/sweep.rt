@@ -2,6 +2,7 @@
 // begins anew.
 
 use lra_id::{LAST_NUMBER, LraId, NodeId};
+use lra_states::LraStatus;
 use std::alloc::Global;
 use std::sync::atomic::{AtomicBool, AtomicU64, Ordering};
 use std::sync::{Mutex, Wait};
@@ -12,6 +13,9 @@ const LOOK: u64 = 250;
 
 /// How often where many of its places are taken, in milliseconds.
 const LOOK_OF_MANY: u64 = 50;
+
+/// How often it is looked through at most to know what its LRAs show, in milliseconds.
+const LOOK_TO_COUNT: u64 = 1_000;
 
 /// How many are many: half of them.
 const HALF: u64 = 128;
@@ -39,13 +43,24 @@ pub struct Keep {
 
 /// How an LRA stands on a page.
 #[derive(Clone, Copy, PartialEq, Eq)]
-pub enum Standing {
+enum Standing {
     /// It hasn't ended.
     GoingOn,
     /// It is closed or cancelled.
     Ended,
     /// It failed to close or to cancel.
     Failed,
+}
+
+impl Standing {
+    /// How one stands that shows this.
+    fn of(status: LraStatus) -> Standing {
+        match status {
+            LraStatus::Closed | LraStatus::Cancelled => Standing::Ended,
+            LraStatus::FailedToClose | LraStatus::FailedToCancel => Standing::Failed,
+            LraStatus::Active | LraStatus::Closing | LraStatus::Cancelling => Standing::GoingOn,
+        }
+    }
 }
 
 /// An LRA of the home that has ended, and is to be purged.
@@ -72,10 +87,14 @@ struct Swept {
     looks_at: Duration,
     /// Whether there was no room for one that has ended.
     has_missed: bool,
-    /// How many LRAs of the home the look has found so far.
+    /// When it may begin again to know what the home's LRAs show.
+    counts_at: Duration,
+    /// How many LRAs of the home the look has found so far, and how many of them show each status.
     counted: u64,
-    /// How many the last one found.
+    showing: [u64; 7],
+    /// How many the last one found, and how many of them showed each status.
     taken: u64,
+    held: [u64; 7],
 }
 
 /// What is to be done next to sweep a home.
@@ -116,6 +135,8 @@ pub struct Sweep {
     number: u8,
     keep: Keep,
     counts: bool,
+    /// Whether it is to be known what the home's LRAs show.
+    is_watched: bool,
     /// Whether an LRA may have ended since the last look.
     is_stirred: AtomicBool,
     /// How many were begun since then, at most.
@@ -175,13 +196,16 @@ impl Swept {
             LOOK
         };
         self.looks_at = now.saturating_add(Duration::from_millis(time));
+        self.counts_at = now.saturating_add(Duration::from_millis(LOOK_TO_COUNT));
         self.counted = 0;
+        self.showing = [0; 7];
     }
 
     /// Ends a look. What it hasn't found is forgotten. It says whether there is to be another, since there was no room for one.
     fn end(&mut self) -> bool {
         self.looks = false;
         self.taken = self.counted;
+        self.held = self.showing;
         self.ended.retain(|ended| ended.is_found);
         let has_missed = self.has_missed;
         self.has_missed = false;
@@ -196,6 +220,14 @@ impl Swept {
             }
         }
         None
+    }
+
+    /// Counts one that shows this.
+    fn count(&mut self, status: LraStatus) {
+        self.counted = self.counted.saturating_add(1);
+        if let Some(count) = self.showing.get_mut(usize::from(status.rank())) {
+            *count = count.saturating_add(1);
+        }
     }
 
     /// Notes an LRA that has ended. One for which there is no room is noted the next time.
@@ -214,12 +246,13 @@ impl Swept {
 }
 
 impl Sweep {
-    /// Of a node, which keeps its roots so long; and knows how full the home is, or doesn't.
-    pub fn new(alloc: Global, number: u8, keep: Keep, counts: bool) -> Sweep {
+    /// Of a node, which keeps its roots so long; and knows how full the home is, or doesn't, and what its LRAs show, or doesn't.
+    pub fn new(alloc: Global, number: u8, keep: Keep, counts: bool, is_watched: bool) -> Sweep {
         Sweep {
             number,
             keep,
             counts,
+            is_watched,
             is_stirred: AtomicBool::new(true),
             // (how many there are is to be known at the start)
             begun: AtomicU64::new(MANY),
@@ -230,8 +263,11 @@ impl Sweep {
                 looks: false,
                 looks_at: Duration::from_millis(0),
                 has_missed: false,
+                counts_at: Duration::from_millis(0),
                 counted: 0,
+                showing: [0; 7],
                 taken: 0,
+                held: [0; 7],
             }),
         }
     }
@@ -265,11 +301,13 @@ impl Sweep {
     }
 
     /// Whether the home is to be looked through, once that may be done: some may have ended, or so many were begun that their count is
-    /// to be known.
-    fn is_to_look(&self, taken: u64) -> bool {
+    /// to be known; or, once in a while, something else may have changed that is to be known.
+    fn is_to_look(&self, swept: &Swept, now: Duration) -> bool {
         let begun = self.begun.load(Ordering::SeqCst);
-        let may_be_many = self.counts && begun > 0 && taken.saturating_add(begun) >= MANY;
-        may_be_many || (self.purges() && self.is_stirred.load(Ordering::SeqCst))
+        let may_have_ended = self.is_stirred.load(Ordering::SeqCst);
+        let may_be_many = self.counts && begun > 0 && swept.taken.saturating_add(begun) >= MANY;
+        let is_seen = self.is_watched && swept.counts_at <= now && (begun > 0 || may_have_ended);
+        may_be_many || is_seen || (self.purges() && may_have_ended)
     }
 
     /// Whether there is a chore now.
@@ -281,7 +319,7 @@ impl Sweep {
         let swept = self.swept.lock(rt);
         swept.looks
             || swept.due(now).is_some()
-            || (swept.looks_at <= now && self.is_to_look(swept.taken))
+            || (swept.looks_at <= now && self.is_to_look(&swept, now))
     }
 
     /// The next chore, if there is one: a look that has begun is ended first, and then what is due is purged.
@@ -295,7 +333,7 @@ impl Sweep {
             if let Some(id) = swept.due(now) {
                 return Some(Chore::Purge(id));
             }
-            if swept.looks_at > now || !self.is_to_look(swept.taken) {
+            if swept.looks_at > now || !self.is_to_look(&swept, now) {
                 return None;
             }
             self.is_stirred.store(false, Ordering::SeqCst);
@@ -316,7 +354,7 @@ impl Sweep {
     }
 
     /// Tells of an LRA on a page.
-    pub fn see<R: Wait + Clock>(&self, rt: &R, id: LraId, seen: Standing) {
+    pub fn see<R: Wait + Clock>(&self, rt: &R, id: LraId, status: LraStatus) {
         let now = rt.monotonic().unwrap_or(Duration::from_millis(0));
         let mut swept = self.swept.lock(rt);
         swept.beyond = Some(id);
@@ -329,8 +367,8 @@ impl Sweep {
             }
             return;
         }
-        swept.counted = swept.counted.saturating_add(1);
-        if let Some(time) = self.time_of(seen) {
+        swept.count(status);
+        if let Some(time) = self.time_of(Standing::of(status)) {
             swept.note(id, now.saturating_add(Duration::from_millis(time)));
         }
     }
@@ -371,6 +409,11 @@ impl Sweep {
                 ended.waits_for = None;
             }
         }
+    }
+
+    /// How many LRAs of the home showed each status at the last look, in the order of their ranks.
+    pub(crate) fn held<R: Wait>(&self, rt: &R) -> [u64; 7] {
+        self.swept.lock(rt).held
     }
 
     /// How full the home is.

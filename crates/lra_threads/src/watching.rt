@@ -120,7 +120,9 @@ pub fn watch<R: Wait + Clock, L: Log>(rt: &R, log: &L, node: &Node) {
         if warned.is_due(&fill, now) {
             warn_of(log, node.number, &fill);
         }
-        if let Some(count) = closed.add(node.queue.take_closed(), now) {
+        let count = node.queue.take_closed();
+        node.counts.close(rt, count);
+        if let Some(count) = closed.add(count, now) {
             warn!(log; "node {}: {} connections were closed, since no file is left", node.number, count);
         }
     }

@@ -166,6 +166,7 @@ fn group(alloc: Global) -> Option<Members>
         last: 2,
         peers,
         listen: None,
+        operate: None,
         keep: Keep {
             ended: Some(0),
             failed: None,

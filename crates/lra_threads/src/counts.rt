@@ -1,0 +1,255 @@
+// What the threads of a node count, to be told at its operator's port.
+
+use crate::signal::Over;
+use crate::sweep::Purged;
+use lra_callback::{Heard, Kind};
+use lra_states::Outcome;
+use std::sync::{Mutex, Wait};
+use std::time::Duration;
+
+/// How many kinds of calls of the desk there are.
+pub(crate) const CALLS: usize = 18;
+
+/// Their names.
+pub(crate) const CALL_NAMES: [&str; CALLS] = [
+    "begin", "join", "leave", "close", "cancel", "report", "forgot", "told", "purge", "status",
+    "member", "page", "pull", "take", "duties", "expire", "record", "survey",
+];
+
+/// How many refusals there are.
+pub(crate) const REFUSALS: usize = 24;
+
+/// Why runs are over, as it is counted.
+pub(crate) const RUNS: [&str; 6] = ["full", "E18", "E19", "E20", "E21", "starved"];
+
+/// What participants are called for.
+pub(crate) const KINDS: [&str; 5] = ["complete", "compensate", "status", "forget", "after"];
+
+/// What is heard of them.
+pub(crate) const HEARD: [&str; 5] = ["done", "failed", "busy", "told", "again"];
+
+/// What comes of pulls.
+pub(crate) const PULLS: [&str; 3] = ["new", "nothing", "failed"];
+
+/// What comes of purges.
+pub(crate) const SWEPT: [&str; 4] = ["gone", "nested", "waits", "later"];
+
+/// What a call of the desk asks for, as it is counted.
+#[derive(Clone, Copy, PartialEq, Eq)]
+pub enum Asked {
+    Begin,
+    Join,
+    Leave,
+    Close,
+    Cancel,
+    Report,
+    Forgot,
+    Told,
+    Purge,
+    Status,
+    Member,
+    Page,
+    Pull,
+    Take,
+    Duties,
+    Expire,
+    Record,
+    Survey,
+}
+
+impl Asked {
+    /// Its place among the names.
+    fn place(self) -> usize {
+        match self {
+            Asked::Begin => 0,
+            Asked::Join => 1,
+            Asked::Leave => 2,
+            Asked::Close => 3,
+            Asked::Cancel => 4,
+            Asked::Report => 5,
+            Asked::Forgot => 6,
+            Asked::Told => 7,
+            Asked::Purge => 8,
+            Asked::Status => 9,
+            Asked::Member => 10,
+            Asked::Page => 11,
+            Asked::Pull => 12,
+            Asked::Take => 13,
+            Asked::Duties => 14,
+            Asked::Expire => 15,
+            Asked::Record => 16,
+            Asked::Survey => 17,
+        }
+    }
+}
+
+/// What a pull came to, as it is counted.
+#[derive(Clone, Copy, PartialEq, Eq)]
+pub(crate) enum Pull {
+    New,
+    Nothing,
+    Failed,
+}
+
+impl Pull {
+    fn place(self) -> usize {
+        match self {
+            Pull::New => 0,
+            Pull::Nothing => 1,
+            Pull::Failed => 2,
+        }
+    }
+}
+
+/// The place of what a participant is called for.
+pub(crate) fn kind_place(kind: Kind) -> usize {
+    match kind {
+        Kind::Complete => 0,
+        Kind::Compensate => 1,
+        Kind::Status => 2,
+        Kind::Forget => 3,
+        Kind::After => 4,
+    }
+}
+
+/// The place of what was heard.
+fn heard_place(heard: Option<Heard>) -> usize {
+    match heard {
+        Some(Heard::Told(Outcome::Done)) => 0,
+        Some(Heard::Told(Outcome::Failed)) => 1,
+        Some(Heard::Told(Outcome::Busy)) => 2,
+        Some(Heard::Again) | None => 4,
+        Some(_) => 3,
+    }
+}
+
+/// The place of why a run is over, if that is counted.
+fn run_place(over: Over) -> Option<usize> {
+    match over {
+        Over::Program => None,
+        Over::Full => Some(0),
+        Over::JournalFailed => Some(1),
+        Over::Stopped => Some(2),
+        Over::RunFull => Some(3),
+        Over::TrailLost(_) => Some(4),
+        Over::Starved => Some(5),
+    }
+}
+
+fn swept_place(purged: Purged) -> usize {
+    match purged {
+        Purged::Gone => 0,
+        Purged::Nested => 1,
+        Purged::Waits(_) => 2,
+        Purged::Later => 3,
+    }
+}
+
+/// One more.
+fn add(count: Option<&mut u64>, more: u64) {
+    if let Some(count) = count {
+        *count = count.saturating_add(more);
+    }
+}
+
+/// Counts since the start.
+#[derive(Clone, Copy)]
+pub(crate) struct Numbers {
+    pub(crate) calls: [u64; CALLS],
+    pub(crate) refused: [u64; REFUSALS],
+    pub(crate) runs: [u64; 6],
+    /// By kind, and by what was heard.
+    pub(crate) callbacks: [[u64; 5]; 5],
+    /// By node, and by what came of it.
+    pub(crate) pulls: [[u64; 3]; 8],
+    /// When a pull from each node last succeeded.
+    pub(crate) pulled: [Option<Duration>; 8],
+    pub(crate) swept: [u64; 4],
+    pub(crate) failures: u64,
+    pub(crate) closed: u64,
+}
+
+/// What the threads of a node count.
+#[derive(Drop)]
+pub struct Counts {
+    numbers: Mutex<Numbers>,
+}
+
+impl Counts {
+    pub(crate) fn new() -> Counts {
+        Counts {
+            numbers: Mutex::new(Numbers {
+                calls: [0; CALLS],
+                refused: [0; REFUSALS],
+                runs: [0; 6],
+                callbacks: [[0; 5]; 5],
+                pulls: [[0; 3]; 8],
+                pulled: [None; 8],
+                swept: [0; 4],
+                failures: 0,
+                closed: 0,
+            }),
+        }
+    }
+
+    /// Counts a call of the desk, and its refusal by number, if it was refused.
+    pub fn call<R: Wait>(&self, rt: &R, asked: Asked, refusal: Option<u8>) {
+        let mut numbers = self.numbers.lock(rt);
+        add(numbers.calls.get_mut(asked.place()), 1);
+        if let Some(number) = refusal {
+            let place = usize::from(number.saturating_sub(1));
+            add(numbers.refused.get_mut(place), 1);
+        }
+    }
+
+    /// Counts a run that is over.
+    pub fn run<R: Wait>(&self, rt: &R, over: Over) {
+        if let Some(place) = run_place(over) {
+            add(self.numbers.lock(rt).runs.get_mut(place), 1);
+        }
+    }
+
+    /// Counts a call of a participant, by what was heard.
+    pub(crate) fn callback<R: Wait>(&self, rt: &R, kind: Kind, heard: Option<Heard>) {
+        let mut numbers = self.numbers.lock(rt);
+        if let Some(row) = numbers.callbacks.get_mut(kind_place(kind)) {
+            add(row.get_mut(heard_place(heard)), 1);
+        }
+    }
+
+    /// Counts a pull from another node that came to this at a moment.
+    pub(crate) fn pull<R: Wait>(&self, rt: &R, other: u8, pull: Pull, now: Duration) {
+        let place = usize::from(other.saturating_sub(1));
+        let mut numbers = self.numbers.lock(rt);
+        if let Some(row) = numbers.pulls.get_mut(place) {
+            add(row.get_mut(pull.place()), 1);
+        }
+        if pull != Pull::Failed {
+            if let Some(pulled) = numbers.pulled.get_mut(place) {
+                *pulled = Some(now);
+            }
+        }
+    }
+
+    /// Counts a purge that the node made by itself.
+    pub fn sweep<R: Wait>(&self, rt: &R, purged: Purged) {
+        add(self.numbers.lock(rt).swept.get_mut(swept_place(purged)), 1);
+    }
+
+    /// Counts a failure of the journal, or a try to open it again that failed.
+    pub fn failure<R: Wait>(&self, rt: &R) {
+        let mut numbers = self.numbers.lock(rt);
+        numbers.failures = numbers.failures.saturating_add(1);
+    }
+
+    /// Counts connections that were closed for want of files.
+    pub(crate) fn close<R: Wait>(&self, rt: &R, count: u64) {
+        let mut numbers = self.numbers.lock(rt);
+        numbers.closed = numbers.closed.saturating_add(count);
+    }
+
+    /// All as they are now.
+    pub(crate) fn numbers<R: Wait>(&self, rt: &R) -> Numbers {
+        *self.numbers.lock(rt)
+    }
+}
