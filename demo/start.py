@@ -17,16 +17,17 @@ import unproved
 from unproved import TOP, Progress, say
 
 USAGE = """\
-usage: ./coordinator [--unproved] [--keep MS] [--keep-failed MS] N PORT DIR
+usage: ./coordinator [--unproved] [--operate PORT] [--keep MS] [--keep-failed MS] N PORT DIR
   N                  how many nodes, 1 to 8
   PORT               where node 1 listens on 127.0.0.1, 1024 to 65528; the others take the ports behind it
   DIR                a folder for the journals, which is there and may be written
   --unproved         compile the server in minutes, without proving it: to try it out, since it is slow
+  --operate PORT     where node 1 listens for operators on 127.0.0.1, in the same way
   --keep MS          purge roots that are closed or cancelled, MS milliseconds after they were first seen so
   --keep-failed MS   purge roots that failed to close or to cancel likewise"""
 # The options that a time follows, and of each option how many words it is.
 TIMES = ("--keep", "--keep-failed")
-OPTIONS = {"--unproved": 1, **dict.fromkeys(TIMES, 2)}
+OPTIONS = {"--unproved": 1, "--operate": 2, **dict.fromkeys(TIMES, 2)}
 
 
 def is_number(word, least, most):
@@ -49,20 +50,31 @@ def ports_of(nodes, port):
     return range(int(port), int(port) + int(nodes))
 
 
-def wrong_with(nodes, port, folder, times=()):
-    """The status, and a line on what is wrong, or nothing where all is well. The times are options, each with its word."""
+def wrong_word(nodes, port, times, operate):
+    """A line on a word that the server wouldn't take, or nothing. The times are options, each with its word."""
     for option, word in times:
         if not is_number(word, 0, 2**64 - 1):
-            return 2, f"MS of {option} has to be a number of milliseconds, not {word!r}"
+            return f"MS of {option} has to be a number of milliseconds, not {word!r}"
+    if operate is not None and not is_number(operate, 1024, 65528):
+        return f"PORT of --operate has to be a number from 1024 to 65528, not {operate!r}"
     if not is_number(nodes, 1, 8):
-        return 2, f"N has to be a number from 1 to 8, not {nodes!r}"
+        return f"N has to be a number from 1 to 8, not {nodes!r}"
     if not is_number(port, 1024, 65528):
-        return 2, f"PORT has to be a number from 1024 to 65528, not {port!r}"
+        return f"PORT has to be a number from 1024 to 65528, not {port!r}"
+    twice = [] if operate is None else sorted(set(ports_of(nodes, port)) & set(ports_of(nodes, operate)))
+    return f"port {twice[0]} would be a node's own, and one for operators" if twice else None
+
+
+def wrong_with(nodes, port, folder, times=(), operate=None):
+    """The status, and a line on what is wrong, or nothing where all is well. The port for operators is of node 1, where it is said."""
+    word = wrong_word(nodes, port, times, operate)
+    if word:
+        return 2, word
     if not os.path.isdir(folder):
         return 1, f"there is no folder {folder!r}: make it first"
     if not os.access(folder, os.W_OK | os.X_OK):
         return 1, f"the folder {folder!r} may not be written"
-    taken = [it for it in ports_of(nodes, port) if not is_free(it)]
+    taken = [it for first in (port, operate) if first is not None for it in ports_of(nodes, first) if not is_free(it)]
     return (1, f"port {taken[0]} is in use") if taken else None
 
 
@@ -136,7 +148,7 @@ def needs_rt():
 
 
 def options_of(words):
-    """The options that stand first, each at most once, in any order, with the word of a time; and the words behind them."""
+    """The options that stand first, each at most once, in any order, with the word of a time or a port; and the words behind them."""
     options = {}
     while words and words[0] not in options and len(words) >= OPTIONS.get(words[0], len(words) + 1):
         count = OPTIONS[words[0]]
@@ -144,11 +156,13 @@ def options_of(words):
     return options, words
 
 
-def program_for(nodes, port, folder, times):
-    """The program that runs such nodes, and its words: lra_node, or where roots are to be purged lra_member, with all in one process."""
-    if not times:
+def program_for(nodes, port, folder, times, operate):
+    """The program that runs such nodes, and its words: lra_node, or where roots are to be purged or operators to be heard lra_member, with
+    all in one process."""
+    if not times and operate is None:
         return "lra_node", ["serve", nodes, port, folder]
-    said = [f"{option.removeprefix('--')}={word}" for option, word in times]
+    said = [] if operate is None else [f"operate=127.0.0.1:{operate}"]
+    said += [f"{option.removeprefix('--')}={word}" for option, word in times]
     return "lra_member", [f"1-{nodes}", folder, *said, *(f"127.0.0.1:{it}" for it in ports_of(nodes, port))]
 
 
@@ -161,14 +175,15 @@ def main(words):
         print(USAGE, file=sys.stderr)
         return 2
     times = [(it, options[it]) for it in TIMES if it in options]
-    wrong = wrong_with(*words, times)
+    operate = options.get("--operate")
+    wrong = wrong_with(*words, times, operate)
     if wrong:
         say(wrong[1])
         return wrong[0]
-    name, given = program_for(*words, times)
+    name, given = program_for(*words, times, operate)
     if "--unproved" in options:
         needs_rt()
-        return unproved.serve(name, given, ports_of(*words[:2]))
+        return unproved.serve(name, given, ports_of(*words[:2]), ports_of(words[0], operate) if operate else ())
     # `rt run` hands standard input on as a file, so a server that it starts ends at once. This becomes the program, which is to
     # find its signals as a shell leaves them: Python ignores these two.
     program = proved(name)

@@ -159,23 +159,26 @@ def listens_at(process, ports):
     return all(f"0100007F:{port:04X}" in held for port in ports)
 
 
-def tell_when_up(server, ports):
-    """Says when the server answers at all its ports, unless it ends before."""
+def tell_when_up(server, ports, for_operators=()):
+    """Says when the server answers at all its ports, and where the page for operators is, unless it ends before."""
     while server.poll() is None:
-        if listens_at(server.pid, ports):
+        if listens_at(server.pid, [*ports, *for_operators]):
             which = f"port {ports[0]} answers" if len(ports) == 1 else f"the ports {ports[0]} to {ports[-1]} answer"
-            return say(f"{which}. Ctrl-C ends it.")
+            say(f"{which}. Ctrl-C ends it.")
+            if for_operators:
+                say(f"operators: http://127.0.0.1:{for_operators[0]}/")
+            return
         time.sleep(0.05)
 
 
-def serve(name, words, ports):
+def serve(name, words, ports, for_operators=()):
     """Runs a program with words that are right, which listens at these ports, until Ctrl-C, and gives its status."""
     program = built(name)
     say("this is the unproved build, for trying out. It checks each access to memory, and is slow.")
     # In a group of its own: Ctrl-C is for this program, which then ends the server's input.
     server = subprocess.Popen([program, *words], stdin=subprocess.PIPE, process_group=0)
     try:
-        tell_when_up(server, ports)
+        tell_when_up(server, ports, for_operators)
         return server.wait()
     except KeyboardInterrupt:
         server.stdin.close()

@@ -59,6 +59,16 @@ def words(folder):
         ["1", folder, "h:1", "h:1"],
         ["1", folder, "listen=h:1", "h:1"],
         ["1", folder, "listen=127.0.0.1:1", "listen=127.0.0.1:1", "h:1"],
+        ["1", folder, "operate=", "h:1"],
+        ["1", folder, "operate=8170", "h:1"],
+        ["1", folder, "operate=h:1", "h:1"],
+        ["1", folder, "operate=127.0.0.1:0", "h:1"],
+        ["1", folder, "operate=127.0.0.1:65536", "h:1"],
+        ["1", folder, "operate=127.0.0.1:1", "operate=127.0.0.1:1", "h:1"],
+        ["1", folder, "operate=127.0.0.1:1", "listen=127.0.0.1:2", "h:1"],
+        ["1", folder, "keep=1", "operate=127.0.0.1:1", "h:1"],
+        ["1-2", folder, "operate=127.0.0.1:65535", "h:1", "h:2"],
+        ["2-3", folder, "operate=[::1]:65535", "keep=1", "h:1", "h:2", "h:3"],
         ["1", folder, "keep=x", "h:1"],
         ["1", folder, "keep=01", "h:1"],
         ["1", folder, "keep=18446744073709551616", "h:1"],
@@ -76,14 +86,17 @@ def words(folder):
         ["1-2", folder, "listen=127.0.0.1:1", "h:1", "h:2"],
     ):
         ran = subprocess.run([Group.program, *said], **SILENT)
-        is_usage = ran.stderr.startswith(b"usage: lra_member I|I-J DIR [listen=IP:PORT] [keep=MS] [keep-failed=MS] HOST:PORT..\n")
+        is_usage = ran.stderr.startswith(b"usage: lra_member I|I-J DIR [listen=IP:PORT] [operate=IP:PORT] [keep=MS] [keep-failed=MS] HOST:PORT..\n")
         check(f"other arguments: {' '.join(said)}".replace(folder, "DIR"), ran.returncode == 2 and is_usage, ran)
     own, other, third, fourth = ports(4)
     with socket.create_server(("127.0.0.1", own)):
         ran = subprocess.run([Group.program, "1", folder, f"h:{own}"], **SILENT)
         check("a port in use", (ran.returncode, ran.stderr) == (1, f"node 1: port {own} can't be had: it is in use\nport {own}\n".encode()), ran)
-    ran = subprocess.run([Group.program, "2", f"{folder}/none", "h:1", f"h:{other}"], **SILENT)
-    check("a folder that isn't there", (ran.returncode, ran.stderr) == (1, b"node 2: its journal can't be opened: there is no folder, or no right to it, or no file is left\njournal 2\n"), ran)
+    # The last node may have the last port for operators.
+    for said in (["2", "h:1", f"h:{other}"], ["2-3", "operate=127.0.0.1:65534", "h:1", "h:2", "h:3"], ["2", "operate=[::1]:65535", "h:1", "h:2"]):
+        ran = subprocess.run([Group.program, said[0], f"{folder}/none", *said[1:]], **SILENT)
+        told = b"node 2: its journal can't be opened: there is no folder, or no right to it, or no file is left\njournal 2\n"
+        check(f"a folder that isn't there: {' '.join(said)}", (ran.returncode, ran.stderr) == (1, told), ran)
     every = ["keep=0", "keep-failed=18446744073709551615"]
     node = subprocess.Popen([Group.program, "1", folder, f"listen=0.0.0.0:{third}", *every, f"elsewhere:{fourth}"], stdin=subprocess.PIPE)
     check("it listens where it is told to", comes_to(SLOW, lambda: is_open(third)) and not is_open(fourth))

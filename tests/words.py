@@ -11,6 +11,7 @@ import shutil
 import socket
 import subprocess
 import tempfile
+import types
 
 from coordinator import TOP, check, finish
 import start
@@ -49,7 +50,7 @@ def words(folder):
     """What comes of words: the status, and the first line of each output."""
     write_rt(folder, '#!/bin/sh\necho "rt was called: $*" >&2\ntouch "$(dirname "$0")/called"\nexit 99\n')
     environment = {**os.environ, "PATH": f"{folder}:{os.environ['PATH']}"}
-    usage = "usage: ./coordinator [--unproved] [--keep MS] [--keep-failed MS] N PORT DIR"
+    usage = "usage: ./coordinator [--unproved] [--operate PORT] [--keep MS] [--keep-failed MS] N PORT DIR"
     with socket.create_server(("127.0.0.1", 0)) as other:
         # It is the second node's port, unless somebody has the one before it too.
         taken = other.getsockname()[1]
@@ -63,8 +64,16 @@ def words(folder):
             (["3", "8070", f"{folder}/none"], 1, "", f"coordinator: there is no folder '{folder}/none': make it first"),
             (["2", str(first), folder], 1, "", f"coordinator: port {taken} is in use"),
         ]
-        ways = ([], ["--unproved"], ["--unproved", "--keep-failed", "1", "--keep", "1"])
+        # (both ports are somewhere that no case above names)
+        apart = str(next(it for it in range(18490, 18590) if start.is_free(it) and start.is_free(it + 1) and start.is_free(it + 2)))
+        ways = ([], ["--unproved"], ["--unproved", "--keep-failed", "1", "--keep", "1"], ["--keep", "1", "--operate", apart])
         cases = [([*way, *given], *wanted) for given, *wanted in cases for way in ways]
+        in_use, twice = f"coordinator: port {taken} is in use", "coordinator: port {} would be a node's own, and one for operators"
+        own = "coordinator: PORT of --operate has to be a number from 1024 to 65528, not {!r}"
+        cases += [(["--operate", str(first), "2", apart, folder], 1, "", in_use)]
+        cases += [(["--operate", it, "3", "8070", folder], 2, "", own.format(it)) for it in ("80", "65529", "08170", "")]
+        for ours, theirs, both in (("8070", "8070", 8070), ("8072", "8070", 8072), ("8070", "8072", 8072), ("65528", "65526", 65528)):
+            cases.append((["--operate", ours, "3", theirs, folder], 2, "", twice.format(both)))
         times = [("--keep", "01"), ("--keep", "8070s"), ("--keep-failed", "-1"), ("--keep-failed", "18446744073709551616")]
         for option, word in times:
             told = f"coordinator: MS of {option} has to be a number of milliseconds, not '{word}'"
@@ -98,11 +107,15 @@ def builds(folder):
         shutil.copy(f"{TOP}/crates/{name}/src/main.rt", f"{folder}/crates/{name}/src/main.rt")
     shutil.copy(f"{TOP}/crates.txt", f"{folder}/crates.txt")
     ended, failed, addresses = ("--keep", "5"), ("--keep-failed", "7"), "127.0.0.1:PORT 127.0.0.1:NEXT"
+    operators = next(str(it) for it in range(18390, 18490) if start.is_free(it) and start.is_free(it + 1))
+    operate, at = ("--operate", operators), f"operate=127.0.0.1:{operators}"
     ways = [
         ((), "lra_node serve 2 PORT DIR"),
         (ended, f"lra_member 1-2 DIR keep=5 {addresses}"),
         (failed, f"lra_member 1-2 DIR keep-failed=7 {addresses}"),
         ((*failed, *ended), f"lra_member 1-2 DIR keep=5 keep-failed=7 {addresses}"),
+        (operate, f"lra_member 1-2 DIR {at} {addresses}"),
+        ((*failed, *operate, *ended), f"lra_member 1-2 DIR {at} keep=5 keep-failed=7 {addresses}"),
     ]
     for options, line in ways:
         write_rt(folder, BUILD_ANOTHER)
@@ -133,15 +146,22 @@ def numbers(folder):
         check(f"MS isn't {word!r}", start.wrong_with(*right, [("--keep", word)])[0] == 2)
     others = [right[:2], (*right, "more"), ("--proved", *right), (right[0], "--unproved", *right[1:])]
     others += [("--keep",), ("--keep", *right), ("--keep", "1", "--keep", "1", *right), (*right, "--keep-failed", "1")]
+    others += [("--operate",), ("--operate", *right), ("--operate", "8170", "--operate", "8170", *right), (*right, "--operate", "8170")]
     for given in others:
         with contextlib.redirect_stderr(io.StringIO()) as said:
             check(f"{len(given)} words are told the usage", (start.main(list(given)), said.getvalue()) == (2, f"{start.USAGE}\n"))
 
 
 def ports():
-    """A server answers where it listens itself, and where another does it doesn't."""
+    """A server answers where it listens itself, and where another does it doesn't. What is said then."""
     with socket.create_server(("127.0.0.1", 0)) as own, subprocess.Popen(["sleep", "60"]) as other:
         port = own.getsockname()[1]
+        itself = types.SimpleNamespace(pid=os.getpid(), poll=lambda: None)
+        for for_operators, page in (((), ""), ([port], f"coordinator: operators: http://127.0.0.1:{port}/\n")):
+            with contextlib.redirect_stderr(io.StringIO()) as said:
+                unproved.tell_when_up(itself, [port], for_operators)
+            right = f"coordinator: port {port} answers. Ctrl-C ends it.\n{page}"
+            check(f"it says that it answers{', and where the page is' if page else ''}", said.getvalue() == right, said.getvalue())
         check("a process listens at its port", unproved.listens_at(os.getpid(), [port]))
         check("and not at others", not unproved.listens_at(os.getpid(), [port, 1]))
         check("another process doesn't listen there", not unproved.listens_at(other.pid, [port]))

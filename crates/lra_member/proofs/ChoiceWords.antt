@@ -1,5 +1,5 @@
--- The words of listen, keep and keep-failed.
-use Rattle.std.proofs.Common.{◌≡◌, ◌≤◌, ◌<◌, ◌^◌, ℕ, true, List, [], ◌∷◌, ◌++◌, get_or, drop, sym, refl, ap, ◌∙◌, arith, true≢false, subst}
+-- The words of listen, operate, keep and keep-failed.
+use Rattle.std.proofs.Common.{◌≡◌, ◌≢◌, ◌≤◌, ◌<◌, ◌^◌, ℕ, true, List, [], ◌∷◌, ◌++◌, get_or, drop, sym, refl, ap, ◌∙◌, arith, true≢false, subst}
 use Rattle.std.specs.Prelude.{Option, Some, None, option_map, codes}
 use Rattle.std.specs.Fmt.{decimal}
 use Rattle.std.specs.Net.Grammar.{IsSocketText}
@@ -41,7 +41,16 @@ pub not_ended : (failed : Option (List ℕ)) (addresses : List (List ℕ)) → I
 not_ended None addresses none = named (codes "keep=") (λ text. refl) addresses none
 not_ended (Some it) addresses none = λ text others e. let byte : ◌≡◌ {A = ℕ} 45 61 = ap (λ (l : List (List ℕ)). get_or (get_or l 0 []) 4 0) e in omega arith
 
-pub not_listen : (ended failed : Option (List ℕ)) (addresses : List (List ℕ)) → IsUnnamed addresses → IsNotSaid (codes "listen=") (said (codes "keep=") ended ++ (said (codes "keep-failed=") failed ++ addresses))
-not_listen None None addresses none = named (codes "listen=") (λ text. refl) addresses none
-not_listen None (Some it) addresses none = λ text others e. let byte : ◌≡◌ {A = ℕ} 107 108 = ap (λ (l : List (List ℕ)). get_or (get_or l 0 []) 0 0) e in omega arith
-not_listen (Some it) failed addresses none = λ text others e. let byte : ◌≡◌ {A = ℕ} 107 108 = ap (λ (l : List (List ℕ)). get_or (get_or l 0 []) 0 0) e in omega arith
+-- words behind those of where to listen begin with another byte
+before_keep : (name : List ℕ) → ((text : List ℕ) → has 61 (name ++ text) ≡ true) → ((text : List ℕ) → get_or (name ++ text) 0 0 ≢ 107) → (ended failed : Option (List ℕ)) (addresses : List (List ℕ)) → IsUnnamed addresses
+    → IsNotSaid name (said (codes "keep=") ended ++ (said (codes "keep-failed=") failed ++ addresses))
+before_keep name has_it no_k None None addresses none = named name has_it addresses none
+before_keep name has_it no_k None (Some it) addresses none = λ text others e. no_k text (ap (λ (l : List (List ℕ)). get_or (get_or l 0 []) 0 0) (sym e))
+before_keep name has_it no_k (Some it) failed addresses none = λ text others e. no_k text (ap (λ (l : List (List ℕ)). get_or (get_or l 0 []) 0 0) (sym e))
+
+pub not_operate : (ended failed : Option (List ℕ)) (addresses : List (List ℕ)) → IsUnnamed addresses → IsNotSaid (codes "operate=") (said (codes "keep=") ended ++ (said (codes "keep-failed=") failed ++ addresses))
+not_operate = before_keep (codes "operate=") (λ text. refl) (λ text e. let byte : ◌≡◌ {A = ℕ} 111 107 = e in omega arith)
+
+pub not_listen : (operate ended failed : Option (List ℕ)) (addresses : List (List ℕ)) → IsUnnamed addresses → IsNotSaid (codes "listen=") (said (codes "operate=") operate ++ (said (codes "keep=") ended ++ (said (codes "keep-failed=") failed ++ addresses)))
+not_listen None ended failed addresses none = before_keep (codes "listen=") (λ text. refl) (λ text e. let byte : ◌≡◌ {A = ℕ} 108 107 = e in omega arith) ended failed addresses none
+not_listen (Some it) ended failed addresses none = λ text others e. let byte : ◌≡◌ {A = ℕ} 111 108 = ap (λ (l : List (List ℕ)). get_or (get_or l 0 []) 0 0) e in omega arith

@@ -29,11 +29,11 @@ same_digits word one two first last only order high says =
 
 -- what words begin with
 pub begins : {X : Type 0} (f : X → List ℕ) (words rest behind : List X) (x y : X) → words ≡ x ∷ rest → rest ≡ y ∷ behind
-    → (first last : ℕ) (listen : Option SocketAddr) (ended failed : Option ℕ) (folder : List ℕ) (addresses : List (List ℕ))
-    → AskNodes (map f words) first last listen ended failed folder addresses
-    → SaysNodes (f x) first last × SayChoices (map f behind) listen ended failed addresses
-begins f words rest behind x y one two first last listen ended failed folder addresses asks =
+    → (first last : ℕ) (listen operate : Option SocketAddr) (ended failed : Option ℕ) (folder : List ℕ) (addresses : List (List ℕ))
+    → AskNodes (map f words) first last listen operate ended failed folder addresses
+    → SaysNodes (f x) first last × SayChoices (map f behind) listen operate ended failed addresses
+begins f words rest behind x y one two first last listen operate ended failed folder addresses asks =
     let e : f x ∷ f y ∷ map f behind ≡ asks.nodes ∷ folder ∷ asks.behind = sym (ap (map f) one ∙ ap (λ l. f x ∷ map f l) two) ∙ asks.are in (
       subst (λ word. SaysNodes word first last) (sym (ap (λ l. get_or l 0 []) e)) asks.say_nodes,
-      subst (λ words. SayChoices words listen ended failed addresses) (sym (ap (drop 2) e)) asks.say_choices,
+      subst (λ words. SayChoices words listen operate ended failed addresses) (sym (ap (drop 2) e)) asks.say_choices,
     )

@@ -1,5 +1,5 @@
 -- What the program's arguments ask for.
-use Rattle.std.specs.Prelude.{◌≡◌, ◌≢◌, ◌≤◌, ◌<◌, ◌^◌, ◌==◌, ◌⊎◌, ⊤, ℕ, Bool, false, cond, List, [], ◌∷◌, ◌++◌, length, codes, Option, Some, None, IfSome, option_map, string_bytes}
+use Rattle.std.specs.Prelude.{◌≡◌, ◌≢◌, ◌≤◌, ◌<◌, ◌+◌, ◌-◌, ◌^◌, ◌==◌, ◌⊎◌, ⊤, ℕ, Bool, false, cond, List, [], ◌∷◌, ◌++◌, length, codes, Option, Some, None, IfSome, option_map, string_bytes}
 use Rattle.std.specs.Fmt.{decimal}
 use Rattle.std.specs.List.{AllPairs, AllZip, list_any}
 use Rattle.std.specs.Net.Grammar.{IsSocketText}
@@ -27,11 +27,16 @@ said name (Some text) = (name ++ text) ∷ []
 abbrev pub IsTime : Option ℕ → Type 0
 IsTime time = IfSome time (λ n. n < 2 ^ 64)
 
--- words say where to listen, and how long roots that ended and roots that failed are kept, each at most once and in this order; then come
--- the addresses
-abbrev pub SayChoices : List (List ℕ) → Option SocketAddr → (ended failed : Option ℕ) → List (List ℕ) → Type 0
-SayChoices words listen ended failed addresses = (address : Option (List ℕ)) × IsListen address listen × IsTime ended × IsTime failed
-    × (words ≡ said (codes "listen=") address ++ (said (codes "keep=") (option_map decimal ended) ++ (said (codes "keep-failed=") (option_map decimal failed) ++ addresses)))
+-- words say where to listen, where to listen for operators, and how long roots that ended and roots that failed are kept, each at most once
+-- and in this order; then come the addresses
+abbrev pub SayChoices : List (List ℕ) → (listen operate : Option SocketAddr) → (ended failed : Option ℕ) → List (List ℕ) → Type 0
+SayChoices words listen operate ended failed addresses =
+    (address : Option (List ℕ)) × (for_operators : Option (List ℕ)) × IsListen address listen × IsListen for_operators operate × IsTime ended × IsTime failed
+    × (words ≡ said (codes "listen=") address ++ (said (codes "operate=") for_operators ++ (said (codes "keep=") (option_map decimal ended) ++ (said (codes "keep-failed=") (option_map decimal failed) ++ addresses))))
+
+-- each of these nodes has a port for operators, the first of them the one that is said, each other the one behind
+abbrev pub HavePorts : (first last : ℕ) → Option SocketAddr → Type 0
+HavePorts first last operate = IfSome operate (λ address. socket_port address + (last - first) < 2 ^ 16)
 
 -- whether a byte is in a text, as 58 is for a colon
 abbrev pub has : ℕ → List ℕ → Bool
@@ -54,19 +59,20 @@ abbrev pub SayPeers : List (List ℕ) → List (List ℕ × ℕ) → Type 0
 SayPeers words peers = AllZip SaysPeer words peers × AllPairs (λ v w. v ≢ w) words
 
 -- words ask for these nodes of those that are reached at the addresses, with their journals in a folder
-pub record AskNodes (words : List (List ℕ)) (first last : ℕ) (listen : Option SocketAddr) (ended failed : Option ℕ) (folder : List ℕ) (addresses : List (List ℕ)) : Type 0 where
+pub record AskNodes (words : List (List ℕ)) (first last : ℕ) (listen operate : Option SocketAddr) (ended failed : Option ℕ) (folder : List ℕ) (addresses : List (List ℕ)) : Type 0 where
   pub nodes : List ℕ
   pub behind : List (List ℕ)
   pub are : words ≡ nodes ∷ folder ∷ behind
   pub say_nodes : SaysNodes nodes first last
-  pub say_choices : SayChoices behind listen ended failed addresses
+  pub say_choices : SayChoices behind listen operate ended failed addresses
   pub in_order : (1 ≤ first) × (first ≤ last) × (last ≤ length addresses) × (length addresses ≤ 8)
   pub listens_alone : first < last → listen ≡ None
+  pub have_ports : HavePorts first last operate
 
 -- the same, with the peers that the addresses say
-abbrev pub AskMembers : List (List ℕ) → (first last : ℕ) → Option SocketAddr → (ended failed : Option ℕ) → List (List ℕ × ℕ) → List ℕ → Type 0
-AskMembers words first last listen ended failed peers folder =
-    (addresses : List (List ℕ)) × AskNodes words first last listen ended failed folder addresses × SayPeers addresses peers
+abbrev pub AskMembers : List (List ℕ) → (first last : ℕ) → (listen operate : Option SocketAddr) → (ended failed : Option ℕ) → List (List ℕ × ℕ) → List ℕ → Type 0
+AskMembers words first last listen operate ended failed peers folder =
+    (addresses : List (List ℕ)) × AskNodes words first last listen operate ended failed folder addresses × SayPeers addresses peers
 
 -- a peer's host and port
 abbrev pub reached : Peer → List ℕ × ℕ

@@ -3,7 +3,7 @@ ghost use Rattle.std.specs.Prelude.{◌≡◌, ◌≢◌, ◌≤◌, ◌<◌, �
 ghost use Rattle.std.specs.Fmt.{decimal};
 ghost use Rattle.std.specs.List.{AllPairs, Contains};
 ghost use Rattle.std.specs.declared.net.socket_addr.SocketAddr.{SocketAddr as TheAddress};
-ghost use Rattle.lra_member.specs.Arguments.{AskMembers, AskNodes, IsListen, IsTime, SayChoices, SayPeers, SaysNodes, reached, said};
+ghost use Rattle.lra_member.specs.Arguments.{AskMembers, AskNodes, HavePorts, IsListen, IsTime, SayChoices, SayPeers, SaysNodes, reached, said};
 ghost use Rattle.lra_member.specs.Readings.{IsNotSaid, IsOneOrTwo, IsUnnamed};
 ghost use Rattle.lra_member.specs.declared.words.Unasked.TheVariants as unasked;
 
@@ -84,16 +84,15 @@ fn said_by<'a>(name: &str, words: &'a [String]) -> Option<(&'a str, &'a [String]
     Some((text, others))
 }
 
-/// Where to listen, if the first of some words says so, and the words behind that; nothing where it says it badly.
-fn listen_of(words: &[String]) -> Option<(Option<SocketAddr>, &[String])>
+/// Where to listen, if the first of some words says so behind a name, and the words behind that; nothing where it says it badly.
+fn listen_of<'a>(name: &str, words: &'a [String]) -> Option<(Option<SocketAddr>, &'a [String])>
     ensures one { (text : Option (List ℕ)) (listen : Option TheAddress) (others : List (List ℕ)) →
-        IsListen text listen → IsNotSaid (codes "listen=") others →
-        map string_bytes words.now ≡ said (codes "listen=") text ++ others →
+        IsListen text listen → IsNotSaid name.now others → map string_bytes words.now ≡ said name.now text ++ others →
         IsSomeAnd result (λ parts. (parts.0 ≡ listen) × (map string_bytes parts.1.now ≡ others)) }
     ensures is { IfSome result (λ parts. (text : Option (List ℕ)) × IsListen text parts.0
-        × (map string_bytes words.now ≡ said (codes "listen=") text ++ map string_bytes parts.1.now)) }
+        × (map string_bytes words.now ≡ said name.now text ++ map string_bytes parts.1.now)) }
 {
-    let Some((text, others)) = said_by("listen=", words) else {
+    let Some((text, others)) = said_by(name, words) else {
         return Some((None, words));
     };
     match text.parse::<SocketAddr>() {
@@ -124,19 +123,24 @@ fn time_of<'a>(name: &str, words: &'a [String]) -> Option<(Option<u64>, &'a [Str
 #[derive(Clone, Copy)]
 struct Choices<'a> {
     listen: Option<SocketAddr>,
+    operate: Option<SocketAddr>,
     keep: Keep,
     addresses: &'a [String],
 }
 
 /// What the words behind the folder say; nothing where they say it badly.
 fn choices_of(words: &[String]) -> Option<Choices<'_>>
-    ensures one { (listen : Option TheAddress) (ended failed : Option ℕ) (addresses : List (List ℕ)) →
-        IsUnnamed addresses → SayChoices (map string_bytes words.now) listen ended failed addresses →
-        IsSomeAnd result (λ choices. (choices.listen ≡ listen) × (map string_bytes choices.addresses.now ≡ addresses)) }
-    ensures are { IfSome result (λ choices. SayChoices (map string_bytes words.now) choices.listen choices.keep.ended
-        choices.keep.failed (map string_bytes choices.addresses.now)) }
+    ensures one { (listen operate : Option TheAddress) (ended failed : Option ℕ) (addresses : List (List ℕ)) →
+        IsUnnamed addresses → SayChoices (map string_bytes words.now) listen operate ended failed addresses →
+        IsSomeAnd result (λ choices. (choices.listen ≡ listen) × (choices.operate ≡ operate)
+        × (map string_bytes choices.addresses.now ≡ addresses)) }
+    ensures are { IfSome result (λ choices. SayChoices (map string_bytes words.now) choices.listen choices.operate
+        choices.keep.ended choices.keep.failed (map string_bytes choices.addresses.now)) }
 {
-    let Some((listen, rest)) = listen_of(words) else {
+    let Some((listen, rest)) = listen_of("listen=", words) else {
+        return None;
+    };
+    let Some((operate, rest)) = listen_of("operate=", rest) else {
         return None;
     };
     let Some((ended, rest)) = time_of("keep=", rest) else {
@@ -147,9 +151,20 @@ fn choices_of(words: &[String]) -> Option<Choices<'_>>
     };
     Some(Choices {
         listen,
+        operate,
         keep: Keep { ended, failed },
         addresses,
     })
+}
+
+/// Whether each of these nodes has a port for operators, if the first one's is said.
+fn have_ports(first: u8, last: u8, operate: Option<SocketAddr>) -> bool
+    ensures { MatchBool result (HavePorts first last operate) (HavePorts first last operate → ⊥) }
+{
+    let Some(address) = operate else {
+        return true;
+    };
+    u32::from(address.port()) + u32::from(last) <= u32::from(u16::MAX) + u32::from(first)
 }
 
 /// Whether these are nodes of so many. Several can't listen at one address that is said.
@@ -174,12 +189,12 @@ struct Reading<'a> {
 
 /// What words ask for, beside the addresses.
 fn reading_of(words: &[String]) -> Option<Reading<'_>>
-    ensures one { (first last : ℕ) (listen : Option TheAddress) (ended failed : Option ℕ) (folder : List ℕ)
+    ensures one { (first last : ℕ) (listen operate : Option TheAddress) (ended failed : Option ℕ) (folder : List ℕ)
         (addresses : List (List ℕ)) → IsUnnamed addresses →
-        AskNodes (map string_bytes words.now) first last listen ended failed folder addresses →
+        AskNodes (map string_bytes words.now) first last listen operate ended failed folder addresses →
         IsSomeAnd result (λ it. map string_bytes it.choices.addresses.now ≡ addresses) }
     ensures are { IfSome result (λ it. AskNodes (map string_bytes words.now) it.first it.last it.choices.listen
-        it.choices.keep.ended it.choices.keep.failed it.folder.now (map string_bytes it.choices.addresses.now)) }
+        it.choices.operate it.choices.keep.ended it.choices.keep.failed it.folder.now (map string_bytes it.choices.addresses.now)) }
 {
     let Some((nodes, rest)) = words.split_first() else {
         return None;
@@ -194,6 +209,9 @@ fn reading_of(words: &[String]) -> Option<Reading<'_>>
         return None;
     };
     if !is_group(first, last, choices.listen, choices.addresses.len()) {
+        return None;
+    }
+    if !have_ports(first, last, choices.operate) {
         return None;
     }
     Some(Reading {
@@ -253,15 +271,15 @@ fn peers_of(alloc: Global, words: &[String]) -> Result<Vec<Peer>, Unasked>
     Ok(peers)
 }
 
-/// The nodes that the words ask for: their numbers, the folder, where to listen and how long to keep what has ended, if that is said, and
-/// where all nodes are reached.
+/// The nodes that the words ask for: their numbers, the folder, where to listen, where to listen for operators and how long to keep what
+/// has ended, if that is said, and where all nodes are reached.
 pub fn asked_by(alloc: Global, words: &[String]) -> Result<Asked, Unasked>
     ensures asks { MatchResult result (λ asked. AskMembers (map string_bytes words.now) asked.members.first
-        asked.members.last asked.members.listen asked.members.keep.ended asked.members.keep.failed
+        asked.members.last asked.members.listen asked.members.operate asked.members.keep.ended asked.members.keep.failed
         (map reached asked.members.peers.items) (string_bytes asked.folder)) (λ fault.
-        fault ≡ unasked.OtherWords → (first last : ℕ) (listen : Option TheAddress) (ended failed : Option ℕ)
+        fault ≡ unasked.OtherWords → (first last : ℕ) (listen operate : Option TheAddress) (ended failed : Option ℕ)
         (peers : List (List ℕ × ℕ)) (folder : List ℕ) →
-        AskMembers (map string_bytes words.now) first last listen ended failed peers folder → ⊥) }
+        AskMembers (map string_bytes words.now) first last listen operate ended failed peers folder → ⊥) }
     ensures few { IfOk result (λ asked. (1 ≤ vec_len asked.members.peers)
         × (vec_len asked.members.peers ≤ 8)) }
 {
@@ -280,6 +298,7 @@ pub fn asked_by(alloc: Global, words: &[String]) -> Result<Asked, Unasked>
         last: reading.last,
         peers,
         listen: reading.choices.listen,
+        operate: reading.choices.operate,
         keep: reading.choices.keep,
     };
     Ok(Asked { members, folder })

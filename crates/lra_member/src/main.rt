@@ -17,7 +17,7 @@ use std::process::ExitCode;
 use std::time::Duration;
 
 const USAGE: &str =
-    "usage: lra_member I|I-J DIR [listen=IP:PORT] [keep=MS] [keep-failed=MS] HOST:PORT..";
+    "usage: lra_member I|I-J DIR [listen=IP:PORT] [operate=IP:PORT] [keep=MS] [keep-failed=MS] HOST:PORT..";
 
 /// How long the last warnings have to be written at the end, in milliseconds.
 const LAST_LINES: u64 = 500;

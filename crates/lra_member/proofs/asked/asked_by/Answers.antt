@@ -5,12 +5,12 @@ use Rattle.lra_member.proofs.EachWord.{as_many, length_map}
 use Rattle.lra_member.proofs.asked.asked_by.Goals as goal
 
 pub returns-in_default-clause-asks : goal.returns-in_default-clause-asks
-returns-in_default-clause-asks c = λ same first last listen ended failed peers folder (addresses, nodes, say).
-    c.in_default.ensures.one first last listen ended failed folder addresses (unnamed addresses peers say.0) nodes
+returns-in_default-clause-asks c = λ same first last listen operate ended failed peers folder (addresses, nodes, say).
+    c.in_default.ensures.one first last listen operate ended failed folder addresses (unnamed addresses peers say.0) nodes
 
 pub returns-in-Err-clause-asks : goal.returns-in-Err-clause-asks
-returns-in-Err-clause-asks c = λ fault first last listen ended failed peers folder (addresses, nodes, say).
-    let same = c.in-Some.ensures.one first last listen ended failed folder addresses (unnamed addresses peers say.0) nodes in
+returns-in-Err-clause-asks c = λ fault first last listen operate ended failed peers folder (addresses, nodes, say).
+    let same = c.in-Some.ensures.one first last listen operate ended failed folder addresses (unnamed addresses peers say.0) nodes in
     c.in-Err.ensures fault peers (subst (λ ws. SayPeers ws peers) (sym same) say)
 
 pub returns-clause-few : goal.returns-clause-few
