@@ -1,6 +1,7 @@
 #!/usr/bin/env python3
-"""Lists the sentences of the pages that have over 30 words: python3 docs/sentences.py [PAGE..]. With --check it fails where there is one.
-Code in a line counts as one word, and blocks of code aren't looked at. Standard library alone."""
+"""Lists the sentences of the pages that have over 30 words: python3 docs/sentences.py [PAGE..]. With --check it fails where there is one,
+and where all pages together have over MOST_WORDS words. Code in a line counts as one word, and blocks of code aren't looked at.
+With --words it prints how many words each page has, and all of them: what stands between spaces and has a letter. Standard library alone."""
 import glob
 import os
 import re
@@ -8,6 +9,7 @@ import sys
 
 TOP = os.path.dirname(os.path.dirname(os.path.abspath(__file__)))
 MOST = 30
+MOST_WORDS = 40_000
 
 
 def pieces(text):
@@ -43,8 +45,25 @@ def long_ones(pages):
                     yield f"{page}:{line}: {words} words: {sentence.strip()}"
 
 
+def words_of(page):
+    """How many words a page has that contain a letter, outside blocks of code."""
+    count, fenced = 0, False
+    for line in open(f"{TOP}/{page}", encoding="utf-8"):
+        fence = line.lstrip().startswith("```")
+        fenced ^= fence
+        if not (fence or fenced or line.startswith("    ")):
+            count += sum(1 for word in line.split() if re.search(r"[^\W\d_]", word))
+    return count
+
+
 named = [page for page in sys.argv[1:] if not page.startswith("--")]
 every = [os.path.relpath(path, TOP) for path in sorted(glob.glob(f"{TOP}/*.md") + glob.glob(f"{TOP}/*/*.md"))]
+counts = {page: words_of(page) for page in named or every}
+if "--words" in sys.argv:
+    print("\n".join(f"{count:7,} {page}" for page, count in counts.items()) + f"\n{sum(counts.values()):7,} all")
+    sys.exit(0)
 found = list(long_ones(named or every))
+if sum(counts.values()) > MOST_WORDS:
+    found.append(f"{sum(counts.values()):,} words, over {MOST_WORDS:,}")
 print("\n".join(found) or "ok")
 sys.exit(1 if found and "--check" in sys.argv else 0)
