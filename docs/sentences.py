@@ -1,6 +1,6 @@
 #!/usr/bin/env python3
 """Lists the sentences of the pages that have over 30 words: python3 docs/sentences.py [PAGE..]. With --check it fails where there is one,
-and where all pages together have over MOST_WORDS words. Code in a line counts as one word, and blocks of code aren't looked at.
+and where all pages together have over 30,000 words. Code in a line counts as one word, and blocks of code aren't looked at.
 With --words it prints how many words each page has, and all of them: what stands between spaces and has a letter. Standard library alone."""
 import glob
 import os
@@ -9,7 +9,7 @@ import sys
 
 TOP = os.path.dirname(os.path.dirname(os.path.abspath(__file__)))
 MOST = 30
-MOST_WORDS = 40_000
+MOST_WORDS = 30_000
 
 
 def pieces(text):
