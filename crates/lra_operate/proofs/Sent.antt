@@ -1,17 +1,18 @@
 -- What was written at an operator's port.
 use Rattle.std.specs.Prelude.{⊤}
-use Rattle.std.proofs.Common.{◌≡◌, ℕ, Option, Some, None, Result, Ok, Err, IfOk, refl, subst, sym}
+use Rattle.std.proofs.Common.{◌≡◌, ℕ, List, [], Option, Some, None, Result, Ok, Err, IfOk, refl, subst, sym}
 use Rattle.lra_facts.specs.declared.refusal.Refusal.{Refusal}
-use Rattle.lra_facts.specs.declared.refusal.Refusal.TheVariants.{BadText}
 use Rattle.lra_http.specs.declared.Sink.{Ghosts as OfSink}
 use Rattle.lra_http.specs.ByteResponses.{Response}
 use Rattle.lra_http.specs.declared.message.Request.{Request}
-use Rattle.lra_api.specs.Answers.{refusal_answer}
+use Rattle.lra_api.specs.Answers.{found}
 use Rattle.lra_api.specs.Serving.{Ends}
 use Rattle.lra_api.specs.declared.serving.ServeError.{ServeError}
 use Rattle.lra_book.specs.declared.calls.Call.{Call}
 use Rattle.lra_book.specs.declared.calls.Reply.{Reply}
-use Rattle.lra_operate.specs.Serving.{ServesCall, ServesWanted, answer_at, call_of}
+use Rattle.lra_operate.specs.Serving.{IsTold, ServesCall, ServesWanted, answer_at, call_of, counts_answer, page_answer, ready_answer}
+use Rattle.lra_operate.specs.declared.wanted.Topic.{Topic}
+use Rattle.lra_operate.specs.declared.wanted.Topic.TheVariants.{Page, Health, Ready, Metrics, Calls}
 use Rattle.lra_operate.specs.declared.wanted.Wanted.{Wanted}
 
 -- the answer to what came of a call
@@ -20,11 +21,20 @@ pub replied : {W : Type 0} (w : Wanted) (makes : Result Reply Refusal → Type 0
 replied w makes sink old new seen reply result made is ends =
     (Ok reply, made, subst (λ (r : Reply). Ends sink old new (answer_at w r) None result) is ends)
 
--- some answer was made, or none, and then any will do
-pub some_answer : {E : Type 0} (made : Result Response E) (written : Response → Type 0)
-    → ((right : Response) → IfOk made (λ (response : Response). response ≡ right) → written right) → (response : Response) × written response
-some_answer (Ok response) written right = (response, right response refl)
-some_answer (Err e) written right = (refusal_answer BadText, right (refusal_answer BadText) tt)
+-- an answer that tells of a topic
+some_told : (topic : Topic) → (response : Response) × IsTold topic response
+some_told Page = (page_answer [], ([], refl))
+some_told Health = (found [], ([], refl))
+some_told Ready = (ready_answer None, (None, refl))
+some_told Metrics = (counts_answer [], ([], refl))
+some_told Calls = (found [], ([], refl))
+
+-- the answer that was made tells of it; if none was, any that does will do
+pub told : {E : Type 0} (topic : Topic) (made : Result Response E) (written : Response → Type 0)
+    → IfOk made (IsTold topic) → ((right : Response) → IfOk made (λ (response : Response). response ≡ right) → written right)
+    → (response : Response) × IsTold topic response × written response
+told topic (Ok response) written is right = (response, is, right response refl)
+told topic (Err e) written is right = let it = some_told topic in (it.0, it.1, right it.0 tt)
 
 -- a call was made for what is wanted
 pub called : {W : Type 0} (same : Type 0) (makes : Call → Result Reply Refusal → Type 0) (sink : OfSink W) (old new : W) (now : ℕ) (request : Request)

@@ -1,25 +1,29 @@
 -- What one request at an operator's port comes to.
-use Rattle.std.specs.Prelude.{⊤, ℕ, Option, Some, None, Result, Ok, Err}
+use Rattle.std.specs.Prelude.{◌≡◌, ⊤, ℕ, true, false, List, [], ◌∷◌, ◌++◌, codes, Option, Some, None, Result, Ok, Err}
 use Rattle.lra_facts.specs.declared.refusal.Refusal.{Refusal}
 use Rattle.lra_facts.specs.declared.refusal.Refusal.TheVariants.{BadText}
 use Rattle.lra_history.specs.declared.command.Command.TheVariants as command
 use Rattle.lra_http.specs.declared.Sink.{Ghosts as OfSink}
 use Rattle.lra_http.specs.declared.fault.Fault.{Fault}
+use Rattle.lra_http.specs.declared.message.Field.{Field}
 use Rattle.lra_http.specs.declared.message.Request.{Request}
 use Rattle.lra_http.specs.ByteResponses.{Response}
 use Rattle.lra_book.specs.declared.calls.Call.{Call}
 use Rattle.lra_book.specs.declared.calls.Call.TheVariants as call
 use Rattle.lra_book.specs.declared.calls.Reply.{Reply}
 use Rattle.lra_book.specs.declared.calls.Reply.TheVariants.{Held, Surveyed}
-use Rattle.lra_api.specs.Answers.{answer_of, found, refusal_answer}
+use Rattle.lra_api.specs.Answers.{answer_of, found, refusal_answer, with_body}
 use Rattle.lra_api.specs.Routes.{routed}
 use Rattle.lra_api.specs.Serving.{Ends, ServesFault, ServesRequest, refusal_in}
 use Rattle.lra_api.specs.declared.serving.ServeError.{ServeError}
+use Rattle.lra_operate.specs.Json.{named, opened, truth, word}
 use Rattle.lra_operate.specs.Records.{record_body}
 use Rattle.lra_operate.specs.Surveys.{survey_body}
 use Rattle.lra_operate.specs.Wanted.{wanted}
+use Rattle.lra_operate.specs.declared.wanted.Topic.{Topic}
+use Rattle.lra_operate.specs.declared.wanted.Topic.TheVariants.{Page, Health, Ready, Metrics, Calls}
 use Rattle.lra_operate.specs.declared.wanted.Wanted.{Wanted}
-use Rattle.lra_operate.specs.declared.wanted.Wanted.TheVariants.{Page, Health, Ready, Metrics, Calls, List as AskList, Record, Forgot, Told, Broken, Other}
+use Rattle.lra_operate.specs.declared.wanted.Wanted.TheVariants.{Tell, List as AskList, Record, Forgot, Told, Broken, Other}
 
 -- the call of what is wanted, where it is one
 abbrev pub call_of : Wanted → Option Call
@@ -27,11 +31,7 @@ call_of (AskList f) = Some (call.Survey f.after)
 call_of (Record id) = Some (call.Record id)
 call_of (Forgot id m) = Some (call.Command (command.Forgot id m))
 call_of (Told id m) = Some (call.Command (command.Told id m))
-call_of Page = None
-call_of Health = None
-call_of Ready = None
-call_of Metrics = None
-call_of Calls = None
+call_of (Tell topic) = None
 call_of Broken = None
 call_of Other = None
 
@@ -50,15 +50,44 @@ abbrev pub ServesCall : {W : Type 0} → Wanted → (makes : Result Reply Refusa
 ServesCall w makes sink old new result =
     (outcome : Result Reply Refusal) × makes outcome × Ends sink old new (answer_to w outcome) (refusal_in outcome) result
 
--- no call is made, and an answer is written, of which nothing is said
-abbrev pub Tells : {W : Type 0} → (same : Type 0) → OfSink W → (old new : W) → Result ⊤ ServeError → Type 0
-Tells same sink old new result = same × ((response : Response) × Ends sink old new response None result)
+-- the page, which no other page may show in a frame
+abbrev pub frame_options : Field
+frame_options = record { name = codes "X-Frame-Options"; value = codes "DENY" }
 
--- what is wanted is served where it is no call: a broken text is E1, and what the interface has is served as it serves it
+abbrev pub page_answer : List ℕ → Response
+page_answer text = with_body 200 (frame_options ∷ []) (codes "text/html; charset=utf-8") text
+
+-- the counts
+abbrev pub counts_answer : List ℕ → Response
+counts_answer text = with_body 200 [] (codes "text/plain; version=0.0.4") text
+
+-- whether the node enters commands, and why not
+unfoldable pub ready_text : Option (List ℕ) → List ℕ
+ready_text None = opened (codes "ready") (truth true) ++ codes "}"
+ready_text (Some cause) = opened (codes "ready") (truth false) ++ (named (codes "cause") (word cause) ++ codes "}")
+
+abbrev pub ready_answer : Option (List ℕ) → Response
+ready_answer None = found (ready_text None)
+ready_answer (Some cause) = with_body 503 [] (codes "application/json") (ready_text (Some cause))
+
+-- The answer that tells of a topic: its status, its fields and its type. The text is what the threads know, of which nothing is said,
+-- save how it tells whether the node enters commands.
+abbrev pub IsTold : Topic → Response → Type 0
+IsTold Page response = (text : List ℕ) × (response ≡ page_answer text)
+IsTold Health response = (text : List ℕ) × (response ≡ found text)
+IsTold Ready response = (cause : Option (List ℕ)) × (response ≡ ready_answer cause)
+IsTold Metrics response = (text : List ℕ) × (response ≡ counts_answer text)
+IsTold Calls response = (text : List ℕ) × (response ≡ found text)
+
+-- no call is made, and the answer that tells of a topic is written
+abbrev pub Tells : {W : Type 0} → (same : Type 0) → OfSink W → (old new : W) → Topic → Result ⊤ ServeError → Type 0
+Tells same sink old new topic result = same × ((response : Response) × IsTold topic response × Ends sink old new response None result)
+
+-- What is wanted is served where it is no call: what the interface has as it serves it, a topic is told, and else a broken text is E1.
 abbrev pub ServesOther : {W : Type 0} → (same : Type 0) → (makes : Call → Result Reply Refusal → Type 0) → OfSink W → (old new : W) → ℕ → Request → Wanted → Result ⊤ ServeError → Type 0
-ServesOther same makes sink old new now request Broken result = same × Ends sink old new (refusal_answer BadText) None result
 ServesOther same makes sink old new now request Other result = ServesRequest same makes sink old new (routed now request) result
-ServesOther same makes sink old new now request _ result = Tells same sink old new result
+ServesOther same makes sink old new now request (Tell topic) result = Tells same sink old new topic result
+ServesOther same makes sink old new now request _ result = same × Ends sink old new (refusal_answer BadText) None result
 
 abbrev pub ServesWanted : {W : Type 0} → (same : Type 0) → (makes : Call → Result Reply Refusal → Type 0) → OfSink W → (old new : W) → ℕ → Request → Wanted → Option Call → Result ⊤ ServeError → Type 0
 ServesWanted same makes sink old new now request w (Some c) result = ServesCall w (makes c) sink old new result

@@ -11,8 +11,9 @@ use Rattle.lra_api.specs.declared.table.Place.TheVariants as place
 use Rattle.lra_api.specs.declared.table.Verb.{Verb}
 use Rattle.lra_api.specs.declared.table.Verb.TheVariants as verb
 use Rattle.lra_operate.specs.declared.filter.Filter.{Filter}
+use Rattle.lra_operate.specs.declared.wanted.Topic.TheVariants.{Page, Health, Ready, Metrics, Calls}
 use Rattle.lra_operate.specs.declared.wanted.Wanted.{Wanted}
-use Rattle.lra_operate.specs.declared.wanted.Wanted.TheVariants.{Page, Health, Ready, Metrics, Calls, List as AskList, Record, Forgot, Told, Broken, Other}
+use Rattle.lra_operate.specs.declared.wanted.Wanted.TheVariants.{Tell, List as AskList, Record, Forgot, Told, Broken, Other}
 use Rattle.lra_operate.specs.Filters.{filter_in}
 
 -- By GET
@@ -42,11 +43,11 @@ wanted_of_lra path = by_place (place_of path) path
 
 abbrev pub wanted_by_get : (path : List ℕ) → (query : Option (List ℕ)) → Wanted
 wanted_by_get path query =
-    if bytes_eq path (codes "/") then Page
-    else if bytes_eq path (codes "/health") then Health
-    else if bytes_eq path (codes "/ready") then Ready
-    else if bytes_eq path (codes "/metrics") then Metrics
-    else if bytes_eq path (codes "/calls") then Calls
+    if bytes_eq path (codes "/") then Tell Page
+    else if bytes_eq path (codes "/health") then Tell Health
+    else if bytes_eq path (codes "/ready") then Tell Ready
+    else if bytes_eq path (codes "/metrics") then Tell Metrics
+    else if bytes_eq path (codes "/calls") then Tell Calls
     else if bytes_eq path (codes "/lras") then list_of query false
     else if bytes_eq path (codes "/roots") then list_of query true
     else wanted_of_lra path

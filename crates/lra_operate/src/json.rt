@@ -121,7 +121,7 @@ fn push_escaped(body: &mut Vec<u8>, bytes: &[u8]) -> Result<(), AllocError>
 
 /// A string of a text without control characters: a quote, and a backslash, behind a backslash.
 #[tactic(auto, unfolding(crate::specs::Json::quoted))]
-pub fn push_quoted(body: &mut Vec<u8>, text: &str) -> Result<(), AllocError>
+pub(crate) fn push_quoted(body: &mut Vec<u8>, text: &str) -> Result<(), AllocError>
     ensures { OnOk result (body.new.items ≡ body.old.items ++ quoted text.now) }
 {
     push(body, "\"")?;
@@ -148,6 +148,14 @@ pub(crate) fn open_number(
 {
     push_opening(body, name)?;
     push_number(alloc, body, number)
+}
+
+#[tactic(auto, unfolding(crate::specs::Json::opened))]
+pub(crate) fn open_truth(body: &mut Vec<u8>, name: &str, is_so: bool) -> Result<(), AllocError>
+    ensures { OnOk result (body.new.items ≡ body.old.items ++ opened name.now (truth is_so)) }
+{
+    push_opening(body, name)?;
+    push_truth(body, is_so)
 }
 
 #[tactic(auto, unfolding(crate::specs::Json::named))]

@@ -8,10 +8,10 @@ mod records;
 mod serving;
 mod state;
 mod surveys;
+mod telling;
 mod wanted;
 
 pub use filter::Filter;
-pub use json::push_quoted;
 pub use serving::serve_operator;
 pub use state::State;
-pub use wanted::{Wanted, wanted_by};
+pub use wanted::{Topic, Wanted, wanted_by};

@@ -8,23 +8,21 @@ ghost use Rattle.lra_book.specs.declared.calls.Call.TheVariants.{Survey};
 ghost use Rattle.lra_api.specs.Answers.{refusal_answer as broken_answer};
 ghost use Rattle.lra_api.specs.Serving.{Ends, Makes};
 ghost use Rattle.lra_api.specs.Streams.{IsReading};
-ghost use Rattle.lra_operate.specs.Serving.{Serves, ServesCall, ServesOther, ServesWanted, answer_at, call_of};
+ghost use Rattle.lra_operate.specs.Serving.{IsTold, Serves, ServesCall, ServesOther, ServesWanted, answer_at, call_of};
 ghost use Rattle.lra_operate.specs.Wanted.{wanted};
 
-use crate::json::push;
-use crate::page::PAGE;
 use crate::records::record_body;
 use crate::surveys::survey_body;
-use crate::{Filter, State, Wanted, wanted_by};
-use http::StatusCode;
+use crate::telling::told_answer;
+use crate::{Filter, State, Topic, Wanted, wanted_by};
 use lra_api::{
-    Answer, Body, Paths, ServeError, answer, end, end_refused, found, refusal_answer, serve_fault,
-    serve_request, with_body,
+    Answer, Paths, ServeError, answer, end, end_refused, found, refusal_answer, serve_fault,
+    serve_request,
 };
 use lra_book::{Call, Clerk, Reply};
 use lra_facts::Refusal;
 use lra_history::Command;
-use lra_http::{Bytes, Field, MAX_BODY_BYTES, Request, Sink, Source, read_request};
+use lra_http::{MAX_BODY_BYTES, Request, Sink, Source, read_request};
 use std::alloc::{AllocError, Global};
 
 /// The survey of which a list shows some.
@@ -99,80 +97,16 @@ fn serve_call<W: Sink, C: Clerk>(
     }
 }
 
-/// A text, with this status and of this type.
-fn tell<'a>(
-    alloc: Global,
-    status: StatusCode,
-    kind: &str,
-    body: Vec<u8>,
-) -> Result<Answer<'a>, AllocError> {
-    with_body(alloc, status, Vec::new(alloc), kind, Body::of_bytes(body))
-}
-
-/// Whether the node enters commands.
-fn ready_answer<'a, T: State>(alloc: Global, state: &T) -> Result<Answer<'a>, AllocError> {
-    let mut body = Vec::new(alloc);
-    match state.unready() {
-        None => {
-            push(&mut body, "{\"ready\":true}")?;
-            found(alloc, body)
-        }
-        Some(cause) => {
-            push(&mut body, "{\"ready\":false,\"cause\":\"")?;
-            push(&mut body, cause)?;
-            push(&mut body, "\"}")?;
-            let kind = "application/json";
-            tell(alloc, StatusCode::SERVICE_UNAVAILABLE, kind, body)
-        }
-    }
-}
-
-/// The page, which no other page may show in a frame, since its buttons act.
-fn page_answer<'a>(alloc: Global) -> Result<Answer<'a>, AllocError> {
-    let name = Bytes::new(Vec::from_slice(alloc, b"X-Frame-Options")?);
-    let value = Bytes::new(Vec::from_slice(alloc, b"DENY")?);
-    let mut fields = Vec::new(alloc);
-    if fields.push(Field { name, value }).is_err() {
-        return Err(AllocError);
-    }
-    let body = Body::of_bytes(Vec::from_slice(alloc, PAGE.as_bytes())?);
-    let kind = "text/html; charset=utf-8";
-    with_body(alloc, StatusCode::OK, fields, kind, body)
-}
-
-/// What the threads of the node know of it; else the page.
-fn state_answer<'a, T: State>(
-    alloc: Global,
-    state: &T,
-    wanted: &Wanted,
-) -> Result<Answer<'a>, AllocError> {
-    match wanted {
-        Wanted::Health => {
-            let body = state.health(alloc)?;
-            found(alloc, body)
-        }
-        Wanted::Calls => {
-            let body = state.calls(alloc)?;
-            found(alloc, body)
-        }
-        Wanted::Ready => ready_answer(alloc, state),
-        Wanted::Metrics => {
-            let body = state.metrics(alloc)?;
-            tell(alloc, StatusCode::OK, "text/plain; version=0.0.4", body)
-        }
-        _ => page_answer(alloc),
-    }
-}
-
 fn serve_state<W: Sink, T: State>(
     alloc: Global,
     writer: &mut W,
     state: &T,
-    wanted: &Wanted,
+    topic: Topic,
 ) -> Result<(), ServeError>
-    ensures { (response : TheResponse) × Ends W.Sink writer.old writer.new response None result }
+    ensures { (response : TheResponse) × IsTold topic response
+        × Ends W.Sink writer.old writer.new response None result }
 {
-    let made = state_answer(alloc, state, wanted);
+    let made = told_answer(alloc, state, topic);
     end(alloc, writer, made, None)
 }
 
@@ -200,8 +134,8 @@ fn serve_other<W: Sink, C: Clerk, T: State>(
 {
     match wanted {
         Wanted::Other => serve_request(alloc, paths, writer, clerk, request, now),
-        Wanted::Broken => serve_broken(alloc, writer),
-        _ => serve_state(alloc, writer, state, wanted),
+        Wanted::Tell(topic) => serve_state(alloc, writer, state, *topic),
+        _ => serve_broken(alloc, writer),
     }
 }
 

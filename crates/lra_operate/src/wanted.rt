@@ -12,12 +12,12 @@ use lra_api::{
 use lra_http::Request;
 use lra_id::LraId;
 
-/// What a request at an operator's port wants.
+/// What is told without a call.
 #[derive(Clone, Copy, Debug, PartialEq, Eq)]
-pub enum Wanted {
+pub enum Topic {
     /// `GET /`: the page.
     Page,
-    /// `GET /health`: whether the node lives.
+    /// `GET /health`: that the node lives.
     Health,
     /// `GET /ready`: whether it enters commands.
     Ready,
@@ -25,6 +25,13 @@ pub enum Wanted {
     Metrics,
     /// `GET /calls`: whom it calls in vain.
     Calls,
+}
+
+/// What a request at an operator's port wants.
+#[derive(Clone, Copy, Debug, PartialEq, Eq)]
+pub enum Wanted {
+    /// What the threads of the node know of this, or the page.
+    Tell(Topic),
     /// `GET /lras`, `GET /roots`: a list of LRAs.
     List(Filter),
     /// `GET /lra/{id}`: all that is held of an LRA.
@@ -72,11 +79,11 @@ fn wanted_by_get(paths: &Paths, path: &str, query: Option<&str>) -> Wanted
     ensures { result ≡ wanted_by_get path.now (option_copied query.entry) }
 {
     match path {
-        "/" => Wanted::Page,
-        "/health" => Wanted::Health,
-        "/ready" => Wanted::Ready,
-        "/metrics" => Wanted::Metrics,
-        "/calls" => Wanted::Calls,
+        "/" => Wanted::Tell(Topic::Page),
+        "/health" => Wanted::Tell(Topic::Health),
+        "/ready" => Wanted::Tell(Topic::Ready),
+        "/metrics" => Wanted::Tell(Topic::Metrics),
+        "/calls" => Wanted::Tell(Topic::Calls),
         "/lras" => list_of(query, false),
         "/roots" => list_of(query, true),
         _ => wanted_of_lra(paths, path),
