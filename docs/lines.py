@@ -9,7 +9,7 @@ import sys
 TOP = os.path.dirname(os.path.dirname(os.path.abspath(__file__)))
 PAGE = f"{TOP}/docs/THEOREMS.md"
 TESTS = ["test_answers", "test_calls", "test_script", "test_server"]
-LAYERS = [("lra_node", "lra_member", "lra_play", "the programs"), ("lra_server", "the server over its journals"), ("lra_threads", "threads and sockets"), ("lra_turns", "whom to call next"), ("lra_work", "a worker"), ("lra_operate", "the operator's port"), ("lra_script", "the script"),
+LAYERS = [("lra_node", "lra_member", "lra_play", "the programs"), ("lra_server", "the server over its journals"), ("lra_threads", "threads and sockets"), ("lra_heard", "what was heard of others"), ("lra_turns", "whom to call next"), ("lra_work", "a worker"), ("lra_operate", "the operator's port"), ("lra_script", "the script"),
           ("lra_trail", "laws of a node in the world"), ("lra_progress", "laws of progress"), ("lra_api", "the HTTP interface"), ("lra_book", "calls, trails and the desk"),
           ("lra_journal", "rows"), ("lra_world", "all nodes"), ("lra_peer", "pulls"), ("lra_callback", "duties, calls and answers"),
           ("lra_delta", "frames"), ("lra_replica", "one node"), ("lra_history", "commands, histories, views and their laws"),

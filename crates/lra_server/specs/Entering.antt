@@ -1,15 +1,20 @@
 -- What the thread that enters asks of its clerk.
-use Rattle.std.specs.Prelude.{◌≡◌, ◌⊎◌, ⊤, ℕ, Option, Some, None, Result, Ok, Err}
+use Rattle.std.specs.Prelude.{◌≡◌, ◌⊎◌, ⊤, ℕ, List, Option, Some, None, Result, Ok, Err}
 use Rattle.lra_facts.specs.declared.refusal.Refusal.{Refusal}
 use Rattle.lra_facts.specs.declared.refusal.Refusal.TheVariants.{NoMemory}
 use Rattle.lra_history.specs.declared.command.Command.{Command}
+use Rattle.lra_history.specs.declared.command.Command.TheVariants as command
 use Rattle.lra_callback.specs.HeardCommands.{command_heard}
 use Rattle.lra_book.specs.declared.calls.Call.{Call}
 use Rattle.lra_book.specs.declared.calls.Call.TheVariants as call
 use Rattle.lra_book.specs.declared.calls.Reply.{Reply}
 use Rattle.lra_book.specs.declared.clerk.Clerk.{Ghosts as OfClerk}
 use Rattle.lra_api.specs.Serving.{Makes}
-use Rattle.lra_threads.specs.declared.post.Letter.{Letter}
+use Rattle.lra_heard.specs.Letters.{Said}
+use Rattle.lra_threads.specs.declared.post.Task.{Task}
+use Rattle.lra_threads.specs.declared.post.Task.TheVariants as task
+use Rattle.lra_threads.specs.declared.sweep.Chore.{Chore}
+use Rattle.lra_threads.specs.declared.sweep.Chore.TheVariants as chore
 
 -- what is told of a call: only why it was refused, if it was
 abbrev pub told : Result Reply Refusal → Result ⊤ Refusal
@@ -38,6 +43,34 @@ EntersIf clerk old new None result = (new ≡ old) × (result ≡ Ok tt)
 EntersIf clerk old new (Some command) result = IsMade clerk old new (call.Command command) result
 
 -- of a letter, the command by what was heard in the call for its duty
-abbrev pub EntersLetter : {C : Type 0} → OfClerk C → (old new : C) → Letter → Result ⊤ Refusal → Type 0
+abbrev pub EntersLetter : {C : Type 0} → OfClerk C → (old new : C) → Said → Result ⊤ Refusal → Type 0
 EntersLetter clerk old new letter result =
     EntersIf clerk old new (command_heard letter.duty.id letter.duty.member letter.duty.act letter.heard) result
+
+-- a pull is made that tells only counts, or no memory is there for it
+abbrev pub Counts : {C : Type 0} → OfClerk C → (old new : C) → Result ⊤ Refusal → Type 0
+Counts clerk old new result =
+    ((body : List ℕ) × IsMade clerk old new (call.Pull body) result) ⊎ ((new ≡ old) × (result ≡ Err NoMemory))
+
+-- One call at most for a task: what was heard is entered, what another node told is taken, and so on.
+abbrev pub DoesTask : {C : Type 0} → OfClerk C → (old new : C) → Task → Result ⊤ Refusal → Type 0
+DoesTask clerk old new (task.Enter letter) result = EntersLetter clerk old new letter result
+DoesTask clerk old new (task.Take telling) result = IsMade clerk old new (call.Take telling) result
+DoesTask clerk old new task.Ask result = IsMadeInMemory clerk old new call.Duties result
+DoesTask clerk old new task.Tick result = IsMade clerk old new call.Expire result
+DoesTask clerk old new task.Count result = Counts clerk old new result
+DoesTask clerk old new task.Rest result = (new ≡ old) × (result ≡ Ok tt)
+
+-- one call for a chore: a page is listed, or a root purged
+abbrev pub DoesChore : {C : Type 0} → OfClerk C → (old new : C) → Chore → Result ⊤ Refusal → Type 0
+DoesChore clerk old new (chore.List beyond) result = IsMade clerk old new (call.Page beyond) result
+DoesChore clerk old new (chore.Purge root) result = IsMade clerk old new (call.Command (command.Purge root)) result
+
+abbrev pub DoesChoreIf : {C : Type 0} → OfClerk C → (old new : C) → Option Chore → Result ⊤ Refusal → Type 0
+DoesChoreIf clerk old new None result = (new ≡ old) × (result ≡ Ok tt)
+DoesChoreIf clerk old new (Some it) result = DoesChore clerk old new it result
+
+-- the call that operators want, if there is one
+abbrev pub MakesIf : {C : Type 0} → OfClerk C → (old new : C) → Option Call → Result ⊤ Refusal → Type 0
+MakesIf clerk old new None result = (new ≡ old) × (result ≡ Ok tt)
+MakesIf clerk old new (Some asked) result = IsMadeInMemory clerk old new asked result

@@ -1,8 +1,10 @@
 // The thread that enters what the others hear, in each run of a node.
-ghost use Rattle.std.specs.Prelude.{◌≡◌, IfErr};
+ghost use Rattle.std.specs.Prelude.{◌≡◌, IfErr, Option};
 ghost use Rattle.lra_facts.specs.declared.refusal.Refusal.TheVariants.{NoMemory};
 ghost use Rattle.lra_book.specs.declared.calls.Call.TheVariants.{Duties as AskDuties, Expire as AskExpire, Take as TakeDelta};
-ghost use Rattle.lra_server.specs.Entering.{EntersLetter, IsMade, IsMadeAndCopied, IsMadeInMemory};
+ghost use Rattle.lra_book.specs.declared.calls.Call.{Call as TheCall};
+ghost use Rattle.lra_threads.specs.declared.post.Task.{Task as TheTask};
+ghost use Rattle.lra_server.specs.Entering.{Counts, DoesTask, EntersLetter, IsMade, IsMadeAndCopied, IsMadeInMemory, MakesIf, told};
 
 use crate::errands::{Errand, Errands};
 use crate::refusals::over_by;
@@ -10,13 +12,13 @@ use crate::sweeping::sweep;
 use crate::taken::moment;
 use lra_book::{Call, Clerk, PullBody, Reply};
 use lra_callback::Duties;
-use lra_delta::Delta;
 use lra_facts::Refusal;
+use lra_heard::{Letter, Telling};
 use lra_id::{Front, LAST_NUMBER};
 use lra_peer::pull_body;
-use lra_threads::{Letter, Node, Task};
+use lra_threads::{Node, Task};
 use lra_work::ending_by;
-use std::alloc::Global;
+use std::alloc::{AllocError, Global};
 use std::net::{Net, TcpListener, TcpStream};
 use std::sync::Wait;
 use std::thread;
@@ -35,8 +37,7 @@ fn enter<R: Wait + Clock, C: Clerk>(
 ) -> Result<(), Refusal>
     ensures { EntersLetter C.Clerk clerk.old clerk.new letter result }
 {
-    let duty = &letter.duty;
-    let Some(command) = letter.heard.command(duty.id, duty.member, duty.act) else {
+    let Some(command) = letter.command() else {
         return Ok(());
     };
     match clerk.call(alloc, Call::Command(command), moment(rt)) {
@@ -67,12 +68,12 @@ fn take<R: Wait + Clock, C: Clerk>(
     alloc: Global,
     node: &Node,
     clerk: &mut C,
-    delta: Delta,
+    telling: Telling,
 ) -> Result<(), Refusal>
-    ensures { IsMade C.Clerk clerk.old clerk.new (TakeDelta delta) result }
+    ensures { IsMade C.Clerk clerk.old clerk.new (TakeDelta telling) result }
 {
-    let front = delta.front();
-    clerk.call(alloc, Call::Take(delta), moment(rt))?;
+    let front = telling.front();
+    clerk.call(alloc, Call::Take(telling.into_delta()), moment(rt))?;
     if is_taken(clerk.reply()) {
         node.post.learn(rt, &front);
     }
@@ -125,13 +126,11 @@ fn expire<R: Wait + Clock, C: Clerk>(
 }
 
 /// The body of a pull by one that has all facts that there can be of so many nodes.
-fn body_of_all(alloc: Global, nodes: u8) -> Result<PullBody, Refusal> {
+fn body_of_all(alloc: Global, nodes: u8) -> Result<PullBody, AllocError> {
     let counts = [LAST_NUMBER; 8];
     let nodes = usize::from(nodes.clamp(1, 8));
-    match pull_body(alloc, &Front::from_counts(&counts[..nodes])) {
-        Ok(bytes) => Ok(PullBody::new(bytes)),
-        Err(_) => Err(Refusal::NoMemory),
-    }
+    let bytes = pull_body(alloc, &Front::from_counts(&counts[..nodes]))?;
+    Ok(PullBody::new(bytes))
 }
 
 /// Asks as one that has all facts: so nothing is told but how many this node has. Behind that the others are asked, and hear of it
@@ -141,9 +140,13 @@ fn count<R: Wait + Clock, C: Clerk>(
     alloc: Global,
     node: &Node,
     clerk: &mut C,
-) -> Result<(), Refusal> {
-    let body = body_of_all(alloc, node.nodes)?;
-    clerk.call(alloc, Call::Pull(body), moment(rt))
+) -> Result<(), Refusal>
+    ensures { Counts C.Clerk clerk.old clerk.new result }
+{
+    match body_of_all(alloc, node.nodes) {
+        Ok(body) => clerk.call(alloc, Call::Pull(body), moment(rt)),
+        Err(_) => Err(Refusal::NoMemory),
+    }
 }
 
 /// Makes a call, and copies its reply.
@@ -165,24 +168,57 @@ fn serve_errand<R: Wait + Clock, C: Clerk>(
     alloc: Global,
     errands: &Errands,
     clerk: &mut C,
-) -> Result<(), Refusal> {
+) -> Result<(), Refusal>
+    ensures { (asked : Option TheCall) × MakesIf C.Clerk clerk.old clerk.new asked result }
+{
     let Some(errand) = errands.next(rt) else {
         return Ok(());
     };
     let Errand { number, call, now } = errand;
     let outcome = make(alloc, clerk, call, now);
-    let refusal = refusal_in(&outcome);
+    let told = told(&outcome);
     errands.tell(rt, number, outcome);
-    match refusal {
-        Some(refusal) => Err(refusal),
-        None => Ok(()),
+    told
+}
+
+fn told(outcome: &Result<Reply, Refusal>) -> Result<(), Refusal>
+    ensures { result ≡ told outcome.now }
+{
+    match outcome {
+        Ok(_) => Ok(()),
+        Err(refusal) => Err(*refusal),
     }
 }
 
-fn refusal_in(outcome: &Result<Reply, Refusal>) -> Option<Refusal> {
-    match outcome {
-        Ok(_) => None,
-        Err(refusal) => Some(*refusal),
+/// Does a task. What was to be asked and wasn't is asked later.
+fn do_task<R: Wait + Clock, C: Clerk>(
+    rt: &R,
+    alloc: Global,
+    node: &Node,
+    clerk: &mut C,
+    task: Task,
+) -> Result<(), Refusal>
+    ensures { DoesTask C.Clerk clerk.old clerk.new task result }
+{
+    match task {
+        Task::Enter(letter) => enter(rt, alloc, node, clerk, letter),
+        Task::Take(telling) => take(rt, alloc, node, clerk, telling),
+        Task::Ask => {
+            let asked = ask(rt, alloc, node, clerk);
+            if asked.is_err() {
+                node.post.stir(rt, false);
+            }
+            asked
+        }
+        Task::Tick => expire(rt, alloc, node, clerk),
+        Task::Count => {
+            let counted = count(rt, alloc, node, clerk);
+            if counted.is_err() {
+                node.post.want_count(rt);
+            }
+            counted
+        }
+        Task::Rest => Ok(()),
     }
 }
 
@@ -192,27 +228,11 @@ fn attend<R: Wait + Clock, C: Clerk>(
     alloc: Global,
     node: &Node,
     clerk: &mut C,
-) -> Result<(), Refusal> {
-    match node.post.next(rt, node.sweep.is_due(rt)) {
-        Task::Enter(letter) => enter(rt, alloc, node, clerk, letter),
-        Task::Take(delta) => take(rt, alloc, node, clerk, delta),
-        Task::Ask => match ask(rt, alloc, node, clerk) {
-            Ok(()) => Ok(()),
-            Err(refusal) => {
-                node.post.stir(rt, false);
-                Err(refusal)
-            }
-        },
-        Task::Tick => expire(rt, alloc, node, clerk),
-        Task::Count => match count(rt, alloc, node, clerk) {
-            Ok(()) => Ok(()),
-            Err(refusal) => {
-                node.post.want_count(rt);
-                Err(refusal)
-            }
-        },
-        Task::Rest => Ok(()),
-    }
+) -> Result<(), Refusal>
+    ensures { (task : TheTask) × DoesTask C.Clerk clerk.old clerk.new task result }
+{
+    let task = node.post.next(rt, node.sweep.is_due(rt));
+    do_task(rt, alloc, node, clerk, task)
 }
 
 /// Ends the run where a refusal does, and rests for a moment where memory runs out.

@@ -163,11 +163,12 @@ fn freed_by(call: &Call) -> Option<LraId> {
     }
 }
 
-/// Notes what a reply says of the home: that an LRA was begun, couldn't be begun, or may have ended.
+/// Notes what a reply says of the home: that an LRA was begun, couldn't be begun, was purged, or may have ended.
 fn note_home(node: &Node, reply: &Reply) {
     match reply {
         Reply::Command(CommandReply::Began(_, _)) => node.sweep.note_begun(),
         Reply::Command(CommandReply::Refused(Refusal::LrasFull)) => node.sweep.note_full(),
+        Reply::Command(CommandReply::Purged) => node.sweep.note_purged(),
         _ => {
             if may_end(reply) {
                 node.sweep.stir();

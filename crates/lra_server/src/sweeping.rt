@@ -1,7 +1,9 @@
 // Purges of roots that have ended, one call at a time.
+ghost use Rattle.std.specs.Prelude.{Option};
 ghost use Rattle.lra_history.specs.declared.command.Command.TheVariants.{Purge};
 ghost use Rattle.lra_book.specs.declared.calls.Call.TheVariants.{Command as Enter, Page as AskPage};
-ghost use Rattle.lra_server.specs.Entering.{IsMade};
+ghost use Rattle.lra_threads.specs.declared.sweep.Chore.{Chore as TheChore};
+ghost use Rattle.lra_server.specs.Entering.{DoesChore, DoesChoreIf, IsMade};
 
 use crate::taken::moment;
 use lra_book::{Call, Clerk, Reply};
@@ -91,7 +93,9 @@ fn attend<R: Wait + Clock, C: Clerk>(
     node: &Node,
     clerk: &mut C,
     chore: Chore,
-) -> Result<(), Refusal> {
+) -> Result<(), Refusal>
+    ensures { DoesChore C.Clerk clerk.old clerk.new chore result }
+{
     match chore {
         Chore::List(beyond) => list(rt, alloc, node, clerk, beyond),
         Chore::Purge(root) => purge(rt, alloc, node, clerk, root),
@@ -104,7 +108,9 @@ pub fn sweep<R: Wait + Clock, C: Clerk>(
     alloc: Global,
     node: &Node,
     clerk: &mut C,
-) -> Result<(), Refusal> {
+) -> Result<(), Refusal>
+    ensures { (chore : Option TheChore) × DoesChoreIf C.Clerk clerk.old clerk.new chore result }
+{
     if node.post.is_held(rt) {
         return Ok(());
     }

@@ -41,6 +41,7 @@ pub fn accept<R: Wait + Clock>(rt: &R, node: &Node, listener: &TcpListener) {
     for stream in listener.incoming() {
         match stream {
             Ok(stream) => {
+                node.counts.accept(rt);
                 if let Ok(guest) = Guest::new(rt, stream) {
                     node.queue.put(rt, guest);
                 }

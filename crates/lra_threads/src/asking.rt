@@ -5,9 +5,8 @@ use crate::line::{Times, line_over};
 use crate::news::Counts;
 use crate::node::Node;
 use crate::patient::{Haste, SLICE};
-use lra_delta::Delta;
+use lra_heard::{Telling, ask_for};
 use lra_id::Front;
-use lra_peer::pull;
 use std::alloc::Global;
 use std::net::{Net, TcpListener, TcpStream};
 use std::sync::Wait;
@@ -32,7 +31,7 @@ pub(crate) fn pull_over<'a, R: Wait + Clock>(
     node: &'a Node,
     front: &Front,
     stream: TcpStream,
-) -> Option<Delta> {
+) -> Option<Telling> {
     stream
         .set_read_timeout(Some(Duration::from_millis(SLICE)))
         .ok()?;
@@ -43,7 +42,7 @@ pub(crate) fn pull_over<'a, R: Wait + Clock>(
     };
     let line = line_over(rt, alloc, &node.signal, Haste::WithProgram, stream, times);
     let (mut reader, mut writer, _wire) = line.ok()?;
-    pull(alloc, &mut reader, &mut writer, front).ok()
+    ask_for(alloc, &mut reader, &mut writer, front).ok()
 }
 
 /// What a pull came to.
@@ -77,14 +76,14 @@ fn pull_one<R: Wait + Clock + Net<Listener = TcpListener, Stream = TcpStream>>(
     let Ok(stream) = node.site.reach(rt, &node.signal, other) else {
         return Pulled::Failed;
     };
-    let Some(delta) = pull_over(rt, alloc, node, &front, stream) else {
+    let Some(telling) = pull_over(rt, alloc, node, &front, stream) else {
         return Pulled::Failed;
     };
-    let told = delta.front();
+    let told = telling.front();
     if told.nodes() != front.nodes() || told.below(&front) {
         return Pulled::Nothing;
     }
-    if node.post.put_delta(rt, delta) {
+    if node.post.put_telling(rt, telling) {
         Pulled::New
     } else {
         Pulled::Failed

@@ -1,13 +1,14 @@
 // The threads that call participants. They outlive the runs of their node.
 
-use crate::line::{Times, line_over};
+use crate::line::{LineReader, LineWriter, Times, line_over};
 use crate::node::Node;
 use crate::patient::{Haste, SLICE};
 use crate::reaching::connect_to_one;
 use crate::signal::Signal;
 use log::{Log, warn};
-use lra_callback::{Answer, Duty, Heard, NetCaller, hear, request_of};
-use lra_turns::{Came, Plight};
+use lra_callback::{Heard, NetCaller};
+use lra_heard::{Letter, Unheard, call_for};
+use lra_turns::{Came, Due, Plight};
 use std::alloc::Global;
 use std::io::{Error, ErrorKind};
 use std::net::{Net, TcpListener, TcpStream, ToSocketAddrs};
@@ -37,14 +38,19 @@ fn connect<R: Wait + Clock + Net<Stream = TcpStream>>(
     }
 }
 
-/// Calls a participant over a connection.
-fn ask<'a, R: Wait + Clock>(
+/// A duty for which nobody could be called, or whose call was lost.
+fn without_answer(due: Due, came: Came) -> Result<Letter, Unheard> {
+    let duty = due.into_duty();
+    Err(Unheard { duty, came })
+}
+
+/// A caller over a connection.
+fn caller_over<'a, R: Wait + Clock>(
     rt: &'a R,
     alloc: Global,
     node: &'a Node,
-    duty: &Duty,
     stream: TcpStream,
-) -> Option<Answer> {
+) -> Option<NetCaller<LineReader<'a, R>, LineWriter<'a, R>>> {
     stream
         .set_read_timeout(Some(Duration::from_millis(SLICE)))
         .ok()?;
@@ -55,46 +61,32 @@ fn ask<'a, R: Wait + Clock>(
     };
     let line = line_over(rt, alloc, &node.signal, Haste::WithProgram, stream, times);
     let (reader, writer, _wire) = line.ok()?;
-    let request = request_of(alloc, duty).ok()?;
-    let mut caller = NetCaller::new(reader, writer);
-    caller.ask(alloc, &request).ok()
+    Some(NetCaller::new(reader, writer))
 }
 
-/// Why a participant is called again that answered so.
-fn came_of(answer: &Answer) -> Came {
-    match answer {
-        Answer::Code(code, _) => Came::Code(*code),
-        Answer::Broken => Came::Broken,
-    }
-}
-
-/// Calls a participant, and gives what is heard. Where that is nothing, or it can't be reached, or memory runs out, it is to be called
-/// again, and it gives why.
+/// Calls a participant, and hears its answer, if there is one that counts.
 fn call_one<R: Wait + Clock + Net<Listener = TcpListener, Stream = TcpStream>>(
     rt: &R,
     alloc: Global,
     node: &Node,
-    duty: &Duty,
-) -> Result<Heard, Came> {
-    let Ok(url) = Url::parse(alloc, duty.link.as_str()) else {
-        return Err(Came::NoConnection);
+    due: Due,
+) -> Result<Letter, Unheard> {
+    let Ok(url) = Url::parse(alloc, due.duty().link.as_str()) else {
+        return without_answer(due, Came::NoConnection);
     };
     let Ok(stream) = connect(rt, &node.signal, &url) else {
-        return Err(Came::NoConnection);
+        return without_answer(due, Came::NoConnection);
     };
-    let Some(answer) = ask(rt, alloc, node, duty, stream) else {
-        return Err(Came::Broken);
-    };
-    match hear(duty.act, duty.kind, &answer) {
-        Heard::Again => Err(came_of(&answer)),
-        heard => Ok(heard),
+    match caller_over(rt, alloc, node, stream) {
+        Some(mut caller) => call_for(alloc, &mut caller, due),
+        None => without_answer(due, Came::Broken),
     }
 }
 
 /// What was heard, if something was.
-fn heard_of(came: &Result<Heard, Came>) -> Option<Heard> {
+fn heard_of(came: &Result<Letter, Unheard>) -> Option<Heard> {
     match came {
-        Ok(heard) => Some(*heard),
+        Ok(letter) => Some(letter.heard()),
         Err(_) => None,
     }
 }
@@ -121,13 +113,14 @@ pub fn call_out<R: Wait + Clock + Net<Listener = TcpListener, Stream = TcpStream
     node: &Node,
 ) {
     for _ in rt.forever() {
-        let Some(duty) = node.post.next_duty(rt) else {
+        let Some(due) = node.post.next_duty(rt) else {
             return;
         };
         let began = rt.monotonic().unwrap_or(Duration::from_millis(0));
-        let came = call_one(rt, alloc, node, &duty);
-        node.counts.callback(rt, duty.kind, heard_of(&came));
-        if let Some(plight) = node.post.tell(rt, duty, began, came) {
+        let kind = due.duty().kind;
+        let came = call_one(rt, alloc, node, due);
+        node.counts.callback(rt, kind, heard_of(&came));
+        if let Some(plight) = node.post.tell(rt, began, came) {
             warn_of(log, node, &plight);
         }
     }

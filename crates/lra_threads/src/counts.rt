@@ -166,6 +166,7 @@ pub(crate) struct Numbers {
     pub(crate) pulled: [Option<Duration>; 8],
     pub(crate) swept: [u64; 4],
     pub(crate) failures: u64,
+    pub(crate) accepted: u64,
     pub(crate) closed: u64,
 }
 
@@ -187,6 +188,7 @@ impl Counts {
                 pulled: [None; 8],
                 swept: [0; 4],
                 failures: 0,
+                accepted: 0,
                 closed: 0,
             }),
         }
@@ -240,6 +242,12 @@ impl Counts {
     pub fn failure<R: Wait>(&self, rt: &R) {
         let mut numbers = self.numbers.lock(rt);
         numbers.failures = numbers.failures.saturating_add(1);
+    }
+
+    /// Counts a connection that was taken.
+    pub(crate) fn accept<R: Wait>(&self, rt: &R) {
+        let mut numbers = self.numbers.lock(rt);
+        numbers.accepted = numbers.accepted.saturating_add(1);
     }
 
     /// Counts connections that were closed for want of files.

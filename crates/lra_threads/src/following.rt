@@ -4,7 +4,7 @@ use crate::asking::pull_over;
 use crate::counts::Pull;
 use crate::node::Node;
 use log::{Log, warn};
-use lra_delta::Delta;
+use lra_heard::Telling;
 use lra_id::Front;
 use std::alloc::Global;
 use std::net::{Net, TcpListener, TcpStream};
@@ -102,23 +102,23 @@ fn count_of(front: &Front, number: u8) -> u64 {
 }
 
 /// Hands over what another node told, if that is more than a front counts. It says whether it did.
-fn hand_over<R: Wait>(rt: &R, node: &Node, front: &Front, delta: Delta) -> bool {
-    if delta.front().below(front) {
+fn hand_over<R: Wait>(rt: &R, node: &Node, front: &Front, telling: Telling) -> bool {
+    if telling.front().below(front) {
         return false;
     }
-    node.post.hand_over(rt, delta)
+    node.post.hand_over(rt, telling)
 }
 
 /// What comes of what another node told, beyond the front from which it was asked.
-fn take_over<R: Wait>(rt: &R, node: &Node, other: u8, front: &Front, delta: Delta) -> Pulled {
-    let told = delta.front();
+fn take_over<R: Wait>(rt: &R, node: &Node, other: u8, front: &Front, telling: Telling) -> Pulled {
+    let told = telling.front();
     if told.nodes() != front.nodes() {
         return Pulled::Unanswered;
     }
     let is_older = count_of(&told, other) < count_of(front, other);
     // What this node gave until now it knows of.
     let is_newer = count_of(&told, node.number) > count_of(&node.post.front(rt), node.number);
-    let is_new = hand_over(rt, node, front, delta);
+    let is_new = hand_over(rt, node, front, telling);
     if is_newer {
         return Pulled::Newer;
     }
@@ -149,7 +149,7 @@ fn pull_once<R: Wait + Clock + Net<Listener = TcpListener, Stream = TcpStream>>(
         return Pulled::Unreached;
     };
     match pull_over(rt, alloc, node, &front, stream) {
-        Some(delta) => take_over(rt, node, other, &front, delta),
+        Some(telling) => take_over(rt, node, other, &front, telling),
         None => Pulled::Unanswered,
     }
 }

@@ -40,7 +40,7 @@ pub use lines::{Lines, ToLines, lines_of};
 pub use news::News;
 pub use node::Node;
 pub use patient::{Haste, SLICE};
-pub use post::{Letter, Post, Task};
+pub use post::{Post, Task};
 pub use queue::Queue;
 pub use signal::{Over, Signal};
 pub use site::{Peer, Site};

@@ -233,6 +233,8 @@ fn push_participants<R: Wait>(
     now: Duration,
 ) -> Result<(), AllocError> {
     push_callbacks(page, numbers)?;
+    let help = "Participants that wait for a call, are called, or pause before the next.";
+    page.single("lra_callbacks_due", "gauge", help, node.post.due(rt))?;
     let (count, oldest) = node.post.in_vain(rt, now);
     let help = "Participants that are called in vain, 256 at most.";
     page.single("lra_callbacks_vain", "gauge", help, count)?;
@@ -265,6 +267,8 @@ fn push_others<R: Wait>(
         "Connections that wait for a worker.",
         node.queue.waiting(rt),
     )?;
+    let help = "Connections that were taken.";
+    page.single("lra_connections_total", "counter", help, numbers.accepted)?;
     let help = "Connections that were closed for want of files.";
     page.single("lra_closed_total", "counter", help, numbers.closed)?;
     page.family(

@@ -5,10 +5,10 @@ ghost use Rattle.std.specs.Prelude.{◌≤◌};
 
 use crate::plaints::{Plaint, Sought, drop_sought, forget_found, in_vain, note_sought, plaints_of};
 use lra_callback::{Duties, Duty, Heard, Kind};
-use lra_delta::Delta;
+use lra_heard::{Letter, Telling, Unheard};
 use lra_id::Front;
 use lra_states::{Act, Outcome};
-use lra_turns::{Called, Calls, Came, Pace, Plight};
+use lra_turns::{Called, Calls, Due, Pace, Plight};
 use std::alloc::{AllocError, Global};
 use std::collections::VecDeque;
 use std::sync::{Condvar, CondvarTimeouts, Mutex, Wait};
@@ -32,20 +32,13 @@ const ASK: u64 = 30_000;
 /// From how long a call on its host is slow, in milliseconds.
 const SLOW: u64 = 1_000;
 
-/// What was heard of a participant that was called for a duty.
-#[derive(Drop)]
-pub struct Letter {
-    pub duty: Duty,
-    pub heard: Heard,
-}
-
 /// What the thread that enters does next.
 #[derive(Drop)]
 pub enum Task {
     /// Enter what was heard.
     Enter(Letter),
     /// Take what another node told.
-    Take(Delta),
+    Take(Telling),
     /// Ask which participants are to be called.
     Ask,
     /// Look for a deadline that has passed.
@@ -62,7 +55,7 @@ enum Turn {
     Tick,
     Count,
     Letter,
-    Delta,
+    Telling,
     Ask,
 }
 
@@ -74,8 +67,8 @@ impl Turn {
         match self {
             Turn::Tick => Turn::Count,
             Turn::Count => Turn::Letter,
-            Turn::Letter => Turn::Delta,
-            Turn::Delta => Turn::Ask,
+            Turn::Letter => Turn::Telling,
+            Turn::Telling => Turn::Ask,
             Turn::Ask => Turn::Tick,
         }
     }
@@ -107,7 +100,7 @@ struct Mail {
     /// Whose last call was in vain, where it was called.
     sought: Vec<Sought>,
     letters: VecDeque<Letter>,
-    delta: Option<Delta>,
+    telling: Option<Telling>,
     front: Front,
     /// Whether it is known how many facts the node had of its own at some moment of this life.
     counted: bool,
@@ -151,7 +144,7 @@ impl Mail {
     fn has_task(&self, now: Duration) -> bool {
         self.held_until <= now
             && (self.is_to_count(now)
-                || self.delta.is_some()
+                || self.telling.is_some()
                 || (self.open
                     && (self.ticks_at <= now || !self.letters.is_empty() || self.stirred)))
     }
@@ -201,9 +194,9 @@ impl Mail {
     }
 
     /// What another node told, if that is taken now.
-    fn take_delta(&mut self) -> Option<Task> {
-        match self.delta.take() {
-            Some(delta) => Some(Task::Take(delta)),
+    fn take_telling(&mut self) -> Option<Task> {
+        match self.telling.take() {
+            Some(telling) => Some(Task::Take(telling)),
             None => None,
         }
     }
@@ -226,7 +219,7 @@ impl Mail {
                 Turn::Tick => self.take_tick(now),
                 Turn::Count => self.take_count(now),
                 Turn::Letter => self.take_letter(),
-                Turn::Delta => self.take_delta(),
+                Turn::Telling => self.take_telling(),
                 Turn::Ask => self.take_ask(now),
             };
             if let Some(task) = task {
@@ -264,29 +257,24 @@ impl Mail {
     /// Puts a letter last. One for which there is no memory is lost, and the participant is called again.
     fn put_letter(&mut self, letter: Letter) {
         if let Err(refused) = self.letters.push_back(letter) {
-            self.calls.forget(Called::of(&refused.value.duty));
+            self.calls.forget(Called::of(refused.value.duty()));
             self.later = true;
         }
     }
 
     /// Puts what was heard of a participant. One that is to be called again pauses first. It gives what is to be told of calls in vain.
-    fn hear(
-        &mut self,
-        duty: Duty,
-        pace: Pace,
-        came: Result<Heard, Came>,
-        now: Duration,
-    ) -> Option<Plight> {
-        self.calls.end(&duty, pace);
+    fn hear(&mut self, pace: Pace, came: Result<Letter, Unheard>, now: Duration) -> Option<Plight> {
         match came {
-            Err(came) => {
+            Err(Unheard { duty, came }) => {
+                self.calls.end(&duty, pace);
                 note_sought(&mut self.sought, self.alloc, &duty);
                 self.calls.vain(duty, came, now)
             }
-            Ok(heard) => {
-                let plight = self.calls.heard(&duty, now);
-                drop_sought(&mut self.sought, &Called::of(&duty));
-                self.put_letter(Letter { duty, heard });
+            Ok(letter) => {
+                self.calls.end(letter.duty(), pace);
+                let plight = self.calls.heard(letter.duty(), now);
+                drop_sought(&mut self.sought, &Called::of(letter.duty()));
+                self.put_letter(letter);
                 plight
             }
         }
@@ -317,7 +305,7 @@ impl Post {
                 calls: Calls::new(alloc),
                 sought: Vec::new(alloc),
                 letters: VecDeque::new(alloc),
-                delta: None,
+                telling: None,
                 front: Front::zero(usize::from(nodes)),
                 counted: false,
                 to_count: are_apart,
@@ -423,6 +411,11 @@ impl Post {
         !self.mail.lock(rt).open
     }
 
+    /// How many wait for a call, are called, or pause before the next.
+    pub(crate) fn due<R: Wait>(&self, rt: &R) -> u64 {
+        self.mail.lock(rt).calls.len() as u64
+    }
+
     /// How many are called in vain, and how long the one that is so for longest.
     pub(crate) fn in_vain<R: Wait>(&self, rt: &R, now: Duration) -> (u64, Duration) {
         let mail = self.mail.lock(rt);
@@ -507,7 +500,7 @@ impl Post {
     }
 
     /// A participant that is to be called. It waits for one whose host may be called, and gives none once the program is to end.
-    pub(crate) fn next_duty<R: Wait>(&self, rt: &R) -> Option<Duty> {
+    pub(crate) fn next_duty<R: Wait>(&self, rt: &R) -> Option<Due> {
         let mut mail = self.due.wait_while(rt, self.mail.lock(rt), |mail| {
             !mail.calls.may_take() && !mail.ended
         });
@@ -522,14 +515,13 @@ impl Post {
     pub(crate) fn tell<R: Wait + Clock>(
         &self,
         rt: &R,
-        duty: Duty,
         began: Duration,
-        came: Result<Heard, Came>,
+        came: Result<Letter, Unheard>,
     ) -> Option<Plight> {
         let now = rt.monotonic().unwrap_or(Duration::from_millis(0));
         let pace = pace_of(now.saturating_sub(began));
         let mut mail = self.mail.lock(rt);
-        let plight = mail.hear(duty, pace, came, now);
+        let plight = mail.hear(pace, came, now);
         self.came.notify_all();
         if mail.calls.may_take() {
             self.due.notify_one();
@@ -551,37 +543,37 @@ impl Post {
     pub fn is_entered<R: Wait + Clock>(&self, rt: &R, letter: &Letter) {
         let now = rt.monotonic().unwrap_or(Duration::from_millis(0));
         let mut mail = self.mail.lock(rt);
-        let who = Called::of(&letter.duty);
-        match letter.heard {
+        let who = Called::of(letter.duty());
+        match letter.heard() {
             Heard::Told(Outcome::Busy) => mail.calls.pause(who, now),
             _ => mail.calls.forget(who),
         }
-        mail.stir(calls_nobody(&letter.duty));
+        mail.stir(calls_nobody(letter.duty()));
     }
 
     /// Hands over what another node told, unless something waits already. It says whether it did.
-    pub(crate) fn put_delta<R: Wait>(&self, rt: &R, delta: Delta) -> bool {
+    pub(crate) fn put_telling<R: Wait>(&self, rt: &R, telling: Telling) -> bool {
         let mut mail = self.mail.lock(rt);
-        if mail.delta.is_some() {
+        if mail.telling.is_some() {
             return false;
         }
-        mail.delta = Some(delta);
+        mail.telling = Some(telling);
         self.came.notify_all();
         true
     }
 
     /// Hands over what another node told, once nothing else waits. It says whether it did: not where nothing of it is new by then, nor
     /// where the program is to end.
-    pub(crate) fn hand_over<R: Wait>(&self, rt: &R, delta: Delta) -> bool {
+    pub(crate) fn hand_over<R: Wait>(&self, rt: &R, telling: Telling) -> bool {
         let mut mail = self.over.wait_while(rt, self.mail.lock(rt), |mail| {
-            mail.delta.is_some() && !mail.ended
+            mail.telling.is_some() && !mail.ended
         });
-        let told = delta.front();
+        let told = telling.front();
         if mail.ended || told.nodes() != mail.front.nodes() || told.below(&mail.front) {
             return false;
         }
         mail.awaited = mail.awaited.join(&told);
-        mail.delta = Some(delta);
+        mail.telling = Some(telling);
         self.came.notify_all();
         true
     }

@@ -141,6 +141,8 @@ pub struct Sweep {
     is_stirred: AtomicBool,
     /// How many were begun since then, at most.
     begun: AtomicU64,
+    /// Whether some were purged since then.
+    has_purged: AtomicBool,
     /// Whether none could be begun, since the home was full, since that was last asked.
     is_full: AtomicBool,
     swept: Mutex<Swept>,
@@ -256,6 +258,7 @@ impl Sweep {
             is_stirred: AtomicBool::new(true),
             // (how many there are is to be known at the start)
             begun: AtomicU64::new(MANY),
+            has_purged: AtomicBool::new(false),
             is_full: AtomicBool::new(false),
             swept: Mutex::new(Swept {
                 ended: Vec::new(alloc),
@@ -290,6 +293,11 @@ impl Sweep {
         self.is_stirred.store(true, Ordering::SeqCst);
     }
 
+    /// Notes that LRAs were purged.
+    pub fn note_purged(&self) {
+        self.has_purged.store(true, Ordering::SeqCst);
+    }
+
     /// Notes that an LRA was begun.
     pub fn note_begun(&self) {
         self.begun.fetch_add(1, Ordering::SeqCst);
@@ -306,7 +314,8 @@ impl Sweep {
         let begun = self.begun.load(Ordering::SeqCst);
         let may_have_ended = self.is_stirred.load(Ordering::SeqCst);
         let may_be_many = self.counts && begun > 0 && swept.taken.saturating_add(begun) >= MANY;
-        let is_seen = self.is_watched && swept.counts_at <= now && (begun > 0 || may_have_ended);
+        let has_changed = begun > 0 || may_have_ended || self.has_purged.load(Ordering::SeqCst);
+        let is_seen = self.is_watched && swept.counts_at <= now && has_changed;
         may_be_many || is_seen || (self.purges() && may_have_ended)
     }
 
@@ -338,6 +347,7 @@ impl Sweep {
             }
             self.is_stirred.store(false, Ordering::SeqCst);
             self.begun.store(0, Ordering::SeqCst);
+            self.has_purged.store(false, Ordering::SeqCst);
             swept.begin(self.before_home(), now);
         }
         let beyond = swept.beyond;

@@ -1,6 +1,7 @@
 pub mod Calling
 pub mod Entering
 pub mod Links
+pub mod Named
 pub mod Plights
 pub mod Slips
 pub mod Turns

@@ -1,5 +1,5 @@
 -- Who is called, and what is remembered of each.
-use Rattle.std.specs.Prelude.{◌==◌, ◌&&◌, ℕ, Bool, true, false, List, Option, None, Some, filter, if◌then◌else◌, map, nat_le, not}
+use Rattle.std.specs.Prelude.{◌≡◌, ◌*◌, ◌==◌, ◌&&◌, ℕ, Bool, true, false, List, Option, None, Some, filter, if◌then◌else◌, map, max, min, nat_le, not}
 use Rattle.std.specs.List.{position_from}
 use Rattle.std.specs.Duration.{as_nanos}
 use Rattle.std.specs.declared.time.Duration.{Duration}
@@ -58,6 +58,34 @@ standing stand slip = record { who = slip.who; pause = slip.pause; stand = stand
 -- one to whom a call begins, and the others as they were
 abbrev pub begun_to : Called → Slip → Slip
 begun_to who slip = if same_called slip.who who then standing IsCalled slip else slip
+
+-- when it may be called again; none while it waits or is called
+abbrev pub until_in : Stand → Option Duration
+until_in (Pauses until) = Some until
+until_in _ = None
+
+-- the pause after one of so many milliseconds: twice as long, and between a quarter of a second and half a minute
+abbrev pub next_pause : ℕ → ℕ
+next_pause pause = min (max (2 * pause) 250) 30_000
+
+-- one that pauses until a moment, longer than the last time
+pub record IsPaused (until : Duration) (old new : Slip) : Type 0 where
+  pub who : new.who ≡ old.who
+  pub pause : new.pause ≡ next_pause old.pause
+  pub stand : new.stand ≡ Pauses until
+  pub kept : new.kept ≡ old.kept
+  pub listed : new.is_listed ≡ old.is_listed
+  pub vain : new.vain ≡ old.vain
+
+-- one that no longer waits for a thread, and isn't on the list; what it is called for after a pause stays, and who is called is called
+pub record IsRecalled (old new : Slip) : Type 0 where
+  pub who : new.who ≡ old.who
+  pub pause : new.pause ≡ old.pause
+  pub called : is_called new ≡ is_called old
+  pub waits : waits new ≡ false
+  pub kept : new.kept ≡ old.kept
+  pub listed : new.is_listed ≡ false
+  pub vain : new.vain ≡ old.vain
 
 -- those that are left where one is forgotten
 abbrev pub without : Called → List Slip → List Slip

@@ -1,8 +1,10 @@
 // Whom the threads that call are to call, whom they call, and whom only after a pause.
-ghost use Rattle.std.specs.Prelude.{◌≡◌, ◌↔◌, [], IsTrue, None, false};
+ghost use Rattle.std.specs.Prelude.{◌≡◌, ◌<◌, ◌↔◌, ◌∷◌, [], Bool, IfSome, IsTrue, None, false, length};
 ghost use Rattle.std.specs.List.{list_any};
 ghost use Rattle.lra_turns.specs.Calling.{IsTakenFrom};
 ghost use Rattle.lra_turns.specs.Entering.{IsEntered};
+ghost use Rattle.lra_callback.specs.declared.duty.Duty.{Duty};
+ghost use Rattle.lra_turns.specs.Named.{AllKept, AllWaiting, IsKept, NamesNoOther, Passes};
 ghost use Rattle.lra_turns.specs.Slips.{without};
 ghost use Rattle.lra_turns.specs.Turns.{MayTake, changed_at, is_due, with_end, with_hosts};
 ghost use Rattle.lra_turns.specs.Turns.{place_of as host_place};
@@ -10,7 +12,7 @@ ghost use Rattle.lra_turns.specs.Turns.{place_of as host_place};
 use crate::Pace;
 use crate::hosts::Hosts;
 use crate::plight::{Came, Plight, Vain};
-use crate::slip::{Called, Slip, begin_each, forget_each, place_from, place_of};
+use crate::slip::{Called, Due, Slip, begin_each, forget_each, place_from, place_of};
 use lra_callback::Duty;
 use std::alloc::Global;
 use std::marker::Model;
@@ -19,7 +21,9 @@ use std::time::Duration;
 /// Enters a duty of a list. Who is called now is left as it is, and who pauses keeps its pause; another waits for a thread from now on,
 /// with the duty put at its host. It says whether there was memory for that.
 fn enter(slip: &mut Slip, hosts: &mut Hosts, duty: Duty, now: Duration) -> bool
-    ensures { IsEntered now duty slip.old slip.new hosts.old hosts.new result }
+    ensures entered { IsEntered now duty slip.old slip.new hosts.old hosts.new result }
+    ensures named { (test : Duty → Bool) → Passes test duty → IsKept test slip.old → AllWaiting test hosts.old.hosts →
+        IsKept test slip.new × AllWaiting test hosts.new.hosts }
 {
     slip.is_listed = true;
     if slip.is_called() {
@@ -36,22 +40,92 @@ fn enter(slip: &mut Slip, hosts: &mut Hosts, duty: Duty, now: Duration) -> bool
     is_put
 }
 
+/// The earlier of two moments, if there are two.
+fn earlier(one: Option<Duration>, other: Duration) -> Duration {
+    match one {
+        Some(one) => one.min(other),
+        None => other,
+    }
+}
+
+/// Has one wait for a thread whose pause is over. It gives when the next pause is, of this one and of those before.
+fn resume_one(
+    slip: &mut Slip,
+    hosts: &mut Hosts,
+    now: Duration,
+    next: Option<Duration>,
+) -> Option<Duration>
+    ensures { (test : Duty → Bool) → IsKept test slip.old → AllWaiting test hosts.old.hosts →
+        IsKept test slip.new × AllWaiting test hosts.new.hosts }
+{
+    if slip.is_over(now) {
+        if let Some(duty) = slip.kept.take() {
+            let _ = enter(slip, hosts, duty, now);
+        }
+        return next;
+    }
+    match slip.until() {
+        Some(until) => Some(earlier(next, until)),
+        None => next,
+    }
+}
+
 /// Has those wait for a thread whose pause is over. It gives when the next pause is.
-fn resume_all(slips: &mut [Slip], hosts: &mut Hosts, now: Duration) -> Option<Duration> {
+fn resume_all(slips: &mut [Slip], hosts: &mut Hosts, now: Duration) -> Option<Duration>
+    ensures { (test : Duty → Bool) → AllKept test slips.old → AllWaiting test hosts.old.hosts →
+        AllKept test slips.new × AllWaiting test hosts.new.hosts }
+{
     let mut next: Option<Duration> = None;
     for slip in slips.iter_mut() {
-        if slip.is_over(now) {
-            if let Some(duty) = slip.kept.take() {
-                let _ = enter(slip, hosts, duty, now);
-            }
-        } else if let Some(until) = slip.until() {
-            next = match next {
-                Some(other) => Some(other.min(until)),
-                None => Some(until),
-            };
-        }
+        next = resume_one(slip, hosts, now, next);
     }
     next
+}
+
+/// Takes back those that wait for a thread.
+fn recall_each(slips: &mut [Slip])
+    ensures { (test : Duty → Bool) → AllKept test slips.old → AllKept test slips.new }
+{
+    for slip in slips.iter_mut() {
+        slip.recall();
+    }
+}
+
+/// Forgets who is not on the list, unless it is called now.
+fn forget_unlisted(slips: &mut Vec<Slip>)
+    ensures { (test : Duty → Bool) → AllKept test slips.old.items → AllKept test slips.new.items }
+{
+    slips.retain(|slip| slip.is_listed || slip.is_called());
+}
+
+/// The place of somebody's slip, from a place on, or of a new one; none where there is no memory for that.
+fn place_or_new(slips: &mut Vec<Slip>, from: usize, who: Called) -> Option<usize>
+    ensures kept { (test : Duty → Bool) → AllKept test slips.old.items → AllKept test slips.new.items }
+    ensures within { IfSome result (λ place. place < length slips.new.items) }
+{
+    if let Some(found) = place_from(slips.as_slice(), from, &who) {
+        return Some(found);
+    }
+    let place = slips.len();
+    match slips.push(Slip::of(who)) {
+        Ok(()) => Some(place),
+        Err(_) => None,
+    }
+}
+
+/// Brings somebody's slip to a place of the list. It says whether there was memory for that.
+fn bring(slips: &mut Vec<Slip>, place: usize, who: Called) -> bool
+    ensures kept { (test : Duty → Bool) → AllKept test slips.old.items → AllKept test slips.new.items }
+    ensures within { IsTrue result → place < length slips.new.items }
+{
+    let Some(found) = place_or_new(slips, place, who) else {
+        return false;
+    };
+    if place >= slips.len() {
+        return false;
+    }
+    slips.swap(place, found);
+    true
 }
 
 /// Whom the threads are to call. The list of all that are due is asked for once something may have changed it; who is to be called
@@ -97,6 +171,13 @@ impl Calls {
         self.slips.is_empty()
     }
 
+    /// How many are to be called, are called, or pause.
+    pub fn len(&self) -> usize
+        ensures { result ≡ length self.now.slips }
+    {
+        self.slips.len()
+    }
+
     /// Whether somebody waits for a thread.
     pub fn is_any_due(&self) -> bool
         ensures { result ≡ list_any is_due self.now.now.hosts }
@@ -112,40 +193,36 @@ impl Calls {
     }
 
     /// The duty that is called for next, if one may be. Its call counts as begun.
-    pub fn take(&mut self) -> Option<Duty>
+    pub fn take(&mut self) -> Option<Due>
         ensures { IsTakenFrom self.old self.new result }
     {
         let duty = self.hosts.take()?;
         begin_each(&mut self.slips, &Called::of(&duty));
-        Some(duty)
+        Some(Due::new(duty))
     }
 
     /// Puts the duty at a place of the list, where its slip goes too. It says whether there was memory for that.
-    fn put_at(&mut self, place: usize, duty: Duty, now: Duration) -> bool {
-        let who = Called::of(&duty);
-        let found = match place_from(self.slips.as_slice(), place, &who) {
-            Some(found) => found,
-            None => {
-                if self.slips.push(Slip::of(who)).is_err() {
-                    return false;
-                }
-                self.slips.len().saturating_sub(1)
-            }
-        };
-        if place >= self.slips.len() || found >= self.slips.len() {
+    fn put_at(&mut self, place: usize, duty: Duty, now: Duration) -> bool
+        ensures { NamesNoOther self.old self.new (duty ∷ []) }
+    {
+        if !bring(&mut self.slips, place, Called::of(&duty)) {
             return false;
         }
-        self.slips.swap(place, found);
         enter(&mut self.slips[place], &mut self.hosts, duty, now)
     }
 
-    /// Puts all that are due, in the order of the list, in place of those that no thread has begun with. Who is no longer among them is
-    /// forgotten, unless it is called now. It says whether there was memory for all.
-    pub fn put_all(&mut self, duties: Vec<Duty>, now: Duration) -> bool {
+    /// Takes back all duties that no thread has begun with.
+    fn recall(&mut self)
+        ensures { NamesNoOther self.old self.new [] }
+    {
         self.hosts.recall();
-        for slip in self.slips.iter_mut() {
-            slip.recall();
-        }
+        recall_each(&mut self.slips);
+    }
+
+    /// Puts duties at the first places of the list, in their order. It says whether there was memory for all.
+    fn put_each(&mut self, duties: Vec<Duty>, now: Duration) -> bool
+        ensures { NamesNoOther self.old self.new duties.items }
+    {
         let (mut place, mut is_whole) = (0usize, true);
         for duty in duties {
             if self.put_at(place, duty, now) {
@@ -154,13 +231,32 @@ impl Calls {
                 is_whole = false;
             }
         }
-        self.slips.retain(|slip| slip.is_listed || slip.is_called());
+        is_whole
+    }
+
+    /// Forgets who is no longer on the list, unless it is called now, and the hosts of those.
+    fn forget_others(&mut self)
+        ensures { NamesNoOther self.old self.new [] }
+    {
+        forget_unlisted(&mut self.slips);
         self.hosts.forget();
+    }
+
+    /// Puts all that are due, in the order of the list, in place of those that no thread has begun with. Who is no longer among them is
+    /// forgotten, unless it is called now. It says whether there was memory for all.
+    pub fn put_all(&mut self, duties: Vec<Duty>, now: Duration) -> bool
+        ensures { NamesNoOther self.old self.new duties.items }
+    {
+        self.recall();
+        let is_whole = self.put_each(duties, now);
+        self.forget_others();
         is_whole
     }
 
     /// Has those wait for a thread whose pause is over by now, and says whether somebody may be called.
-    pub fn resume(&mut self, now: Duration) -> bool {
+    pub fn resume(&mut self, now: Duration) -> bool
+        ensures { NamesNoOther self.old self.new [] }
+    {
         let Some(at) = self.resumes_at else {
             return false;
         };
@@ -173,10 +269,7 @@ impl Calls {
 
     /// When the first pause is over, or the moment that is given, if that comes before.
     pub fn resumes_by(&self, moment: Duration) -> Duration {
-        match self.resumes_at {
-            Some(at) => at.min(moment),
-            None => moment,
-        }
+        earlier(self.resumes_at, moment)
     }
 
     /// Counts a call that is over, and how its host answered.
@@ -187,13 +280,18 @@ impl Calls {
     }
 
     /// Notes that a pause is over at this moment.
-    fn resume_by(&mut self, until: Duration) {
+    fn resume_by(&mut self, until: Duration)
+        ensures hosts { self.new.now ≡ self.old.now }
+        ensures slips { self.new.slips ≡ self.old.slips }
+    {
         self.resumes_at = Some(self.resumes_by(until));
     }
 
     /// Has a participant that is busy wait before it is called again, each time longer, for what the next list has. It was no call in
     /// vain.
-    pub fn pause(&mut self, who: Called, now: Duration) {
+    pub fn pause(&mut self, who: Called, now: Duration)
+        ensures { NamesNoOther self.old self.new [] }
+    {
         let Some(place) = place_of(&self.slips, &who) else {
             return;
         };
@@ -206,20 +304,21 @@ impl Calls {
 
     /// Has a participant wait before it is called again for this duty, each time longer: the call came to nothing. It gives what is to
     /// be told of that: once a minute has passed since the first such call in a row, and again each ten minutes.
-    pub fn vain(&mut self, duty: Duty, came: Came, now: Duration) -> Option<Plight> {
+    pub fn vain(&mut self, duty: Duty, came: Came, now: Duration) -> Option<Plight>
+        ensures { NamesNoOther self.old self.new (duty ∷ []) }
+    {
         let place = place_of(&self.slips, &Called::of(&duty))?;
-        let slip = &mut self.slips[place];
-        let mut vain = Vain::after(slip.vain, came, now);
+        let mut vain = Vain::after(self.slips[place].vain, came, now);
         let plight = vain.tell(self.alloc, &duty, now);
-        slip.vain = Some(vain);
-        slip.kept = Some(duty);
-        let until = slip.pause_from(now);
+        let until = self.slips[place].pause_in_vain(duty, vain, now);
         self.resume_by(until);
         plight
     }
 
     /// Ends the count of the calls in vain, since something was heard. It gives what is to be told of that, if they were told.
-    pub fn heard(&mut self, duty: &Duty, now: Duration) -> Option<Plight> {
+    pub fn heard(&mut self, duty: &Duty, now: Duration) -> Option<Plight>
+        ensures { NamesNoOther self.old self.new [] }
+    {
         let place = place_of(&self.slips, &Called::of(duty))?;
         let vain = self.slips[place].vain.take()?;
         vain.tell_end(self.alloc, duty, now)

@@ -13,4 +13,4 @@ mod slip;
 pub use calls::Calls;
 pub use pace::Pace;
 pub use plight::{Came, Plight, Vain};
-pub use slip::Called;
+pub use slip::{Called, Due};

@@ -1,11 +1,12 @@
 // What is remembered of one who is to be called, is called, or is called again after a pause.
-ghost use Rattle.std.specs.Prelude.{◌≡◌, ◌<◌, IfSome, length, map, true};
-ghost use Rattle.lra_turns.specs.Slips.{begun_to, called_of, is_called, is_over, place_of, same_called, without};
+ghost use Rattle.std.specs.Prelude.{◌≡◌, ◌<◌, IfSome, None, Some, length, map, true};
+ghost use Rattle.lra_turns.specs.Slips.{IsPaused, IsRecalled, begun_to, called_of, is_called, is_over, place_of, same_called, until_in, without};
 ghost use Rattle.lra_turns.specs.Entering.{IsMadeToWait};
 
 use crate::plight::Vain;
 use lra_callback::{Duty, Kind};
 use lra_id::LraId;
+use std::marker::Model;
 use std::time::Duration;
 
 /// The first pause before a participant is called again, in milliseconds.
@@ -13,6 +14,42 @@ const FIRST_PAUSE: u64 = 250;
 
 /// The longest, in milliseconds.
 const LAST_PAUSE: u64 = 30_000;
+
+/// A duty whose call has begun. Only `Calls::take` makes one.
+#[derive(Drop)]
+pub struct Due {
+    duty: Duty,
+}
+
+impl Model for Due {
+    ghost use Rattle.lra_callback.specs.declared.duty.Duty.{Duty};
+
+    ghost Value = { Duty };
+
+    ghost view = { λ d. d.duty };
+}
+
+impl Due {
+    pub(crate) fn new(duty: Duty) -> Due
+        ensures { result ≡ duty }
+    {
+        Due { duty }
+    }
+
+    /// The duty.
+    pub fn duty(&self) -> &Duty
+        ensures { result.now ≡ self.now }
+    {
+        &self.duty
+    }
+
+    /// The duty, to be kept.
+    pub fn into_duty(self) -> Duty
+        ensures { result ≡ self }
+    {
+        self.duty
+    }
+}
 
 /// Who is called. A participant is told of the end apart from the rest, so that a link to forget that never answers doesn't hold that
 /// up.
@@ -74,7 +111,10 @@ pub(crate) struct Slip {
 
 impl Slip {
     /// Of one who may be called at once.
-    pub(crate) fn of(who: Called) -> Slip {
+    pub(crate) fn of(who: Called) -> Slip
+        ensures who { result.who ≡ who }
+        ensures kept { result.kept ≡ None }
+    {
         Slip {
             who,
             pause: 0,
@@ -86,12 +126,25 @@ impl Slip {
     }
 
     /// Has it pause, longer than the last time. It gives when that is over.
-    pub(crate) fn pause_from(&mut self, now: Duration) -> Duration {
+    pub(crate) fn pause_from(&mut self, now: Duration) -> Duration
+        ensures paused { IsPaused result self.old self.new }
+    {
         let pause = self.pause.saturating_mul(2).clamp(FIRST_PAUSE, LAST_PAUSE);
         let until = now.saturating_add(Duration::from_millis(pause));
         self.pause = pause;
         self.stand = Stand::Pauses(until);
         until
+    }
+
+    /// Has it pause so, before it is called again for this duty, since the last call was in vain. It gives when the pause is over.
+    pub(crate) fn pause_in_vain(&mut self, duty: Duty, vain: Vain, now: Duration) -> Duration
+        ensures kept { self.new.kept ≡ Some duty }
+        ensures vain { self.new.vain ≡ Some vain }
+        ensures who { self.new.who ≡ self.old.who }
+    {
+        self.vain = Some(vain);
+        self.kept = Some(duty);
+        self.pause_from(now)
     }
 
     /// Whether it is called now, or what was heard of it isn't entered yet.
@@ -102,7 +155,9 @@ impl Slip {
     }
 
     /// When it may be called again; none while it waits for a thread, or is called.
-    pub(crate) fn until(&self) -> Option<Duration> {
+    pub(crate) fn until(&self) -> Option<Duration>
+        ensures { result ≡ until_in self.now.stand }
+    {
         match self.stand {
             Stand::Pauses(until) => Some(until),
             Stand::Waits | Stand::IsCalled => None,
@@ -142,7 +197,9 @@ impl Slip {
     }
 
     /// Takes it back from those that wait for a thread. How long it paused is kept.
-    pub(crate) fn recall(&mut self) {
+    pub(crate) fn recall(&mut self)
+        ensures { IsRecalled self.old self.new }
+    {
         if matches!(self.stand, Stand::Waits) {
             self.stand = Stand::Pauses(Duration::from_millis(0));
         }
@@ -151,7 +208,9 @@ impl Slip {
 }
 
 /// The place of a slip, from a place on.
-pub(crate) fn place_from(slips: &[Slip], from: usize, who: &Called) -> Option<usize> {
+pub(crate) fn place_from(slips: &[Slip], from: usize, who: &Called) -> Option<usize>
+    ensures { IfSome result (λ place. place < length slips.now) }
+{
     for place in from..slips.len() {
         if slips[place].who.is(who) {
             return Some(place);

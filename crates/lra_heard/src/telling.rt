@@ -1,0 +1,76 @@
+// What another node told in a pull.
+ghost use Rattle.std.specs.Prelude.{◌≡◌, ◌⊎◌, ◌++◌, List, ℕ, IfErr, IfOk, IfSome, MatchResult};
+ghost use Rattle.lra_delta.specs.Frames.{Frame};
+ghost use Rattle.lra_delta.specs.declared.version.Version.{Version};
+ghost use Rattle.lra_delta.specs.Rules.{IsDeltaAs};
+ghost use Rattle.lra_delta.specs.Encoding.{encoding_as};
+ghost use Rattle.lra_peer.specs.PullAnswers.{IsAnswer, IsOfStreams, IsSent, IsUnsentBy, StopsPull, TellsDelta};
+ghost use Rattle.lra_peer.specs.Texts.{pull_text};
+
+use lra_delta::Delta;
+use lra_http::{Sink, Source};
+use lra_id::Front;
+use lra_peer::{PullError, pull};
+use std::alloc::Global;
+use std::marker::Model;
+
+/// What another node told in a pull: a whole frame. Only `ask_for` makes one, and none is made of another. So no frame is taken that didn't
+/// come, and each is taken once at most.
+#[derive(Drop)]
+pub struct Telling {
+    delta: Delta,
+}
+
+impl Model for Telling {
+    ghost use Rattle.lra_delta.specs.Frames.{Frame};
+
+    ghost Value = { Frame };
+
+    ghost view = { λ t. t.delta };
+}
+
+impl Telling {
+    /// How many facts of each node the other has.
+    pub fn front(&self) -> Front
+        ensures { result ≡ self.now.front }
+    {
+        self.delta.front()
+    }
+
+    /// The frame, to be taken.
+    pub fn into_delta(self) -> Delta
+        ensures { result ≡ self }
+    {
+        self.delta
+    }
+}
+
+/// Asks another node for what is lacked by one that has the facts which a front counts, as `lra_peer::pull`. Errors: as that.
+pub fn ask_for<R: Source, W: Sink>(
+    alloc: Global,
+    reader: &mut R,
+    writer: &mut W,
+    front: &Front,
+) -> Result<Telling, PullError>
+    // The whole request for this front was written and passed on. What was given since is one whole response with status 200, whose
+    // body encodes the frame, and no byte more. No call failed.
+    ensures message { IfOk result (λ telling. IsSent (W.stream writer.old)
+        (W.stream writer.new) (W.calls writer.old) (W.calls writer.new) (pull_text front.now)
+        × TellsDelta (R.stream reader.old)
+        (R.stream reader.new) (R.calls reader.old) (R.calls reader.new) telling) }
+    ensures error { IfErr result (λ error. IsUnsentBy (W.stream writer.old)
+        (W.stream writer.new) (W.calls writer.old) (W.calls writer.new) (pull_text front.now)
+        (reader.new ≡ reader.old) ((writer.new ≡ writer.old) × (reader.new ≡ reader.old)) error
+        ⊎ (IsSent (W.stream writer.old) (W.stream writer.new) (W.calls writer.old)
+        (W.calls writer.new) (pull_text front.now) × StopsPull (R.stream reader.old)
+        (R.stream reader.new) (R.calls reader.old) (R.calls reader.new) error)) }
+    ensures found { IfSome (R.stream reader.old).left
+        (λ input. (bytes rest : List ℕ) (version : Version) (frame : Frame) → input ≡ bytes ++ rest →
+        IsDeltaAs version frame → IsAnswer bytes 200 (encoding_as version frame) →
+        MatchResult result (λ telling. telling ≡ frame) IsOfStreams) }
+{
+    match pull(alloc, reader, writer, front) {
+        Ok(delta) => Ok(Telling { delta }),
+        Err(error) => Err(error),
+    }
+}
