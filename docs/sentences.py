@@ -1,18 +1,21 @@
 #!/usr/bin/env python3
 """Lists the sentences of the pages that have over 30 words: python3 docs/sentences.py [PAGE..]. With --check it fails where there is one.
 Code in a line counts as one word, and blocks of code aren't looked at. Standard library alone."""
-import glob
 import os
 import re
 import sys
+from collections.abc import Iterable, Iterator
 
-TOP = os.path.dirname(os.path.dirname(os.path.abspath(__file__)))
+sys.path.insert(0, os.path.dirname(os.path.dirname(os.path.abspath(__file__))))
+from tools import repo
+
 MOST = 30
 
 
-def pieces(text):
+def pieces(text: str) -> Iterator[tuple[int, str]]:
     """The pieces of a page that stand by themselves, each with its line: paragraphs, items of lists, headings, cells of tables."""
-    piece, first, fenced = [], 0, False
+    piece: list[str] = []
+    first, fenced = 0, False
     for number, line in enumerate([*text.split("\n"), ""], 1):
         fence = line.lstrip().startswith("```")
         fenced ^= fence
@@ -28,23 +31,29 @@ def pieces(text):
             piece.append(re.sub(r"^\s*([-*] |\d+\. |#+ )", "", line).strip())
 
 
-def sentences(piece):
+def sentences(piece: str) -> list[str]:
+    """The sentences of a piece."""
     text = re.sub(r"`[^`]*`", "code", piece)
     text = re.sub(r"\[([^\]]*)\]\([^)]*\)", r"\1", text)
     return re.split(r"(?<=[.!?])[)*\"']*\s+(?=[(*\"'A-Zc])", text)
 
 
-def long_ones(pages):
+def long_ones(pages: Iterable[str]) -> Iterator[str]:
+    """A line of each long sentence."""
     for page in pages:
-        for line, piece in pieces(open(f"{TOP}/{page}", encoding="utf-8").read()):
+        for line, piece in pieces(repo.read(page)):
             for sentence in sentences(piece):
                 words = len(re.findall(r"[A-Za-z0-9][^\s]*", sentence))
                 if words > MOST:
                     yield f"{page}:{line}: {words} words: {sentence.strip()}"
 
 
-named = [page for page in sys.argv[1:] if not page.startswith("--")]
-every = [os.path.relpath(path, TOP) for path in sorted(glob.glob(f"{TOP}/*.md") + glob.glob(f"{TOP}/*/*.md"))]
-found = list(long_ones(named or every))
-print("\n".join(found) or "ok")
-sys.exit(1 if found and "--check" in sys.argv else 0)
+def main() -> int:
+    named = [page for page in sys.argv[1:] if not page.startswith("--")]
+    found = list(long_ones(named or [*repo.files("*.md"), *repo.files("*/*.md")]))
+    print("\n".join(found) or "ok")
+    return 1 if found and "--check" in sys.argv[1:] else 0
+
+
+if __name__ == "__main__":
+    sys.exit(main())
