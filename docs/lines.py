@@ -1,6 +1,6 @@
 #!/usr/bin/env python3
-"""Counts the lines of each layer and writes the table in docs/THEOREMS.md: python3 docs/lines.py. With --check it compares.
-Blank lines and comments are left out. Standard library alone."""
+"""Counts the lines of each layer and writes the table in docs/THEOREMS.md: python3 docs/lines.py. With --check it
+compares. Blank lines and comments are left out. Standard library alone."""
 import os
 import re
 import sys
@@ -79,7 +79,8 @@ def count(crates: Iterable[str]) -> Counts:
     proofs = sum(1 for crate in crates for _ in lines_of(f"crates/{crate}/proofs/**/*.antt", "--"))
     places = [place for crate in crates for place in (f"crates/{crate}/must-fail", f"tests/wrong/{crate}")]
     edits = sum(len(repo.files(f"{place}/*.edit")) for place in places)
-    return Counts(sum(code for code, _ in of_code), sum(contracts for _, contracts in of_code), definitions, proofs, edits)
+    return Counts(sum(code for code, _ in of_code), sum(contracts for _, contracts in of_code), definitions, proofs,
+                  edits)
 
 
 def table() -> str:

@@ -1,8 +1,9 @@
 #!/usr/bin/env python3
-"""Finds what has to be read to believe the headline: the definitions that the clause `headline` of World::step rests on, and then what the
-laws of progress rest on besides. With them go the types of the code that these speak of, each with its `impl Model`, which says what a
-contract sees of a value. It writes their files and lines into docs/THEOREMS.md: python3 docs/reading.py. With --check it compares, and
-with --list it prints each definition and type. Blank lines, comments and imports are left out. Standard library alone."""
+"""Finds what has to be read to believe the headline: the definitions that the clause `headline` of World::step rests
+on, and then what the laws of progress rest on besides. With them go the types of the code that these speak of, each
+with its `impl Model`, which says what a contract sees of a value. It writes their files and lines into
+docs/THEOREMS.md: python3 docs/reading.py. With --check it compares, and with --list it prints each definition and type.
+Blank lines, comments and imports are left out. Standard library alone."""
 import os
 import re
 import sys
@@ -17,14 +18,15 @@ CALL = "crates/lra_world/src/world.rt", "step", "headline"
 # The types of that call: what it is called on, takes and answers.
 TYPES = "World", "Event", "Reply"
 # The libraries that are read, in reading order.
-CRATES = ["lra_id", "lra_states", "lra_facts", "lra_forest", "lra_history", "lra_index", "lra_replica", "lra_delta", "lra_peer",
-          "lra_callback", "lra_world", "lra_progress", "lra_book", "lra_trail"]
+CRATES = ["lra_id", "lra_states", "lra_facts", "lra_forest", "lra_history", "lra_index", "lra_replica", "lra_delta",
+          "lra_peer", "lra_callback", "lra_world", "lra_progress", "lra_book", "lra_trail"]
 # The laws of progress: each row counts what those before it don't.
 PROGRESS = "crates/lra_progress/src/laws.rt"
-TO_ITS_END = ["an_lra_ends_with_its_saga", "an_end_is_accepted", "open_participants_only_get_fewer", "after_so_many_ends_it_has_ended",
-              "what_is_under_way_can_be_ended", "a_tree_goes_on_until_it_is_purged",
+TO_ITS_END = ["an_lra_ends_with_its_saga", "an_end_is_accepted", "open_participants_only_get_fewer",
+              "after_so_many_ends_it_has_ended", "what_is_under_way_can_be_ended", "a_tree_goes_on_until_it_is_purged",
               "a_decided_tree_waits_for_so_many_answers", "a_decided_tree_can_be_purged"]
-ALIKE = ["a_frame_brings_what_its_sender_had", "one_round_makes_all_alike", "frames_enter_nothing", "a_frame_since_nothing_is_taken"]
+ALIKE = ["a_frame_brings_what_its_sender_had", "one_round_makes_all_alike", "frames_enter_nothing",
+         "a_frame_since_nothing_is_taken"]
 LAWS = [("and that nothing is stuck", PROGRESS, ["nothing_is_stuck"]),
         ("and how it goes on to its end", PROGRESS, TO_ITS_END),
         ("and that one round makes all alike", PROGRESS, ALIKE),
@@ -33,8 +35,8 @@ LAWS = [("and that nothing is stuck", PROGRESS, ["nothing_is_stuck"]),
 GRAMMAR = {"lra_delta", "lra_facts LinkTexts"}
 OF_BYTES = "and that a frame is bytes, and where a cut one is refused"
 NAME = r"[A-Za-z_][A-Za-z0-9_']*"
-WORDS = {"abbrev", "unfoldable", "opaque", "inline", "pub", "record", "data", "noncomputable", "let", "in", "if", "then", "else",
-         "where", "infixl"}
+WORDS = {"abbrev", "unfoldable", "opaque", "inline", "pub", "record", "data", "noncomputable", "let", "in", "if",
+         "then", "else", "where", "infixl"}
 
 # Where a definition stands: its file and its name. A type: its crate and its name.
 Place = tuple[str, str]
@@ -167,7 +169,8 @@ def declared(path: str, lines: Lines) -> Iterator[Place]:
 
 
 class Reached:
-    """What clauses and laws rest on: each definition by its place with its lines, and each type by its place with its file and lines."""
+    """What clauses and laws rest on: each definition by its place with its lines, and each type by its place with its
+    file and lines."""
 
     def __init__(self) -> None:
         files = repo.files("crates/*/specs/*.antt")
@@ -202,7 +205,8 @@ class Reached:
         if (path, name) in self.seen or name not in self.defined.get(path, {}):
             return [], []
         lines = self.seen[path, name] = self.defined[path][name]
-        left = [(path, it) if it in self.defined[path] else self.known[path].get(it, (path, "")) for it in cited(name, lines)]
+        own, known = self.defined[path], self.known[path]
+        left = [(path, word) if word in own else known.get(word, (path, "")) for word in cited(name, lines)]
         return left, list(declared(path, lines))
 
 
@@ -226,7 +230,8 @@ def file_rows(files: Iterable[File], what: str) -> Iterator[str]:
     for crate, module, _, count in files:
         crates.setdefault(crate, []).append((module, count))
     for crate, modules in crates.items():
-        yield f"| `{crate}` | {', '.join(f'`{module}`' for module, _ in modules)} | {sum(count for _, count in modules)} |"
+        names = ", ".join(f"`{module}`" for module, _ in modules)
+        yield f"| `{crate}` | {names} | {sum(count for _, count in modules)} |"
     yield f"| **{what}** | | **{sum(count for *_, count in files)}** |"
 
 

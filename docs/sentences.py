@@ -1,6 +1,6 @@
 #!/usr/bin/env python3
-"""Lists the sentences of the pages that have over 30 words: python3 docs/sentences.py [PAGE..]. With --check it fails where there is one.
-Code in a line counts as one word, and blocks of code aren't looked at. Standard library alone."""
+"""Lists the sentences of the pages that have over 30 words: python3 docs/sentences.py [PAGE..]. With --check it fails
+where there is one. Code in a line counts as one word, and blocks of code aren't looked at. Standard library alone."""
 import os
 import re
 import sys
@@ -13,7 +13,8 @@ MOST = 30
 
 
 def pieces(text: str) -> Iterator[tuple[int, str]]:
-    """The pieces of a page that stand by themselves, each with its line: paragraphs, items of lists, headings, cells of tables."""
+    """The pieces of a page that stand by themselves, each with its line: paragraphs, items of lists, headings, cells of
+    tables."""
     piece: list[str] = []
     first, fenced = 0, False
     for number, line in enumerate([*text.split("\n"), ""], 1):

@@ -1,9 +1,11 @@
 #!/usr/bin/env python3
-"""Compares the lines that answer out of memory by hand with tests/memory.txt: python3 tests/memory.py. Standard library alone.
+"""Compares the lines that answer out of memory by hand with tests/memory.txt: python3 tests/memory.py. Standard library
+alone.
 
-No contract can say when memory is refused, so a body that answers so where there is memory is proved all the same. Each line that
-does is listed, with its function, and was looked at: the error that it passes on, or translates, came from a refused growth. Look at
-a new one before you list it: python3 tests/memory.py --write. The status is 1 where list and code differ."""
+No contract can say when memory is refused, so a body that answers so where there is memory is proved all the same. Each
+line that does is listed, with its function, and was looked at: the error that it passes on, or translates, came from a
+refused growth. Look at a new one before you list it: python3 tests/memory.py --write. The status is 1 where list and
+code differ."""
 import os
 import re
 import sys

@@ -1,8 +1,8 @@
 #!/usr/bin/env python3
 """Compares docs/openapi.json with the code: python3 tests/openapi.py. Standard library alone.
 
-Each path and method of the one has to stand in the other's table (lra_api/src/path.rt, table.rt), with the words of statuses, acts
-and outcomes as lra_states prints them. The status is 1 where they differ."""
+Each path and method of the one has to stand in the other's table (lra_api/src/path.rt, table.rt), with the words of
+statuses, acts and outcomes as lra_states prints them. The status is 1 where they differ."""
 import json
 import os
 import re

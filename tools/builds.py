@@ -1,4 +1,5 @@
-"""Builds of the coordinator's programs: proved ones, which are kept as rt leaves them, and the unproved ones of unproved.py."""
+"""Builds of the coordinator's programs: proved ones, which are kept as rt leaves them, and the unproved ones of
+unproved.py."""
 import collections
 import hashlib
 import os
@@ -56,7 +57,8 @@ def is_kept(file: str, text: str) -> bool:
 
 def need_rt() -> None:
     if not shutil.which("rt"):
-        raise SystemExit("coordinator: there is no command rt, which builds the server: it comes with the kit of Rattle")
+        why = "there is no command rt, which builds the server: it comes with the kit of Rattle"
+        raise SystemExit(f"coordinator: {why}")
 
 
 def stage(line: str, crates: list[str], now: str) -> str:
@@ -69,7 +71,8 @@ def stage(line: str, crates: list[str], now: str) -> str:
 
 
 def prove(name: str, top: str = TOP) -> None:
-    """Has rt prove and build a program. It is built if it has answered: to words that it doesn't take, with its usage."""
+    """Has rt prove and build a program. It is built if it has answered: to words that it doesn't take, with its
+    usage."""
     say("building. This proves every crate once, which takes about three quarters of an hour on four processors.")
     crates = [*repo.below(name, repo.crates(top)), name]
     last, progress = collections.deque[str](maxlen=12), Progress("reading all crates")

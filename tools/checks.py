@@ -1,5 +1,7 @@
 """Tests of many checks, each of which prints a line where a test is run as a program; and how it is run so."""
+import contextlib
 import os
+import sqlite3
 import tempfile
 import time
 import traceback
@@ -43,6 +45,12 @@ class Checked(unittest.TestCase):
     def same(self, what: str, wanted: object, seen: object) -> None:
         """Whether something is what is wanted."""
         self.check(what, wanted == seen, f"\n  wanted {wanted}\n  seen   {seen}")
+
+    def is_whole(self, journal: str, node: int) -> None:
+        """Whether SQLite finds a node's journal whole."""
+        with contextlib.closing(sqlite3.connect(journal)) as database:
+            found = database.execute("PRAGMA integrity_check").fetchone()
+        self.check(f"the journal of node {node} is whole", found == ("ok",), found)
 
     def folder_in(self, *names: str) -> str:
         """A folder in that of the test."""
@@ -99,11 +107,14 @@ def words_of(kind: type[unittest.TestCase]) -> list[str]:
     return [name.removeprefix("test_") for name in vars(kind) if name.startswith("test_")]
 
 
-def run(kind: type[unittest.TestCase], words: Iterable[str] = ()) -> int:
-    """Runs a class's tests, all or those of some words, and gives the status for the system."""
+def run(*kinds: type[unittest.TestCase], words: Iterable[str] = ()) -> int:
+    """Runs the tests of some classes, all or those of some words, and gives the status for the system."""
     Checked.is_told = True
-    result = Lines()
-    unittest.TestSuite(kind(f"test_{word}") for word in list(words) or words_of(kind)).run(result)
+    result, chosen = Lines(), list(words)
+    suite = unittest.TestSuite()
+    for kind in kinds:
+        suite.addTests(kind(f"test_{word}") for word in words_of(kind) if word in chosen or not chosen)
+    suite.run(result)
     failed = len(result.failures) + len(result.errors)
     print(f"{failed} failed")
     return 1 if failed else 0

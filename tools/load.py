@@ -12,8 +12,8 @@ GONE = (OSError, http.client.HTTPException)
 
 
 class Noted:
-    """What was answered of an LRA: its participants, in order of their joins, and which of them reports by itself; what was decided, and
-    whether that was answered; whether an outcome was told of the one that reports."""
+    """What was answered of an LRA: its participants, in order of their joins, and which of them reports by itself; what
+    was decided, and whether that was answered; whether an outcome was told of the one that reports."""
 
     def __init__(self) -> None:
         self.members: dict[int, int] = {}
@@ -48,8 +48,8 @@ def lost(nodes: Nodes, noted: Notes) -> Iterator[tuple]:
 
 
 def misled(part: Participant, noted: Notes, ended: dict[str, str]) -> Iterator[tuple]:
-    """LRAs whose participants weren't called as they had to be: all to complete, or last to first to compensate. One that is called again
-    at once counts once."""
+    """LRAs whose participants weren't called as they had to be: all to complete, or last to first to compensate. One
+    that is called again at once counts once."""
     for lra, one in noted.items():
         word = "cancel" if ended.get(lra) == "Cancelled" else "close"
         every = [path for _, path in part.made(lra) if path.startswith(f"/{word}/")]

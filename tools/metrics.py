@@ -1,7 +1,7 @@
 """Reads what a node answers to GET /metrics, strictly, and knows what it has to be.
 
-The format is Prometheus's text format 0.0.4, of which the reader takes counters, gauges and untyped metrics, in the one spelling that a
-node writes: one space between words, no comma behind the last label, no timestamp."""
+The format is Prometheus's text format 0.0.4, of which the reader takes counters, gauges and untyped metrics, in the one
+spelling that a node writes: one space between words, no comma behind the last label, no timestamp."""
 import dataclasses
 import math
 import re
@@ -113,7 +113,7 @@ def read_labels(number: int, line: str, at: int) -> tuple[int, Labels]:
             raise Wrong(number, f"neither , nor }} behind a label: {line}")
 
 
-def read(text: str) -> dict[str, Samples]:
+def samples(text: str) -> dict[str, Samples]:
     """The values of each metric with their labels. Raises Wrong."""
     return {name: family.samples for name, family in families(text).items()}
 

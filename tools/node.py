@@ -13,7 +13,8 @@ from tools import repo
 from tools.ports import HOST, free_row, is_open
 
 Json = typing.Any
-# How long a node may take to start, to answer or to end, in seconds: two of them may share a slow processor with a compiler.
+# How long a node may take to start, to answer or to end, in seconds: two of them may share a slow processor with a
+# compiler.
 SLOW = 90
 # With what a node refuses between two runs, so that it is asked again.
 BETWEEN_RUNS = ("E20",)
@@ -30,14 +31,14 @@ class Answer(typing.NamedTuple):
         return json.loads(self.text) if self.text else {}
 
 
-def request(address: tuple[str, int], method: str, path: str, body: str | None = None, *, fields: Mapping[str, str] = {},
-            timeout: float = SLOW, inside: contextlib.AbstractContextManager | None = None) -> Answer:
+def request(address: tuple[str, int], method: str, path: str, body: str | None = None,
+            fields: Mapping[str, str] | None = None, inside: contextlib.AbstractContextManager | None = None) -> Answer:
     """One request over a connection of its own, which is made inside something where that is given."""
-    connection = http.client.HTTPConnection(*address, timeout=timeout)
+    connection = http.client.HTTPConnection(*address, timeout=SLOW)
     try:
         with inside or contextlib.nullcontext():
             connection.connect()
-        connection.request(method, path, body, dict(fields))
+        connection.request(method, path, body, dict(fields or {}))
         answer = connection.getresponse()
         return Answer(answer.status, dict(answer.getheaders()), answer.read().decode())
     finally:
@@ -45,7 +46,8 @@ def request(address: tuple[str, int], method: str, path: str, body: str | None =
 
 
 def ask(port: int, method: str, path: str, body: Json = None, again: Iterable[str] = BETWEEN_RUNS) -> tuple[int, Json]:
-    """One request with a body of JSON; the status and the JSON of its answer. What is refused with one of `again` is asked again."""
+    """One request with a body of JSON; the status and the JSON of its answer. What is refused with one of `again` is
+    asked again."""
     while True:
         answer = request((HOST, port), method, path, None if body is None else json.dumps(body))
         if not (answer.status == 503 and any(word in answer.text for word in again)):

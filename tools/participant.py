@@ -12,7 +12,8 @@ Answer = int | tuple[int, bytes]
 
 
 class Call(typing.NamedTuple):
-    """A call: of which LRA, whether it tells of that one's end, its fields and its body, what it was answered, and when it came."""
+    """A call: of which LRA, whether it tells of that one's end, its fields and its body, what it was answered, and when
+    it came."""
 
     method: str
     path: str

@@ -18,7 +18,8 @@ def is_open(port: int) -> bool:
 
 
 def is_free(port: int) -> bool:
-    """Whether a server could listen at a port. Connections that are still closing don't count, as with the coordinator."""
+    """Whether a server could listen at a port. Connections that are still closing don't count, as with the
+    coordinator."""
     with socket.socket() as probe:
         probe.setsockopt(socket.SOL_SOCKET, socket.SO_REUSEADDR, 1)
         try:
@@ -42,7 +43,8 @@ def listening() -> Iterator[tuple[str, str]]:
     """Each address of TCP at which somebody listens, as the kernel spells it, with its socket."""
     with open("/proc/net/tcp", encoding="ascii") as file:
         rows = [line.split() for line in file.readlines()[1:]]
-    # Of a row the second field is the address, the fourth the state, where 0A stands for listening, and the tenth the socket.
+    # Of a row the second field is the address, the fourth the state, where 0A stands for listening, and the tenth the
+    # socket.
     return ((row[1], row[9]) for row in rows if row[3] == "0A")
 
 
@@ -56,7 +58,8 @@ def sockets_of(process: int) -> Iterator[str]:
 
 
 def listens_at(process: int, ports: Iterable[int]) -> bool:
-    """Whether a process itself listens at all these ports of 127.0.0.1: that another answers there says nothing of it."""
+    """Whether a process itself listens at all these ports of 127.0.0.1: that another answers there says nothing of
+    it."""
     own = set(sockets_of(process))
     held = {address for address, number in listening() if f"socket:[{number}]" in own}
     return all(f"0100007F:{port:04X}" in held for port in ports)

@@ -83,7 +83,8 @@ def copy_crates(folder: str) -> None:
 
 
 def add_crate(folder: str, name: str, texts: dict[str, str], uses: str) -> str:
-    """Adds a crate to such a copy: its files under src with their texts, and its line of crates.txt. The crate's folder."""
+    """Adds a crate to such a copy: its files under src with their texts, and its line of crates.txt. The crate's
+    folder."""
     crate = f"{folder}/crates/{name}"
     for file, text in texts.items():
         path = f"{crate}/src/{file}"

@@ -41,7 +41,8 @@ def differences(text: Json, schema: Json, value: Json, place: str = "") -> list[
     if isinstance(value, dict):
         given = schema.get("properties", {})
         wrong += [f"{place} has no {key}" for key in schema.get("required", []) if key not in value]
-        wrong += [f"{place} has {key}" for key in value if key not in given and schema.get("additionalProperties") is False]
+        if schema.get("additionalProperties") is False:
+            wrong += [f"{place} has {key}" for key in value if key not in given]
         if [key for key in given if key in value] != [key for key in value if key in given]:
             wrong.append(f"{place} has its members in another order: {', '.join(value)}")
         for key in value.keys() & given.keys():

@@ -1,5 +1,6 @@
-"""Members in network namespaces of their own, over a wire that takes its time and loses packets. Needs root, /dev/net/tun and `ip`; the
-kernel's netem isn't needed. Nothing stays behind: a namespace goes with its last process and file."""
+"""Members in network namespaces of their own, over a wire that takes its time and loses packets. Needs root,
+/dev/net/tun and `ip`; the kernel's netem isn't needed. Nothing stays behind: a namespace goes with its last process and
+file."""
 import contextlib
 import ctypes
 import fcntl
@@ -40,7 +41,8 @@ def own_namespace() -> int:
 
 
 class Wire:
-    """So many namespaces, I with the address 10.77.0.I, and a thread that hands on the packets between them, or doesn't."""
+    """So many namespaces, I with the address 10.77.0.I, and a thread that hands on the packets between them, or
+    doesn't."""
 
     def __init__(self, count: int, delay: float, loss: float) -> None:
         self.delay, self.loss, self.dice, self.sent, self.lost = delay, loss, random.Random(60), 0, 0
