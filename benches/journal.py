@@ -48,15 +48,21 @@ def theirs(folder: str) -> dict[str, float]:
     base = sqlite3.connect(f"{folder}/theirs.db", isolation_level=None)
     for line in ("PRAGMA journal_mode=WAL", "PRAGMA synchronous=FULL", *TABLES):
         base.execute(line)
-    begin = micros(lambda: [store(base, i + 1, body[:30], i + 1) for i, body in enumerate(bodies)])
-    join = micros(lambda: [store(base, i + 1, body, LRAS + i + 1) for i, body in enumerate(bodies)])
+
+    def begin() -> None:
+        for number, body in enumerate(bodies, 1):
+            store(base, number, body[:30], number)
+
+    def join() -> None:
+        for number, body in enumerate(bodies, 1):
+            store(base, number, body, LRAS + number)
 
     def read() -> None:
         journal = sqlite3.connect(f"{folder}/opening.db")
         if [len(journal.execute(rows).fetchall()) for rows in ROWS] != [9, 8 * LRAS]:
             raise SystemExit("other rows")
 
-    return {"begin": begin / LRAS, "join": join / LRAS, "open": micros(read)}
+    return {"begin": micros(begin) / LRAS, "join": micros(join) / LRAS, "open": micros(read)}
 
 
 def main() -> int:

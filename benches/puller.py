@@ -7,6 +7,7 @@ nothing that was given back. It pulls from SERVER (crates/lra_node/out/lra_node,
 homes are filled first; without it, from this script, which spells the same frame. A line for each turn has the
 program's resident memory before, at most and after, by Linux's /proc, and how it went on the way, in nine steps. It
 needs python3 alone."""
+import itertools
 import os
 import shutil
 import socket
@@ -18,7 +19,7 @@ import time
 
 sys.path.insert(0, os.path.dirname(os.path.dirname(os.path.abspath(__file__))))
 from tools import repo
-from tools.homes import BODY, LINK, LRAS, NODES, PARTICIPANTS, fill_homes, forget_most
+from tools.homes import BODY, LINK, LRAS, NODES, PARTICIPANTS, fill_wholly, forget_most
 from tools.node import Server, memory_of
 from tools.ports import HOST, free_row
 from tools.unproved import running_in
@@ -40,11 +41,14 @@ def compiled_client(folder: str) -> list[str]:
         words = ["rt", "try", "--steps", "1", "--seconds", "600", "--", "pulled", str(silent.getsockname()[1])]
         trial = subprocess.Popen(words, cwd=crate, env={**os.environ, "TMPDIR": run}, stdin=subprocess.PIPE,
                                  stdout=sys.stderr)
+        assert trial.stdin
         trial.stdin.write(b"\n\n")
         trial.stdin.close()
         silent.settimeout(1_800)
         with silent.accept()[0]:
             loads = running_in(run)
+            if not loads:
+                raise SystemExit("the client that asks doesn't run where rt try runs it")
             shutil.copy(loads[-1], f"{folder}/client")
         trial.wait()
     return [*loads[:-1], f"{folder}/client"]
@@ -96,19 +100,25 @@ def measure(words: list[str], way: str, port: int) -> None:
     """One turn of a client: its memory before, at most and after, and on the way."""
     client = subprocess.Popen([*words, way, str(port)], env={"ASAN_OPTIONS": SETTINGS}, stdin=subprocess.PIPE,
                               stdout=subprocess.PIPE)
+    assert client.stdin and client.stdout
     client.stdout.readline()
     before = memory_of(client, "VmRSS")
     forget_most(client)
     ended, began = threading.Event(), time.time()
-    line: list[bytes] = []
-    threading.Thread(target=lambda: (line.append(client.stdout.readline()), ended.set())).start()
+    lines: list[bytes] = []
+
+    def hear() -> None:
+        lines.extend(itertools.islice(client.stdout or (), 1))
+        ended.set()
+
+    threading.Thread(target=hear).start()
     client.stdin.write(b"\n")
     client.stdin.flush()
     seen = course(client, ended)
     spent, most, after = time.time() - began, memory_of(client), memory_of(client, "VmRSS")
     on_the_way = " ".join(f"{seen[len(seen) * i // 10]:.0f}" for i in range(1, 10))
     memory = f"MiB before {before:.1f}, at most {most:.1f}, after {after:.1f}; on the way {on_the_way}"
-    print(f"{way}: {line[0].decode().strip()}, in {spent:.1f} s; {memory}", flush=True)
+    print(f"{way}: {lines[0].decode().strip()}, in {spent:.1f} s; {memory}", flush=True)
     client.stdin.write(b"\n")
     client.stdin.close()
     client.wait(600)
@@ -132,7 +142,7 @@ def over_bytes(words: list[str]) -> None:
 def over_server(words: list[str], folder: str) -> None:
     """Over the frame that a server tells."""
     with Server(NODES, folder, stderr=None) as server:
-        fill_homes(server)
+        fill_wholly(server)
         print("the frame that the server tells", flush=True)
         turns(words, server.ports[0])
         server.end()

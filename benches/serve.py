@@ -15,7 +15,8 @@ from collections.abc import Callable
 
 sys.path.insert(0, os.path.dirname(os.path.dirname(os.path.abspath(__file__))))
 from tools import checks, repo
-from tools.node import Server, memory_of, wait_for
+from tools.homes import fill_homes
+from tools.node import Server, exchange, memory_of, wait_for
 from tools.ports import HOST
 
 PORT = 18600
@@ -91,18 +92,15 @@ def bare(server: Server, method: str, path: str, node: int = 1) -> bytes:
     """The bytes of one answer, over a plain socket: Python's http.client takes longer for a call than the server
     does."""
     while True:
-        with socket.create_connection(server.address(node), 30) as connection:
-            connection.sendall(f"{method} {path} HTTP/1.1\r\nHost: p\r\nContent-Length: 0\r\n\r\n".encode())
-            answer = b""
-            while piece := connection.recv(65536):
-                answer += piece
+        text = f"{method} {path} HTTP/1.1\r\nHost: p\r\nContent-Length: 0\r\n\r\n"
+        answer = exchange(server.address(node), text.encode())
         if b"E20" not in answer:
             return answer
 
 
 def begun(server: Server) -> str:
     """An LRA that is begun over a plain socket."""
-    return re.search(rb"urn:uuid:([0-9a-f-]+)", bare(server, "POST", "/lra"))[1].decode()
+    return repo.found(r"urn:uuid:([0-9a-f-]+)", bare(server, "POST", "/lra").decode())[1]
 
 
 def begins_and_closes(server: Server, clients: int, times: int) -> tuple[list[float], float]:
@@ -135,9 +133,9 @@ def ab(url: str, clients: int, count: int) -> Measured:
     """Requests by ab, one connection each."""
     words = ["ab", "-q", "-n", str(count), "-c", str(clients), url]
     text = subprocess.run(words, capture_output=True, text=True, check=True).stdout
-    median, late = (int(re.search(rf"^\s*{percent}%\s+(\d+)", text, re.M)[1]) for percent in (50, 99))
+    median, late = (int(repo.found(rf"^\s*{percent}%\s+(\d+)", text, re.M)[1]) for percent in (50, 99))
     bad = sum(map(int, re.findall(r"(?:Failed requests|Non-2xx responses):\s+(\d+)", text)))
-    return Measured(float(re.search(r"Requests per second:\s+([\d.]+)", text)[1]), median, late, bad)
+    return Measured(float(repo.found(r"Requests per second:\s+([\d.]+)", text)[1]), median, late, bad)
 
 
 def statuses(server: Server, folder: str) -> None:
@@ -218,22 +216,8 @@ def delays(server: Server) -> None:
 
 def full(server: Server, nodes: int) -> None:
     """Fills each home with 256 LRAs of 8 participants, and then has one node change its run."""
-
-    def fill(node: int) -> None:
-        for _ in range(256):
-            lra = server.begin(node)
-            for _ in range(8):
-                server.join(node, lra, compensate=f"http://{HOST}:9/c")
-
-    homes = range(1, nodes + 1)
-    threads = [threading.Thread(target=fill, args=(node,)) for node in homes]
-    for thread in threads:
-        thread.start()
-    for thread in threads:
-        thread.join()
+    fill_homes(server, 8, {"compensate": f"http://{HOST}:9/c"})
     lra = server.ask(1, "GET", "/lra")[1]["lras"][0]["lra"]
-    while any(len(server.shown(node)) != 256 * nodes for node in homes):
-        time.sleep(0.5)
     memory = memory_of(server.process, "VmRSS")
     print(f"resident memory, {nodes} full homes at {nodes} nodes {memory:22,.0f} MiB", flush=True)
     spans, _ = many(1, 4_000, lambda: server.ask(1, "GET", f"/lra/{lra}"))

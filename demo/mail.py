@@ -5,6 +5,7 @@ It takes what a coordinator tells at an `after` link, such as http://127.0.0.1:P
 answers 200. So it also stands in for a listener that is gone for good, whose LRA can't be purged before it has
 answered. Standard library alone."""
 import http.server
+import io
 import sys
 import threading
 from collections.abc import Callable
@@ -40,7 +41,8 @@ class Mail:
 def main() -> None:
     if len(sys.argv) != 2 or not sys.argv[1].isdecimal():
         raise SystemExit("usage: python3 demo/mail.py PORT")
-    sys.stdout.reconfigure(line_buffering=True)
+    if isinstance(sys.stdout, io.TextIOWrapper):
+        sys.stdout.reconfigure(line_buffering=True)
     mail = Mail(int(sys.argv[1]), lambda lra, status: print(f"{lra} is {status}"))
     print(f"Listening at {mail.link}, until Ctrl-C")
     try:

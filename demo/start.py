@@ -15,6 +15,7 @@ from collections.abc import Sequence
 sys.path.insert(0, os.path.dirname(os.path.dirname(os.path.abspath(__file__))))
 from tools import unproved
 from tools.builds import need_rt, proved, say
+from tools.node import end_input
 from tools.ports import is_free, listens_at
 
 USAGE = """\
@@ -69,7 +70,8 @@ def wrong_with(nodes: str, port: str, folder: str, times: Times = (),
         return 1, f"there is no folder {folder!r}: make it first"
     if not os.access(folder, os.W_OK | os.X_OK):
         return 1, f"the folder {folder!r} may not be written"
-    taken = [it for first in (port, operate) if first is not None for it in ports_of(nodes, first) if not is_free(it)]
+    wanted = [number for first in (port, operate) if first is not None for number in ports_of(nodes, first)]
+    taken = [number for number in wanted if not is_free(number)]
     return (1, f"port {taken[0]} is in use") if taken else None
 
 
@@ -90,7 +92,7 @@ def program_for(nodes: str, port: str, folder: str, times: Times, operate: str |
         return "lra_node", ["serve", nodes, port, folder]
     options = [] if operate is None else [f"operate=127.0.0.1:{operate}"]
     options += [f"{option.removeprefix('--')}={word}" for option, word in times]
-    return "lra_member", [f"1-{nodes}", folder, *options, *(f"127.0.0.1:{it}" for it in ports_of(nodes, port))]
+    return "lra_member", [f"1-{nodes}", folder, *options, *(f"127.0.0.1:{number}" for number in ports_of(nodes, port))]
 
 
 def tell_when_up(server: subprocess.Popen, ports: Sequence[int], for_operators: Sequence[int] = ()) -> None:
@@ -116,7 +118,7 @@ def serve_unproved(name: str, words: list[str], ports: Sequence[int], for_operat
         tell_when_up(server, ports, for_operators)
         return server.wait()
     except KeyboardInterrupt:
-        server.stdin.close()
+        end_input(server)
         return server.wait()
 
 

@@ -5,6 +5,7 @@ PROGRAM is crates/lra_node/out/lra_node, which ./coordinator builds, or --unprov
 LRA. The order begins it and asks hotel, flight and payment over HTTP; each joins it, and the coordinator calls each
 when the trip ends. The mail joins to hear what became of it. The exit status is 1 where anything differs from what must
 be. Standard library alone; a few seconds."""
+import io
 import json
 import os
 import signal
@@ -12,7 +13,8 @@ import sys
 import tempfile
 import threading
 import time
-from collections.abc import Iterable, Mapping
+from collections.abc import Iterable
+from email.message import Message
 
 sys.path.insert(0, os.path.dirname(os.path.dirname(os.path.abspath(__file__))))
 from tools import unproved
@@ -46,7 +48,7 @@ class Service(Participant):
         self.states: dict[str, str] = {}
         super().__init__(port)
 
-    def answer(self, path: str, lra: str, fields: Mapping[str, str], body: bytes) -> Answer:
+    def answer(self, path: str, lra: str, fields: Message, body: bytes) -> Answer:
         where = " for the stay" if "Long-Running-Action-Parent" in fields else ""
         code, text = self.book(lra, **json.loads(body or "{}")) if path == "/book" else self.act(path[1:], lra, where)
         return code, text.encode()
@@ -90,7 +92,7 @@ class Listener(Participant):
         self.known: dict[str, str] = {}
         super().__init__(port)
 
-    def answer(self, path: str, lra: str, fields: Mapping[str, str], body: bytes) -> Answer:
+    def answer(self, path: str, lra: str, fields: Message, body: bytes) -> Answer:
         status = body.decode()
         if self.known.get(lra) != status:
             self.known[lra] = self.heard[lra] = status
@@ -249,7 +251,8 @@ def main() -> None:
         Server.program = unproved.program_of(sys.argv[1])
     if not os.access(Server.program, os.X_OK):
         raise SystemExit(f"{Server.program} isn't built: ./coordinator builds it.")
-    sys.stdout.reconfigure(line_buffering=True)
+    if isinstance(sys.stdout, io.TextIOWrapper):
+        sys.stdout.reconfigure(line_buffering=True)
     for number in (signal.SIGINT, signal.SIGTERM, signal.SIGHUP):
         signal.signal(number, lambda came, _: sys.exit(128 + came))
     with tempfile.TemporaryDirectory() as folder:

@@ -259,9 +259,10 @@ def tables() -> str:
     reached.add(*CALL, TYPES)
     files = list(by_file(reached.seen.items()))
     show_each(files, reached.used.items())
-    of_bytes = [it for it in files if it[0] in GRAMMAR or f"{it[0]} {it[1]}" in GRAMMAR]
+    of_bytes = [file for file in files if {file[0], f"{file[0]} {file[1]}"} & GRAMMAR]
     lines = ["| Crate | Files of its `specs` | Lines |", "|---|---|---|"]
-    lines += [*file_rows([it for it in files if it not in of_bytes], "the headline"), *file_rows(of_bytes, OF_BYTES)]
+    rest = [file for file in files if file not in of_bytes]
+    lines += [*file_rows(rest, "the headline"), *file_rows(of_bytes, OF_BYTES)]
     for what, path, laws in LAWS:
         before = len(reached.seen), len(reached.used)
         for law in laws:

@@ -16,13 +16,13 @@ from collections.abc import Callable, Iterable
 
 sys.path.insert(0, os.path.dirname(os.path.dirname(os.path.abspath(__file__))))
 from tools import checks, unproved
-from tools.bad import GARBAGE, connection, is_closed, is_over, larger, small_disk
-from tools.node import Server, comes_to
+from tools.bad import GARBAGE, connection, fill, is_closed, is_over, larger, slowest_page, small_disk
+from tools.node import Server, comes_to, end_input, exchange
 from tools.participant import Participant
 from tools.ports import HOST
 
-# A link at which nobody listens, as long as one may well be.
-LONG_LINK = f"http://{HOST}:9/" + "c" * 100
+# A request for a page in two pieces.
+IN_TWO = [b"GET /lra HT", b"TP/1.1\r\nHost: h\r\n\r\n"]
 
 
 def fine(answers: Iterable[bytes]) -> int:
@@ -49,40 +49,10 @@ def called_after(server: Server, seconds: float) -> float | None:
     return took if is_called and server.comes_to(1, lra, "Closed", 5) is not None else None
 
 
-def slowest_until(server: Server, is_over: Callable[[], bool], pause: float) -> float:
-    """The longest that a page takes, asked again and again."""
-    slowest = 0.0
-    while not is_over():
-        asked = time.monotonic()
-        server.ask(1, "GET", "/lra")
-        slowest = max(slowest, time.monotonic() - asked)
-        time.sleep(pause)
-    return slowest
-
-
-def store_until_refused(server: Server) -> None:
-    """Begins LRAs with long links until one can't be stored."""
-    for _ in range(256):
-        status, answer = server.ask(1, "POST", "/lra", {})
-        if status != 201:
-            return
-        for _ in range(4):
-            if server.join(1, answer["lra"], compensate=LONG_LINK)[0] != 200:
-                return
-
-
-def exchange(server: Server, pieces: list[bytes], pause: float = 0, node: int = 1) -> bytes:
-    """Sends the pieces of a request with pauses between them, and gives the first line of the answer."""
+def first_line(server: Server, *pieces: bytes, pause: float = 0, node: int = 1) -> bytes:
+    """The first line of the answer to a request, or what went wrong."""
     try:
-        with socket.create_connection(server.address(node), timeout=20) as line:
-            line.sendall(pieces[0])
-            for piece in pieces[1:]:
-                time.sleep(pause)
-                line.sendall(piece)
-            text = b""
-            while more := line.recv(4096):
-                text += more
-            return text.split(b"\r\n")[0]
+        return exchange(server.address(node), *pieces, pause=pause).split(b"\r\n")[0]
     except OSError as error:
         return repr(error).encode()
 
@@ -111,7 +81,7 @@ class Others:
 
 def bad_pulls(server: Server) -> Others:
     """Two clients that send bad pulls."""
-    return Others(*[lambda: exchange(server, [GARBAGE])] * 2)
+    return Others(*[lambda: first_line(server, GARBAGE)] * 2)
 
 
 def frame_of(server: Server, pull: bytes, size: int, pause: float) -> tuple[int | None, int]:
@@ -126,7 +96,7 @@ def frame_of(server: Server, pull: bytes, size: int, pause: float) -> tuple[int 
                 time.sleep(pause)
     head, _, body = text.partition(b"\r\n\r\n")
     stated = [int(line.split(b":")[1]) for line in head.split(b"\r\n") if line.lower().startswith(b"content-length")]
-    return (stated or [None])[0], len(body)
+    return stated[0] if stated else None, len(body)
 
 
 def held(server: Server, text: bytes) -> None:
@@ -204,7 +174,7 @@ class TestFaults(checks.Checked):
 
         crowd = Others(connect)
         try:
-            store_until_refused(server)
+            fill(server, 256, 4)
             time.sleep(8)
         finally:
             crowd.stop()
@@ -232,7 +202,7 @@ class TestFaults(checks.Checked):
         """Somebody looks at a journal with sqlite3 while the disk is full, and keeps it open for some seconds."""
         disk = self.disk()
         server = self.server(1, disk).wait_until_up()
-        store_until_refused(server)
+        fill(server, 256, 4)
         looked = self.looked_at(server, f"{disk}/node-1.db")
         time.sleep(5)
         what = f"an operator's look at a full disk ({'got in' if looked else 'locked out'}) ends nothing"
@@ -248,7 +218,7 @@ class TestFaults(checks.Checked):
         os.mkdir(f"{disk}/lra")
         server = self.server(1, f"{disk}/lra").wait_until_up()
         times, answers = [], set()
-        store_until_refused(server)
+        fill(server, 256, 4)
         os.rename(f"{disk}/lra", f"{disk}/elsewhere")
         comes_to(20, lambda: server.ask(1, "POST", "/lra", {})[0] == 503 and server.ask(1, "GET", "/lra")[0] == 503)
         for _ in range(50):
@@ -271,14 +241,14 @@ class TestFaults(checks.Checked):
         self.addCleanup(os.close, reading)
         self.addCleanup(os.close, writing)
         server = self.server(1, disk, stderr=writing).wait_until_up()
-        store_until_refused(server)
+        fill(server, 256, 4)
         began = time.monotonic()
         answered = comes_to(20, lambda: server.ask(1, "GET", "/lra")[0] == 200)
         what = "with a full pipe behind standard error a question is answered behind E18"
         self.check(f"{what} ({time.monotonic() - began:.1f} s)", answered)
         self.check("it goes on with room again", self.grows(disk, server))
         began = time.monotonic()
-        server.process.stdin.close()
+        end_input(server.process)
         try:
             status = server.process.wait(20)
         except subprocess.TimeoutExpired:
@@ -318,8 +288,8 @@ class TestFaults(checks.Checked):
         others, answers, began = bad_pulls(server), [], time.monotonic()
         for turn in range(200):
             place = 1 + turn % len(text)
-            pieces = [text[:place], text[place:]] if turn < 30 else [b"GET /lra HT", b"TP/1.1\r\nHost: h\r\n\r\n"]
-            answers.append(exchange(server, pieces, 0.1))
+            pieces = [text[:place], text[place:]] if turn < 30 else IN_TWO
+            answers.append(first_line(server, *pieces, pause=0.1))
         rate = others.stop() / (time.monotonic() - began)
         what = f"beside {rate:.0f} bad pulls a second {fine(answers)} of 200 requests in two pieces are answered"
         self.check(what, fine(answers) == 200, set(answers))
@@ -335,7 +305,7 @@ class TestFaults(checks.Checked):
             time.sleep(0.12)
 
         def ask_in_two(node: int) -> None:
-            answers.append(exchange(server, [b"GET /lra HT", b"TP/1.1\r\nHost: h\r\n\r\n"], 0.1, node))
+            answers.append(first_line(server, *IN_TWO, pause=0.1, node=node))
 
         others, began = Others(store, *[lambda node=node: ask_in_two(node) for node in (1, 2, 3)]), time.monotonic()
         while len(answers) < 600 and others.counts[0] < 250:
@@ -352,8 +322,13 @@ class TestFaults(checks.Checked):
         server = self.server(1, disk).wait_until_up()
         times: list[float] = []
         codes: dict[int, int] = {}
-        store_until_refused(server)
-        others = Others(*[lambda: (server.ask(1, "POST", "/lra", {}), time.sleep(0.05))] * 4)
+        fill(server, 256, 4)
+
+        def write() -> None:
+            server.ask(1, "POST", "/lra", {})
+            time.sleep(0.05)
+
+        others = Others(*[write] * 4)
         for _ in range(400):
             began = time.monotonic()
             status = server.ask(1, "GET", "/lra/00000000-0000-8001-8000-000000000001")[0]
@@ -393,7 +368,7 @@ class TestFaults(checks.Checked):
         texts = [b"GE\0", b"GET / HTTP/1.1\r\nHo st: x"]
         texts.append(b"POST /lra HTTP/1.1\r\nHost: x\r\nContent-Length: 5000\r\n\r\n")
         others, until = Others(*[lambda text=text: held(server, text) for text in texts * 8]), time.monotonic() + 10
-        slowest = slowest_until(server, lambda: time.monotonic() >= until, 0.05)
+        slowest = slowest_page(server, lambda: time.monotonic() >= until, 0.05)
         what = f"beside {others.stop()} requests that stall a page takes {slowest * 1000:.0f} ms at most"
         self.check(what, slowest < 1, slowest)
         self.check("it ends with its input", server.end()[0] == 0)
@@ -413,7 +388,7 @@ class TestFaults(checks.Checked):
         began = time.monotonic()
         reading = threading.Thread(target=lambda: found.append(frame_of(server, pull, 16384, 0.02)))
         reading.start()
-        slowest = slowest_until(server, lambda: not reading.is_alive(), 0.02)
+        slowest = slowest_page(server, lambda: not reading.is_alive(), 0.02)
         seconds = time.monotonic() - began
         rate = others.stop() / seconds
         stated, came = found[0]

@@ -22,15 +22,15 @@ import subprocess
 import sys
 import threading
 import time
+import typing
 from collections.abc import Callable, Iterable
 
 sys.path.insert(0, os.path.dirname(os.path.dirname(os.path.abspath(__file__))))
 from tools import checks, unproved
-from tools.bad import GARBAGE, connection, is_closed, larger, small_disk
+from tools.bad import GARBAGE, connection, fill, is_closed, larger, slowest_page, small_disk
 from tools.load import ENDED, GONE, Noted, Notes, links_of, lost, misled
-from tools.node import Server, comes_to, home_of, memory_of, request
+from tools.node import Server, comes_to, exchange, home_of, memory_of, request
 from tools.participant import Participant
-from tools.ports import HOST
 
 NODES, NOBODY = 3, 65534
 HOMES = range(1, NODES + 1)
@@ -72,18 +72,6 @@ def settle(server: Server) -> dict[str, str]:
             server.finish(home_of(lra), lra, "cancel")
     comes_to(90, lambda: set(server.shown_at_home().values()) <= ENDED)
     return server.shown_at_home()
-
-
-def fill_with_joins(server: Server, lras: int) -> list[str]:
-    """Begins LRAs with three joins each at node 1, and gives those that were answered, until one isn't."""
-    begun, link = [], f"http://{HOST}:9/" + "c" * 100
-    with contextlib.suppress(KeyError, *GONE):
-        while len(begun) < lras:
-            lra = server.begin(1)
-            begun.append(lra)
-            for _ in range(3):
-                server.join(1, lra, compensate=link)[1]["member"]
-    return begun
 
 
 def end_of(text: bytes) -> int:
@@ -139,16 +127,17 @@ def flood(address: tuple[str, int], seconds: float, clients: int) -> None:
         connect(i % 2)
     while time.monotonic() < end:
         for key, events in poll.select(0.5):
+            line = typing.cast(socket.socket, key.fileobj)
             with contextlib.suppress(OSError):
                 if events & selectors.EVENT_WRITE:
-                    key.fileobj.send(GARBAGE)
+                    line.send(GARBAGE)
                     if key.data:
-                        poll.modify(key.fileobj, selectors.EVENT_READ, key.data)
+                        poll.modify(line, selectors.EVENT_READ, key.data)
                         continue
                 else:
-                    key.fileobj.recv(512)
-            poll.unregister(key.fileobj)
-            key.fileobj.close()
+                    line.recv(512)
+            poll.unregister(line)
+            line.close()
             connect(key.data)
 
 
@@ -170,25 +159,10 @@ def beside_halves(server: Server, seconds: float) -> float:
     return until
 
 
-def slowest_of(server: Server, until: float) -> float | None:
-    """The longest that a question waits, asked again and again until a moment; nothing where one isn't answered
-    well."""
-    slowest = 0.0
-    while time.monotonic() < until:
-        began = time.monotonic()
-        if server.ask(1, "GET", "/lra")[0] != 200:
-            return None
-        slowest = max(slowest, time.monotonic() - began)
-        time.sleep(0.1)
-    return slowest
-
-
-def question(server: Server, text: bytes = b"GET /lra HTTP/1.1\r\nHost: h\r\n\r\n") -> float:
+def wait_of(server: Server, text: bytes) -> float:
     """How long it takes until a request is answered whole."""
     began = time.monotonic()
-    with connection(server, text) as line:
-        while line.recv(4096):
-            pass
+    exchange(server.address(1), text)
     return time.monotonic() - began
 
 
@@ -228,7 +202,7 @@ class TestHostility(checks.Checked):
         most = resource.getrlimit(resource.RLIMIT_NOFILE)[1]
         resource.setrlimit(resource.RLIMIT_NOFILE, (most, most))
         server = self.server(1).wait_until_up()
-        fill_with_joins(server, 250)
+        fill(server, 250, 3)
         silent = [connection(server) for _ in range(min(4000, most - 200))]
         opened = time.monotonic()
         self.answers(server, f"beside {len(silent)} connections that say nothing", 10)
@@ -294,7 +268,7 @@ class TestHostility(checks.Checked):
     def test_torn(self) -> None:
         """Damages the last pages of copies of a journal that a kill -9 left."""
         server = self.server(1, self.folder_in("whole")).wait_until_up()
-        begun = fill_with_joins(server, 120)
+        begun = fill(server, 120, 3)
         server.kill()
         ways = [(count, how) for count in (1, 4096, 100_000) for how in ("cut off", "zeros", "garbage")]
         logs = [self.shown_of("node-1.db-wal", *way) for way in ways]
@@ -326,7 +300,7 @@ class TestHostility(checks.Checked):
         disk = small_disk(self, "2m")
         server = self.server(1, disk).wait_until_up()
         overdue = server.begin(1, limit=5000)
-        begun, began = fill_with_joins(server, 256), time.monotonic()
+        begun, began = fill(server, 256, 3), time.monotonic()
         self.without_room(server, begun)
         time.sleep(2)
         larger(disk)
@@ -351,13 +325,13 @@ class TestHostility(checks.Checked):
         until = beside_halves(server, seconds)
         for one in floods:
             one.start()
-        during = slowest_of(server, until)
+        during = slowest_page(server, lambda: time.monotonic() >= until, 0.1)
         for one in floods:
             one.join()
-        after = slowest_of(server, time.monotonic() + 2)
-        for what, took in (("amid a flood of pulls another waits", during), ("behind it", after)):
-            shown = "no answer" if took is None else f"{took:.2f} seconds at most"
-            self.check(f"{what} {shown}", took is not None and took < 5)
+        behind = time.monotonic() + 2
+        after = slowest_page(server, lambda: time.monotonic() >= behind, 0.1)
+        self.check(f"amid a flood of pulls another waits {during:.2f} seconds at most", during < 5)
+        self.check(f"behind it {after:.2f}", after < 5)
         self.ends(server, lambda took: f"it ends {took:.1f} seconds behind its input then", 15)
 
     def test_changes(self) -> None:
@@ -368,8 +342,8 @@ class TestHostility(checks.Checked):
         while time.monotonic() < until:
             waits = []
             for _ in range(16):
-                question(server, GARBAGE)
-                waits.append(question(server))
+                wait_of(server, GARBAGE)
+                waits.append(wait_of(server, b"GET /lra HTTP/1.1\r\nHost: h\r\n\r\n"))
             longest.append(max(waits))
         middle, worst = sorted(longest)[len(longest) // 2] * 1000, max(longest) * 1000
         what = f"of {len(longest)} changes of run half cost a client {middle:.1f} ms at most, the worst {worst:.1f}"
@@ -425,7 +399,7 @@ class TestHostility(checks.Checked):
         time.sleep(1)
         self.ends(server, lambda took: f"beside calls to dead addresses it ends after {took:.1f} seconds", 5)
 
-    def killed(self, turn: int, part: Participant, bad: dict[str, list], counts: collections.Counter) -> bool:
+    def killed(self, turn: int, part: Participant, bad: dict[str, list], counts: collections.Counter[str]) -> bool:
         """Kills it once under load, and looks what is there then. Whether it starts again."""
         noted: Notes = {}
         server = self.server(NODES)
@@ -461,7 +435,7 @@ class TestHostility(checks.Checked):
 
     def test_kills(self) -> None:
         """It is killed under load again and again: nothing answered is lost."""
-        part, counts = Participant(), collections.Counter()
+        part, counts = Participant(), collections.Counter[str]()
         bad: dict[str, list] = {"start": [], "lost": [], "end": [], "order": [], "agree": []}
         for turn in range(self.kills):
             if not self.killed(turn, part, bad, counts):

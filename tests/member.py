@@ -8,7 +8,6 @@ or all, is killed with kill -9 N times, 10 by default; --lras N says how many go
 default. moved needs lra_node too, apart root, and both are skipped where that isn't there. Each check prints a line;
 the status is 1 where one fails. Standard library alone."""
 import concurrent.futures
-import contextlib
 import glob
 import os
 import random
@@ -18,12 +17,12 @@ import subprocess
 import sys
 import threading
 import time
-from collections.abc import Callable, Iterable
+from collections.abc import Iterable
 
 sys.path.insert(0, os.path.dirname(os.path.dirname(os.path.abspath(__file__))))
 from tools import checks, unproved, wire
-from tools.load import ENDED, GONE, Noted, Notes, links_of, lost, misled
-from tools.node import SLOW, Group, Json, Server, comes_to, home_of, in_ms
+from tools.load import ENDED, Load, lost, misled
+from tools.node import SLOW, Group, Json, Server, comes_to, end_input, home_of, in_ms
 from tools.participant import Participant
 from tools.ports import HOST, free_row, is_open, listening
 
@@ -34,7 +33,7 @@ NO_FOLDER = b"node 2: its journal can't be opened: there is no folder, or no rig
 Shown = dict[str, str]
 EIGHT = [f"h:{number}" for number in range(1, 9)]
 # Words that it doesn't take; DIR stands for a folder.
-OTHER_WORDS = [
+OTHER_WORDS: list[list[str]] = [
     [],
     ["1"],
     ["1", "DIR"],
@@ -116,65 +115,6 @@ def with_length(body: bytes, length: int | None = None) -> bytes:
     """An answer that states a length."""
     stated = len(body) if length is None else length
     return f"HTTP/1.1 200 OK\r\nContent-Length: {stated}\r\nConnection: close\r\n\r\n".encode() + body
-
-
-def tell(group: Group, node: int, lra: str, one: Noted) -> None:
-    """Tells an outcome at some node, which may have heard of the end, and then has its LRA ended."""
-    body = {"act": {"close": "complete", "cancel": "compensate"}[one.word], "outcome": "done"}
-    for _ in range(40):
-        if group.ask(node, "PUT", f"/lra/{lra}/member/{one.reports}/report", body)[0] == 204:
-            one.is_told = True
-            return
-        time.sleep(0.03)
-
-
-class Load:
-    """Six clients, two at each of three nodes, who begin LRAs, join and decide them, until they are to stop or their
-    node is gone. What is answered they note."""
-
-    def __init__(self, group: Group, dice: random.Random, part: Callable[[int], Participant]) -> None:
-        self.group, self.stops = group, threading.Event()
-        self.noted: Notes = {}
-        self.threads = []
-        for i in range(6):
-            node = 1 + i % 3
-            given = node, part(node), random.Random(dice.random())
-            self.threads.append(threading.Thread(target=self.play, args=given))
-        for thread in self.threads:
-            thread.start()
-
-    def stop(self) -> None:
-        self.stops.set()
-        for thread in self.threads:
-            thread.join()
-
-    def play(self, node: int, part: Participant, dice: random.Random) -> None:
-        with contextlib.suppress(*GONE):
-            for _ in range(50):
-                if self.stops.is_set():
-                    return
-                self.play_one(node, part, dice)
-
-    def play_one(self, node: int, part: Participant, dice: random.Random) -> None:
-        """One LRA. One in three has a participant whose outcome is told at some node."""
-        lra = self.group.begin(node)
-        one = self.noted[lra] = Noted()
-        for place in range(dice.randrange(4)):
-            if place == 1 and dice.random() < 0.7:
-                slow = f"{part.url}/slow"
-                one.reports = self.group.join(node, lra, complete=slow, compensate=slow)[1]["member"]
-            else:
-                one.members[place] = self.group.join(node, lra, **links_of(part, place))[1]["member"]
-        one.word = dice.choice(("close", "cancel", "cancel", None))
-        if one.word:
-            one.is_decided = self.group.finish(node, lra, one.word) == 200
-        if one.is_decided and one.reports:
-            with contextlib.suppress(*GONE):  # that node is killed: perhaps nothing was told
-                tell(self.group, dice.choice((1, 2, 3)), lra, one)
-
-    def told(self) -> set[str]:
-        """The LRAs of which an outcome was told."""
-        return {lra for lra, one in self.noted.items() if one.is_told}
 
 
 def slow_participant() -> Participant:
@@ -275,7 +215,7 @@ class TestMembers(checks.Checked):
     def test_words(self) -> None:
         """Other arguments, what can't be had, and where a node listens."""
         for given in OTHER_WORDS:
-            ran = self.run_with(*[self.folder if word == "DIR" else word for word in given])
+            ran = self.run_with(*[word.replace("DIR", self.folder) for word in given])
             is_usage = ran.returncode == 2 and ran.stderr.startswith(USAGE)
             self.check(f"other arguments: {' '.join(given)}", is_usage, ran)
         own, other, third, fourth = free_row(4)
@@ -284,18 +224,18 @@ class TestMembers(checks.Checked):
         wanted = 1, f"node 1: port {own} can't be had: it is in use\nport {own}\n".encode()
         self.check("a port in use", (ran.returncode, ran.stderr) == wanted, ran)
         # The last node may have the last port for operators.
-        for number, *words in (
-            ["2", "h:1", f"h:{other}"],
-            ["2-3", "operate=127.0.0.1:65534", "h:1", "h:2", "h:3"],
-            ["2", "operate=[::1]:65535", "h:1", "h:2"],
+        for given in (
+            ["2", "DIR/none", "h:1", f"h:{other}"],
+            ["2-3", "DIR/none", "operate=127.0.0.1:65534", "h:1", "h:2", "h:3"],
+            ["2", "DIR/none", "operate=[::1]:65535", "h:1", "h:2"],
         ):
-            ran = self.run_with(number, f"{self.folder}/none", *words)
-            self.check(f"a folder that isn't there: {' '.join([number, *words])}",
-                       (ran.returncode, ran.stderr) == (1, NO_FOLDER), ran)
+            ran = self.run_with(*[word.replace("DIR", self.folder) for word in given])
+            self.check(f"a folder that isn't there: {' '.join(given)}", (ran.returncode, ran.stderr) == (1, NO_FOLDER),
+                       ran)
         every = ["keep=0", "keep-failed=18446744073709551615"]
         with self.node("1", self.folder, f"listen=0.0.0.0:{third}", *every, f"elsewhere:{fourth}") as node:
             self.check("it listens where it is told to", comes_to(SLOW, lambda: is_open(third)) and not is_open(fourth))
-            node.stdin.close()
+            end_input(node)
             self.check("and ends", node.wait(SLOW) == 0)
         with self.node("1", self.folder, f"elsewhere:{fourth}"):
             self.check("else on the loopback interface", comes_to(SLOW, lambda: is_open(fourth)))
@@ -565,7 +505,7 @@ class TestMembers(checks.Checked):
     def test_full(self) -> None:
         """A home that fills up is told of, each once."""
         group = self.group(1).start()
-        wanted = []
+        wanted: list[str] = []
         for count, line in (
             (192, "node 1: 192 of the 256 places of its home are taken"),
             (231, "node 1: 231 of the 256 places of its home are taken"),

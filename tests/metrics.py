@@ -120,12 +120,12 @@ class TestUse(unittest.TestCase):
 
     def test_dashboard(self) -> None:
         board = json.loads(self.text("grafana.json"))
-        panels = [it for it in board["panels"] if it["type"] != "row"]
-        self.assertEqual(len({it["id"] for it in board["panels"]}), len(board["panels"]))
+        panels = [panel for panel in board["panels"] if panel["type"] != "row"]
+        self.assertEqual(len({panel["id"] for panel in board["panels"]}), len(board["panels"]))
         for panel in panels:
             with self.subTest(panel["title"]):
                 self.assertEqual(panel["datasource"]["uid"], "${datasource}")
-                self.assertTrue(panel["targets"] and all(used_names(it["expr"]) for it in panel["targets"]))
+                self.assertTrue(panel["targets"] and all(used_names(target["expr"]) for target in panel["targets"]))
                 place = panel["gridPos"]
                 self.assertLessEqual(place["x"] + place["w"], 24)
         shown = used_names(json.dumps(panels))

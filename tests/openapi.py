@@ -54,7 +54,7 @@ class TestInterface(checks.Checked):
         given = self.page["components"]["parameters"]
         for path, verbs in self.page["paths"].items():
             for verb, call in verbs.items():
-                references = [it["$ref"] for it in call.get("parameters", []) if "$ref" in it]
+                references = [one["$ref"] for one in call.get("parameters", []) if "$ref" in one]
                 named = {given[reference.split("/")[-1]]["name"] for reference in references}
                 self.alike(f"{verb} {path}: its parameters", set(re.findall(r"{(\w+)}", path)), named)
 

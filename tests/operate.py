@@ -166,12 +166,12 @@ class TestOperators(checks.Checked):
         nested = group.begin(1, parent=lra)
         group.join(1, lra, compensate=f"{part.url}/x")
         group.ask(1, "PUT", f"/lra/{lra}/member/3/leave")
-        links = {"compensate": f"{part.url}/c?a=\\b", "complete": f"{part.url}/k", "status": None, "forget": None,
+        links: Json = {"compensate": f"{part.url}/c?a=\\b", "complete": f"{part.url}/k", "status": None, "forget": None,
                  "after": f"{part.url}/a"}
-        member = {"member": 1, "kind": "participant", "status": "Active", "links": links, "completed": None,
+        member: Json = {"member": 1, "kind": "participant", "status": "Active", "links": links, "completed": None,
                   "compensated": None, "forgotten": False, "told": False}
         members = [member, {"member": 2, "kind": "lra", "lra": nested}, {"member": 3, "kind": "left"}]
-        whole = {"lra": lra, "status": "Active", "parent": None, "deadline": None, "decision": None,
+        whole: Json = {"lra": lra, "status": "Active", "parent": None, "deadline": None, "decision": None,
                  "purge": "E8 NotEnded Active", "members": members}
         self.check("an active one", group.told(1, f"/lra/{lra}") == (200, whole), group.told(1, f"/lra/{lra}"))
         there = {**whole, "purge": "E4 NotHome 1"}

@@ -14,7 +14,6 @@ import contextlib
 import json
 import os
 import re
-import socket
 import sys
 import threading
 import time
@@ -24,7 +23,7 @@ sys.path.insert(0, os.path.dirname(os.path.dirname(os.path.abspath(__file__))))
 from tools import checks, repo, shapes
 from tools.browser import Browser, installed
 from tools.mock import ENDED, Port, World, id_of, serves
-from tools.node import home_of
+from tools.node import exchange, home_of
 from tools.page import PAGE, squeeze
 
 MOST_BYTES = 24_576
@@ -126,10 +125,8 @@ class TestPage(checks.Checked):
         """The mock is as the port."""
         with serves(150) as (world, url):
             host, port = url.split("/")[2].split(":")
-            with socket.create_connection((host, int(port)), 5) as line:
-                line.sendall(b"GET /lras?after=" + id_of(1, 2).encode() + b"&status=Closed HTTP/1.1\r\nHost: x\r\n\r\n")
-                came = b"".join(iter(lambda: line.recv(65536), b""))
-            head, _, body = came.partition(b"\r\n\r\n")
+            asked = f"GET /lras?after={id_of(1, 2)}&status=Closed HTTP/1.1\r\nHost: x\r\n\r\n"
+            head, _, body = exchange((host, int(port)), asked.encode()).partition(b"\r\n\r\n")
             are_closed = all(row["status"] == "Closed" for row in json.loads(body)["lras"])
             self.check("the mock answers as the port does", b"Connection: close" in head and are_closed)
             wrong = shapes.compare(url.rstrip("/"))

@@ -8,7 +8,6 @@ PROGRAM is crates/lra_member/out/lra_member, or --unproved (tools/unproved.py). 
 import http.client
 import os
 import shutil
-import socket
 import ssl
 import subprocess
 import sys
@@ -16,7 +15,7 @@ import unittest
 
 sys.path.insert(0, os.path.dirname(os.path.dirname(os.path.abspath(__file__))))
 from tools import checks, repo, unproved
-from tools.node import Group, Json, ask, comes_to, home_of, request, wait_for
+from tools.node import Group, Json, ask, comes_to, exchange, home_of, request, wait_for
 from tools.ports import HOST, free_row
 
 HAS_BOTH = bool(shutil.which("nginx") and shutil.which("openssl"))
@@ -193,9 +192,8 @@ class TestProxies(checks.Checked):
 
     def pulled(self, port: int) -> bytes:
         """The first line of the answer to an empty pull, without TLS."""
-        with socket.create_connection((HOST, port)) as line:
-            line.sendall(b"POST /peer/pull HTTP/1.1\r\nHost: a\r\nContent-Length: 0\r\nConnection: close\r\n\r\n")
-            return line.recv(4096).split(b"\r\n")[0]
+        pull = b"POST /peer/pull HTTP/1.1\r\nHost: a\r\nContent-Length: 0\r\nConnection: close\r\n\r\n"
+        return exchange((HOST, port), pull).split(b"\r\n")[0]
 
     def test_one_name(self) -> None:
         """Three nodes of one process behind one nginx."""

@@ -9,7 +9,6 @@ status is 1 where something else comes. The ports of README, 8070 to 8072 and 90
 import os
 import re
 import select
-import socket
 import subprocess
 import sys
 import time
@@ -18,8 +17,7 @@ from collections.abc import Iterator
 
 sys.path.insert(0, os.path.dirname(os.path.dirname(os.path.abspath(__file__))))
 from tools import checks, repo, unproved
-from tools.node import Server, wait_for
-from tools.ports import HOST
+from tools.node import Server, exchange, wait_for
 
 # A line of a script, with what it prints.
 Row = tuple[str, str]
@@ -43,7 +41,8 @@ class QuickStart(typing.NamedTuple):
 
 
 def quick_start() -> QuickStart:
-    block = re.search(r"\./coordinator --unproved (\d) (\d+) .*?(?=\n`python3 demo/trip)", repo.read("README.md"), re.S)
+    block = repo.found(r"\./coordinator --unproved (\d) (\d+) .*?(?=\n`python3 demo/trip)", repo.read("README.md"),
+                       re.S)
     command: list[str] = []
     steps: list[tuple[str | None, str | None]] = []
     for line in block[0].split("\n"):
@@ -67,20 +66,13 @@ def is_question(line: str) -> bool:
 def printed_by(shell: subprocess.Popen, line: str, wanted: str) -> str:
     """What a line prints in a shell. One that asks is given again until it prints what is wanted, or for 20 seconds."""
     end = time.monotonic() + (20 if is_question(line) else 0)
+    assert shell.stdin and shell.stdout
     while True:
         shell.stdin.write(f"{line}\necho\necho =end=\n")
         printed = "".join(iter(shell.stdout.readline, "=end=\n")).strip()
         if printed == wanted or time.monotonic() > end:
             return printed
         time.sleep(0.05)
-
-
-def sent(port: int, text: str) -> str:
-    """What comes back for a request."""
-    with socket.create_connection((HOST, port), 20) as connection:
-        connection.sendall(text.encode())
-        with connection.makefile("rb") as file:
-            return file.read().decode()
 
 
 def whole(message: str) -> str:
@@ -106,6 +98,7 @@ class TestPages(checks.Checked):
         server = self.server(start.nodes, ports=range(start.port, start.port + start.nodes), stderr=None)
         participant = subprocess.Popen(start.command, cwd=repo.TOP, stdout=subprocess.PIPE, text=True)
         shell = subprocess.Popen(["sh"], stdin=subprocess.PIPE, stdout=subprocess.PIPE, text=True, bufsize=1)
+        assert participant.stdout
         try:
             server.wait_until_up()
             wait_for(9001)
@@ -125,11 +118,12 @@ class TestPages(checks.Checked):
 
     def test_calls(self) -> None:
         """The requests of HTTP.md, in order, each with its answer."""
-        part = re.search(r"## Each call, byte by byte\n(.*?)\n## ", repo.read("docs/HTTP.md"), re.S)[1]
+        part = repo.found(r"## Each call, byte by byte\n(.*?)\n## ", repo.read("docs/HTTP.md"), re.S)[1]
         blocks = [block.replace("\n", "\r\n") for block in re.findall(r"^```\n(.*?)\n```$", part, re.M | re.S)]
         server = self.server(2, ports=(8070, 8071), stderr=None).wait_until_up()
         for request, wanted in zip(blocks[::2], blocks[1::2]):
-            self.same(request.split(" HTTP")[0], whole(wanted), sent(8070, whole(request)))
+            answer = exchange(server.address(1), whole(request).encode()).decode()
+            self.same(request.split(" HTTP")[0], whole(wanted), answer)
         server.end()
 
 

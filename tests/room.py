@@ -14,7 +14,7 @@ FOLDERS = ("tools", "demo", "docs", "tests", "benches")
 # What newcomers read and copy: each stands alone.
 ALONE = {"demo/participant.py", "demo/mail.py"}
 WIDTH = 120
-Definition = ast.FunctionDef | ast.ClassDef
+DEFINITIONS = (ast.FunctionDef, ast.ClassDef)
 
 
 def programs() -> dict[str, ast.Module]:
@@ -31,7 +31,7 @@ def is_main(statement: ast.stmt) -> bool:
 
 def runs_on_import(statement: ast.stmt) -> bool:
     """Whether a statement at the top does more than to name something."""
-    named = Definition | ast.Import | ast.ImportFrom | ast.Assign | ast.AnnAssign
+    named = (*DEFINITIONS, ast.Import, ast.ImportFrom, ast.Assign, ast.AnnAssign)
     is_docstring = isinstance(statement, ast.Expr) and isinstance(statement.value, ast.Constant)
     return not (isinstance(statement, named) or is_docstring or is_main(statement))
 
@@ -54,7 +54,7 @@ class TestRoom(checks.Checked):
         for path, module in self.programs.items():
             if path not in ALONE:
                 for statement in module.body:
-                    if isinstance(statement, Definition) and statement.name != "main":
+                    if isinstance(statement, DEFINITIONS) and statement.name != "main":
                         places[statement.name].append(path)
         twice = {name: paths for name, paths in places.items() if len(paths) > 1}
         self.check(f"each of {len(places)} names stands once", not twice, twice)

@@ -106,8 +106,8 @@ class TestServer(checks.Checked):
         began = server.begin(1)
         server.kill()
         server = self.server(3).wait_until_up()
-        shown = server.status(1, began)
-        self.check("what was answered before a kill -9 is there", shown == "Active", shown)
+        status = server.status(1, began)
+        self.check("what was answered before a kill -9 is there", status == "Active", status)
         server.end()
         for node in (1, 2, 3):
             self.is_whole(f"{self.folder}/node-{node}.db", node)
@@ -209,8 +209,8 @@ class TestServer(checks.Checked):
                        is_called and took < 5, part.calls)
             shown = server.comes_to(1, lras[8], "Closed", 5) is not None
             self.check("the other's LRA is closed", shown, server.status(1, lras[8]))
-            shown = {server.status(1, lra) for lra in lras[:8]}
-            self.check("those of the one that hangs are closing", shown == {"Closing"}, shown)
+            statuses = {server.status(1, lra) for lra in lras[:8]}
+            self.check("those of the one that hangs are closing", statuses == {"Closing"}, statuses)
             began = time.time()
             ended = server.end()
             self.check("it ends while calls hang", ended == (0, "") and time.time() - began < 5, ended)
@@ -266,8 +266,10 @@ class TestServer(checks.Checked):
         ended = self.end_of_one(2, other)
         is_told = ended[1].startswith(f"{NOT_OPENED}the row after ") and ended[1].endswith("\njournal 1\n")
         self.check("a journal of another node", ended[0] == 1 and is_told, ended)
-        others = [["9", "8070"], ["1", "80"], ["1", "65529"], ["01", "8070"]]
-        for words in [[], *(["serve", *numbers, "."] for numbers in others)]:
+        others: list[list[str]] = [[]]
+        for nodes, port in (("9", "8070"), ("1", "80"), ("1", "65529"), ("01", "8070")):
+            others.append(["serve", nodes, port, "."])
+        for words in others:
             ran = subprocess.run([Server.program, *words], stdin=subprocess.DEVNULL, capture_output=True)
             is_usage = ran.returncode == 2 and ran.stderr.startswith(b"usage: ")
             self.check("other arguments: " + " ".join(words), is_usage, ran)

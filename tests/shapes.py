@@ -24,8 +24,8 @@ def of_components(text: Json) -> list[str]:
 
 def of_call(text: Json, path: str, verb: str, call: Json) -> list[str]:
     """Where a call's parameters aren't those of its path, and where an example isn't as its schema."""
-    parameters = [follow(text, it) for it in call.get("parameters", [])]
-    named = {it["name"] for it in parameters if it["in"] == "path"}
+    parameters = [follow(text, one) for one in call.get("parameters", [])]
+    named = {one["name"] for one in parameters if one["in"] == "path"}
     wrong = [] if named == set(re.findall(r"{(\w+)}", path)) else [f"{verb} {path}: its parameters are {named}"]
     for code, response in call["responses"].items():
         content = follow(text, response).get("content", {}).get("application/json", {})

@@ -14,6 +14,7 @@ import socket
 import subprocess
 import sys
 import types
+import typing
 import unittest.mock
 from collections.abc import Iterable, Iterator
 
@@ -60,13 +61,17 @@ def coordinator(line: str) -> str:
     return f"coordinator: {line}"
 
 
+def status_of(wrong: tuple[int, str] | None) -> int:
+    return wrong[0] if wrong else 0
+
+
 def with_options(cases: Iterable[Case], apart: str) -> Iterator[Case]:
     """Each case behind no option and behind some that are right."""
     both = ["--keep-failed", "1", "--keep", "1"]
-    ways = [[], ["--unproved"], ["--unproved", *both], ["--keep", "1", "--operate", apart]]
-    for given, *wanted in cases:
+    ways: list[list[str]] = [[], ["--unproved"], ["--unproved", *both], ["--keep", "1", "--operate", apart]]
+    for given, status, out, errors in cases:
         for way in ways:
-            yield [*way, *given], *wanted
+            yield [*way, *given], status, out, errors
 
 
 def of_operators(folder: str, first: str, apart: str, in_use: str) -> Iterator[Case]:
@@ -134,16 +139,16 @@ class TestWords(checks.Checked):
         """Numbers are read as the server reads them, and words are counted."""
         right, file = ("3", "8070", self.folder), f"{self.folder}/rt"
         for word in ("0", "9", "03", "+3", " 3", "\u00b3", "three", "", "3\n"):
-            self.check(f"N isn't {word!r}", start.wrong_with(word, *right[1:])[0] == 2)
+            self.check(f"N isn't {word!r}", status_of(start.wrong_with(word, *right[1:])) == 2)
         for word in ("1023", "65529", "08070", "8070 ", "8_070", "", "9" * 5000):
-            self.check(f"PORT isn't {word[:9]!r}", start.wrong_with("3", word, self.folder)[0] == 2)
+            self.check(f"PORT isn't {word[:9]!r}", status_of(start.wrong_with("3", word, self.folder)) == 2)
         self.check("a file is no folder",
                    start.wrong_with(*right[:2], file) == (1, f"there is no folder {file!r}: make it first"))
         for word in ("0", "60000", str(2**64 - 1)):
-            self.check(f"MS may be {word}",
-                       start.wrong_with("9", *right[1:], [("--keep", word)])[1].startswith("N has"))
+            wrong = start.wrong_with("9", *right[1:], [("--keep", word)])
+            self.check(f"MS may be {word}", wrong is not None and wrong[1].startswith("N has"), wrong)
         for word in (str(2**64), "00", "+1", "1.5", "", "1\n"):
-            self.check(f"MS isn't {word!r}", start.wrong_with(*right, [("--keep", word)])[0] == 2)
+            self.check(f"MS isn't {word!r}", status_of(start.wrong_with(*right, [("--keep", word)])) == 2)
 
     def test_count(self) -> None:
         """Words of another count, or in another order, are told the usage."""
@@ -234,7 +239,7 @@ class TestWords(checks.Checked):
         """A server answers where it listens itself, and where another does it doesn't. What is said then."""
         with socket.create_server(("127.0.0.1", 0)) as own, subprocess.Popen(["sleep", "60"]) as other:
             port = own.getsockname()[1]
-            itself = types.SimpleNamespace(pid=os.getpid(), poll=lambda: None)
+            itself = typing.cast(subprocess.Popen, types.SimpleNamespace(pid=os.getpid(), poll=lambda: None))
             for for_operators, page in (((), ""), ([port], f"coordinator: operators: http://127.0.0.1:{port}/\n")):
                 with contextlib.redirect_stderr(io.StringIO()) as errors:
                     start.tell_when_up(itself, [port], for_operators)

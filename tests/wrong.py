@@ -110,7 +110,7 @@ def type_above(lines: list[str], at: int) -> str:
     head = " ".join(line.strip() for line in lines[at : at + 12]).partition("{")[0]
     head = re.sub(r"^(impl\s*(<[^{]*?>\s)?|(pub )?trait )", "", head)
     of_trait = re.match(r"\s*(?:[\w:]*::)?(\w+)\b.*\bfor\s+(\w+)", head)
-    return f"{of_trait[2]}{of_trait[1]}" if of_trait else re.match(r"\s*(\w+)", head)[1]
+    return f"{of_trait[2]}{of_trait[1]}" if of_trait else repo.found(r"\w+", head)[0]
 
 
 def open_goals(text: str, name: str) -> Goals:
@@ -197,8 +197,8 @@ class Prover:
             ran = subprocess.run([f"{self.kit}/bin/rattle", "check", *words], cwd=room, stdin=subprocess.DEVNULL,
                                  stdout=subprocess.PIPE, stderr=subprocess.STDOUT, text=True, errors="replace")
         if "SAID" in os.environ:
-            with open(f"{os.environ['SAID']}-{self.name}", "a", encoding="utf-8") as file:
-                file.write(ran.stdout)
+            with open(f"{os.environ['SAID']}-{self.name}", "a", encoding="utf-8") as record:
+                record.write(ran.stdout)
         return ran.stdout
 
     def verdicts(self, copy: Copy) -> dict[str, Verdict]:

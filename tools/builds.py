@@ -81,7 +81,7 @@ def prove(name: str, top: str = TOP) -> None:
                              stderr=subprocess.STDOUT, text=True, errors="replace")
 
     def read() -> None:
-        for line in build.stdout:
+        for line in build.stdout or ():
             last.append(line)
             progress.what = stage(line, crates, progress.what)
 

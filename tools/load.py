@@ -1,8 +1,12 @@
 """A load of LRAs on nodes that may be killed: what was answered of each, and what of that isn't kept."""
+import contextlib
 import http.client
-from collections.abc import Iterator
+import random
+import threading
+import time
+from collections.abc import Callable, Iterator
 
-from tools.node import Nodes, home_of
+from tools.node import Group, Nodes, home_of
 from tools.participant import Participant
 
 SHOWS = {"close": ("Closing", "Closed"), "cancel": ("Cancelling", "Cancelled"), None: ()}
@@ -56,3 +60,62 @@ def misled(part: Participant, noted: Notes, ended: dict[str, str]) -> Iterator[t
         places = [int(path.rpartition("/")[2]) for i, path in enumerate(every) if i == 0 or every[i - 1] != path]
         if not set(one.members) <= set(places) or word == "cancel" and places != sorted(set(places), reverse=True):
             yield lra, word, sorted(one.members), places
+
+
+def tell(group: Group, node: int, lra: str, one: Noted) -> None:
+    """Tells an outcome at some node, which may have heard of the end, and then has its LRA ended."""
+    body = {"act": "complete" if one.word == "close" else "compensate", "outcome": "done"}
+    for _ in range(40):
+        if group.ask(node, "PUT", f"/lra/{lra}/member/{one.reports}/report", body)[0] == 204:
+            one.is_told = True
+            return
+        time.sleep(0.03)
+
+
+class Load:
+    """Six clients, two at each of three nodes, who begin LRAs, join and decide them, until they are to stop or their
+    node is gone. What is answered they note."""
+
+    def __init__(self, group: Group, dice: random.Random, part: Callable[[int], Participant]) -> None:
+        self.group, self.stops = group, threading.Event()
+        self.noted: Notes = {}
+        self.threads = []
+        for i in range(6):
+            node = 1 + i % 3
+            given = node, part(node), random.Random(dice.random())
+            self.threads.append(threading.Thread(target=self.play, args=given))
+        for thread in self.threads:
+            thread.start()
+
+    def stop(self) -> None:
+        self.stops.set()
+        for thread in self.threads:
+            thread.join()
+
+    def play(self, node: int, part: Participant, dice: random.Random) -> None:
+        with contextlib.suppress(*GONE):
+            for _ in range(50):
+                if self.stops.is_set():
+                    return
+                self.play_one(node, part, dice)
+
+    def play_one(self, node: int, part: Participant, dice: random.Random) -> None:
+        """One LRA. One in three has a participant whose outcome is told at some node."""
+        lra = self.group.begin(node)
+        one = self.noted[lra] = Noted()
+        for place in range(dice.randrange(4)):
+            if place == 1 and dice.random() < 0.7:
+                slow = f"{part.url}/slow"
+                one.reports = self.group.join(node, lra, complete=slow, compensate=slow)[1]["member"]
+            else:
+                one.members[place] = self.group.join(node, lra, **links_of(part, place))[1]["member"]
+        one.word = dice.choice(("close", "cancel", "cancel", None))
+        if one.word:
+            one.is_decided = self.group.finish(node, lra, one.word) == 200
+        if one.is_decided and one.reports:
+            with contextlib.suppress(*GONE):  # that node is killed: perhaps nothing was told
+                tell(self.group, dice.choice((1, 2, 3)), lra, one)
+
+    def told(self) -> set[str]:
+        """The LRAs of which an outcome was told."""
+        return {lra for lra, one in self.noted.items() if one.is_told}

@@ -105,7 +105,7 @@ def read_labels(number: int, line: str, at: int) -> tuple[int, Labels]:
             raise Wrong(number, f"no label at {at}: {line}")
         if label[1] in labels or label[1].startswith("__"):
             raise Wrong(number, f"label {label[1]} twice, or of Prometheus's own")
-        labels[label[1]] = re.sub(r"\\.", lambda it: ESCAPES[it[0]], label[2])
+        labels[label[1]] = re.sub(r"\\.", lambda escape: ESCAPES[escape[0]], label[2])
         at = label.end() + 1
         if line[label.end():at] == "}":
             return at, labels

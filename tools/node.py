@@ -4,6 +4,7 @@ import http.client
 import json
 import os
 import re
+import socket
 import subprocess
 import time
 import typing
@@ -45,6 +46,16 @@ def request(address: tuple[str, int], method: str, path: str, body: str | None =
         connection.close()
 
 
+def exchange(address: tuple[str, int], *pieces: bytes, pause: float = 0) -> bytes:
+    """Sends the pieces of a request, with pauses between them, and gives all bytes that come back until the other
+    closes."""
+    with socket.create_connection(address, 30) as line:
+        for number, piece in enumerate(pieces):
+            time.sleep(pause if number else 0)
+            line.sendall(piece)
+        return b"".join(iter(lambda: line.recv(1 << 16), b""))
+
+
 def ask(port: int, method: str, path: str, body: Json = None, again: Iterable[str] = BETWEEN_RUNS) -> tuple[int, Json]:
     """One request with a body of JSON; the status and the JSON of its answer. What is refused with one of `again` is
     asked again."""
@@ -82,7 +93,13 @@ def in_ms(seconds: float | None) -> str:
 def memory_of(process: subprocess.Popen, what: str = "VmHWM") -> float:
     """The resident memory of a process in MiB: now (VmRSS), or the most that it had (VmHWM)."""
     with open(f"/proc/{process.pid}/status", encoding="utf-8") as file:
-        return int(re.search(rf"{what}:\s+(\d+)", file.read())[1]) / 1024
+        return int(repo.found(rf"{what}:\s+(\d+)", file.read())[1]) / 1024
+
+
+def end_input(process: subprocess.Popen) -> None:
+    """Ends the input of a process, with which the programs end."""
+    if process.stdin:
+        process.stdin.close()
 
 
 def without_starts(text: str) -> str:
@@ -94,7 +111,7 @@ class Nodes:
     """Some nodes, numbered from 1, each at a port of its own. A client calls them, and looks at what they show."""
 
     ports: Sequence[int]
-    again = BETWEEN_RUNS
+    again: tuple[str, ...] = BETWEEN_RUNS
 
     def address(self, node: int) -> tuple[str, int]:
         """Where a client reaches a node."""
@@ -144,11 +161,12 @@ class Nodes:
     def all_come_to(self, lra: str, status: str, nodes: Iterable[int] = (1, 2, 3)) -> float | None:
         """After how many seconds all show it, or nothing."""
         times = [self.comes_to(node, lra, status) for node in nodes]
-        return None if None in times else sum(times)
+        return None if None in times else sum(time or 0 for time in times)
 
     def shown(self, node: int = 1) -> dict[str, str]:
         """All LRAs that a node shows, with their statuses."""
-        lras, after = {}, ""
+        lras: dict[str, str] = {}
+        after: str | None = ""
         while after is not None:
             page = self.ask(node, "GET", "/lra" + (after and f"?after={after}"))[1]
             lras.update((row["lra"], row["status"]) for row in page["lras"])
@@ -173,7 +191,8 @@ class Server(Nodes):
     def __init__(self, nodes: int, folder: str, ports: Sequence[int] | None = None, **how: typing.Any) -> None:
         self.ports = ports or free_row(nodes)
         words = [self.program, "serve", str(nodes), str(self.ports[0]), folder]
-        self.process = subprocess.Popen(words, **{"stdin": subprocess.PIPE, "stderr": subprocess.PIPE, **how})
+        how.setdefault("stderr", subprocess.PIPE)
+        self.process = subprocess.Popen(words, stdin=subprocess.PIPE, **how)
 
     def __enter__(self) -> typing.Self:
         return self.wait_until_up()
@@ -270,5 +289,5 @@ class Group(Nodes):
         """Ends the input of each, and gives their statuses."""
         chosen = numbers or list(self.processes)
         for number in chosen:
-            self.processes[number].stdin.close()
+            end_input(self.processes[number])
         return [self.processes[number].wait(SLOW) for number in chosen]

@@ -4,7 +4,7 @@ import sys
 import threading
 import time
 import typing
-from collections.abc import Mapping
+from email.message import Message
 
 from tools.ports import HOST
 
@@ -19,7 +19,7 @@ class Call(typing.NamedTuple):
     path: str
     lra: str
     is_end: bool
-    fields: Mapping[str, str]
+    fields: Message
     body: bytes
     code: int
     at: float
@@ -73,7 +73,7 @@ class Participant:
         self.server.shutdown()
         self.server.server_close()
 
-    def hear(self, method: str, path: str, fields: Mapping[str, str], body: bytes) -> tuple[int, bytes]:
+    def hear(self, method: str, path: str, fields: Message, body: bytes) -> tuple[int, bytes]:
         """Remembers a call, and answers it after the pause."""
         ended = fields.get("Long-Running-Action-Ended")
         lra = (fields.get("Long-Running-Action") or ended or "").removeprefix("urn:uuid:")
@@ -83,7 +83,7 @@ class Participant:
         time.sleep(self.pause)
         return code, text
 
-    def answer(self, path: str, lra: str, fields: Mapping[str, str], body: bytes) -> Answer:
+    def answer(self, path: str, lra: str, fields: Message, body: bytes) -> Answer:
         """What a call is answered. A service has its own."""
         return self.answers.get(path, self.status)
 

@@ -26,7 +26,7 @@ def places(names: Iterable[str], libraries: Crates) -> Places:
     """Where each library is taken from. One that stands over sources is read too, and so is each that SOURCE names."""
     found: dict[str, str | None] = {}
     for name in names:
-        is_whole = all(found[it] for it in below(name, libraries))
+        is_whole = all(found[used] for used in below(name, libraries))
         is_asked_for = name in os.environ.get("SOURCE", "").split()
         found[name] = built(name, tops()) if is_whole and not is_asked_for else None
     return found
@@ -34,8 +34,8 @@ def places(names: Iterable[str], libraries: Crates) -> Places:
 
 def words(kit: str, name: str, libraries: Crates, found: Places, folder: str | None = None) -> list[str]:
     """The words with which the prover is called. The crate stands in crates, or in another folder."""
-    read = [it for it, place in found.items() if not place]
-    of_kit = {used for it in [name, *read] for used in libraries[it] if used not in libraries}
+    read = [library for library, place in found.items() if not place]
+    of_kit = {used for crate in [name, *read] for used in libraries[crate] if used not in libraries}
     of_kit |= {"core"} if read else set()
     is_program = os.path.isfile(f"{folder or os.path.join(TOP, 'crates', name)}/src/main.rt")
     given = ["--crate-name", name, "src/main.rt" if is_program else "src/lib.rt", "-L", f"dependency={kit}/rlibs"]
@@ -54,5 +54,5 @@ def words(kit: str, name: str, libraries: Crates, found: Places, folder: str | N
 
 def tell_sources(found: Places) -> None:
     """Says which libraries are read from their sources."""
-    names = [it for it, place in found.items() if not place]
+    names = [library for library, place in found.items() if not place]
     print(f"sources: {' '.join(names) or 'none'}", file=sys.stderr, flush=True)

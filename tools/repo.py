@@ -27,6 +27,14 @@ def write(path: str, text: str) -> None:
         file.write(text)
 
 
+def found(pattern: str, text: str, flags: int = 0) -> re.Match[str]:
+    """Where a text has what it has to have."""
+    match = re.search(pattern, text, flags)
+    if not match:
+        raise SystemExit(f"there is no {pattern!r} where it has to be")
+    return match
+
+
 def files(pattern: str) -> list[str]:
     """The files that a pattern names, by their paths from the top, in order."""
     return sorted(glob.glob(pattern, root_dir=TOP, recursive=True))
@@ -52,7 +60,7 @@ def below(name: str, libraries: Crates) -> list[str]:
     found: list[str] = []
     for used in libraries[name]:
         if used in libraries:
-            found += [it for it in [*below(used, libraries), used] if it not in found]
+            found += [one for one in [*below(used, libraries), used] if one not in found]
     return found
 
 

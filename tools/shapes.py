@@ -1,4 +1,5 @@
 """Compares answers of the operator's port with docs/operate.json."""
+import functools
 import json
 import re
 import typing
@@ -17,14 +18,12 @@ def operate() -> Json:
     return json.loads(repo.read("docs/operate.json"))
 
 
-def follow(text: Json, it: Json) -> Json:
+def follow(text: Json, part: Json) -> Json:
     """What a reference leads to; anything else is itself."""
-    while "$ref" in it:
-        at = text
-        for word in it["$ref"].removeprefix("#/").split("/"):
-            at = at[word]
-        it = at
-    return it
+    while "$ref" in part:
+        words = part["$ref"].removeprefix("#/").split("/")
+        part = functools.reduce(lambda above, word: above[word], words, text)
+    return part
 
 
 def differences(text: Json, schema: Json, value: Json, place: str = "") -> list[str]:
@@ -94,7 +93,7 @@ def compare(node: str) -> list[str]:
     for path in ("/lras", "/roots", "/lras?status=Closed", f"/lras?{behind}&status=Active", "/lras?what"):
         code, page = fetched(node + path)
         wrong += of_answer(text, path.split("?")[0], "get", code, page)
-        ids += [it["lra"] for it in page.get("lras", [])]
+        ids += [row["lra"] for row in page.get("lras", [])]
     for lra in [*dict.fromkeys(ids), "00000000-0000-8001-8000-0000ffffffff", "x"]:
         wrong += of_answer(text, "/lra/{id}", "get", *fetched(f"{node}/lra/{lra}"))
     return wrong
