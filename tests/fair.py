@@ -132,7 +132,7 @@ class TestFaults(checks.Checked):
 
     def test_failing(self) -> None:
         """Two hosts that answer 503 within half a second, with 416 participants."""
-        server, hosts = self.server(1).wait_until_up(), [Participant(status=503, pause=0.5) for _ in range(2)]
+        server, hosts = self.server(1).wait_until_up(), [self.participant(status=503, pause=0.5) for _ in range(2)]
         for i in range(13):
             ended_with(server, [f"{hosts[(i + j) % 2].url}/c{j}" for j in range(32)])
         time.sleep(5)

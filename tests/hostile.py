@@ -352,7 +352,7 @@ class TestHostility(checks.Checked):
 
     def test_crowded(self) -> None:
         """64 LRAs of 32 participants that complete at once, all at one host."""
-        server, part = self.server(1).wait_until_up(), Participant()
+        server, part = self.server(1).wait_until_up(), self.participant()
         lras = [server.begin(1) for _ in range(64)]
         for lra in lras:
             for place in range(32):
@@ -435,7 +435,7 @@ class TestHostility(checks.Checked):
 
     def test_kills(self) -> None:
         """It is killed under load again and again: nothing answered is lost."""
-        part, counts = Participant(), collections.Counter[str]()
+        part, counts = self.participant(), collections.Counter[str]()
         bad: dict[str, list] = {"start": [], "lost": [], "end": [], "order": [], "agree": []}
         for turn in range(self.kills):
             if not self.killed(turn, part, bad, counts):

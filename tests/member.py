@@ -252,7 +252,7 @@ class TestMembers(checks.Checked):
 
     def test_three(self) -> None:
         """News, reports at each node, a node that is down for a while, and what is told of it."""
-        group, part = self.group(3).start(), Participant()
+        group, part = self.group(3).start(), self.participant()
         late = []
         for i in range(12):
             time.sleep(0.2)
@@ -270,7 +270,17 @@ class TestMembers(checks.Checked):
         foreign = group.join(3, lra, compensate=part.url)
         self.check("another node's LRA can be joined at its home alone",
                    (foreign[0], foreign[1].get("refused")) == (421, "E4 NotHome 1"), foreign)
-        part.answers["/slow"] = 503
+        trip = self.reported(group)
+        self.is_down(group, {lra: "Closed", trip: "Cancelled"})
+        ended = group.end()
+        self.check("all end with their input", ended == [0, 0, 0], ended)
+        self.check("node 2 tells nothing", group.log(2) == "", group.log(2))
+        for number in (1, 2, 3):
+            self.is_whole(f"{self.folder}/{number}/node-{number}.db", number)
+
+    def reported(self, group: Group) -> str:
+        """Outcomes are told at each node. The last LRA of which one was."""
+        part = slow_participant()
         for node in (1, 2, 3):
             trip = group.begin(1)
             group.join(1, trip, compensate=f"{part.url}/slow")
@@ -280,6 +290,10 @@ class TestMembers(checks.Checked):
             self.check(f"an outcome is told at node {node}", told[0] == 204, told)
             took = group.all_come_to(trip, "Cancelled")
             self.check(f"and all show it cancelled ({in_ms(took)})", took is not None, group.status(1, trip))
+        return trip
+
+    def is_down(self, group: Group, known: Shown) -> None:
+        """Node 2 is killed, and comes back."""
         group.kill(2)
         missed = [group.begin(1) for _ in range(5)] + [group.begin(3)]
         self.check("with node 2 killed the others agree",
@@ -290,8 +304,8 @@ class TestMembers(checks.Checked):
         group.start(2)
         times = [group.comes_to(2, lra, "Active") for lra in missed]
         self.check(f"started again, node 2 shows what it missed ({in_ms(times[0])})", None not in times)
-        self.check("node 2 shows what it knew",
-                   (group.status(2, lra), group.status(2, trip)) == ("Closed", "Cancelled"))
+        shown = {lra: group.status(2, lra) for lra in known}
+        self.check("node 2 shows what it knew", shown == known, shown)
         mine = group.begin(2)
         self.check("what it begins then is shown by the others", group.all_come_to(mine, "Active", (1, 3)) is not None)
         for node in (1, 3):
@@ -299,11 +313,6 @@ class TestMembers(checks.Checked):
             comes_to(60, lambda: len(group.lines(node)) >= 2)
             self.check(f"node {node} tells that it answers again, and nothing else", group.lines(node) == wanted,
                        group.log(node))
-        ended = group.end()
-        self.check("all end with their input", ended == [0, 0, 0], ended)
-        self.check("node 2 tells nothing", group.log(2) == "", group.log(2))
-        for number in (1, 2, 3):
-            self.is_whole(f"{self.folder}/{number}/node-{number}.db", number)
 
     def test_some(self) -> None:
         """Two nodes in one process, and a third in another."""
@@ -437,7 +446,7 @@ class TestMembers(checks.Checked):
 
     def test_swept(self) -> None:
         """What goes by itself, and what doesn't."""
-        group, part = self.group(3, "keep=0").start(), Participant()
+        group, part = self.group(3, "keep=0").start(), self.participant()
         part.answers["/fails"] = 409
         failed, going_on, root = group.begin(1), group.begin(1), group.begin(1)
         group.join(1, failed, compensate=f"{part.url}/fails")
@@ -461,6 +470,14 @@ class TestMembers(checks.Checked):
         group.start(1, options=("keep-failed=300",))
         self.check("with keep-failed alone what failed goes", group.all_come_to(failed, "E3 NotHeld") is not None,
                    group.status(1, failed))
+        self.goes_at_its_time(group)
+        left = comes_to(30, lambda: [group.shown(node) for node in (1, 2, 3)] == [{going_on: "Active"}] * 3)
+        self.check("what goes on is there, and nothing else", left, [group.shown(node) for node in (1, 2, 3)])
+        ended = group.end()
+        self.check("all end", ended == [0, 0, 0], ended)
+
+    def goes_at_its_time(self, group: Group) -> None:
+        """Nothing goes unasked; and the time of what has ended begins again with a start."""
         lone = group.begin(1)
         group.finish(1, lone)
         group.end(1)
@@ -477,10 +494,6 @@ class TestMembers(checks.Checked):
         gone = comes_to(SLOW, lambda: group.is_gone(1, lone))
         took = time.monotonic() - started
         self.check(f"and its time begins again ({took:.1f} s)", gone and took > 3, group.status(1, lone))
-        left = comes_to(30, lambda: [group.shown(node) for node in (1, 2, 3)] == [{going_on: "Active"}] * 3)
-        self.check("what goes on is there, and nothing else", left, [group.shown(node) for node in (1, 2, 3)])
-        ended = group.end()
-        self.check("all end", ended == [0, 0, 0], ended)
 
     def test_flow(self) -> None:
         """Many more LRAs than a home holds go through it."""

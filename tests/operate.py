@@ -14,7 +14,6 @@ from collections.abc import Iterable
 sys.path.insert(0, os.path.dirname(os.path.dirname(os.path.abspath(__file__))))
 from tools import checks, metrics, shapes, unproved
 from tools.node import SLOW, Answer, Group, Json, comes_to, request
-from tools.participant import Participant
 from tools.ports import HOST, free_row
 
 LAST = "00000000-0000-8008-8000-ffffffffffff"
@@ -160,7 +159,7 @@ class TestOperators(checks.Checked):
     def test_records(self) -> None:
         """All that is held of an LRA: members of each kind, what was heard of them, and what a purge would be
         answered."""
-        group, part = self.operated(2).start(), Participant()
+        group, part = self.operated(2).start(), self.participant()
         lra = group.begin(1)
         group.join(1, lra, compensate=f"{part.url}/c?a=\\b", complete=f"{part.url}/k", after=f"{part.url}/a")
         nested = group.begin(1, parent=lra)
@@ -194,7 +193,7 @@ class TestOperators(checks.Checked):
 
     def test_stuck(self) -> None:
         """Who is called in vain, for what, where, how often, since when and with what answer."""
-        group, part = self.operated(2).start(), Participant()
+        group, part = self.operated(2).start(), self.participant()
         gone = gone_link()
         part.answers["/busy"] = 503
         lra = group.begin(1)
@@ -235,7 +234,7 @@ class TestOperators(checks.Checked):
         """A forget and a listener that are gone for good."""
         group = self.operated(2).start()
         gone = gone_link()
-        part = Participant()
+        part = self.participant()
         part.answers["/c"] = 409
         lra = group.begin(1)
         group.join(1, lra, compensate=f"{part.url}/c", forget=gone, after=gone)

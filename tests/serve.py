@@ -33,7 +33,7 @@ class TestServer(checks.Checked):
     def test_three_nodes(self) -> None:
         """Sagas that close and cancel, deadlines, and clients that are slow; then a start over the same journals, and
         one behind a kill -9."""
-        server, part = self.server(3).wait_until_up(), Participant()
+        server, part = self.server(3).wait_until_up(), self.participant()
         lra = self.closes(server, part)
         trip = self.cancels(server, part)
         late = server.begin(1, limit=700)
@@ -115,7 +115,7 @@ class TestServer(checks.Checked):
     def test_listeners(self) -> None:
         """Who joined for the end alone, or beside the rest, hears of it once its LRA has ended for good; a purge waits
         for them."""
-        server, part = self.server(2).wait_until_up(), Participant()
+        server, part = self.server(2).wait_until_up(), self.participant()
         part.answers = {"/mail": 503, "/hotel/a": 404}
         trip = server.begin(1)
         mail = server.join(1, trip, after=f"{part.url}/mail")
@@ -195,7 +195,7 @@ class TestServer(checks.Checked):
 
     def test_hanging(self) -> None:
         """One that takes connections and never answers, in eight LRAs, beside one that answers."""
-        server, part = self.server(1).wait_until_up(), Participant()
+        server, part = self.server(1).wait_until_up(), self.participant()
         with socket.create_server((HOST, 0), backlog=64) as silent:
             links = [f"http://{HOST}:{silent.getsockname()[1]}/k"] * 8 + [f"{part.url}/k"]
             lras = [server.begin(1) for _ in links]

@@ -10,6 +10,7 @@ import unittest
 from collections.abc import Iterable
 
 from tools.node import Group, Server
+from tools.participant import Participant
 
 
 class Checked(unittest.TestCase):
@@ -64,6 +65,12 @@ class Checked(unittest.TestCase):
         self.addCleanup(started.__exit__)
         return started
 
+    def participant(self, **how: typing.Any) -> Participant:
+        """A participant that is there as long as the test."""
+        part = Participant(**how)
+        self.addCleanup(part.close)
+        return part
+
     def group(self, count: int, *options: str, kind: type[Group] = Group) -> typing.Any:
         """Members that aren't started yet, and are killed with the test."""
         made = kind(count, self.folder, *options)
@@ -110,11 +117,10 @@ def words_of(kind: type[unittest.TestCase]) -> list[str]:
 def run(*kinds: type[unittest.TestCase], words: Iterable[str] = ()) -> int:
     """Runs the tests of some classes, all or those of some words, and gives the status for the system."""
     Checked.is_told = True
-    result, chosen = Lines(), list(words)
-    suite = unittest.TestSuite()
-    for kind in kinds:
-        suite.addTests(kind(f"test_{word}") for word in words_of(kind) if word in chosen or not chosen)
-    suite.run(result)
+    every = [(kind, word) for kind in kinds for word in words_of(kind)]
+    chosen = [(kind, one) for word in words for kind, one in every if one == word]
+    result = Lines()
+    unittest.TestSuite(kind(f"test_{word}") for kind, word in chosen or every).run(result)
     failed = len(result.failures) + len(result.errors)
     print(f"{failed} failed")
     return 1 if failed else 0
