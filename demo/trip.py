@@ -19,7 +19,7 @@ from email.message import Message
 sys.path.insert(0, os.path.dirname(os.path.dirname(os.path.abspath(__file__))))
 from tools import unproved
 from tools.node import HOST, Json, Server, comes_to, home_of, request
-from tools.participant import Answer, Participant
+from tools.participant import Participant, Reply
 from tools.ports import free_row
 
 DONE = {"complete": "Completed", "compensate": "Compensated", "forget": "Forgotten"}
@@ -48,7 +48,7 @@ class Service(Participant):
         self.states: dict[str, str] = {}
         super().__init__(port)
 
-    def answer(self, path: str, lra: str, fields: Message, body: bytes) -> Answer:
+    def answer(self, path: str, lra: str, fields: Message, body: bytes) -> Reply:
         where = " for the stay" if "Long-Running-Action-Parent" in fields else ""
         code, text = self.book(lra, **json.loads(body or "{}")) if path == "/book" else self.act(path[1:], lra, where)
         return code, text.encode()
@@ -92,7 +92,7 @@ class Listener(Participant):
         self.known: dict[str, str] = {}
         super().__init__(port)
 
-    def answer(self, path: str, lra: str, fields: Message, body: bytes) -> Answer:
+    def answer(self, path: str, lra: str, fields: Message, body: bytes) -> Reply:
         status = body.decode()
         if self.known.get(lra) != status:
             self.known[lra] = self.heard[lra] = status

@@ -10,11 +10,11 @@ import os
 import re
 import sys
 import unittest
-import urllib.request
 
 sys.path.insert(0, os.path.dirname(os.path.dirname(os.path.abspath(__file__))))
 from tools import repo
 from tools.metrics import METRICS, Wrong, example, problems, samples
+from tools.node import fetch
 
 
 def used_names(text: str) -> set[str]:
@@ -142,8 +142,8 @@ class TestUse(unittest.TestCase):
 
 def look_at_node(url: str) -> int:
     """Reads a node's metrics, says what isn't as it has to be, and gives the status for the system."""
-    with urllib.request.urlopen(url, timeout=10) as answer:
-        kind, text = answer.headers.get("Content-Type", ""), answer.read().decode()
+    answer = fetch(url)
+    kind, text = answer.fields.get("Content-Type", ""), answer.text
     wrong = problems(text) + ([] if kind.startswith("text/plain; version=0.0.4") else [f"Content-Type is {kind}"])
     count = sum(map(len, samples(text).values())) if not wrong else 0
     print("\n".join(wrong) or f"{len(samples(text))} metrics, {count} values: all as they have to be")

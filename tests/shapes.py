@@ -12,7 +12,8 @@ import unittest
 
 sys.path.insert(0, os.path.dirname(os.path.dirname(os.path.abspath(__file__))))
 from tools import repo
-from tools.shapes import Json, compare, differences, follow, operate
+from tools.node import Json
+from tools.shapes import compare, differences, follow, operate
 
 
 def of_components(text: Json) -> list[str]:

@@ -16,7 +16,7 @@ from tools import checks, repo, unproved
 from tools.load import Noted, misled
 from tools.node import ask, comes_to, exchange, home_of, without_starts
 from tools.page import squeeze
-from tools.participant import Answer, Participant
+from tools.participant import Participant, Reply
 from tools.ports import HOST, free_row, is_free, is_open, listens_at
 
 LRA = "00000000-0000-8002-8000-000000000001"
@@ -25,7 +25,7 @@ LRA = "00000000-0000-8002-8000-000000000001"
 class Busy(Participant):
     """Is between two runs when it is asked the first two times."""
 
-    def answer(self, path: str, lra: str, fields: Message, body: bytes) -> Answer:
+    def answer(self, path: str, lra: str, fields: Message, body: bytes) -> Reply:
         return (503, b'{"refused":"E20 RunFull"}') if len(self.calls) < 2 else (200, b'{"a":1}')
 
 

@@ -8,6 +8,7 @@ import socket
 import subprocess
 import time
 import typing
+import urllib.parse
 from collections.abc import Callable, Iterable, Mapping, Sequence
 
 from tools import repo
@@ -44,6 +45,13 @@ def request(address: tuple[str, int], method: str, path: str, body: str | None =
         return Answer(answer.status, dict(answer.getheaders()), answer.read().decode())
     finally:
         connection.close()
+
+
+def fetch(url: str) -> Answer:
+    """The answer to a question at a URL."""
+    parts = urllib.parse.urlsplit(url)
+    return request((parts.hostname or HOST, parts.port or 80), "GET",
+                   urllib.parse.urlunsplit(("", "", *parts[2:4], "")))
 
 
 def exchange(address: tuple[str, int], *pieces: bytes, pause: float = 0) -> bytes:

@@ -8,7 +8,8 @@ from email.message import Message
 
 from tools.ports import HOST
 
-Answer = int | tuple[int, bytes]
+# What a call is answered: a status, perhaps with a body.
+Reply = int | tuple[int, bytes]
 
 
 class Call(typing.NamedTuple):
@@ -40,7 +41,7 @@ class Participant:
 
     def __init__(self, port: int = 0, status: int = 200, pause: float = 0) -> None:
         self.status, self.pause = status, pause
-        self.answers: dict[str, Answer] = {}
+        self.answers: dict[str, Reply] = {}
         self.calls: list[Call] = []
         self.port = port
         self.open()
@@ -83,7 +84,7 @@ class Participant:
         time.sleep(self.pause)
         return code, text
 
-    def answer(self, path: str, lra: str, fields: Message, body: bytes) -> Answer:
+    def answer(self, path: str, lra: str, fields: Message, body: bytes) -> Reply:
         """What a call is answered. A service has its own."""
         return self.answers.get(path, self.status)
 

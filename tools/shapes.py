@@ -2,15 +2,11 @@
 import functools
 import json
 import re
-import typing
-import urllib.error
-import urllib.request
 
 from tools import repo
+from tools.node import Json, fetch
 
 TYPES: dict[str, type] = {"object": dict, "array": list, "string": str, "integer": int, "boolean": bool}
-
-Json = typing.Any
 
 
 def operate() -> Json:
@@ -77,11 +73,8 @@ def of_answer(text: Json, path: str, verb: str, code: int, value: Json) -> list[
 
 def fetched(url: str) -> tuple[int, Json]:
     """The status and the JSON of an answer."""
-    try:
-        with urllib.request.urlopen(url, timeout=10) as answer:
-            return answer.status, json.load(answer)
-    except urllib.error.HTTPError as error:
-        return error.code, json.load(error)
+    answer = fetch(url)
+    return answer.status, answer.json()
 
 
 def compare(node: str) -> list[str]:
