@@ -53,7 +53,7 @@ def unbuilt(names: Iterable[str]) -> list[str]:
 def ran(words: list[str], folder: str) -> str | None:
     """What a tool says, if it refuses."""
     tool = subprocess.run(words, cwd=folder, stdout=subprocess.PIPE, stderr=subprocess.STDOUT, text=True)
-    return tool.stdout if tool.returncode else None
+    return f"{tool.stdout}{words[0]} ended with {tool.returncode}" if tool.returncode else None
 
 
 def build(kit: str, name: str, folder: str) -> str | None:
