@@ -360,15 +360,15 @@ class TestMembers(checks.Checked):
             self.skipTest("this machine is too slow for the rest")
         self.check(f"over an older journal what is begun at once has a new number ({in_ms(took)})", new not in known,
                    (new, known))
-        told = "node 2: node %d has more facts of this node: the journal here is older"
-        seen = comes_to(30, lambda: any(told % node in group.lines(2) for node in (1, 3)))
+        line = "node 2: node %d has more facts of this node: the journal here is older"
+        seen = comes_to(30, lambda: any(line % node in group.lines(2) for node in (1, 3)))
         self.check("it tells that its journal is older", seen, group.log(2))
         self.check("it has taken back what the others know",
                    all(group.comes_to(2, lra, "Active") is not None for lra in known))
         self.check("all show the new one", group.all_come_to(new, "Active") is not None)
         self.check("and are alike", comes_to(30, group.are_alike), [group.shown(node) for node in (1, 2, 3)])
         lines = group.lines(2)
-        self.check("and nothing else, nor twice", set(lines) <= {told % 1, told % 3} and len(lines) == len(set(lines)),
+        self.check("and nothing else, nor twice", set(lines) <= {line % 1, line % 3} and len(lines) == len(set(lines)),
                    group.log(2))
         ended = group.end()
         self.check("all end", ended == [0, 0, 0], ended)

@@ -184,10 +184,10 @@ class TestBrowser(checks.Checked):
         browser.click(YES)
         is_entered = browser.waits(f"{content_of('note')}.startsWith('Entered')", 5)
         self.check(f"{count}: a report is entered", is_entered)
-        told = [(method, path, body) for _, method, path, body in world.asked[before:] if method != "GET"]
+        commands = [(method, path, body) for _, method, path, body in world.asked[before:] if method != "GET"]
         body = json.dumps({"act": first["kind"], "outcome": "failed"}, separators=(",", ":")).encode()
         wanted = "PUT", f"/lra/{first['lra']}/member/{first['member']}/report", body
-        self.check(f"{count}: the same was asked for twice, and nothing else", told == [wanted, wanted], told)
+        self.check(f"{count}: the same was asked for twice, and nothing else", commands == [wanted, wanted], commands)
         is_gone = browser.waits(f"!{FIRST}?.id && !calls.get('{first['lra']}')", 10)
         self.check(f"{count}: it isn't among those in vain any more", is_gone)
 
@@ -232,15 +232,15 @@ class TestBrowser(checks.Checked):
     def test_listener(self) -> None:
         """A listener that isn't told, a node that isn't ready or stopped, and texts that aren't HTML."""
         with self.opened(150) as (world, browser):
-            told = next(call for call in world.vain if call["kind"] == "after")["lra"]
-            browser.get(f"toggle('{told}', true)")
+            lra = next(call for call in world.vain if call["kind"] == "after")["lra"]
+            browser.get(f"toggle('{lra}', true)")
             self.check("a listener that isn't told has its button", browser.waits(button("It was told"), 5))
             browser.get(f"{button('It was told')}.scrollIntoView()")
             browser.click(button("It was told"))
             browser.click(YES)
             is_entered = browser.waits(f"{content_of('note')}.endsWith('/told')", 5)
             self.check("it is entered that it was told", is_entered)
-            is_due = f"({button('Purge')} || {{}}).textContent === 'Purge' || !!lras.get('{told}').parent"
+            is_due = f"({button('Purge')} || {{}}).textContent === 'Purge' || !!lras.get('{lra}').parent"
             self.check("it can be purged then", browser.waits(is_due, 8))
             self.try_trouble(browser, world)
             link = "http://x\"><img src=x onerror=alert(1)>:80/<b>"

@@ -209,8 +209,8 @@ class TestProxies(checks.Checked):
             self.goes_home(front, lra)
         all_of = comes_to(10, lambda: len(ask(front, "GET", "/lra")[1]["lras"]) == 12)
         self.check("a page has all", all_of)
-        told = self.pulled(front)
-        self.check("nobody pulls by that name", b" 404 " in told, told)
+        line = self.pulled(front)
+        self.check("nobody pulls by that name", b" 404 " in line, line)
         group.end()
 
     def goes_home(self, front: int, lra: str) -> None:

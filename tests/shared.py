@@ -112,8 +112,8 @@ class TestNode(checks.Checked):
 
     def test_texts(self) -> None:
         self.same("a home", 2, home_of(LRA))
-        told = "[INFO  lra_server::server] node 1: listens on 127.0.0.1:8070\nnode 1: a warning\n"
-        self.same("what is told besides", "node 1: a warning\n", without_starts(told))
+        log = "[INFO  lra_server::server] node 1: listens on 127.0.0.1:8070\nnode 1: a warning\n"
+        self.same("what is told besides", "node 1: a warning\n", without_starts(log))
 
     def test_misled(self) -> None:
         """Compensations come last to first; one that is called again at once counts once."""
