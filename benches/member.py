@@ -1,6 +1,7 @@
 #!/usr/bin/env python3
-"""Measures members in processes of their own: python3 benches/member.py [PROGRAM]. How soon what one begins is shown by another, and how
-many LRAs go through one home a second with keep=0. PROGRAM is crates/lra_member/out/lra_member. A minute; standard library alone."""
+"""Measures members in processes of their own: python3 benches/member.py [PROGRAM]. How soon what one begins is shown by
+another, and how many LRAs go through one home a second with keep=0. PROGRAM is crates/lra_member/out/lra_member. A
+minute; standard library alone."""
 import multiprocessing
 import os
 import statistics
@@ -8,18 +9,18 @@ import sys
 import tempfile
 import time
 
-TOP = os.path.dirname(os.path.dirname(os.path.abspath(__file__)))
-sys.path += [f"{TOP}/tests", f"{TOP}/demo"]
-from group import Group
+sys.path.insert(0, os.path.dirname(os.path.dirname(os.path.abspath(__file__))))
+from tools import checks, unproved
+from tools.node import Group
 
-# How many begins are looked for at the other node, how long nothing is stored before each, for how long LRAs go through, and by how many
-# clients. Behind each pull a node pauses for a twentieth of a second.
+# How many begins are looked for at the other node, how long nothing is stored before each, for how long LRAs go
+# through, and by how many clients. Behind each pull a node pauses for a twentieth of a second.
 BEGINS, QUIET, SECONDS, CLIENTS = 100, 0.3, 10, 8
 
 
-def news(folder):
-    """From a begin at node 1, where nothing was stored for a while, to its being shown by node 2: the middle, and 99 of 100."""
-    group = Group(2, folder).start()
+def news(group: Group) -> None:
+    """From a begin at node 1, where nothing was stored for a while, to its being shown by node 2: the middle, and 99 of
+    100."""
     late = []
     for _ in range(BEGINS):
         lra = group.begin(1)
@@ -29,12 +30,12 @@ def news(folder):
         late.append(time.monotonic() - began)
         group.finish(1, lra)
         time.sleep(QUIET)
-    group.end()
     late.sort()
-    print(f"from a begin to its being shown by another process: {1000 * statistics.median(late):.1f} ms, 99 of 100 within {1000 * late[BEGINS * 99 // 100 - 1]:.1f}")
+    middle, most = 1000 * statistics.median(late), 1000 * late[BEGINS * 99 // 100 - 1]
+    print(f"from a begin to its being shown by another process: {middle:.1f} ms, 99 of 100 within {most:.1f}")
 
 
-def client(group, until, counts):
+def begin_and_close(group: Group, until: float, counts: multiprocessing.Queue) -> None:
     """Begins and closes LRAs until a moment. How many, and how many begins were E13."""
     done = full = 0
     while time.monotonic() < until:
@@ -48,29 +49,34 @@ def client(group, until, counts):
     counts.put((done, full))
 
 
-def flow(folder, clients):
+def flow(group: Group, clients: int) -> None:
     """So many clients that begin and close at one node, which purges at once, beside another node."""
-    group = Group(2, folder, "keep=0").start()
-    counts, until = multiprocessing.Queue(), time.monotonic() + SECONDS
-    all_clients = [multiprocessing.Process(target=client, args=(group, until, counts)) for _ in range(clients)]
-    for it in all_clients:
-        it.start()
-    told = [counts.get() for _ in all_clients]
-    for it in all_clients:
-        it.join()
-    done, full = (sum(it[i] for it in told) for i in range(2))
-    group.end()
-    print(f"{clients} clients: {done / SECONDS:.0f} LRAs a second are begun, closed and purged at one home; {full} begins were E13 and made again")
+    counts: multiprocessing.Queue = multiprocessing.Queue()
+    given = group, time.monotonic() + SECONDS, counts
+    processes = [multiprocessing.Process(target=begin_and_close, args=given) for _ in range(clients)]
+    for process in processes:
+        process.start()
+    found = [counts.get() for _ in processes]
+    for process in processes:
+        process.join()
+    rate, full = sum(done for done, _ in found) / SECONDS, sum(full for _, full in found)
+    what = f"{rate:.0f} LRAs a second are begun, closed and purged at one home"
+    print(f"{clients} clients: {what}; {full} begins were E13 and made again")
 
 
-def main():
+def main() -> int:
     if len(sys.argv) > 1:
-        Group.program = sys.argv[1]
-    with tempfile.TemporaryDirectory() as folder:
-        news(f"{folder}/news")
+        Group.program = unproved.program_of(sys.argv[1], "lra_member")
+    checks.need(Group)
+    with tempfile.TemporaryDirectory() as folder, Group(2, folder) as group:
+        news(group.start())
+        group.end()
     for clients in (1, CLIENTS):
-        with tempfile.TemporaryDirectory() as folder:
-            flow(f"{folder}/flow", clients)
+        with tempfile.TemporaryDirectory() as folder, Group(2, folder, "keep=0") as group:
+            flow(group.start(), clients)
+            group.end()
+    return 0
 
 
-main()
+if __name__ == "__main__":
+    sys.exit(main())

@@ -1,22 +1,27 @@
 #!/usr/bin/env python3
 """A mail service that hears what became of LRAs: python3 demo/mail.py PORT
 
-It takes what a coordinator tells at an `after` link, such as http://127.0.0.1:PORT/mail, prints a line for each LRA and answers 200. So
-it also stands in for a listener that is gone for good, whose LRA can't be purged before it has answered. Standard library alone."""
+It takes what a coordinator tells at an `after` link, such as http://127.0.0.1:PORT/mail, prints a line for each LRA and
+answers 200. So it also stands in for a listener that is gone for good, whose LRA can't be purged before it has
+answered. Standard library alone."""
 import http.server
+import io
 import sys
 import threading
+from collections.abc import Callable
 
 
 class Mail:
-    """Listens at a port, and hands each LRA of which it hears, with its status, to `hear`. It takes the same call twice."""
+    """Listens at a port, and hands each LRA of which it hears, with its status, to `hear`. It takes the same call
+    twice."""
 
-    def __init__(self, port, hear):
-        self.link, self.known = f"http://127.0.0.1:{port}/mail", {}
+    def __init__(self, port: int, hear: Callable[[str, str], object]) -> None:
+        self.link = f"http://127.0.0.1:{port}/mail"
+        self.known: dict[str, str] = {}
         mail = self
 
         class Handler(http.server.BaseHTTPRequestHandler):
-            def do_PUT(self):
+            def do_PUT(self) -> None:
                 lra = self.headers.get("Long-Running-Action-Ended", "").removeprefix("urn:uuid:")
                 status = self.rfile.read(int(self.headers.get("Content-Length", 0))).decode()
                 if mail.known.get(lra) != status:
@@ -26,17 +31,18 @@ class Mail:
                 self.send_header("Content-Length", "0")
                 self.end_headers()
 
-            def log_message(self, *words):
+            def log_message(self, *words: object) -> None:
                 pass
 
         self.server = http.server.ThreadingHTTPServer(("127.0.0.1", port), Handler)
         threading.Thread(target=self.server.serve_forever, args=(0.05,), daemon=True).start()
 
 
-def main():
+def main() -> None:
     if len(sys.argv) != 2 or not sys.argv[1].isdecimal():
         raise SystemExit("usage: python3 demo/mail.py PORT")
-    sys.stdout.reconfigure(line_buffering=True)
+    if isinstance(sys.stdout, io.TextIOWrapper):
+        sys.stdout.reconfigure(line_buffering=True)
     mail = Mail(int(sys.argv[1]), lambda lra, status: print(f"{lra} is {status}"))
     print(f"Listening at {mail.link}, until Ctrl-C")
     try:

@@ -1,37 +1,16 @@
 #!/usr/bin/env python3
-"""Prints a page with the same meaning in fewer bytes: python3 demo/squeeze.py < demo/watch.html. Standard library alone.
-
-What goes is indentation, lines of comment, and spaces beside punctuation, in the style and the script alone. It fits pages that are
-written as watch.html is: strings stand in double quotes, and there are no backslashes, no templates and no patterns between slashes."""
-import re
+"""Prints a page with the same meaning in fewer bytes (tools/page.py): python3 demo/squeeze.py < demo/watch.html.
+Standard library alone."""
+import os
 import sys
 
-
-def outside(text: str, change) -> str:
-    """A text with what stands outside its strings changed."""
-    parts = text.split('"')
-    return '"'.join(change(part) if at % 2 == 0 else part for at, part in enumerate(parts))
+sys.path.insert(0, os.path.dirname(os.path.dirname(os.path.abspath(__file__))))
+from tools.page import squeeze
 
 
-def script(text: str) -> str:
-    lines = "\n".join(line.strip() for line in text.split("\n") if not line.strip().startswith("//"))
-
-    def change(part: str) -> str:
-        if set(part) & set("`'\\"):
-            raise SystemExit(f"squeeze: this isn't as the script may be written: {part}")
-        return re.sub(r" *([=+*/<>?:,;(){}\[\]&|!]) *", r"\1", part)
-
-    return outside(lines, change)
-
-
-def style(text: str) -> str:
-    return outside(text, lambda part: re.sub(r" *([{};]) *", r"\1", re.sub(r"([:,]) ", r"\1", part)).replace("\n", ""))
-
-
-def squeeze(page: str) -> str:
-    page = re.sub(r"(?s)(?<=<style>).*?(?=</style>)", lambda it: style(it[0]), page)
-    return re.sub(r"(?s)(?<=<script>).*?(?=</script>)", lambda it: script(it[0]), page)
+def main() -> None:
+    sys.stdout.write(squeeze(sys.stdin.read()))
 
 
 if __name__ == "__main__":
-    sys.stdout.write(squeeze(sys.stdin.read()))
+    main()

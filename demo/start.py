@@ -1,20 +1,22 @@
 #!/usr/bin/env python3
-"""What ./coordinator does: it looks at its words, builds the server where that isn't done, and runs it. Standard library alone.
+"""What ./coordinator does: it looks at its words, builds the server where that isn't done, and runs it. Standard
+library alone.
 
-All that can be wrong with the words, the folder and the ports is told before a build, which may take three quarters of an hour."""
-import collections
-import errno
+All that can be wrong with the words, the folder and the ports is told before a build, which may take three quarters of
+an hour."""
 import os
 import re
-import shutil
 import signal
-import socket
 import subprocess
 import sys
-import threading
+import time
+from collections.abc import Sequence
 
-import unproved
-from unproved import TOP, Progress, say
+sys.path.insert(0, os.path.dirname(os.path.dirname(os.path.abspath(__file__))))
+from tools import unproved
+from tools.builds import need_rt, proved, say
+from tools.node import end_input
+from tools.ports import is_free, listens_at
 
 USAGE = """\
 usage: ./coordinator [--unproved] [--operate PORT] [--keep MS] [--keep-failed MS] N PORT DIR
@@ -29,29 +31,21 @@ usage: ./coordinator [--unproved] [--operate PORT] [--keep MS] [--keep-failed MS
 TIMES = ("--keep", "--keep-failed")
 OPTIONS = {"--unproved": 1, "--operate": 2, **dict.fromkeys(TIMES, 2)}
 
+# Options that a time follows, each with that time.
+Times = Sequence[tuple[str, str]]
 
-def is_number(word, least, most):
+
+def is_number(word: str, least: int, most: int) -> bool:
     """Whether a word is what the server reads as such a number: decimal, without leading zeros."""
     return re.fullmatch("0|[1-9][0-9]{0,19}", word) is not None and least <= int(word) <= most
 
 
-def is_free(port):
-    """Whether the server could listen at a port. Connections that are still closing don't count, as with the server."""
-    with socket.socket() as it:
-        it.setsockopt(socket.SOL_SOCKET, socket.SO_REUSEADDR, 1)
-        try:
-            it.bind(("127.0.0.1", port))
-        except OSError as error:
-            return error.errno != errno.EADDRINUSE
-    return True
-
-
-def ports_of(nodes, port):
+def ports_of(nodes: str, port: str) -> range:
     return range(int(port), int(port) + int(nodes))
 
 
-def wrong_word(nodes, port, times, operate):
-    """A line on a word that the server wouldn't take, or nothing. The times are options, each with its word."""
+def wrong_word(nodes: str, port: str, times: Times, operate: str | None) -> str | None:
+    """A line on a word that the server wouldn't take, or nothing."""
     for option, word in times:
         if not is_number(word, 0, 2**64 - 1):
             return f"MS of {option} has to be a number of milliseconds, not {word!r}"
@@ -65,8 +59,10 @@ def wrong_word(nodes, port, times, operate):
     return f"port {twice[0]} would be a node's own, and one for operators" if twice else None
 
 
-def wrong_with(nodes, port, folder, times=(), operate=None):
-    """The status, and a line on what is wrong, or nothing where all is well. The port for operators is of node 1, where it is said."""
+def wrong_with(nodes: str, port: str, folder: str, times: Times = (),
+               operate: str | None = None) -> tuple[int, str] | None:
+    """The status, and a line on what is wrong, or nothing where all is well. The port for operators is of node 1, where
+    it is said."""
     word = wrong_word(nodes, port, times, operate)
     if word:
         return 2, word
@@ -74,99 +70,59 @@ def wrong_with(nodes, port, folder, times=(), operate=None):
         return 1, f"there is no folder {folder!r}: make it first"
     if not os.access(folder, os.W_OK | os.X_OK):
         return 1, f"the folder {folder!r} may not be written"
-    taken = [it for first in (port, operate) if first is not None for it in ports_of(nodes, first) if not is_free(it)]
+    wanted = [number for first in (port, operate) if first is not None for number in ports_of(nodes, first)]
+    taken = [number for number in wanted if not is_free(number)]
     return (1, f"port {taken[0]} is in use") if taken else None
 
 
-def crates_for(top, name):
-    """The crates that are built for one, itself the last, in the order in which rt builds them."""
-    with open(f"{top}/crates.txt", encoding="utf-8") as file:
-        uses = {crate: words.split() for crate, words in re.findall(r"^(\w+):(.*)$", file.read(), re.M)}
-    found = []
-
-    def visit(crate):
-        if crate in uses and crate not in found:
-            for it in uses[crate]:
-                visit(it)
-            found.append(crate)
-
-    visit(name)
-    return found
-
-
-def told_by(line, crates, now):
-    """What the build is at, by a line of rt: which crate, and how far it is with that."""
-    chosen = re.match(r"rt: chose --jobs \d+ for (\w+)$", line)
-    if chosen and chosen[1] in crates:
-        return f"{chosen[1]} ({crates.index(chosen[1]) + 1} of {len(crates)})"
-    counted = re.match(r"so far: (\d+ of \d+ functions)", line)
-    return f"{now.split(',')[0]}, {counted[1]}" if counted else now
-
-
-def prove(name, top=TOP):
-    """Has rt prove and build a program. It is built if it has answered: to words that it doesn't take, with its usage."""
-    say("building. This proves every crate once, which takes about three quarters of an hour on four processors.")
-    crates, last, progress = crates_for(top, name), collections.deque(maxlen=12), Progress("reading all crates")
-    words = ["rt", "run", "--", "serve", "0", "0", "."]
-    how = {"stdin": subprocess.DEVNULL, "stdout": subprocess.PIPE, "stderr": subprocess.STDOUT, "text": True, "errors": "replace"}
-    with subprocess.Popen(words, cwd=f"{top}/crates/{name}", **how) as build:
-
-        def read():
-            for line in build.stdout:
-                last.append(line)
-                progress.what = told_by(line, crates, progress.what)
-
-        reader = threading.Thread(target=read)
-        reader.start()
-        while reader.is_alive():
-            reader.join(0.2)
-            progress.tick()
-    if not any(line.startswith(f"usage: {name}") for line in last):
-        sys.stderr.writelines(last)
-        raise SystemExit(f"coordinator: the program was not built: run 'rt check' in crates/{name} to see why")
-
-
-def proved(name):
-    """The path of a proved program, which is built where it isn't there for this text."""
-    program, text = f"{TOP}/crates/{name}/out/{name}", unproved.text_sum()
-    try:
-        with open(f"{program}.text", encoding="utf-8") as file:
-            is_kept = file.read() == text and os.access(program, os.X_OK)
-    except OSError:
-        is_kept = False
-    if not is_kept:
-        needs_rt()
-        prove(name)
-        with open(f"{program}.text", "w", encoding="utf-8") as file:
-            file.write(text)
-    return program
-
-
-def needs_rt():
-    if not shutil.which("rt"):
-        raise SystemExit("coordinator: there is no command rt, which builds the server: it comes with the kit of Rattle")
-
-
-def options_of(words):
-    """The options that stand first, each at most once, in any order, with the word of a time or a port; and the words behind them."""
-    options = {}
+def options_of(words: list[str]) -> tuple[dict[str, str], list[str]]:
+    """The options that stand first, each at most once, in any order, with the word of a time or a port; and the words
+    behind them."""
+    options: dict[str, str] = {}
     while words and words[0] not in options and len(words) >= OPTIONS.get(words[0], len(words) + 1):
         count = OPTIONS[words[0]]
         options[words[0]], words = words[count - 1], words[count:]
     return options, words
 
 
-def program_for(nodes, port, folder, times, operate):
-    """The program that runs such nodes, and its words: lra_node, or where roots are to be purged or operators to be heard lra_member, with
-    all in one process."""
+def program_for(nodes: str, port: str, folder: str, times: Times, operate: str | None) -> tuple[str, list[str]]:
+    """The program that runs such nodes, and its words: lra_node, or where roots are to be purged or operators to be
+    heard lra_member, with all in one process."""
     if not times and operate is None:
         return "lra_node", ["serve", nodes, port, folder]
-    said = [] if operate is None else [f"operate=127.0.0.1:{operate}"]
-    said += [f"{option.removeprefix('--')}={word}" for option, word in times]
-    return "lra_member", [f"1-{nodes}", folder, *said, *(f"127.0.0.1:{it}" for it in ports_of(nodes, port))]
+    options = [] if operate is None else [f"operate=127.0.0.1:{operate}"]
+    options += [f"{option.removeprefix('--')}={word}" for option, word in times]
+    return "lra_member", [f"1-{nodes}", folder, *options, *(f"127.0.0.1:{number}" for number in ports_of(nodes, port))]
 
 
-def main(words):
+def tell_when_up(server: subprocess.Popen, ports: Sequence[int], for_operators: Sequence[int] = ()) -> None:
+    """Says when the server answers at all its ports, and where the page for operators is, unless it ends before."""
+    while server.poll() is None:
+        if listens_at(server.pid, [*ports, *for_operators]):
+            which = f"port {ports[0]} answers" if len(ports) == 1 else f"the ports {ports[0]} to {ports[-1]} answer"
+            say(f"{which}. Ctrl-C ends it.")
+            if for_operators:
+                say(f"operators: http://127.0.0.1:{for_operators[0]}/")
+            return
+        time.sleep(0.05)
+
+
+def serve_unproved(name: str, words: list[str], ports: Sequence[int], for_operators: Sequence[int]) -> int:
+    """Runs an unproved program with words that are right, which listens at these ports, until Ctrl-C, and gives its
+    status."""
+    program = unproved.compiled(name)
+    say("this is the unproved build, for trying out. It checks each access to memory, and is slow.")
+    # In a group of its own: Ctrl-C is for this program, which then ends the server's input.
+    server = subprocess.Popen([program, *words], stdin=subprocess.PIPE, process_group=0)
+    try:
+        tell_when_up(server, ports, for_operators)
+        return server.wait()
+    except KeyboardInterrupt:
+        end_input(server)
+        return server.wait()
+
+
+def main(words: list[str]) -> int:
     if {"-h", "--help"} & set(words):
         print(USAGE)
         return 0
@@ -174,21 +130,22 @@ def main(words):
     if len(words) != 3:
         print(USAGE, file=sys.stderr)
         return 2
-    times = [(it, options[it]) for it in TIMES if it in options]
+    nodes, port, folder = words
+    times = [(option, options[option]) for option in TIMES if option in options]
     operate = options.get("--operate")
-    wrong = wrong_with(*words, times, operate)
+    wrong = wrong_with(nodes, port, folder, times, operate)
     if wrong:
         say(wrong[1])
         return wrong[0]
-    name, given = program_for(*words, times, operate)
+    name, given = program_for(nodes, port, folder, times, operate)
     if "--unproved" in options:
-        needs_rt()
-        return unproved.serve(name, given, ports_of(*words[:2]), ports_of(words[0], operate) if operate else ())
-    # `rt run` hands standard input on as a file, so a server that it starts ends at once. This becomes the program, which is to
-    # find its signals as a shell leaves them: Python ignores these two.
+        need_rt()
+        return serve_unproved(name, given, ports_of(nodes, port), ports_of(nodes, operate) if operate else ())
+    # `rt run` hands standard input on as a file, so a server that it starts ends at once. This becomes the program,
+    # which is to find its signals as a shell leaves them: Python ignores these two.
     program = proved(name)
-    for it in (signal.SIGPIPE, signal.SIGXFSZ):
-        signal.signal(it, signal.SIG_DFL)
+    for number in (signal.SIGPIPE, signal.SIGXFSZ):
+        signal.signal(number, signal.SIG_DFL)
     os.execv(program, [program, *given])
 
 

@@ -1,93 +1,61 @@
 #!/usr/bin/env python3
 """Five services book trips with a coordinator of three nodes, which this starts: python3 demo/trip.py [PROGRAM]
 
-PROGRAM is crates/lra_node/out/lra_node, which ./coordinator builds, or --unproved (unproved.py). A trip is an LRA. The order begins it
-and asks hotel, flight and payment over HTTP; each joins it, and the coordinator calls each when the trip ends. The mail joins to hear what
-became of it. The exit status is 1 where anything differs from what must be. Standard library alone; a few seconds."""
-import http.client
-import http.server
+PROGRAM is crates/lra_node/out/lra_node, which ./coordinator builds, or --unproved (tools/unproved.py). A trip is an
+LRA. The order begins it and asks hotel, flight and payment over HTTP; each joins it, and the coordinator calls each
+when the trip ends. The mail joins to hear what became of it. The exit status is 1 where anything differs from what must
+be. Standard library alone; a few seconds."""
+import io
 import json
 import os
 import signal
-import socket
-import subprocess
 import sys
 import tempfile
 import threading
 import time
+from collections.abc import Iterable
+from email.message import Message
 
-import mail
-import unproved
+sys.path.insert(0, os.path.dirname(os.path.dirname(os.path.abspath(__file__))))
+from tools import unproved
+from tools.node import HOST, Json, Server, comes_to, home_of, request
+from tools.participant import Participant, Reply
+from tools.ports import free_row
 
-TOP = os.path.dirname(os.path.dirname(os.path.abspath(__file__)))
-PROGRAM = unproved.program_of(sys.argv[1]) if len(sys.argv) > 1 else f"{TOP}/crates/lra_node/out/lra_node"
 DONE = {"complete": "Completed", "compensate": "Compensated", "forget": "Forgotten"}
 ALL = ("order", "hotel", "flight", "payment")
 
 
-def comes_to(test, seconds=30):
-    end = time.monotonic() + seconds
-    while not test() and time.monotonic() < end:
-        time.sleep(0.05)
-    return test()
-
-
-def is_open(port):
-    with socket.socket() as it:
-        return it.connect_ex(("127.0.0.1", port)) == 0
-
-
-def ask(method, port, path, body=None, lra="", wants=(200, 201, 204)):
+def call(method: str, port: int, path: str, body: Json = None, lra: str = "",
+         wants: Iterable[int] = (200, 201, 204)) -> Json:
     """One request, and the JSON of its answer. A node between two runs answers E20, and is asked again."""
+    fields = {"Long-Running-Action": f"urn:uuid:{lra}"} if lra else {}
     for _ in range(100):
-        connection = http.client.HTTPConnection("127.0.0.1", port, timeout=30)
-        connection.request(method, path, json.dumps(body) if body else None, {"Long-Running-Action": f"urn:uuid:{lra}"} if lra else {})
-        answer = connection.getresponse()
-        text = answer.read().decode()
-        connection.close()
+        answer = request((HOST, port), method, path, json.dumps(body) if body else None, fields)
         if answer.status in wants:
-            return json.loads(text) if text else None
-        if "E20 RunFull" not in text:
+            return answer.json()
+        if "E20 RunFull" not in answer.text:
             break
         time.sleep(0.02)
-    raise RuntimeError(f"{method} {path} at port {port} is answered {answer.status} {text}")
+    raise RuntimeError(f"{method} {path} at port {port} is answered {answer.status} {answer.text}")
 
 
-class Service:
+class Service(Participant):
     """A participant with a port of its own. It keeps what it booked by the LRA, and takes the same call twice."""
 
-    def __init__(self, name, port, travel):
-        self.name, self.port, self.travel, self.states = name, port, travel, {}
-        self.open()
+    def __init__(self, name: str, port: int, travel: "Travel") -> None:
+        self.name, self.travel = name, travel
+        self.states: dict[str, str] = {}
+        super().__init__(port)
 
-    def open(self):
-        service = self
+    def answer(self, path: str, lra: str, fields: Message, body: bytes) -> Reply:
+        where = " for the stay" if "Long-Running-Action-Parent" in fields else ""
+        code, text = self.book(lra, **json.loads(body or "{}")) if path == "/book" else self.act(path[1:], lra, where)
+        return code, text.encode()
 
-        class Handler(http.server.BaseHTTPRequestHandler):
-            def answer(self):
-                wish = json.loads(self.rfile.read(int(self.headers.get("Content-Length", 0))) or "{}")
-                lra = self.headers.get("Long-Running-Action", "").removeprefix("urn:uuid:")
-                where = " for the stay" if "Long-Running-Action-Parent" in self.headers else ""
-                code, text = service.book(lra, **wish) if self.path == "/book" else service.act(self.path[1:], lra, where)
-                self.send_response(code)
-                self.send_header("Content-Length", str(len(text)))
-                self.end_headers()
-                self.wfile.write(text.encode())
-
-            do_PUT = do_GET = do_POST = do_DELETE = answer
-
-            def log_message(self, *words):
-                pass
-
-        self.server = http.server.ThreadingHTTPServer(("127.0.0.1", self.port), Handler)
-        threading.Thread(target=self.server.serve_forever, args=(0.05,), daemon=True).start()
-
-    def close(self):
-        self.server.shutdown()
-        self.server.server_close()
-
-    def book(self, lra, stay=None, card=None):
-        """What the order asks for: a code and a text. For a stay the hotel begins an LRA inside the trip, and closes it."""
+    def book(self, lra: str, stay: str | None = None, card: str | None = None) -> tuple[int, str]:
+        """What the order asks for: a code and a text. For a stay the hotel begins an LRA inside the trip, and closes
+        it."""
         if stay:
             own = self.travel.begin(3, "Its stay", stay, parent=lra)
             self.book(own)
@@ -95,58 +63,77 @@ class Service:
             self.travel.listen(own)
             self.travel.at_home("PUT", own, "/close")
             return 200, json.dumps(own)
-        links = {it: f"http://127.0.0.1:{self.port}/{it}" for it in ("complete", "compensate", "status", "forget")}
+        links = {name: f"{self.url}/{name}" for name in ("complete", "compensate", "status", "forget")}
         self.states[lra] = "Active"
         joined = self.travel.at_home("PUT", lra, "/join", links)
         if card:
             self.travel.at_home("PUT", lra, f"/member/{joined['member']}/leave")
         return 402 if card else 200, ""
 
-    def act(self, act, lra, where):
-        """What the coordinator calls for: a code and a text. The hotel needs time, and has compensated when it is asked again."""
+    def act(self, act: str, lra: str, where: str) -> tuple[int, str]:
+        """What the coordinator calls for: a code and a text. The hotel needs time, and has compensated when it is asked
+        again."""
         with self.travel.lock:
             was = self.states[lra]
             is_busy = act == "compensate" and self.name == "hotel" and not was.startswith("Compensat")
-            self.states[lra] = now = "Compensating" if is_busy else "Compensated" if was == "Compensating" else DONE.get(act, was)
+            now = "Compensating" if is_busy else "Compensated" if was == "Compensating" else DONE.get(act, was)
+            self.states[lra] = now
             if now != was:
                 verb = "needs time to compensate" if is_busy else "forgets" if act == "forget" else f"is {now.lower()}"
                 self.travel.calls.append(f"{self.name} {verb}{where}")
         return 202 if is_busy else 200, now
 
 
-class Travel:
-    """A coordinator of three nodes, and the scenes. Its process ends with its standard input, so also when this one is killed."""
+class Listener(Participant):
+    """Hears of each LRA what it became, and takes the same call twice."""
 
-    def __init__(self, folder):
-        first = next(it for it in range(18400 + os.getpid() % 100 * 8, 20000, 8) if not any(map(is_open, range(it, it + 8))))
-        self.ports, self.folder, self.titles, self.ends = range(first, first + 3), folder, {}, {}
-        self.lock, self.calls = threading.Lock(), []  # what the services were called for
-        self.heard = []  # what the mail heard
-        self.mail = mail.Mail(first + 7, lambda lra, status: self.heard.append((lra, status)))
-        self.services = {name: Service(name, port, self) for port, name in enumerate(ALL, first + 3)}
+    def __init__(self, port: int) -> None:
+        self.heard: dict[str, str] = {}
+        self.known: dict[str, str] = {}
+        super().__init__(port)
+
+    def answer(self, path: str, lra: str, fields: Message, body: bytes) -> Reply:
+        status = body.decode()
+        if self.known.get(lra) != status:
+            self.known[lra] = self.heard[lra] = status
+        return 200
+
+
+class Travel:
+    """A coordinator of three nodes, and the scenes. Its process ends with its standard input, so also when this one is
+    killed."""
+
+    def __init__(self, folder: str) -> None:
+        *self.ports, first, _, _, _, last = free_row(8)
+        self.folder = folder
+        self.titles: dict[str, str] = {}
+        self.ends: dict[str, str] = {}
+        self.lock = threading.Lock()
+        self.calls: list[str] = []  # what the services were called for
+        self.mail = Listener(last)
+        self.services = {name: Service(name, port, self) for port, name in enumerate(ALL, first)}
         self.start()
 
-    def start(self):
-        words = [PROGRAM, "serve", "3", str(self.ports[0]), self.folder]
-        self.process = subprocess.Popen(words, stdin=subprocess.PIPE, start_new_session=True)
-        comes_to(lambda: self.process.poll() is not None or all(map(is_open, self.ports)))
-        if self.process.poll() is not None:
+    def start(self) -> None:
+        self.server = Server(3, self.folder, self.ports, stderr=None, start_new_session=True)
+        if not self.server.is_up():
             raise SystemExit("WRONG: the coordinator doesn't start.")
 
-    def at_home(self, method, lra, tail="", body=None):
-        """Asks the LRA's home, whose number stands in the id: 00000000-0000-8002-.. is of node 2."""
-        return ask(method, self.ports[int(lra[15:18], 16) - 1], f"/lra/{lra}{tail}", body)
+    def at_home(self, method: str, lra: str, tail: str = "", body: Json = None) -> Json:
+        """Asks the LRA's home."""
+        return call(method, self.ports[home_of(lra) - 1], f"/lra/{lra}{tail}", body)
 
-    def begin(self, node, title, end, parent=None):
-        lra = ask("POST", self.ports[node - 1], "/lra", {"parent": parent})["lra"]
+    def begin(self, node: int, title: str, end: str, parent: str | None = None) -> str:
+        lra = call("POST", self.ports[node - 1], "/lra", {"parent": parent})["lra"]
         self.titles[lra], self.ends[lra] = title, end
         return lra
 
-    def book(self, lra, name, wants=(200,), **wish):
-        return ask("POST", self.services[name].port, "/book", wish, lra, wants)
+    def book(self, lra: str, name: str, wants: Iterable[int] = (200,), **wish: str) -> Json:
+        return call("POST", self.services[name].port, "/book", wish, lra, wants)
 
-    def trip(self, title, node, end, *names):
-        """The order begins a trip and joins it first, so it is the last to be compensated. Then those join that are named."""
+    def trip(self, title: str, node: int, end: str, *names: str) -> str:
+        """The order begins a trip and joins it first, so it is the last to be compensated. Then those join that are
+        named."""
         print(f"\n{title}\n  The order begins a trip at node {node}.")
         trip = self.begin(node, title, end)
         for name in ("order", *names):
@@ -156,111 +143,125 @@ class Travel:
         print("  The mail listens.")
         return trip
 
-    def listen(self, lra):
-        self.at_home("PUT", lra, "/join", {"after": self.mail.link})
+    def listen(self, lra: str) -> None:
+        self.at_home("PUT", lra, "/join", {"after": f"{self.mail.url}/mail"})
 
-    def decide(self, trip, word):
+    def decide(self, trip: str, word: str) -> None:
         self.at_home("PUT", trip, f"/{word}")
         print(f"  The order {word}s the trip.")
 
-    def becomes(self, lra, status, *calls, what="trip", in_order=False, mails=()):
-        """Waits until the LRA shows the status and the services were called so, and tells both. Compensations come in order. Of
-        each LRA of `mails` the mail hears what it became, in whatever order."""
-        comes_to(lambda: self.at_home("GET", lra)["status"] == status and len(self.calls) >= len(calls) and len(self.heard) >= len(mails))
+    def becomes(self, lra: str, status: str, *calls: str, what: str = "trip", in_order: bool = False,
+                mails: Iterable[str] = ()) -> None:
+        """Waits until the LRA shows the status and the services were called so, and tells both. Compensations come in
+        order. Of each LRA of `mails` the mail hears what it became, in whatever order."""
+        wanted = {one: self.ends[one] for one in mails}
+        comes_to(30, lambda: self.at_home("GET", lra)["status"] == status and len(self.calls) >= len(calls)
+                 and len(self.mail.heard) >= len(wanted))
         shown = self.at_home("GET", lra)["status"]
         with self.lock:
             came, self.calls = tuple(self.calls), []
         came = came if in_order else tuple(sorted(came, key=(calls + came).index))
-        for it in (*came, f"{what} is {shown}"):
-            print(f"  The {it}.")
-        heard, self.heard = dict(self.heard), []
-        for it in mails:
-            print(f"  The mail hears that the {'stay' if self.titles[it] == 'Its stay' else 'trip'} is {heard.get(it, 'not ended')}.")
-        if (came, shown) != (calls, status) or heard != {it: self.ends[it] for it in mails}:
-            raise SystemExit(f"WRONG: it must be: {', '.join(calls)}, {what} is {status}, and the mail hears of {len(mails)}.")
+        for line in (*came, f"{what} is {shown}"):
+            print(f"  The {line}.")
+        heard, self.mail.heard = self.mail.heard, {}
+        for one in wanted:
+            name = "stay" if self.titles[one] == "Its stay" else "trip"
+            print(f"  The mail hears that the {name} is {heard.get(one, 'not ended')}.")
+        if (came, shown) != (calls, status) or heard != wanted:
+            must = f"{', '.join(calls)}, {what} is {status}, and the mail hears of {len(wanted)}"
+            raise SystemExit(f"WRONG: it must be: {must}.")
 
-    def booked(self):
+    def booked(self) -> None:
         trip = self.trip("A trip that is booked", 1, "Closed", "hotel", "flight", "payment")
         self.decide(trip, "close")
-        self.becomes(trip, "Closed", *(f"{it} is completed" for it in ALL), mails=[trip])
+        self.becomes(trip, "Closed", *(f"{name} is completed" for name in ALL), mails=[trip])
 
-    def refused(self):
+    def refused(self) -> None:
         trip = self.trip("A trip whose payment fails", 2, "Cancelled", "hotel", "flight")
         self.book(trip, "payment", (402,), card="refused")
         print("  The payment joins, finds that the card is refused, and leaves.")
         self.decide(trip, "cancel")
-        self.becomes(trip, "Cancelled", "flight is compensated", "hotel needs time to compensate", "hotel is compensated",
-                     "order is compensated", in_order=True, mails=[trip])
+        self.becomes(trip, "Cancelled", "flight is compensated", "hotel needs time to compensate",
+                     "hotel is compensated", "order is compensated", in_order=True, mails=[trip])
 
-    def nested(self, word, end, *calls):
+    def nested(self, word: str, end: str, *calls: str) -> None:
         trip = self.trip(f"A trip with a stay, {'booked' if end == 'Closed' else 'cancelled'}", 3, end, "flight")
         stay = self.book(trip, "hotel", stay=end)
-        print("  The hotel begins a stay, an LRA inside the trip.\n  Hotel and payment join it, and the mail listens.\n  The hotel closes the stay.")
-        self.becomes(stay, "Closed", "hotel is completed for the stay", "payment is completed for the stay", what="stay")
+        print("  The hotel begins a stay, an LRA inside the trip.\n  Hotel and payment join it, and the mail listens.\n"
+              "  The hotel closes the stay.")
+        self.becomes(stay, "Closed", "hotel is completed for the stay", "payment is completed for the stay",
+                     what="stay")
         self.book(trip, "payment")
         print("  The payment joins the trip.")
         self.decide(trip, word)
         self.becomes(trip, end, *calls, in_order=word == "cancel", mails=[stay, trip])
         self.becomes(stay, end, what="stay")
 
-    def down(self):
+    def down(self) -> None:
         trip = self.trip("A trip whose flight is down when it ends", 2, "Closed", "hotel", "flight", "payment")
         self.services["flight"].close()
         print("  The flight is down: its port is closed.")
         self.decide(trip, "close")
-        self.becomes(trip, "Closing", *(f"{it} is completed" for it in ALL if it != "flight"))
+        self.becomes(trip, "Closing", *(f"{name} is completed" for name in ALL if name != "flight"))
         time.sleep(1)
         self.services["flight"].open()
         print("  The flight is back.")
         self.becomes(trip, "Closed", "flight is completed", mails=[trip])
 
-    def killed(self):
+    def killed(self) -> None:
         trip = self.trip("A trip whose coordinator is killed", 1, "Closed", "hotel", "flight", "payment")
-        self.process.kill()
-        self.process.wait()
+        self.server.kill()
         print("  The coordinator is killed with kill -9.")
         self.start()
         print("  The coordinator starts again on the same folder.")
         self.becomes(trip, "Active")
         self.decide(trip, "close")
-        self.becomes(trip, "Closed", *(f"{it} is completed" for it in ALL), mails=[trip])
+        self.becomes(trip, "Closed", *(f"{name} is completed" for name in ALL), mails=[trip])
 
-    def agree(self):
+    def agree(self) -> None:
         """Asks every node for every LRA. Each has heard of all within a few seconds."""
-        def shown():
-            return [{it["lra"]: it["status"] for it in ask("GET", port, "/lra")["lras"]} for port in self.ports]
+        nodes = (1, 2, 3)
         print("\nThe three nodes are asked for every LRA")
-        is_so = comes_to(lambda: all(it == self.ends for it in shown())) and not self.calls and not self.heard
+        is_so = comes_to(30, lambda: all(self.server.shown(node) == self.ends for node in nodes))
+        is_so = is_so and not self.calls and not self.mail.heard
+        shown = [self.server.shown(node) for node in nodes]
         for lra, title in self.titles.items():
-            print(f"  {title}: {', '.join(it.get(lra, 'not there') for it in shown())}.")
-        self.process.stdin.close()
-        if not is_so or self.process.wait(20) != 0:
-            raise SystemExit(f"WRONG: it must be {', '.join(self.ends.values())}, no calls but those above, and an end with status 0.")
+            print(f"  {title}: {', '.join(lras.get(lra, 'not there') for lras in shown)}.")
+        if not is_so or self.server.end()[0] != 0:
+            ends = ", ".join(self.ends.values())
+            raise SystemExit(f"WRONG: it must be {ends}, no calls but those above, and an end with status 0.")
         print("\nAll is as it must be.")
 
+    def play(self) -> None:
+        """All scenes, and then the question to each node."""
+        self.booked()
+        self.refused()
+        self.nested("close", "Closed", "order is completed", "flight is completed", "payment is completed",
+                    "hotel forgets for the stay", "payment forgets for the stay")
+        self.nested("cancel", "Cancelled", "payment is compensated", "payment is compensated for the stay",
+                    "hotel needs time to compensate for the stay", "hotel is compensated for the stay",
+                    "flight is compensated", "order is compensated")
+        self.down()
+        self.killed()
+        self.agree()
 
-def main():
-    if not os.access(PROGRAM, os.X_OK):
-        raise SystemExit(f"{PROGRAM} isn't built: ./coordinator builds it.")
-    sys.stdout.reconfigure(line_buffering=True)
-    for it in (signal.SIGINT, signal.SIGTERM, signal.SIGHUP):
-        signal.signal(it, lambda number, _: sys.exit(128 + number))
+
+def main() -> None:
+    if len(sys.argv) > 1:
+        Server.program = unproved.program_of(sys.argv[1])
+    if not os.access(Server.program, os.X_OK):
+        raise SystemExit(f"{Server.program} isn't built: ./coordinator builds it.")
+    if isinstance(sys.stdout, io.TextIOWrapper):
+        sys.stdout.reconfigure(line_buffering=True)
+    for number in (signal.SIGINT, signal.SIGTERM, signal.SIGHUP):
+        signal.signal(number, lambda came, _: sys.exit(128 + came))
     with tempfile.TemporaryDirectory() as folder:
         travel = Travel(folder)
         try:
-            travel.booked()
-            travel.refused()
-            travel.nested("close", "Closed", "order is completed", "flight is completed", "payment is completed",
-                          "hotel forgets for the stay", "payment forgets for the stay")
-            travel.nested("cancel", "Cancelled", "payment is compensated", "payment is compensated for the stay",
-                          "hotel needs time to compensate for the stay", "hotel is compensated for the stay",
-                          "flight is compensated", "order is compensated")
-            travel.down()
-            travel.killed()
-            travel.agree()
+            travel.play()
         finally:
-            travel.process.kill()
-            travel.process.wait()
+            travel.server.kill()
 
 
-main()
+if __name__ == "__main__":
+    main()

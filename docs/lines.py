@@ -1,30 +1,66 @@
 #!/usr/bin/env python3
-"""Counts the lines of each layer and writes the table in docs/THEOREMS.md: python3 docs/lines.py. With --check it compares.
-Blank lines and comments are left out. Standard library alone."""
-import glob
+"""Counts the lines of each layer and writes the table in docs/THEOREMS.md: python3 docs/lines.py. With --check it
+compares. Blank lines and comments are left out. Standard library alone."""
 import os
 import re
 import sys
+import typing
+from collections.abc import Iterable, Iterator
 
-TOP = os.path.dirname(os.path.dirname(os.path.abspath(__file__)))
-PAGE = f"{TOP}/docs/THEOREMS.md"
+sys.path.insert(0, os.path.dirname(os.path.dirname(os.path.abspath(__file__))))
+from tools import repo
+
+PAGE = "docs/THEOREMS.md"
 TESTS = ["test_answers", "test_calls", "test_script", "test_server"]
-LAYERS = [("lra_node", "lra_member", "lra_play", "the programs"), ("lra_server", "the server over its journals"), ("lra_threads", "threads and sockets"), ("lra_heard", "what was heard of others"), ("lra_turns", "whom to call next"), ("lra_work", "a worker"), ("lra_operate", "the operator's port"), ("lra_script", "the script"),
-          ("lra_trail", "laws of a node in the world"), ("lra_progress", "laws of progress"), ("lra_api", "the HTTP interface"), ("lra_book", "calls, trails and the desk"),
-          ("lra_journal", "rows"), ("lra_world", "all nodes"), ("lra_peer", "pulls"), ("lra_callback", "duties, calls and answers"),
-          ("lra_delta", "frames"), ("lra_replica", "one node"), ("lra_history", "commands, histories, views and their laws"),
-          ("lra_forest", "records of a home"), ("lra_index", "stamps, in order"), ("lra_facts", "facts and definitions"), ("lra_http", "HTTP messages"), ("lra_states", "lra_id", "words and ids")]
+# The crates of each layer, and last what they are.
+LAYERS = [
+    ("lra_node", "lra_member", "lra_play", "the programs"),
+    ("lra_server", "the server over its journals"),
+    ("lra_threads", "threads and sockets"),
+    ("lra_heard", "what was heard of others"),
+    ("lra_turns", "whom to call next"),
+    ("lra_work", "a worker"),
+    ("lra_operate", "the operator's port"),
+    ("lra_script", "the script"),
+    ("lra_trail", "laws of a node in the world"),
+    ("lra_progress", "laws of progress"),
+    ("lra_api", "the HTTP interface"),
+    ("lra_book", "calls, trails and the desk"),
+    ("lra_journal", "rows"),
+    ("lra_world", "all nodes"),
+    ("lra_peer", "pulls"),
+    ("lra_callback", "duties, calls and answers"),
+    ("lra_delta", "frames"),
+    ("lra_replica", "one node"),
+    ("lra_history", "commands, histories, views and their laws"),
+    ("lra_forest", "records of a home"),
+    ("lra_index", "stamps, in order"),
+    ("lra_facts", "facts and definitions"),
+    ("lra_http", "HTTP messages"),
+    ("lra_states", "lra_id", "words and ids"),
+]
 
 
-def lines_of(pattern, mark):
+class Counts(typing.NamedTuple):
+    """Lines of code, of contracts, of definitions and of proofs, and how many wrong bodies."""
+
+    code: int
+    contracts: int
+    definitions: int
+    proofs: int
+    edits: int
+
+
+def lines_of(pattern: str, mark: str) -> Iterator[str]:
     """The lines of some files that are neither blank nor comments."""
-    for path in sorted(glob.glob(f"{TOP}/{pattern}", recursive=True)):
-        for line in open(path, encoding="utf-8"):
+    for path in repo.files(pattern):
+        for line in repo.read(path).splitlines():
             if line.strip() and not line.strip().startswith(mark):
                 yield line
 
 
-def code_and_contracts(pattern):
+def code_and_contracts(pattern: str) -> tuple[int, int]:
+    """How many lines of some files are code, and how many contracts."""
     code = contracts = 0
     within = False
     for line in lines_of(pattern, "//"):
@@ -37,29 +73,40 @@ def code_and_contracts(pattern):
     return code, contracts
 
 
-def count(crates):
-    code, contracts = (sum(part) for part in zip(*(code_and_contracts(f"crates/{crate}/src/**/*.rt") for crate in crates)))
-    specs = sum(1 for crate in crates for _ in lines_of(f"crates/{crate}/specs/**/*.antt", "--"))
+def count(crates: Iterable[str]) -> Counts:
+    """What some crates have together."""
+    of_code = [code_and_contracts(f"crates/{crate}/src/**/*.rt") for crate in crates]
+    definitions = sum(1 for crate in crates for _ in lines_of(f"crates/{crate}/specs/**/*.antt", "--"))
     proofs = sum(1 for crate in crates for _ in lines_of(f"crates/{crate}/proofs/**/*.antt", "--"))
-    places = [at for crate in crates for at in (f"{TOP}/crates/{crate}/must-fail", f"{TOP}/tests/wrong/{crate}")]
-    edits = sum(len(glob.glob(f"{at}/*.edit")) for at in places)
-    return code, contracts, specs, proofs, edits
+    places = [place for crate in crates for place in (f"crates/{crate}/must-fail", f"tests/wrong/{crate}")]
+    edits = sum(len(repo.files(f"{place}/*.edit")) for place in places)
+    return Counts(sum(code for code, _ in of_code), sum(contracts for _, contracts in of_code), definitions, proofs,
+                  edits)
 
 
-def table():
+def table() -> str:
+    """The table, with the lines of tests last."""
     out = "| Crate | Code | Contracts | Definitions | Proofs | Wrong bodies |\n|---|---|---|---|---|---|\n"
     for *crates, what in LAYERS:
-        numbers = " | ".join(f"{n:,}" for n in count(crates))
+        numbers = " | ".join(f"{number:,}" for number in count(crates))
         out += f"| {', '.join(f'`{crate}`' for crate in crates)}: {what} | {numbers} |\n"
     tests = sum(code_and_contracts(f"crates/{crate}/src/**/*.rt")[0] for crate in TESTS)
     units = code_and_contracts("tests/units/**/*.rt.txt")[0]
-    out += f"| proved tests of all these by their public calls: {', '.join(f'`{crate}`' for crate in TESTS)} | {tests:,} | | | | |\n"
+    names = ", ".join(f"`{crate}`" for crate in TESTS)
+    out += f"| proved tests of all these by their public calls: {names} | {tests:,} | | | | |\n"
     return out + f"| tests of these without proof: `tests/units` | {units:,} | | | | |\n"
 
 
-page = open(PAGE, encoding="utf-8").read()
-new = re.sub(r"(## The layers\n\n.*?\n\n)\|.*?\n\n", lambda found: found.group(1) + table() + "\n", page, count=1, flags=re.S)
-if "--check" in sys.argv:
-    print("ok" if new == page else "FAILED: run python3 docs/lines.py")
-    sys.exit(0 if new == page else 1)
-open(PAGE, "w", encoding="utf-8").write(new)
+def main() -> int:
+    page = repo.read(PAGE)
+    made = table()
+    new = re.sub(r"(## The layers\n\n.*?\n\n)\|.*?\n\n", lambda found: f"{found[1]}{made}\n", page, count=1, flags=re.S)
+    if "--check" in sys.argv[1:]:
+        print("ok" if new == page else "FAILED: run python3 docs/lines.py")
+        return 0 if new == page else 1
+    repo.write(PAGE, new)
+    return 0
+
+
+if __name__ == "__main__":
+    sys.exit(main())

@@ -1,54 +1,71 @@
 #!/usr/bin/env python3
-"""Finds what has to be read to believe the headline: the definitions that the clause `headline` of World::step rests on, and then what the
-laws of progress rest on besides. With them go the types of the code that these speak of, each with its `impl Model`, which says what a
-contract sees of a value. It writes their files and lines into docs/THEOREMS.md: python3 docs/reading.py. With --check it compares, and
-with --list it prints each definition and type. Blank lines, comments and imports are left out. Standard library alone."""
-import glob
+"""Finds what has to be read to believe the headline: the definitions that the clause `headline` of World::step rests
+on, and then what the laws of progress rest on besides. With them go the types of the code that these speak of, each
+with its `impl Model`, which says what a contract sees of a value. It writes their files and lines into
+docs/THEOREMS.md: python3 docs/reading.py. With --check it compares, and with --list it prints each definition and type.
+Blank lines, comments and imports are left out. Standard library alone."""
 import os
 import re
 import sys
+import typing
+from collections.abc import Iterable, Iterator
 
-TOP = os.path.dirname(os.path.dirname(os.path.abspath(__file__)))
-PAGE = f"{TOP}/docs/THEOREMS.md"
+sys.path.insert(0, os.path.dirname(os.path.dirname(os.path.abspath(__file__))))
+from tools import repo
+
+PAGE = "docs/THEOREMS.md"
 CALL = "crates/lra_world/src/world.rt", "step", "headline"
 # The types of that call: what it is called on, takes and answers.
 TYPES = "World", "Event", "Reply"
-CRATES = ["lra_id", "lra_states", "lra_facts", "lra_forest", "lra_history", "lra_index", "lra_replica", "lra_delta", "lra_peer", "lra_callback", "lra_world", "lra_progress", "lra_book", "lra_trail"]
+# The libraries that are read, in reading order.
+CRATES = ["lra_id", "lra_states", "lra_facts", "lra_forest", "lra_history", "lra_index", "lra_replica", "lra_delta",
+          "lra_peer", "lra_callback", "lra_world", "lra_progress", "lra_book", "lra_trail"]
 # The laws of progress: each row counts what those before it don't.
 PROGRESS = "crates/lra_progress/src/laws.rt"
+TO_ITS_END = ["an_lra_ends_with_its_saga", "an_end_is_accepted", "open_participants_only_get_fewer",
+              "after_so_many_ends_it_has_ended", "what_is_under_way_can_be_ended", "a_tree_goes_on_until_it_is_purged",
+              "a_decided_tree_waits_for_so_many_answers", "a_decided_tree_can_be_purged"]
+ALIKE = ["a_frame_brings_what_its_sender_had", "one_round_makes_all_alike", "frames_enter_nothing",
+         "a_frame_since_nothing_is_taken"]
 LAWS = [("and that nothing is stuck", PROGRESS, ["nothing_is_stuck"]),
-        ("and how it goes on to its end", PROGRESS, ["an_lra_ends_with_its_saga", "an_end_is_accepted", "open_participants_only_get_fewer", "after_so_many_ends_it_has_ended", "what_is_under_way_can_be_ended", "a_tree_goes_on_until_it_is_purged", "a_decided_tree_waits_for_so_many_answers", "a_decided_tree_can_be_purged"]),
-        ("and that one round makes all alike", PROGRESS, ["a_frame_brings_what_its_sender_had", "one_round_makes_all_alike", "frames_enter_nothing", "a_frame_since_nothing_is_taken"]),
+        ("and how it goes on to its end", PROGRESS, TO_ITS_END),
+        ("and that one round makes all alike", PROGRESS, ALIKE),
         ("and so all servers", "crates/lra_trail/src/laws/rounds.rt", ["one_round_makes_all_servers_alike"])]
 # That a frame is bytes, and where a cut one is refused.
 GRAMMAR = {"lra_delta", "lra_facts LinkTexts"}
+OF_BYTES = "and that a frame is bytes, and where a cut one is refused"
 NAME = r"[A-Za-z_][A-Za-z0-9_']*"
-WORDS = {"abbrev", "unfoldable", "opaque", "inline", "pub", "record", "data", "noncomputable", "let", "in", "if", "then", "else", "where", "infixl"}
+WORDS = {"abbrev", "unfoldable", "opaque", "inline", "pub", "record", "data", "noncomputable", "let", "in", "if",
+         "then", "else", "where", "infixl"}
+
+# Where a definition stands: its file and its name. A type: its crate and its name.
+Place = tuple[str, str]
+Lines = list[str]
 
 
-def source(path):
-    """A file's lines without comments and imports, each with its number."""
-    for number, line in enumerate(open(f"{TOP}/{path}", encoding="utf-8"), 1):
+def source(path: str) -> Iterator[str]:
+    """A file's lines without comments and imports."""
+    for line in repo.read(path).split("\n"):
         line = line.split("--")[0].rstrip()
         if line.strip() and not re.match(r"\s*(ghost )?(pub )?(use|mod) ", line):
-            yield number, line
+            yield line
 
 
-def imports(path):
+def imports(path: str) -> dict[str, Place]:
     """Each name that a file imports from a specs file: where it stands."""
     found = {}
-    text = open(f"{TOP}/{path}", encoding="utf-8").read()
-    for crate, module, names in re.findall(r"use Rattle\.(lra_\w+)\.specs\.([A-Z]\w*)\.\{([^}]*)\}", text):
+    for crate, module, names in re.findall(r"use Rattle\.(lra_\w+)\.specs\.([A-Z]\w*)\.\{([^}]*)\}", repo.read(path)):
         for name in names.split(","):
             there, _, here = name.strip().partition(" as ")
             found[here or there] = f"crates/{crate}/specs/{module}.antt", there
     return found
 
 
-def definitions(path):
+def definitions(path: str) -> dict[str, Lines]:
     """Each definition of a file: its name and its lines."""
-    found, current = {}, None
-    for _, line in source(path):
+    found: dict[str, Lines] = {}
+    current = None
+    for line in source(path):
         if not line[0].isspace():
             names = [name for name in re.findall(NAME, line) if name not in WORDS]
             current = names[0] if names else None
@@ -57,12 +74,12 @@ def definitions(path):
     return found
 
 
-def variables(name, lines):
+def variables(name: str, lines: Lines) -> set[str]:
     """The names that a definition binds itself: what its patterns, functions and fields call so."""
-    bound = set()
+    bound: set[str] = set()
     for line in lines:
         if re.match(rf"{name}\b[^:]*=", line):
-            bound.update(it for it in re.findall(NAME, line.split("=")[0]) if it[0].islower() and it != name)
+            bound.update(word for word in re.findall(NAME, line.split("=")[0]) if word[0].islower() and word != name)
         for binders in re.findall(r"λ ([^.]*)\.", line):
             bound.update(re.findall(NAME, re.sub(r":[^()]*", "", binders)))
         for names in re.findall(r"\(([A-Za-z0-9_' ]+) : ", line):
@@ -72,16 +89,17 @@ def variables(name, lines):
     return bound
 
 
-def cited(name, lines):
+def cited(name: str, lines: Lines) -> set[str]:
     """The names that a definition uses and doesn't bind."""
     text = re.sub(rf"\.{NAME}", "", "\n".join(lines))
-    text = re.sub(rf"\b{NAME} = (?!=)", "", re.sub(rf"\brecord {{", "{", text)) if "record {" in text else text
+    if "record {" in text:
+        text = re.sub(rf"\b{NAME} = (?!=)", "", re.sub(r"\brecord {", "{", text))
     return set(re.findall(NAME, text)) - variables(name, lines) - {name}
 
 
-def clause(path, function, wanted):
+def clause(path: str, function: str, wanted: str | None) -> str:
     """The text of a clause that is read, or of a law's whole contract."""
-    text = open(f"{TOP}/{path}", encoding="utf-8").read()
+    text = repo.read(path)
     contract = text[text.index(f"fn {function}("):]
     if not wanted:
         return contract[:contract.index("\n{}\n")]
@@ -89,9 +107,9 @@ def clause(path, function, wanted):
     return contract[:contract.index("}\n")]
 
 
-def block(lines, head):
+def block(lines: Lines, head: str) -> Lines:
     """The item that begins with a line like this, up to its closing bracket."""
-    found = []
+    found: Lines = []
     for line in lines:
         if found or re.match(head, line):
             found.append(line)
@@ -100,98 +118,124 @@ def block(lines, head):
     return found
 
 
-def code(path):
+def code(path: str) -> Iterator[str]:
     """A file of code, without comments, imports and attributes."""
-    for line in open(f"{TOP}/{path}", encoding="utf-8"):
+    for line in repo.read(path).split("\n"):
         line = line.split("//")[0].rstrip()
         if line.strip() and not re.match(r"\s*(#\[|(pub )?use |ghost use )", line):
             yield line
 
 
-def types():
-    """Each struct and enum of the libraries, by crate and name: its file, its lines and those of its model."""
+class Type(typing.NamedTuple):
+    """A struct or an enum: its file, its lines and those of its model."""
+
+    path: str
+    own: Lines
+    model: Lines
+
+
+Types = dict[Place, Type]
+
+
+def types() -> Types:
+    """Each type of the libraries."""
     found = {}
     for crate in CRATES:
-        for path in sorted(os.path.relpath(it, TOP) for it in glob.glob(f"{TOP}/crates/{crate}/src/**/*.rt", recursive=True)):
+        for path in repo.sources(crate):
             lines = list(code(path))
             for name in re.findall(r"^pub(?:\(crate\))? (?:struct|enum) (\w+)", "\n".join(lines), re.M):
                 own = block(lines, rf"pub(\(crate\))? (struct|enum) {name}\b")
-                found[crate, name] = path, own, block(lines, rf"impl.* Model for {name}\b")
+                found[crate, name] = Type(path, own, block(lines, rf"impl.* Model for {name}\b"))
     return found
 
 
-def types_named(path, text, all_types):
+def types_named(path: str, text: str, all_types: Types) -> list[Place]:
     """The types of the libraries that a text of a file names: its own crate's, and those that it imports."""
     crate = path.split("/")[1]
-    whole = open(f"{TOP}/{path}", encoding="utf-8").read()
     known = {name: (own, name) for own, name in all_types if own == crate}
-    for own, names in re.findall(r"^use (lra_\w+)::(?:\w+::)*\{?([\w, \n]+)", whole, re.M):
+    for own, names in re.findall(r"^use (lra_\w+)::(?:\w+::)*\{?([\w, \n]+)", repo.read(path), re.M):
         known.update({name.strip(): (own, name.strip()) for name in names.split(",")})
     return [known[name] for name in set(re.findall(r"\w+", text)) if known.get(name) in all_types]
 
 
-def declared(path, lines):
+def declared(path: str, lines: Lines) -> Iterator[Place]:
     """The types that a definition names, by the imports of its file."""
-    text = open(f"{TOP}/{path}", encoding="utf-8").read()
     words = set(re.findall(NAME, "\n".join(lines)))
-    for crate, module, names in re.findall(r"use Rattle\.(lra_\w+)\.specs\.declared\.([\w.]+)\.\{([^}]*)\}", text):
-        here = {it.strip().split(" as ")[-1] for it in names.split(",")}
+    imported = re.findall(r"use Rattle\.(lra_\w+)\.specs\.declared\.([\w.]+)\.\{([^}]*)\}", repo.read(path))
+    for crate, module, names in imported:
+        here = {name.strip().split(" as ")[-1] for name in names.split(",")}
         if here & words:
             yield crate, module.removesuffix(".TheVariants").split(".")[-1]
 
 
-def reached(path, function, wanted=None, named=()):
-    """What the clause or the law rests on: each definition by file with its lines, and each type by crate with its file and lines. A
-    clause speaks of the types of its call too, which are named."""
-    files = {os.path.relpath(path, TOP) for path in glob.glob(f"{TOP}/crates/*/specs/*.antt")}
-    defined = {path: definitions(path) for path in files}
-    known = {path: imports(path) for path in files}
-    text = clause(path, function, wanted)
-    left = [place for name, place in imports(path).items() if re.search(rf"\b{name}\b", text)]
-    seen, all_types, used = {}, types(), {}
-    asked = [it for name in named for it in types_named(path, name, all_types)]
-    while left or asked:
-        if asked:
-            it = asked.pop()
-            if it in used or it not in all_types:
-                continue
-            path, own, model = all_types[it]
-            used[it] = path, own + model
-            asked += types_named(path, "\n".join(own), all_types)
-            left += [place for name, place in imports(path).items() if re.search(rf"\b{name}\b", "\n".join(model))]
-            continue
-        path, name = left.pop()
-        if (path, name) in seen or name not in defined.get(path, {}):
-            continue
-        lines = seen[path, name] = defined[path][name]
-        asked += declared(path, lines)
-        for it in cited(name, lines):
-            left.append((path, it) if it in defined[path] else known[path].get(it, (path, "")))
-    return seen, used
+class Reached:
+    """What clauses and laws rest on: each definition by its place with its lines, and each type by its place with its
+    file and lines."""
+
+    def __init__(self) -> None:
+        files = repo.files("crates/*/specs/*.antt")
+        self.defined = {path: definitions(path) for path in files}
+        self.known = {path: imports(path) for path in files}
+        self.all_types = types()
+        self.seen: dict[Place, Lines] = {}
+        self.used: dict[Place, tuple[str, Lines]] = {}
+
+    def add(self, path: str, function: str, wanted: str | None = None, named: Iterable[str] = ()) -> None:
+        """Adds what a clause or a law rests on. A clause speaks of the types of its call too, which are named."""
+        text = clause(path, function, wanted)
+        left = [place for name, place in imports(path).items() if re.search(rf"\b{name}\b", text)]
+        asked = [place for name in named for place in types_named(path, name, self.all_types)]
+        while left or asked:
+            more, types_ = self.of_type(asked.pop()) if asked else self.of_definition(*left.pop())
+            left += more
+            asked += types_
+
+    def of_type(self, place: Place) -> tuple[list[Place], list[Place]]:
+        """Adds a type. The definitions and the types that it names."""
+        if place in self.used or place not in self.all_types:
+            return [], []
+        path, own, model = self.all_types[place]
+        self.used[place] = path, own + model
+        text = "\n".join(model)
+        left = [there for name, there in imports(path).items() if re.search(rf"\b{name}\b", text)]
+        return left, types_named(path, "\n".join(own), self.all_types)
+
+    def of_definition(self, path: str, name: str) -> tuple[list[Place], list[Place]]:
+        """Adds a definition. The definitions and the types that it names."""
+        if (path, name) in self.seen or name not in self.defined.get(path, {}):
+            return [], []
+        lines = self.seen[path, name] = self.defined[path][name]
+        own, known = self.defined[path], self.known[path]
+        left = [(path, word) if word in own else known.get(word, (path, "")) for word in cited(name, lines)]
+        return left, list(declared(path, lines))
 
 
-def by_file(seen):
-    """The files in reading order: crate, module, names and count of lines."""
-    found = {}
-    for (path, name), lines in seen.items():
+# A file of definitions: its crate, its module, the names and the count of their lines.
+File = tuple[str, str, list[str], int]
+
+
+def by_file(seen: Iterable[tuple[Place, Lines]]) -> Iterator[File]:
+    """The files in reading order."""
+    found: dict[str, list[tuple[str, int]]] = {}
+    for (path, name), lines in seen:
         found.setdefault(path, []).append((name, len(lines)))
-    order = {path: [number for number, _ in enumerate(CRATES) if f"/{CRATES[number]}/" in path][0] for path in found}
-    for path in sorted(found, key=lambda path: (order[path], path)):
+    for path in sorted(found, key=lambda path: (CRATES.index(path.split("/")[1]), path)):
         crate, module = path.split("/")[1], os.path.basename(path).removesuffix(".antt")
         yield crate, module, sorted(name for name, _ in found[path]), sum(count for _, count in found[path])
 
 
-def rows(files, what):
+def file_rows(files: Iterable[File], what: str) -> Iterator[str]:
     """Some files as rows of the table, a row a crate, and one for all of them."""
-    crates = {}
+    crates: dict[str, list[tuple[str, int]]] = {}
     for crate, module, _, count in files:
         crates.setdefault(crate, []).append((module, count))
     for crate, modules in crates.items():
-        yield f"| `{crate}` | {', '.join(f'`{module}`' for module, _ in modules)} | {sum(count for _, count in modules)} |"
+        names = ", ".join(f"`{module}`" for module, _ in modules)
+        yield f"| `{crate}` | {names} | {sum(count for _, count in modules)} |"
     yield f"| **{what}** | | **{sum(count for *_, count in files)}** |"
 
 
-def type_rows(used):
+def type_rows(used: dict[Place, tuple[str, Lines]]) -> Iterator[str]:
     """The types of the code as rows of the table, a row a crate, and one for all of them."""
     for crate in CRATES:
         own = sorted((name, len(lines)) for (of, name), (_, lines) in used.items() if of == crate)
@@ -200,42 +244,50 @@ def type_rows(used):
     yield f"| **what these speak of** | | **{sum(len(lines) for _, lines in used.values())}** |"
 
 
-def show(files, used):
+def show_each(files: Iterable[File], used: Iterable[tuple[Place, tuple[str, Lines]]]) -> None:
     """With --list, each definition and type."""
-    if "--list" in sys.argv:
+    if "--list" in sys.argv[1:]:
         for crate, module, names, count in files:
             print(f"{crate} {module}, {count} lines: {', '.join(names)}")
-        for (crate, name), (path, lines) in sorted(used.items()):
+        for (crate, name), (path, lines) in sorted(used):
             print(f"{crate} {name}, {len(lines)} lines: {path}")
 
 
-def main():
-    seen, used = reached(*CALL, TYPES)
-    files = list(by_file(seen))
-    show(files, used)
-    bytes_ = [it for it in files if it[0] in GRAMMAR or f"{it[0]} {it[1]}" in GRAMMAR]
-    rest = [it for it in files if it not in bytes_]
-    lines = ["| Crate | Files of its `specs` | Lines |", "|---|---|---|", *rows(rest, "the headline"), *rows(bytes_, "and that a frame is bytes, and where a cut one is refused")]
+def tables() -> str:
+    """The two tables: the files, and the types."""
+    reached = Reached()
+    reached.add(*CALL, TYPES)
+    files = list(by_file(reached.seen.items()))
+    show_each(files, reached.used.items())
+    of_bytes = [file for file in files if {file[0], f"{file[0]} {file[1]}"} & GRAMMAR]
+    lines = ["| Crate | Files of its `specs` | Lines |", "|---|---|---|"]
+    rest = [file for file in files if file not in of_bytes]
+    lines += [*file_rows(rest, "the headline"), *file_rows(of_bytes, OF_BYTES)]
     for what, path, laws in LAWS:
-        found = [reached(path, law) for law in laws]
-        more = {it: text for definitions_, _ in found for it, text in definitions_.items() if it not in seen}
-        types_ = {it: text for _, own in found for it, text in own.items() if it not in used}
-        seen.update(more)
-        used.update(types_)
-        files = list(by_file(more))
-        show(files, types_)
-        lines += rows(files, what)
-    lines += ["", "| Crate | Types of the code, with their models | Lines |", "|---|---|---|", *type_rows(used)]
-    text = "\n".join(lines) + "\n"
-    page = open(PAGE, encoding="utf-8").read()
-    new = re.sub(r"\| Crate \| Files .*?\n\n(\| Crate \| Types .*?\n\n)?", text.replace("\\", r"\\") + "\n", page, count=1, flags=re.S)
-    if "--check" in sys.argv:
-        print("ok" if new == page and text in page else "FAILED: run python3 docs/reading.py")
-        sys.exit(0 if new == page and text in page else 1)
-    if "--list" in sys.argv:
+        before = len(reached.seen), len(reached.used)
+        for law in laws:
+            reached.add(path, law)
+        files = list(by_file(list(reached.seen.items())[before[0]:]))
+        show_each(files, list(reached.used.items())[before[1]:])
+        lines += file_rows(files, what)
+    lines += ["", "| Crate | Types of the code, with their models | Lines |", "|---|---|---|", *type_rows(reached.used)]
+    return "\n".join(lines) + "\n"
+
+
+def main() -> int:
+    text, page = tables(), repo.read(PAGE)
+    old = r"\| Crate \| Files .*?\n\n(\| Crate \| Types .*?\n\n)?"
+    new = re.sub(old, lambda _: f"{text}\n", page, count=1, flags=re.S)
+    if "--check" in sys.argv[1:]:
+        is_so = new == page and text in page
+        print("ok" if is_so else "FAILED: run python3 docs/reading.py")
+        return 0 if is_so else 1
+    if "--list" in sys.argv[1:]:
         print(text, end="")
     else:
-        open(PAGE, "w", encoding="utf-8").write(new)
+        repo.write(PAGE, new)
+    return 0
 
 
-main()
+if __name__ == "__main__":
+    sys.exit(main())

@@ -1,20 +1,25 @@
 #!/usr/bin/env python3
-"""Lists the sentences of the pages that have over 30 words: python3 docs/sentences.py [PAGE..]. With --check it fails where there is one,
-and where all pages together have over 30,000 words. Code in a line counts as one word, and blocks of code aren't looked at.
-With --words it prints how many words each page has, and all of them: what stands between spaces and has a letter. Standard library alone."""
-import glob
+"""Lists the sentences of the pages that have over 30 words: python3 docs/sentences.py [PAGE..]. With --check it fails
+where there is one, and where all pages together have over 30,000 words. Code in a line counts as one word, and blocks
+of code aren't looked at. With --words it prints how many words each page has, and all of them: what stands between
+spaces and has a letter. Standard library alone."""
 import os
 import re
 import sys
+from collections.abc import Iterable, Iterator
 
-TOP = os.path.dirname(os.path.dirname(os.path.abspath(__file__)))
+sys.path.insert(0, os.path.dirname(os.path.dirname(os.path.abspath(__file__))))
+from tools import repo
+
 MOST = 30
 MOST_WORDS = 30_000
 
 
-def pieces(text):
-    """The pieces of a page that stand by themselves, each with its line: paragraphs, items of lists, headings, cells of tables."""
-    piece, first, fenced = [], 0, False
+def pieces(text: str) -> Iterator[tuple[int, str]]:
+    """The pieces of a page that stand by themselves, each with its line: paragraphs, items of lists, headings, cells of
+    tables."""
+    piece: list[str] = []
+    first, fenced = 0, False
     for number, line in enumerate([*text.split("\n"), ""], 1):
         fence = line.lstrip().startswith("```")
         fenced ^= fence
@@ -30,40 +35,49 @@ def pieces(text):
             piece.append(re.sub(r"^\s*([-*] |\d+\. |#+ )", "", line).strip())
 
 
-def sentences(piece):
+def sentences(piece: str) -> list[str]:
+    """The sentences of a piece."""
     text = re.sub(r"`[^`]*`", "code", piece)
     text = re.sub(r"\[([^\]]*)\]\([^)]*\)", r"\1", text)
     return re.split(r"(?<=[.!?])[)*\"']*\s+(?=[(*\"'A-Zc])", text)
 
 
-def long_ones(pages):
+def long_ones(pages: Iterable[str]) -> Iterator[str]:
+    """A line of each long sentence."""
     for page in pages:
-        for line, piece in pieces(open(f"{TOP}/{page}", encoding="utf-8").read()):
+        for line, piece in pieces(repo.read(page)):
             for sentence in sentences(piece):
                 words = len(re.findall(r"[A-Za-z0-9][^\s]*", sentence))
                 if words > MOST:
                     yield f"{page}:{line}: {words} words: {sentence.strip()}"
 
 
-def words_of(page):
+def word_count(page: str) -> int:
     """How many words a page has that contain a letter, outside blocks of code."""
     count, fenced = 0, False
-    for line in open(f"{TOP}/{page}", encoding="utf-8"):
+    for line in repo.read(page).split("\n"):
         fence = line.lstrip().startswith("```")
         fenced ^= fence
-        if not (fence or fenced or line.startswith("    ")):
-            count += sum(1 for word in line.split() if re.search(r"[^\W\d_]", word))
+        if not (fenced or fence or line.startswith("    ")):
+            count += sum(1 for word in line.split() if re.search(r"[A-Za-z]", word))
     return count
 
 
-named = [page for page in sys.argv[1:] if not page.startswith("--")]
-every = [os.path.relpath(path, TOP) for path in sorted(glob.glob(f"{TOP}/*.md") + glob.glob(f"{TOP}/*/*.md"))]
-counts = {page: words_of(page) for page in named or every}
-if "--words" in sys.argv:
-    print("\n".join(f"{count:7,} {page}" for page, count in counts.items()) + f"\n{sum(counts.values()):7,} all")
-    sys.exit(0)
-found = list(long_ones(named or every))
-if sum(counts.values()) > MOST_WORDS:
-    found.append(f"{sum(counts.values()):,} words, over {MOST_WORDS:,}")
-print("\n".join(found) or "ok")
-sys.exit(1 if found and "--check" in sys.argv else 0)
+def main() -> int:
+    named = [page for page in sys.argv[1:] if not page.startswith("--")]
+    pages = [*repo.files("*.md"), *repo.files("*/*.md")]
+    counts = {page: word_count(page) for page in pages}
+    if "--words" in sys.argv[1:]:
+        for page, count in counts.items():
+            print(f"{count:7,} {page}")
+        print(f"{sum(counts.values()):7,} all")
+        return 0
+    found = list(long_ones(named or pages))
+    if not named and sum(counts.values()) > MOST_WORDS:
+        found.append(f"all pages together have {sum(counts.values()):,} words, over {MOST_WORDS:,}")
+    print("\n".join(found) or "ok")
+    return 1 if found and "--check" in sys.argv[1:] else 0
+
+
+if __name__ == "__main__":
+    sys.exit(main())

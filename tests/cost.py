@@ -1,65 +1,76 @@
-"""Tells what the gate costs, crate by crate: `python3 tests/cost.py` runs `rt ci`, and `python3 tests/cost.py --anew` what a machine
-pays that has kept nothing; names of crates may stand behind it. It prints what `rt ci` prints, then a table in processor minutes,
-and ends with the status of `rt ci`. On a machine with other work the figures are higher.
+"""Tells what the gate costs, crate by crate: `python3 tests/cost.py` runs `rt ci`, and `python3 tests/cost.py --anew`
+what a machine pays that has kept nothing; names of crates may stand behind it. It prints what `rt ci` prints, then a
+table in processor minutes, and ends with the status of `rt ci`. On a machine with other work the figures are higher.
 
-Twice a second it looks at the processes that `rt ci` has begun (Linux, /proc) and notes how long each has run on a processor. What a
-process used after the last look is missing in its crate's row; it is part of the line `rest`, which makes the sum exact."""
+Twice a second it looks at the processes that `rt ci` has begun (Linux, /proc) and notes how long each has run on a
+processor. What a process used after the last look is missing in its crate's row; it is part of the line `rest`, which
+makes the sum exact."""
 import os
 import re
 import resource
 import subprocess
 import sys
 import time
+import typing
 from collections import defaultdict
+from collections.abc import Callable, Iterator
 
-TOP = os.path.dirname(os.path.dirname(os.path.abspath(__file__)))
+sys.path.insert(0, os.path.dirname(os.path.dirname(os.path.abspath(__file__))))
+from tools.repo import TOP
+
 KINDS = ("proof", "second proof", "edits", "tests", "linking", "runs")
 PAUSE = 0.5
 TICKS = os.sysconf("SC_CLK_TCK")
 
+# The crate that a process works for, and what it does there.
+Work = tuple[str, str]
 
-def text_of(path):
+
+class Process(typing.NamedTuple):
+    """A process: its number, its start, its parent, its seconds on a processor, and its words."""
+
+    number: int
+    start: str
+    parent: int
+    seconds: float
+    words: list[str]
+
+
+def text_of(path: str) -> str:
     """What a file of /proc holds, or nothing where the process has ended."""
     try:
-        with open(path, "rb") as it:
-            return it.read().decode(errors="replace")
+        with open(path, "rb") as file:
+            return file.read().decode(errors="replace")
     except OSError:
         return ""
 
 
-def processes():
-    """Each process: its number with its start, its parent, its seconds on a processor, and its words."""
-    found = {}
-    for name in os.listdir("/proc"):
-        told = text_of(f"/proc/{name}/stat") if name.isdigit() else ""
-        if told:
-            fields = told.rpartition(")")[2].split()
+def link_of(path: str) -> str:
+    """Where a link of /proc leads, or nothing where the process has ended."""
+    try:
+        return os.readlink(path)
+    except OSError:
+        return ""
+
+
+def processes() -> Iterator[Process]:
+    """Each process."""
+    for name in filter(str.isdigit, os.listdir("/proc")):
+        text = text_of(f"/proc/{name}/stat")
+        if text:
+            fields = text.rpartition(")")[2].split()
             seconds = (int(fields[11]) + int(fields[12])) / TICKS
-            found[int(name)] = (int(name), fields[19]), int(fields[1]), seconds, text_of(f"/proc/{name}/cmdline").split("\0")
-    return found
+            yield Process(int(name), fields[19], int(fields[1]), seconds, text_of(f"/proc/{name}/cmdline").split("\0"))
 
 
-def below(found, root):
-    """The processes that descend from one, with that one's words."""
-    children = defaultdict(list)
-    for number, (_, parent, _, _) in found.items():
-        children[parent].append(number)
-    left = [(it, None) for it in children[root]]
-    while left:
-        number, inside = left.pop()
-        words = found[number][3]
-        inside = (words, number) if inside is None and kind_of(words, number) else inside
-        yield found[number], inside
-        left += [(it, inside) for it in children[number]]
-
-
-def kind_of(words, number):
-    """The crate that a process works for and what it does there, or nothing where its words don't tell."""
+def work_of(process: Process) -> Work | None:
+    """What a process does, or nothing where its words don't tell."""
+    words = process.words
     program = os.path.basename(words[0]) if words else ""
     if program == "rattle" and "--crate-name" in words:
         crate = words[words.index("--crate-name") + 1]
         kept = words[words.index("--incremental") + 1] if "--incremental" in words else ""
-        if "rt-edit" in text_link(f"/proc/{number}/cwd"):
+        if "rt-edit" in link_of(f"/proc/{process.number}/cwd"):
             return crate, "second proof" if kept.endswith("/seed") else "edits"
         return crate, "tests" if "--test" in words else "linking" if "--crate-checked" in words else "proof"
     if program == "rattle-link":
@@ -69,54 +80,61 @@ def kind_of(words, number):
     return None
 
 
-def text_link(path):
-    try:
-        return os.readlink(path)
-    except OSError:
-        return ""
+def descendants(root: int) -> Iterator[tuple[Process, Work | None]]:
+    """The processes that descend from one, each with its work, or that of the nearest above it whose words tell."""
+    children: dict[int, list[Process]] = defaultdict(list)
+    for process in processes():
+        children[process.parent].append(process)
+    left: list[tuple[Process, Work | None]] = [(child, None) for child in children[root]]
+    while left:
+        process, above = left.pop()
+        work = above or work_of(process)
+        yield process, work
+        left += [(child, work) for child in children[process.number]]
 
 
-def watch(root, is_over):
-    """Seconds by crate and kind of what a process and those below it did, until it is over."""
-    last, places = {}, {}
+def watch(root: int, is_over: Callable[[], bool]) -> dict[Work, float]:
+    """Seconds by work of what a process and those below it did, until it is over."""
+    last: dict[tuple[int, str], float] = {}
+    works: dict[tuple[int, str], Work] = {}
     while not is_over():
-        found = processes()
-        for (key, _, seconds, _), inside in below(found, root):
-            last[key] = seconds
-            if inside and key not in places:
-                places[key] = kind_of(*inside)
+        for process, work in descendants(root):
+            key = process.number, process.start
+            last[key] = process.seconds
+            if work:
+                works.setdefault(key, work)
         time.sleep(PAUSE)
-    spent = defaultdict(float)
-    for key, seconds in last.items():
-        if places.get(key):
-            spent[places[key]] += seconds
+    spent: dict[Work, float] = defaultdict(float)
+    for key, work in works.items():
+        spent[work] += last[key]
     return spent
 
 
-def table(spent, whole):
+def rows_of_costs(spent: dict[Work, float], whole: float) -> str:
     """The rows of each crate, the dearest first, and the sum."""
-    crates = defaultdict(dict)
+    crates: dict[str, dict[str, float]] = defaultdict(dict)
     for (crate, kind), seconds in spent.items():
         crates[crate][kind] = seconds
     lines = [f"| Crate | {' | '.join(KINDS)} | all |", "|---" * (len(KINDS) + 2) + "|"]
-    for crate, its in sorted(crates.items(), key=lambda it: -sum(it[1].values())):
+    for crate, its in sorted(crates.items(), key=lambda row: -sum(row[1].values())):
         cells = [f"{its[kind] / 60:.1f}" if its.get(kind, 0) >= 3 else "" for kind in KINDS]
         lines.append(f"| `{crate}` | {' | '.join(cells)} | {sum(its.values()) / 60:.1f} |")
     sums = [sum(its.get(kind, 0) for its in crates.values()) for kind in KINDS]
     lines.append(f"| rest | {' | ' * (len(KINDS) - 1)} | {(whole - sum(sums)) / 60:.1f} |")
-    lines.append(f"| all | {' | '.join(f'{it / 60:.1f}' for it in sums)} | {whole / 60:.1f} |")
+    lines.append(f"| all | {' | '.join(f'{seconds / 60:.1f}' for seconds in sums)} | {whole / 60:.1f} |")
     return "\n".join(lines)
 
 
-def main(words):
+def main() -> int:
     began = time.time()
-    ran = subprocess.Popen(["rt", "ci", *words], cwd=TOP)
-    spent = watch(ran.pid, lambda: ran.poll() is not None)
+    gate = subprocess.Popen(["rt", "ci", *sys.argv[1:]], cwd=TOP)
+    spent = watch(gate.pid, lambda: gate.poll() is not None)
     used = resource.getrusage(resource.RUSAGE_CHILDREN)
-    print(f"\nIn processor minutes; {(time.time() - began) / 60:.0f} minutes by the clock on {os.cpu_count()} processors:\n")
-    print(table(spent, used.ru_utime + used.ru_stime))
-    return ran.returncode
+    minutes = (time.time() - began) / 60
+    print(f"\nIn processor minutes; {minutes:.0f} minutes by the clock on {os.cpu_count()} processors:\n")
+    print(rows_of_costs(spent, used.ru_utime + used.ru_stime))
+    return gate.returncode
 
 
 if __name__ == "__main__":
-    sys.exit(main(sys.argv[1:]))
+    sys.exit(main())

@@ -1,301 +1,58 @@
 #!/usr/bin/env python3
-"""Tests that no participant holds up others, and that faults of the system around it end no server: python3 tests/fair.py [PROGRAM]
-[TEST ..]. PROGRAM is crates/lra_node/out/lra_node, or --unproved (demo/unproved.py). Each check prints a line with its figure; the
-status is 1 where one fails. Some six minutes. Standard library alone."""
-import fcntl
-import http.server
+"""Tests that no participant holds up others, and that faults of the system around it end no server: python3
+tests/fair.py [PROGRAM] [TEST ..]. PROGRAM is crates/lra_node/out/lra_node, or --unproved (tools/unproved.py). Each
+check prints a line with its figure; the status is 1 where one fails. Some six minutes. Standard library alone."""
+import contextlib
 import json
 import os
 import resource
-import shutil
 import socket
 import sqlite3
 import subprocess
 import sys
-import tempfile
 import threading
 import time
+from collections.abc import Callable, Iterable
 
-from coordinator import PORT, Server, ask, check, comes_to, finish, is_open
-import unproved
+sys.path.insert(0, os.path.dirname(os.path.dirname(os.path.abspath(__file__))))
+from tools import checks, unproved
+from tools.bad import GARBAGE, connection, fill, is_closed, is_over, larger, slowest_page, small_disk
+from tools.node import Server, comes_to, end_input, exchange
+from tools.participant import Participant
+from tools.ports import HOST
 
-
-class Answering:
-    """Answers each call with a status after a while, and remembers when the calls came."""
-
-    def __init__(self, status, wait):
-        self.calls, outer = [], self
-
-        class Handler(http.server.BaseHTTPRequestHandler):
-            def do_PUT(self):
-                outer.calls.append(time.monotonic())
-                time.sleep(wait)
-                self.send_response(status)
-                self.send_header("Content-Length", "0")
-                self.end_headers()
-
-            def log_message(self, *words):
-                pass
-
-        class Listening(http.server.ThreadingHTTPServer):
-            request_queue_size = 128
-
-        self.server = Listening(("127.0.0.1", 0), Handler)
-        threading.Thread(target=self.server.serve_forever, daemon=True).start()
-        self.url = f"http://127.0.0.1:{self.server.server_port}"
+# A request for a page in two pieces.
+IN_TWO = [b"GET /lra HT", b"TP/1.1\r\nHost: h\r\n\r\n"]
 
 
-def ended_with(links):
+def fine(answers: Iterable[bytes]) -> int:
+    """How many answers are as they have to be."""
+    return sum(answer == b"HTTP/1.1 200 OK" for answer in answers)
+
+
+def ended_with(server: Server, links: Iterable[str]) -> str:
     """An LRA with these participants, which is closed."""
-    lra = ask("POST", "/lra", {})[1]["lra"]
+    lra = server.begin(1)
     for link in links:
-        ask("PUT", f"/lra/{lra}/join", {"compensate": link, "complete": link})
-    ask("PUT", f"/lra/{lra}/close")
+        server.join(1, lra, compensate=link, complete=link)
+    server.finish(1, lra)
     return lra
 
 
-def called_after(seconds):
-    """How long it takes until an honest participant is called, which answers at once; nothing where it isn't in time."""
-    honest, began = Answering(200, 0), time.monotonic()
-    lra = ended_with([honest.url + "/c"])
+def called_after(server: Server, seconds: float) -> float | None:
+    """How long it takes until an honest participant is called, which answers at once; nothing where it isn't in
+    time."""
+    honest, began = Participant(), time.monotonic()
+    lra = ended_with(server, [f"{honest.url}/c"])
     is_called = comes_to(seconds, lambda: honest.calls)
     took = time.monotonic() - began
-    return took if is_called and comes_to(5, lambda: ask("GET", f"/lra/{lra}")[1]["status"] == "Closed") else None
+    return took if is_called and server.comes_to(1, lra, "Closed", 5) is not None else None
 
 
-def failing(folder):
-    """Two hosts that answer 503 within half a second, with 416 participants."""
-    server, hosts = Server(1, folder).wait_until_up(), [Answering(503, 0.5) for _ in range(2)]
-    for i in range(13):
-        ended_with([f"{hosts[(i + j) % 2].url}/c{j}" for j in range(32)])
-    time.sleep(5)
-    took = called_after(60)
-    check(f"beside two hosts that answer 503, with {13 * 32} participants, an honest one is called after {took and round(took, 1)} seconds", took is not None and took < 15)
-    began = time.monotonic()
-    ask("GET", "/lra")
-    took = time.monotonic() - began
-    check(f"and a question is answered after {took * 1000:.0f} ms", took < 2)
-    server.end()
-
-
-def silent(folder):
-    """64 hosts that take connections and never answer."""
-    server = Server(1, folder).wait_until_up()
-    with socket.create_server(("0.0.0.0", 0), backlog=512) as deaf:
-        port = deaf.getsockname()[1]
-        for i in range(2):
-            ended_with([f"http://127.0.1.{1 + 32 * i + j}:{port}/c" for j in range(32)])
-        took = called_after(60)
-        check(f"beside 64 hosts that never answer an honest one is called after {took and round(took, 1)} seconds", took is not None and took < 30)
-        took = called_after(60)
-        check(f"and the next one after {took and round(took, 1)} seconds", took is not None and took < 30)
-        began = time.monotonic()
-        ended = server.end()
-        took = time.monotonic() - began
-        check(f"and the program ends after {took:.1f} seconds", ended[0] == 0 and took < 4, ended)
-
-
-def small_disk(folder):
-    """A disk of one MiB, or nothing where this user may not mount one."""
-    disk = f"{folder}/disk"
-    os.mkdir(disk)
-    mounted = shutil.which("mount") and not subprocess.run(["mount", "-t", "tmpfs", "-o", "size=1m", "lra", disk], stderr=subprocess.DEVNULL).returncode
-    if not mounted:
-        print("skipped: this user may not mount a small disk")
-    return disk if mounted else None
-
-
-def fill(node=1):
-    """Begins LRAs with long links until one can't be stored."""
-    for _ in range(256):
-        status, answer = ask("POST", "/lra", {}, node)
-        if status != 201:
-            return
-        for _ in range(4):
-            if ask("PUT", f"/lra/{answer['lra']}/join", {"compensate": "http://127.0.0.1:9/" + "c" * 100}, node)[0] != 200:
-                return
-
-
-def grows(disk, server):
-    """Makes the disk larger, and looks whether the server goes on."""
-    subprocess.run(["mount", "-o", "remount,size=64m", disk], check=True)
-    return comes_to(15, lambda: server.process.poll() is None and ask("POST", "/lra", {})[0] == 201)
-
-
-def without_files(folder):
-    """A full disk, and no file left."""
-    disk = small_disk(folder)
-    if not disk:
-        return
-    server = Server(1, disk, preexec_fn=lambda: resource.setrlimit(resource.RLIMIT_NOFILE, (96, 96)))
-    silent_ones, over = [], threading.Event()
-
-    def crowd():
-        while not over.is_set():
-            try:
-                silent_ones.append(socket.create_connection(("127.0.0.1", PORT), timeout=1))
-            except OSError:
-                pass
-            time.sleep(0.005)
-
+def first_line(server: Server, *pieces: bytes, pause: float = 0, node: int = 1) -> bytes:
+    """The first line of the answer to a request, or what went wrong."""
     try:
-        server.wait_until_up()
-        crowding = threading.Thread(target=crowd)
-        crowding.start()
-        try:
-            fill()
-            time.sleep(8)
-        finally:
-            over.set()
-            crowding.join()
-        for it in silent_ones:
-            it.close()
-        check("on a full disk without a file left it lives", server.process.poll() is None, server.process.poll())
-        check("and goes on with room again", grows(disk, server))
-        server.end()
-    finally:
-        server.kill()
-        subprocess.run(["umount", disk], check=True)
-
-
-def looked_at(folder):
-    """Somebody looks at a journal with sqlite3 while the disk is full, and keeps it open for some seconds."""
-    disk = small_disk(folder)
-    if not disk:
-        return
-    server = Server(1, disk)
-    try:
-        server.wait_until_up()
-        fill()
-        looked, until = None, time.monotonic() + 20
-        while looked is None and time.monotonic() < until:
-            ask("POST", "/lra", {})
-            try:
-                looked = sqlite3.connect(f"{disk}/node-1.db", timeout=0)
-                looked.execute("BEGIN")
-                looked.execute("SELECT count(*) FROM lra").fetchone()
-            except sqlite3.Error:
-                looked.close()
-                looked = None
-        time.sleep(5)
-        check(f"an operator's look at a full disk ({'got in' if looked else 'locked out'}) ends nothing", server.process.poll() is None, server.process.poll())
-        if looked:
-            looked.close()
-        check("and it goes on with room again", grows(disk, server))
-        server.end()
-    finally:
-        server.kill()
-        subprocess.run(["umount", disk], check=True)
-
-
-def gone(folder):
-    """The folder is gone for a while, after a write to a full disk failed: the journal can't be opened again."""
-    disk = small_disk(folder)
-    if not disk:
-        return
-    os.mkdir(f"{disk}/lra")
-    server, times, answers = Server(1, f"{disk}/lra"), [], set()
-    try:
-        server.wait_until_up()
-        fill()
-        os.rename(f"{disk}/lra", f"{disk}/elsewhere")
-        comes_to(20, lambda: ask("POST", "/lra", {})[0] == 503 and ask("GET", "/lra")[0] == 503)
-        for _ in range(50):
-            began = time.monotonic()
-            status, answer = ask("GET", "/lra")
-            times.append(time.monotonic() - began)
-            answers.add((status, answer.get("refused")))
-            time.sleep(0.02)
-        check(f"without its journal requests are 503 after {max(times) * 1000:.0f} ms at most", answers == {(503, "E19 Stopped")} and max(times) < 0.1, answers)
-        os.rename(f"{disk}/elsewhere", f"{disk}/lra")
-        check("with it they are answered again", comes_to(5, lambda: ask("GET", "/lra")[0] == 200))
-        check("and it goes on with room again", grows(disk, server))
-        check("it ends with its input", server.end()[0] == 0)
-    finally:
-        server.kill()
-        subprocess.run(["umount", disk], check=True)
-
-
-def unread(folder):
-    """Standard error is a pipe that is full, and that nobody reads."""
-    disk = small_disk(folder)
-    if not disk:
-        return
-    reading, writing = os.pipe()
-    fcntl.fcntl(writing, fcntl.F_SETFL, os.O_NONBLOCK)
-    try:
-        while True:
-            os.write(writing, b"." * 4096)
-    except BlockingIOError:
-        fcntl.fcntl(writing, fcntl.F_SETFL, 0)
-    process = subprocess.Popen([Server.program, "serve", "1", str(PORT), disk], stdin=subprocess.PIPE, stderr=writing)
-    try:
-        comes_to(60, lambda: is_open(PORT))
-        fill()
-        began = time.monotonic()
-        answered = comes_to(20, lambda: ask("GET", "/lra")[0] == 200)
-        check(f"with a full pipe behind standard error a question is answered behind E18 ({time.monotonic() - began:.1f} s)", answered)
-        subprocess.run(["mount", "-o", "remount,size=64m", disk], check=True)
-        check("it goes on with room again", comes_to(15, lambda: ask("POST", "/lra", {})[0] == 201))
-        began = time.monotonic()
-        process.stdin.close()
-        try:
-            status = process.wait(20)
-        except subprocess.TimeoutExpired:
-            status = None
-        check(f"and ends with its input ({time.monotonic() - began:.1f} s)", status == 0, status)
-    finally:
-        process.kill()
-        process.wait()
-        os.close(reading)
-        os.close(writing)
-        subprocess.run(["umount", disk], check=True)
-
-
-def without_threads(folder):
-    """No thread can be had at some changes of run: as many processes as the user may have are there."""
-    if os.getuid() != 0:
-        print("skipped: only root may be another user")
-        return
-    os.chmod(folder, 0o777)
-    user = 64123
-    limit = lambda: resource.setrlimit(resource.RLIMIT_NPROC, (16, 16))
-    server = Server(1, folder, user=user, preexec_fn=limit)
-    if not server.is_up():
-        check("it comes up with 16 threads", False, server.end())
-        return
-    others = [subprocess.Popen(["sleep", "4"], user=user) for _ in range(8)]
-    for _ in range(30):
-        try:
-            with socket.create_connection(("127.0.0.1", PORT), timeout=2) as it:
-                it.sendall(b"POST /peer/pull HTTP/1.1\r\nHost: h\r\nContent-Length: 1\r\n\r\nx")
-                it.recv(100)
-        except OSError:
-            pass
-    time.sleep(1)
-    check("without threads for a run it lives", server.process.poll() is None, server.process.poll())
-    for it in others:
-        it.wait()
-    check("and goes on once there are some", comes_to(10, lambda: ask("POST", "/lra", {})[0] == 201))
-    ended = server.end()
-    check("and ends with its input", ended[0] == 0, ended)
-
-
-GARBAGE = b"POST /peer/pull HTTP/1.1\r\nHost: p\r\nContent-Length: 1\r\n\r\n\x09"
-
-
-def exchange(pieces, pause, node=1):
-    """Sends the pieces of a request with pauses between them, and gives the first line of the answer."""
-    try:
-        with socket.create_connection(("127.0.0.1", PORT + node - 1), timeout=20) as it:
-            it.sendall(pieces[0])
-            for piece in pieces[1:]:
-                time.sleep(pause)
-                it.sendall(piece)
-            text = b""
-            while more := it.recv(4096):
-                text += more
-            return text.split(b"\r\n")[0]
+        return exchange(server.address(node), *pieces, pause=pause).split(b"\r\n")[0]
     except OSError as error:
         return repr(error).encode()
 
@@ -303,226 +60,353 @@ def exchange(pieces, pause, node=1):
 class Others:
     """Threads that do something again and again, until they are to stop."""
 
-    def __init__(self, *deeds):
+    def __init__(self, *deeds: Callable[[], object]) -> None:
         self.over, self.counts = threading.Event(), [0] * len(deeds)
-        self.threads = [threading.Thread(target=self.repeat, args=it) for it in enumerate(deeds)]
-        for it in self.threads:
-            it.start()
+        self.threads = [threading.Thread(target=self.repeat, args=placed) for placed in enumerate(deeds)]
+        for thread in self.threads:
+            thread.start()
 
-    def repeat(self, place, deed):
+    def repeat(self, place: int, deed: Callable[[], object]) -> None:
         while not self.over.is_set():
             deed()
             self.counts[place] += 1
 
-    def stop(self):
+    def stop(self) -> int:
+        """Ends them. How often they did it."""
         self.over.set()
-        for it in self.threads:
-            it.join()
+        for thread in self.threads:
+            thread.join()
         return sum(self.counts)
 
 
-def split(folder):
-    """Requests in two pieces, beside two clients that send bad pulls, of which eleven end a run."""
-    server = Server(1, folder).wait_until_up()
-    lra = ask("POST", "/lra", {})[1]["lra"]
-    body = json.dumps({"compensate": "http://127.0.0.1:9/c"}).encode()
-    head = f"PUT /lra/{lra}/join HTTP/1.1\r\nHost: h\r\nContent-Length: {len(body)}\r\n\r\n".encode()
-    text = head + body + b"\r\n"  # (what stands behind a request is no part of it)
-    others, answers, began = Others(*[lambda: exchange([GARBAGE], 0)] * 2), [], time.monotonic()
-    for turn in range(200):
-        place = 1 + turn % len(text) if turn < 30 else len(head)
-        pieces = [text[:place], text[place:]] if turn < 30 else [b"GET /lra HT", b"TP/1.1\r\nHost: h\r\n\r\n"]
-        answers.append(exchange(pieces, 0.1))
-    seconds = time.monotonic() - began
-    pulls = others.stop()
-    fine = sum(it == b"HTTP/1.1 200 OK" for it in answers)
-    check(f"beside {pulls / seconds:.0f} bad pulls a second {fine} of 200 requests in two pieces are answered", fine == 200, set(answers))
-    check("it ends with its input", server.end()[0] == 0)
+def bad_pulls(server: Server) -> Others:
+    """Two clients that send bad pulls."""
+    return Others(*[lambda: first_line(server, GARBAGE)] * 2)
 
 
-def facts(folder):
-    """Requests in two pieces at three nodes that store some twelve facts a second."""
-    server = Server(3, folder).wait_until_up()
-
-    def store():
-        ask("PUT", f"/lra/{ask('POST', '/lra', {})[1]['lra']}/close")
-        time.sleep(0.12)
-
-    answers, began = [], time.monotonic()
-    asks = [lambda node=node: answers.append(exchange([b"GET /lra HT", b"TP/1.1\r\nHost: h\r\n\r\n"], 0.1, node)) for node in (1, 2, 3)]
-    others = Others(store, *asks)
-    while len(answers) < 600 and others.counts[0] < 250:
-        time.sleep(0.1)
-    others.stop()
-    seconds, fine = time.monotonic() - began, sum(it == b"HTTP/1.1 200 OK" for it in answers)
-    check(f"beside {2 * others.counts[0] / seconds:.0f} facts a second {fine} of {len(answers)} requests in two pieces are answered", fine == len(answers), set(answers))
-    check("it ends with its input", server.end()[0] == 0)
+def frame_of(server: Server, pull: bytes, size: int, pause: float) -> tuple[int | None, int]:
+    """The length that the answer to a pull states for its body, and how much of it came to one who reads so much
+    between pauses."""
+    text = b""
+    with connection(server, pull, 4096) as line:
+        line.settimeout(20)
+        with contextlib.suppress(OSError):
+            while more := line.recv(size):
+                text += more
+                time.sleep(pause)
+    head, _, body = text.partition(b"\r\n\r\n")
+    stated = [int(line.split(b":")[1]) for line in head.split(b"\r\n") if line.lower().startswith(b"content-length")]
+    return stated[0] if stated else None, len(body)
 
 
-def writers(folder):
-    """A full disk, and four clients that write on."""
-    disk = small_disk(folder)
-    if not disk:
-        return
-    server, times, codes, warned = Server(1, disk), [], {}, []
-    try:
+def held(server: Server, text: bytes) -> None:
+    """Sends this, and waits until the connection is closed."""
+    with contextlib.suppress(OSError), socket.create_connection(server.address(1), timeout=10) as line:
+        line.sendall(text)
+        line.recv(100)
+
+
+def full_pipe() -> tuple[int, int]:
+    """A pipe that is full: where it is read, and where it is written."""
+    reading, writing = os.pipe()
+    os.set_blocking(writing, False)
+    with contextlib.suppress(BlockingIOError):
+        while True:
+            os.write(writing, b"." * 4096)
+    os.set_blocking(writing, True)
+    return reading, writing
+
+
+class TestFaults(checks.Checked):
+    needs = (Server,)
+    takes = "some six minutes"
+
+    def disk(self) -> str:
+        """A disk of one MiB."""
+        return small_disk(self, "1m")
+
+    def grows(self, disk: str, server: Server) -> bool:
+        """Makes the disk larger, and looks whether the server goes on."""
+        larger(disk)
+        return comes_to(15, lambda: server.is_running() and server.ask(1, "POST", "/lra", {})[0] == 201)
+
+    def test_failing(self) -> None:
+        """Two hosts that answer 503 within half a second, with 416 participants."""
+        server, hosts = self.server(1).wait_until_up(), [self.participant(status=503, pause=0.5) for _ in range(2)]
+        for i in range(13):
+            ended_with(server, [f"{hosts[(i + j) % 2].url}/c{j}" for j in range(32)])
+        time.sleep(5)
+        took = called_after(server, 60)
+        what = f"beside two hosts that answer 503, with {13 * 32} participants, an honest one is called"
+        self.check(f"{what} after {took and round(took, 1)} seconds", took is not None and took < 15)
+        began = time.monotonic()
+        server.ask(1, "GET", "/lra")
+        took = time.monotonic() - began
+        self.check(f"and a question is answered after {took * 1000:.0f} ms", took < 2)
+        server.end()
+
+    def test_silent(self) -> None:
+        """64 hosts that take connections and never answer."""
+        server = self.server(1).wait_until_up()
+        with socket.create_server(("0.0.0.0", 0), backlog=512) as deaf:
+            port = deaf.getsockname()[1]
+            for i in range(2):
+                ended_with(server, [f"http://127.0.1.{1 + 32 * i + j}:{port}/c" for j in range(32)])
+            for who in ("beside 64 hosts that never answer an honest one is called", "and the next one"):
+                took = called_after(server, 60)
+                self.check(f"{who} after {took and round(took, 1)} seconds", took is not None and took < 30)
+            began = time.monotonic()
+            ended = server.end()
+            took = time.monotonic() - began
+            self.check(f"and the program ends after {took:.1f} seconds", ended[0] == 0 and took < 4, ended)
+
+    def test_without_files(self) -> None:
+        """A full disk, and no file left."""
+        disk = self.disk()
+        server = self.server(1, disk, preexec_fn=lambda: resource.setrlimit(resource.RLIMIT_NOFILE, (96, 96)))
         server.wait_until_up()
-        fill()
-        others = Others(*[lambda: (ask("POST", "/lra", {}), time.sleep(0.05))] * 4)
-        lra = "00000000-0000-8001-8000-000000000001"
+        silent: list[socket.socket] = []
+
+        def connect() -> None:
+            with contextlib.suppress(OSError):
+                silent.append(socket.create_connection(server.address(1), timeout=1))
+            time.sleep(0.005)
+
+        crowd = Others(connect)
+        try:
+            fill(server, 256, 4)
+            time.sleep(8)
+        finally:
+            crowd.stop()
+        for line in silent:
+            line.close()
+        self.check("on a full disk without a file left it lives", server.is_running(), server.process.poll())
+        self.check("and goes on with room again", self.grows(disk, server))
+        server.end()
+
+    def looked_at(self, server: Server, journal: str) -> sqlite3.Connection | None:
+        """A journal that somebody has begun to read, while another writes; nothing where that doesn't come about."""
+        until = time.monotonic() + 20
+        while time.monotonic() < until:
+            server.ask(1, "POST", "/lra", {})
+            database = sqlite3.connect(journal, timeout=0)
+            try:
+                database.execute("BEGIN")
+                database.execute("SELECT count(*) FROM lra").fetchone()
+                return database
+            except sqlite3.Error:
+                database.close()
+        return None
+
+    def test_looked_at(self) -> None:
+        """Somebody looks at a journal with sqlite3 while the disk is full, and keeps it open for some seconds."""
+        disk = self.disk()
+        server = self.server(1, disk).wait_until_up()
+        fill(server, 256, 4)
+        looked = self.looked_at(server, f"{disk}/node-1.db")
+        time.sleep(5)
+        what = f"an operator's look at a full disk ({'got in' if looked else 'locked out'}) ends nothing"
+        self.check(what, server.is_running(), server.process.poll())
+        if looked:
+            looked.close()
+        self.check("and it goes on with room again", self.grows(disk, server))
+        server.end()
+
+    def test_gone(self) -> None:
+        """The folder is gone for a while, after a write to a full disk failed: the journal can't be opened again."""
+        disk = self.disk()
+        os.mkdir(f"{disk}/lra")
+        server = self.server(1, f"{disk}/lra").wait_until_up()
+        times, answers = [], set()
+        fill(server, 256, 4)
+        os.rename(f"{disk}/lra", f"{disk}/elsewhere")
+        comes_to(20, lambda: server.ask(1, "POST", "/lra", {})[0] == 503 and server.ask(1, "GET", "/lra")[0] == 503)
+        for _ in range(50):
+            began = time.monotonic()
+            status, answer = server.ask(1, "GET", "/lra")
+            times.append(time.monotonic() - began)
+            answers.add((status, answer.get("refused")))
+            time.sleep(0.02)
+        what = f"without its journal requests are 503 after {max(times) * 1000:.0f} ms at most"
+        self.check(what, answers == {(503, "E19 Stopped")} and max(times) < 0.1, answers)
+        os.rename(f"{disk}/elsewhere", f"{disk}/lra")
+        self.check("with it they are answered again", comes_to(5, lambda: server.ask(1, "GET", "/lra")[0] == 200))
+        self.check("and it goes on with room again", self.grows(disk, server))
+        self.check("it ends with its input", server.end()[0] == 0)
+
+    def test_unread(self) -> None:
+        """Standard error is a pipe that is full, and that nobody reads."""
+        disk = self.disk()
+        reading, writing = full_pipe()
+        self.addCleanup(os.close, reading)
+        self.addCleanup(os.close, writing)
+        server = self.server(1, disk, stderr=writing).wait_until_up()
+        fill(server, 256, 4)
+        began = time.monotonic()
+        answered = comes_to(20, lambda: server.ask(1, "GET", "/lra")[0] == 200)
+        what = "with a full pipe behind standard error a question is answered behind E18"
+        self.check(f"{what} ({time.monotonic() - began:.1f} s)", answered)
+        self.check("it goes on with room again", self.grows(disk, server))
+        began = time.monotonic()
+        end_input(server.process)
+        try:
+            status = server.process.wait(20)
+        except subprocess.TimeoutExpired:
+            status = None
+        self.check(f"and ends with its input ({time.monotonic() - began:.1f} s)", status == 0, status)
+
+    def test_without_threads(self) -> None:
+        """No thread can be had at some changes of run: as many processes as the user may have are there."""
+        if os.getuid() != 0:
+            self.skipTest("only root may be another user")
+        os.chmod(self.folder, 0o777)
+        user = 64123
+        server = self.server(1, user=user, preexec_fn=lambda: resource.setrlimit(resource.RLIMIT_NPROC, (16, 16)))
+        if not server.is_up():
+            self.check("it comes up with 16 threads", False, server.end())
+            return
+        others = [subprocess.Popen(["sleep", "4"], user=user) for _ in range(8)]
+        for _ in range(30):
+            with contextlib.suppress(OSError), socket.create_connection(server.address(1), timeout=2) as line:
+                line.sendall(b"POST /peer/pull HTTP/1.1\r\nHost: h\r\nContent-Length: 1\r\n\r\nx")
+                line.recv(100)
+        time.sleep(1)
+        self.check("without threads for a run it lives", server.is_running(), server.process.poll())
+        for other in others:
+            other.wait()
+        self.check("and goes on once there are some", comes_to(10, lambda: server.ask(1, "POST", "/lra", {})[0] == 201))
+        ended = server.end()
+        self.check("and ends with its input", ended[0] == 0, ended)
+
+    def test_split(self) -> None:
+        """Requests in two pieces, beside two clients that send bad pulls, of which eleven end a run."""
+        server = self.server(1).wait_until_up()
+        lra = server.begin(1)
+        body = json.dumps({"compensate": f"http://{HOST}:9/c"}).encode()
+        head = f"PUT /lra/{lra}/join HTTP/1.1\r\nHost: h\r\nContent-Length: {len(body)}\r\n\r\n".encode()
+        text = head + body + b"\r\n"  # (what stands behind a request is no part of it)
+        others, answers, began = bad_pulls(server), [], time.monotonic()
+        for turn in range(200):
+            place = 1 + turn % len(text)
+            pieces = [text[:place], text[place:]] if turn < 30 else IN_TWO
+            answers.append(first_line(server, *pieces, pause=0.1))
+        rate = others.stop() / (time.monotonic() - began)
+        what = f"beside {rate:.0f} bad pulls a second {fine(answers)} of 200 requests in two pieces are answered"
+        self.check(what, fine(answers) == 200, set(answers))
+        self.check("it ends with its input", server.end()[0] == 0)
+
+    def test_facts(self) -> None:
+        """Requests in two pieces at three nodes that store some twelve facts a second."""
+        server = self.server(3).wait_until_up()
+        answers: list[bytes] = []
+
+        def store() -> None:
+            server.finish(1, server.begin(1))
+            time.sleep(0.12)
+
+        def ask_in_two(node: int) -> None:
+            answers.append(first_line(server, *IN_TWO, pause=0.1, node=node))
+
+        others, began = Others(store, *[lambda node=node: ask_in_two(node) for node in (1, 2, 3)]), time.monotonic()
+        while len(answers) < 600 and others.counts[0] < 250:
+            time.sleep(0.1)
+        others.stop()
+        rate = 2 * others.counts[0] / (time.monotonic() - began)
+        what = f"beside {rate:.0f} facts a second {fine(answers)} of {len(answers)} requests in two pieces are answered"
+        self.check(what, fine(answers) == len(answers), set(answers))
+        self.check("it ends with its input", server.end()[0] == 0)
+
+    def test_writers(self) -> None:
+        """A full disk, and four clients that write on."""
+        disk = self.disk()
+        server = self.server(1, disk).wait_until_up()
+        times: list[float] = []
+        codes: dict[int, int] = {}
+        fill(server, 256, 4)
+
+        def write() -> None:
+            server.ask(1, "POST", "/lra", {})
+            time.sleep(0.05)
+
+        others = Others(*[write] * 4)
         for _ in range(400):
             began = time.monotonic()
-            status = ask("GET", f"/lra/{lra}")[0]
+            status = server.ask(1, "GET", "/lra/00000000-0000-8001-8000-000000000001")[0]
             codes[status] = codes.get(status, 0) + 1
             if status == 200:
                 times.append(time.monotonic() - began)
             time.sleep(0.05)
         others.stop()
-        quick = sum(it < 0.1 for it in times)
-        slowest = max(times, default=0) * 1000
-        check(f"beside four that write on a full disk {quick} of 400 statuses are 200 within 100 ms, the slowest after {slowest:.0f}", quick >= 396, codes)
-        check("and it goes on with room again", grows(disk, server))
-        check("it ends with its input", server.end()[0] == 0)
-    finally:
-        server.kill()
-        subprocess.run(["umount", disk], check=True)
+        quick, slowest = sum(took < 0.1 for took in times), max(times, default=0) * 1000
+        what = f"beside four that write on a full disk {quick} of 400 statuses are 200 within 100 ms"
+        self.check(f"{what}, the slowest after {slowest:.0f}", quick >= 396, codes)
+        self.check("and it goes on with room again", self.grows(disk, server))
+        self.check("it ends with its input", server.end()[0] == 0)
+
+    def test_slow(self) -> None:
+        """Forty clients that send a byte now and then: they hold no worker."""
+        server = self.server(1).wait_until_up()
+        ones = [socket.create_connection(server.address(1)) for _ in range(40)]
+        slowest = 0.0
+        for byte in b"GET /lra HTTP/1.1\r\nHost":
+            for one in ones:
+                with contextlib.suppress(OSError):
+                    one.send(bytes([byte]))
+            asked = time.monotonic()
+            server.ask(1, "GET", "/lra")
+            slowest = max(slowest, time.monotonic() - asked)
+            time.sleep(0.3)
+        what = f"beside {len(ones)} that send three bytes a second a page takes {slowest * 1000:.0f} ms at most"
+        self.check(what, slowest < 0.5, slowest)
+        self.check("those are closed", comes_to(10, lambda: all(is_closed(one) for one in ones)))
+        self.check("it ends with its input", server.end()[0] == 0)
+
+    def test_stalled(self) -> None:
+        """Twenty-four clients that send what is no head, or the start of a long request, and no more, again and
+        again."""
+        server = self.server(1).wait_until_up()
+        texts = [b"GE\0", b"GET / HTTP/1.1\r\nHo st: x"]
+        texts.append(b"POST /lra HTTP/1.1\r\nHost: x\r\nContent-Length: 5000\r\n\r\n")
+        others, until = Others(*[lambda text=text: held(server, text) for text in texts * 8]), time.monotonic() + 10
+        slowest = slowest_page(server, lambda: time.monotonic() >= until, 0.05)
+        what = f"beside {others.stop()} requests that stall a page takes {slowest * 1000:.0f} ms at most"
+        self.check(what, slowest < 1, slowest)
+        self.check("it ends with its input", server.end()[0] == 0)
+
+    def test_frame(self) -> None:
+        """One who pulls a long frame and reads it slowly, and four who don't read theirs, beside two clients that send
+        bad pulls."""
+        server, link = self.server(1).wait_until_up(), f"http://{HOST}:9/" + "c" * 108
+        for _ in range(64):
+            lra = server.begin(1)
+            for _ in range(32):
+                self.assertEqual(server.join(1, lra, compensate=link, complete=link, status=link, forget=link)[0], 200)
+        pull = b"POST /peer/pull HTTP/1.1\r\nHost: p\r\nContent-Length: 9\r\n\r\n\x01" + bytes(8)
+        others = bad_pulls(server)
+        unread = [connection(server, pull, 4096) for _ in range(4)]
+        found: list[tuple[int | None, int]] = []
+        began = time.monotonic()
+        reading = threading.Thread(target=lambda: found.append(frame_of(server, pull, 16384, 0.02)))
+        reading.start()
+        slowest = slowest_page(server, lambda: not reading.is_alive(), 0.02)
+        seconds = time.monotonic() - began
+        rate = others.stop() / seconds
+        stated, came = found[0]
+        what = f"{came:,} of {stated:,} bytes of a frame come in {seconds:.1f} s to one who reads slowly"
+        self.check(f"beside {rate:.0f} bad pulls a second {what}", stated == came, found)
+        self.check(f"a page takes {slowest * 1000:.0f} ms at most meanwhile", slowest < 0.5, slowest)
+        self.check("those who don't read are closed", comes_to(15, lambda: all(is_over(line) for line in unread)))
+        self.check("it ends with its input", server.end()[0] == 0)
 
 
-def frame_of(pull, size, pause):
-    """The length that the answer to a pull states for its body, and how much of it came to one who reads so much between pauses."""
-    with socket.socket() as it:
-        it.setsockopt(socket.SOL_SOCKET, socket.SO_RCVBUF, 4096)
-        it.settimeout(20)
-        it.connect(("127.0.0.1", PORT))
-        it.sendall(pull)
-        text = b""
-        try:
-            while more := it.recv(size):
-                text += more
-                time.sleep(pause)
-        except OSError:
-            pass
-    head, _, body = text.partition(b"\r\n\r\n")
-    stated = [int(line.split(b":")[1]) for line in head.split(b"\r\n") if line.lower().startswith(b"content-length")]
-    return (stated or [None])[0], len(body)
-
-
-def frame(folder):
-    """One who pulls a long frame and reads it slowly, and four who don't read theirs, beside two clients that send bad pulls."""
-    server = Server(1, folder).wait_until_up()
-    link = "http://127.0.0.1:9/" + "c" * 108
-    links = {"compensate": link, "complete": link, "status": link, "forget": link}
-    for _ in range(64):
-        lra = ask("POST", "/lra", {})[1]["lra"]
-        for _ in range(32):
-            assert ask("PUT", f"/lra/{lra}/join", links)[0] == 200
-    pull = b"POST /peer/pull HTTP/1.1\r\nHost: p\r\nContent-Length: 9\r\n\r\n\x01" + bytes(8)
-    others = Others(*[lambda: exchange([GARBAGE], 0)] * 2)
-    unread = []
-    for _ in range(4):
-        it = socket.socket()
-        it.setsockopt(socket.SOL_SOCKET, socket.SO_RCVBUF, 4096)
-        it.connect(("127.0.0.1", PORT))
-        it.sendall(pull)
-        unread.append(it)
-    found, began = [], time.monotonic()
-    reading = threading.Thread(target=lambda: found.append(frame_of(pull, 16384, 0.02)))
-    reading.start()
-    slowest = 0
-    while reading.is_alive():
-        asked = time.monotonic()
-        ask("GET", "/lra")
-        slowest = max(slowest, time.monotonic() - asked)
-        time.sleep(0.02)
-    seconds = time.monotonic() - began
-    pulls = others.stop()
-    stated, came = found[0]
-    check(f"beside {pulls / seconds:.0f} bad pulls a second {came:,} of {stated:,} bytes of a frame come in {seconds:.1f} s to one who reads slowly", stated == came, found)
-    check(f"a page takes {slowest * 1000:.0f} ms at most meanwhile", slowest < 0.5, slowest)
-    check("those who don't read are closed", comes_to(15, lambda: all(is_over(it) for it in unread)))
-    check("it ends with its input", server.end()[0] == 0)
-
-
-def is_over(it):
-    """Whether nothing more comes, once what has come is read."""
-    it.setblocking(False)
-    try:
-        while it.recv(65536):
-            pass
-        return True
-    except BlockingIOError:
-        return False
-    except OSError:
-        return True
-
-
-def slow(folder):
-    """Forty clients that send a byte now and then: they hold no worker."""
-    server = Server(1, folder).wait_until_up()
-    ones = [socket.create_connection(("127.0.0.1", PORT)) for _ in range(40)]
-    began, slowest = time.monotonic(), 0
-    for byte in b"GET /lra HTTP/1.1\r\nHost":
-        for it in ones:
-            try:
-                it.send(bytes([byte]))
-            except OSError:
-                pass
-        asked = time.monotonic()
-        ask("GET", "/lra")
-        slowest = max(slowest, time.monotonic() - asked)
-        time.sleep(0.3)
-    check(f"beside {len(ones)} that send three bytes a second a page takes {slowest * 1000:.0f} ms at most", slowest < 0.5, slowest)
-    check("those are closed", comes_to(10, lambda: all(is_closed(it) for it in ones)))
-    check("it ends with its input", server.end()[0] == 0)
-
-
-def stalled(folder):
-    """Twenty-four clients that send what is no head, or the start of a long request, and no more, again and again."""
-    server = Server(1, folder).wait_until_up()
-    texts = [b"GE\0", b"GET / HTTP/1.1\r\nHo st: x", b"POST /lra HTTP/1.1\r\nHost: x\r\nContent-Length: 5000\r\n\r\n"]
-    others = Others(*[lambda text=text: held(text) for text in texts * 8])
-    until, slowest = time.monotonic() + 10, 0
-    while time.monotonic() < until:
-        asked = time.monotonic()
-        ask("GET", "/lra")
-        slowest = max(slowest, time.monotonic() - asked)
-        time.sleep(0.05)
-    count = others.stop()
-    check(f"beside {count} requests that stall a page takes {slowest * 1000:.0f} ms at most", slowest < 1, slowest)
-    check("it ends with its input", server.end()[0] == 0)
-
-
-def held(text):
-    """Sends this, and waits until the connection is closed."""
-    try:
-        with socket.create_connection(("127.0.0.1", PORT), timeout=10) as it:
-            it.sendall(text)
-            it.recv(100)
-    except OSError:
-        pass
-
-
-def is_closed(it):
-    it.setblocking(False)
-    try:
-        return it.recv(1) == b""
-    except BlockingIOError:
-        return False
-    except OSError:
-        return True
-
-
-def main():
-    chosen = [it for it in sys.argv[1:] if it in TESTS]
+def main() -> int:
+    words = checks.words_of(TestFaults)
     for word in sys.argv[1:]:
-        if word not in TESTS:
+        if word not in words:
             Server.program = unproved.program_of(word)
-    for name in chosen or TESTS:
-        with tempfile.TemporaryDirectory() as folder:
-            TESTS[name](folder)
-    finish()
+    checks.need(Server)
+    return checks.run(TestFaults, words=[word for word in sys.argv[1:] if word in words])
 
 
-TESTS = {"failing": failing, "silent": silent, "without_files": without_files, "looked_at": looked_at, "gone": gone, "unread": unread, "without_threads": without_threads,
-         "split": split, "facts": facts, "writers": writers, "slow": slow, "stalled": stalled, "frame": frame}
-main()
+if __name__ == "__main__":
+    sys.exit(main())

@@ -1,13 +1,15 @@
 #!/usr/bin/env python3
-"""Treats the built server badly, and looks whether it keeps what it answered: python3 tests/hostile.py [KILLS] [PROGRAM].
+"""Treats the built server badly, and looks whether it keeps what it answered: python3 tests/hostile.py [KILLS]
+[PROGRAM] [TEST..].
 
-It is killed with kill -9 under load KILLS times, 100 by default; has a disk that is full, where this may mount one; journals that are
-read-only, another node's or torn; clients that are silent, slow, gone, send garbage, or flood a node with pulls; changes of run beside
-half requests; 2,048 participants that complete at once; a hundred thousand requests; and links to addresses that don't answer. PROGRAM
-is crates/lra_node/out/lra_node, which ./coordinator builds, or --unproved (demo/unproved.py). Each check prints a line; the status is 1
-where one fails. Standard library alone, some ten minutes."""
-import http.client
-import http.server
+It is killed with kill -9 under load KILLS times, 100 by default; has a disk that is full, where this may mount one;
+journals that are read-only, another node's or torn; clients that are silent, slow, gone, send garbage, or flood a node
+with pulls; changes of run beside half requests; 2,048 participants that complete at once; a hundred thousand requests;
+and links to addresses that don't answer. PROGRAM is crates/lra_node/out/lra_node, which ./coordinator builds, or
+--unproved (tools/unproved.py). Each check prints a line; the status is 1 where one fails. Standard library alone, some
+ten minutes."""
+import collections
+import contextlib
 import multiprocessing
 import os
 import random
@@ -18,248 +20,70 @@ import socket
 import struct
 import subprocess
 import sys
-import tempfile
 import threading
 import time
+import typing
+from collections.abc import Callable, Iterable
 
-from coordinator import PORT, Server, ask, check, comes_to, finish, shown_by
-import unproved
+sys.path.insert(0, os.path.dirname(os.path.dirname(os.path.abspath(__file__))))
+from tools import checks, unproved
+from tools.bad import GARBAGE, connection, fill, is_closed, larger, slowest_page, small_disk
+from tools.load import ENDED, GONE, Noted, Notes, links_of, lost, misled
+from tools.node import Server, comes_to, exchange, home_of, memory_of, request
+from tools.participant import Participant
 
-KILLS = int(sys.argv[1]) if len(sys.argv) > 1 else 100
 NODES, NOBODY = 3, 65534
 HOMES = range(1, NODES + 1)
-ENDS = {"close": ("Closing", "Closed"), "cancel": ("Cancelling", "Cancelled")}
+# How a server ends whose first journal is refused.
+JOURNAL = "\njournal 1\n"
+# What may be told while a disk is full.
+OF_DISK = {"E18 JournalFailed", "E19 Stopped", "its journal can't be opened again yet"}
 
 
-class Participant:
-    """Answers each call at once that it is done, and remembers it: the LRA, the act and which of its joins is meant."""
-
-    def __init__(self):
-        self.calls, outer = [], self
-
-        class Handler(http.server.BaseHTTPRequestHandler):
-            def do_PUT(self):
-                act, place = self.path[1:].split("/")
-                outer.calls.append((self.headers["Long-Running-Action"].removeprefix("urn:uuid:"), act, int(place)))
-                self.send_response(200)
-                self.send_header("Content-Length", "0")
-                self.end_headers()
-
-            def log_message(self, *words):
-                pass
-
-        self.server = http.server.ThreadingHTTPServer(("127.0.0.1", 0), Handler)
-        threading.Thread(target=self.server.serve_forever, daemon=True).start()
-
-    def links(self, place):
-        url = f"http://127.0.0.1:{self.server.server_port}"
-        return {"compensate": f"{url}/cancel/{place}", "complete": f"{url}/close/{place}"}
-
-    def places(self, lra, act):
-        """The joins of an LRA that were called for an act, in order; one that was called again at once counts once."""
-        every = [call[2] for call in self.calls if call[:2] == (lra, act)]
-        return [it for i, it in enumerate(every) if i == 0 or every[i - 1] != it]
-
-
-class Lra:
-    """What was answered of an LRA: its joins with their member numbers, what was decided, and whether that was answered."""
-
-    def __init__(self, node):
-        self.node, self.members, self.word, self.is_decided = node, {}, None, False
-
-    def may_show(self):
-        return (ENDS[self.word] if self.word else ()) + (() if self.is_decided else ("Active",))
-
-
-def client(node, part, lras):
+def begin_until_gone(server: Server, node: int, part: Participant, noted: Notes) -> None:
     """Begins LRAs, joins and decides them at a node until the server is gone, and notes what is answered."""
-    try:
+    with contextlib.suppress(*GONE):
         for _ in range(100):  # a home holds 256 of two clients
-            lra = ask("POST", "/lra", {}, node)[1]["lra"]
-            it = lras[lra] = Lra(node)
+            lra = server.begin(node)
+            one = noted[lra] = Noted()
             for place in range(random.randrange(4)):
-                it.members[place] = ask("PUT", f"/lra/{lra}/join", part.links(place), node)[1]["member"]
-            it.word = random.choice(("close", "cancel", None))
-            if it.word:
-                it.is_decided = ask("PUT", f"/lra/{lra}/{it.word}", node=node)[0] == 200
-    except (OSError, http.client.HTTPException):
-        pass
+                one.members[place] = server.join(node, lra, **links_of(part, place))[1]["member"]
+            one.word = random.choice(("close", "cancel", None))
+            if one.word:
+                one.is_decided = server.finish(node, lra, one.word) == 200
 
 
-def home_of(lra):
-    return int(lra[15:18])
-
-
-def shown_at_home():
-    return {lra: status for node in HOMES for lra, status in shown_by(node).items() if home_of(lra) == node}
-
-
-def lost(lras):
-    """What was answered and isn't there."""
-    shown = shown_at_home()
-    for lra, it in lras.items():
-        if shown.get(lra) not in it.may_show():
-            yield lra, it.word, it.is_decided, shown.get(lra)
-        for member in it.members.values():
-            if ask("GET", f"/lra/{lra}/member/{member}", node=it.node)[0] != 200:
-                yield lra, "member", member
-
-
-def settle(lras):
-    """Cancels what is still active, waits until all is ended, and gives what each LRA shows."""
-    for lra, status in shown_at_home().items():
-        if status == "Active":
-            ask("PUT", f"/lra/{lra}/cancel", node=home_of(lra))
-    comes_to(90, lambda: set(shown_at_home().values()) <= {"Closed", "Cancelled"})
-    return shown_at_home()
-
-
-def misled(part, lras, ended):
-    """LRAs whose participants weren't called as they had to be: all to complete, or last to first to compensate."""
-    for lra, it in lras.items():
-        act = "cancel" if ended.get(lra) == "Cancelled" else "close"
-        places = part.places(lra, act)
-        if not set(it.members) <= set(places) or act == "cancel" and places != sorted(set(places), reverse=True):
-            yield lra, act, sorted(it.members), places
-
-
-def load(part, lras):
+def under_load(server: Server, part: Participant, noted: Notes) -> list[threading.Thread]:
     """Two clients at each node, until the server is killed amid some answer."""
-    threads = [threading.Thread(target=client, args=(1 + i % NODES, part, lras)) for i in range(2 * NODES)]
-    for it in threads:
-        it.start()
+    given = [(server, node, part, noted) for node in (*HOMES, *HOMES)]
+    threads = [threading.Thread(target=begin_until_gone, args=one) for one in given]
+    for thread in threads:
+        thread.start()
     wanted = random.randrange(1, 100)
-    comes_to(10, lambda: len(lras) >= wanted)
+    comes_to(10, lambda: len(noted) >= wanted)
     time.sleep(random.uniform(0, 0.05))
     return threads
 
 
-def kills(folder):
-    part, counts, bad = Participant(), [0, 0, 0, 0], {"start": [], "lost": [], "end": [], "order": [], "agree": []}
-    for turn in range(KILLS):
-        server, lras = Server(NODES, folder), {}
-        if turn % 5 == 4:  # killed while it starts, too
-            time.sleep(random.uniform(0, 0.05))
-            server.kill()
-            server = Server(NODES, folder)
-        server.is_up()
-        threads = load(part, lras)
-        server.kill()
-        for it in threads:
-            it.join()
-        server = Server(NODES, folder)
-        if not server.is_up():
-            bad["start"].append(server.end())
-            break
-        bad["lost"] += lost(lras)
-        ended = settle(lras)
-        bad["end"] += [(lra, status) for lra, status in ended.items() if status not in ("Closed", "Cancelled")]
-        bad["order"] += misled(part, lras, ended)
-        if (turn % 10 == 9 or turn == KILLS - 1) and not comes_to(30, lambda: all(shown_by(node) == ended for node in HOMES)):
-            bad["agree"].append([shown_by(node) for node in HOMES])
-        for i, it in enumerate((len(lras), sum(len(it.members) for it in lras.values()), sum(it.is_decided for it in lras.values()), len(part.calls))):
-            counts[i] += it
-        for lra in ended:
-            ask("DELETE", f"/lra/{lra}", node=home_of(lra))
-        part.calls.clear()
-        server.kill()
-    check(f"killed {KILLS} times under load it starts again each time", not bad["start"], bad["start"])
-    check(f"{counts[0]} begins, {counts[1]} joins and {counts[2]} decisions that were answered are there", not bad["lost"], bad["lost"][:5])
-    check("all LRAs come to their ends", not bad["end"], bad["end"][:5])
-    check(f"in {counts[3]} calls all completed, or compensated last to first", not bad["order"], bad["order"][:5])
-    check("all nodes agree then", not bad["agree"], bad["agree"][:1])
+def settle(server: Server) -> dict[str, str]:
+    """Cancels what is still active, waits until all is ended, and gives what each LRA shows."""
+    for lra, status in server.shown_at_home().items():
+        if status == "Active":
+            server.finish(home_of(lra), lra, "cancel")
+    comes_to(90, lambda: set(server.shown_at_home().values()) <= ENDED)
+    return server.shown_at_home()
 
 
-def fill(lras):
-    """Begins LRAs with three joins each at node 1, and gives those that were answered, until one isn't."""
-    begun, link = [], "http://127.0.0.1:9/" + "c" * 100
-    try:
-        while len(begun) < lras:
-            lra = ask("POST", "/lra", {})[1]["lra"]
-            begun.append(lra)
-            for _ in range(3):
-                ask("PUT", f"/lra/{lra}/join", {"compensate": link})[1]["member"]
-    except (KeyError, OSError, http.client.HTTPException):
-        pass
-    return begun
-
-
-def without_room(server, lras):
-    """What holds while the disk is full: the program lives, commands are refused, and questions are answered once the journal is open."""
-    began, refused, slowest = time.monotonic(), [], 0
-    while time.monotonic() < began + 10:
-        refused.append(ask("PUT", f"/lra/{random.choice(lras)}/cancel")[0])
-        asked = time.monotonic()
-        is_answered = comes_to(20, lambda: ask("GET", "/lra")[0] == 200)
-        slowest = max(slowest, time.monotonic() - asked)
-    check(f"while the disk is full {len(refused)} commands are refused, and questions answered after {slowest:.1f} seconds at most",
-          server.process.poll() is None and set(refused) == {503} and is_answered and slowest < 10, (server.process.poll(), set(refused)))
-
-
-def full_disk(folder):
-    disk = f"{folder}/disk"
-    os.mkdir(disk)
-    if not shutil.which("mount") or subprocess.run(["mount", "-t", "tmpfs", "-o", "size=2m", "lra", disk], stderr=subprocess.DEVNULL).returncode:
-        print("skipped a full disk: this user may not mount a small one")
-        return
-    try:
-        server = Server(1, disk).wait_until_up()
-        overdue = ask("POST", "/lra", {"limit": 5000})[1]["lra"]
-        begun, began = fill(256), time.monotonic()
-        without_room(server, begun)
-        time.sleep(2)
-        subprocess.run(["mount", "-o", "remount,size=64m", disk], check=True)
-        full = time.monotonic() - began
-        is_well = comes_to(30, lambda: ask("POST", "/lra", {})[0] == 201)
-        took = time.monotonic() - began - full
-        check(f"with room again it goes on by itself after {took:.1f} seconds", is_well and took < 10)
-        check("what was answered is there", set(begun) <= set(shown_by()))
-        check("what was overdue meanwhile is cancelled", comes_to(10, lambda: shown_by()[overdue] == "Cancelled"), shown_by()[overdue])
-        status, said = server.end()
-        warned = said.splitlines()
-        is_said = {line.split(": ")[1] for line in warned} <= {"E18 JournalFailed", "E19 Stopped", "its journal can't be opened again yet"}
-        check(f"it warned {len(warned)} times in {full:.0f} seconds, of nothing else", status == 0 and is_said and 0 < len(warned) <= full + 2, (status, said))
-    finally:
-        subprocess.run(["umount", disk], check=True)
-
-
-def is_refused(what, folder, nodes=1, **how):
-    with open(f"{folder}/node-1.db", "rb") as file:
-        before = file.read()
-        server = Server(nodes, folder, **how)
-        server.is_up()
-        ended = server.end()
-        file.seek(0)
-        check(f"{what} is refused, and stays as it is", ended[0] == 1 and ended[1].endswith("\njournal 1\n") and file.read() == before, ended)
-
-
-def wrong_journals(folder):
-    for name in ("own", "pair", "text"):
-        os.mkdir(f"{folder}/{name}")
-    for nodes, name in ((1, "own"), (2, "pair")):
-        server = Server(nodes, f"{folder}/{name}").wait_until_up()
-        ask("POST", "/lra", {}, nodes)
-        server.end()
-    for end in ("", "-wal"):
-        os.replace(f"{folder}/pair/node-2.db{end}", f"{folder}/pair/node-1.db{end}")
-    is_refused("another node's journal", f"{folder}/pair", 2)
-    with open(f"{folder}/text/node-1.db", "w", encoding="utf-8") as file:
-        file.write("This is no database. " * 1000)
-    is_refused("a file that is no database", f"{folder}/text")
-    subprocess.run(["chmod", "-R", "a=rX", folder], check=True)
-    is_refused("a read-only journal", f"{folder}/own", user=NOBODY if os.getuid() == 0 else None)
-    subprocess.run(["chmod", "-R", "u+w", folder], check=True)
-
-
-def end_of(text):
-    """The end of a file; of a log the end of the last frame that has the header's salts, since older ones may stand behind it."""
+def end_of(text: bytes) -> int:
+    """The end of a file; of a log the end of the last frame that has the header's salts, since older ones may stand
+    behind it."""
     if text[:3] != b"\x37\x7f\x06":
         return len(text)
     frame = 24 + int.from_bytes(text[8:12])
     return next(at for at in range(32, len(text) + frame, frame) if text[at + 8:at + 16] != text[16:24])
 
 
-def damage(path, count, how):
+def damage(path: str, count: int, how: str) -> None:
     """Cuts off the last bytes of a file, half of it at most, or writes others there."""
     with open(path, "r+b") as file:
         end = end_of(file.read())
@@ -271,286 +95,370 @@ def damage(path, count, how):
             file.write(bytes(count) if how == "zeros" else random.randbytes(count))
 
 
-def shown_of(folder, file, count, how):
-    """What a journal shows that is damaged so: its LRAs in order, or how the program ends."""
-    copy = f"{folder}/{file} {count} {how}"
-    shutil.copytree(f"{folder}/whole", copy)
-    damage(f"{copy}/{file}", count, how)
-    server = Server(1, copy)
-    if not server.is_up():
-        return server.end()
-    shown = sorted(shown_by())
-    server.kill()
-    return shown
+def reset(line: socket.socket) -> None:
+    """Ends a connection without a goodbye."""
+    line.setsockopt(socket.SOL_SOCKET, socket.SO_LINGER, struct.pack("ii", 1, 0))
+    line.close()
 
 
-def torn(folder):
-    """Damages the last pages of copies of a journal that a kill -9 left."""
-    os.mkdir(f"{folder}/whole")
-    server = Server(1, f"{folder}/whole").wait_until_up()
-    begun = fill(120)
-    server.kill()
-    ways = [(count, how) for count in (1, 4096, 100_000) for how in ("cut off", "zeros", "garbage")]
-    logs = [shown_of(folder, "node-1.db-wal", *way) for way in ways]
-    is_so = all(it == begun[:len(it)] and len(it) >= len(begun) - 7 for it in logs)  # 24 pages, one or more for each of four calls
-    check(f"of {len(begun)} LRAs a torn log loses the last {len(begun) - min(map(len, logs))} at most", is_so, logs)
-    bases = [shown_of(folder, "node-1.db", *way) for way in ways]
-    count = sum(isinstance(it, tuple) and it[0] == 1 and it[1].endswith("\njournal 1\n") for it in bases)
-    check(f"a torn database is refused ({count} of {len(bases)}), or is whole by its log", count + bases.count(begun) == len(bases), bases)
-
-
-def connection(text=b"", room=None):
-    """A connection on which this was sent, with so much room for what comes back."""
-    it = socket.socket()
-    if room:
-        it.setsockopt(socket.SOL_SOCKET, socket.SO_RCVBUF, room)
-    it.connect(("127.0.0.1", PORT))
-    it.sendall(text)
-    return it
-
-
-def reset(it):
-    it.setsockopt(socket.SOL_SOCKET, socket.SO_LINGER, struct.pack("ii", 1, 0))
-    it.close()
-
-
-def answers(what, most):
-    """Others are answered meanwhile."""
-    began = time.monotonic()
-    status = ask("GET", "/lra")[0]
-    took = time.monotonic() - began
-    check(f"{what} others are answered after {took:.2f} seconds", status == 200 and took < most, status)
-
-
-def is_closed(it, until):
-    it.settimeout(max(0.1, until - time.monotonic()))
-    try:
-        return it.recv(1) == b""
-    except TimeoutError:
-        return False
-    except OSError:
-        return True
-
-
-def trickle(slow):
+def trickle(slow: Iterable[socket.socket]) -> None:
     """Sends a byte a second on each connection, until they are closed."""
     for byte in b"GET /lra HTTP/1.1\r\n":
-        for it in slow:
+        for line in slow:
             try:
-                it.send(bytes([byte]))
+                line.send(bytes([byte]))
             except OSError:
                 return
         time.sleep(1)
 
 
-def crowd(folder):
-    most = resource.getrlimit(resource.RLIMIT_NOFILE)[1]
-    resource.setrlimit(resource.RLIMIT_NOFILE, (most, most))
-    server = Server(1, folder).wait_until_up()
-    fill(250)
-    silent = [connection() for _ in range(min(4000, most - 200))]
-    opened = time.monotonic()
-    answers(f"beside {len(silent)} connections that say nothing", 10)
-    for _ in range(200):
-        connection(random.randbytes(2000)).close()
-    answers("behind 200 that sent garbage", 5)
-    for _ in range(200):
-        reset(connection(b"GET /lra HTTP/1.1\r\nHo"))
-    answers("behind 200 that were reset amid a request", 5)
-    unread = [connection(b"POST /peer/pull HTTP/1.1\r\nHost: peer\r\nContent-Length: 9\r\n\r\n\1" + bytes(8), 1) for _ in range(8)]
-    answers(f"beside {len(unread)} that don't read what they asked for", 25)
-    slow = [connection() for _ in range(8)]
-    threading.Thread(target=trickle, args=(slow,), daemon=True).start()
-    time.sleep(0.1)
-    answers(f"beside {len(slow)} that send a byte a second", 15)
-    check("those are closed", all(is_closed(it, time.monotonic() + 15) for it in slow))
-    check("those that say nothing are closed after half a minute", all(is_closed(it, opened + 45) for it in silent))
-    ended = server.end()
-    check("it ends with its input then, and had nothing to say", ended == (0, ""), ended)
-
-
-# A pull with a byte of garbage: it is answered 400, and is one of a run's sixteen.
-GARBAGE = b"POST /peer/pull HTTP/1.1\r\nHost: p\r\nContent-Length: 1\r\n\r\n\x09"
-
-
-def flood(seconds, clients):
-    """So many clients that each send a pull with a byte of garbage, again and again. Half of them wait for the answer."""
+def flood(address: tuple[str, int], seconds: float, clients: int) -> None:
+    """So many clients that each send a pull with a byte of garbage, again and again. Half of them wait for the
+    answer."""
     poll, end = selectors.DefaultSelector(), time.monotonic() + seconds
 
-    def connect(waits):
-        it = socket.socket()
-        it.setblocking(False)
-        it.connect_ex(("127.0.0.1", PORT))
-        poll.register(it, selectors.EVENT_WRITE, waits)
+    def connect(waits: int) -> None:
+        line = socket.socket()
+        line.setblocking(False)
+        line.connect_ex(address)
+        poll.register(line, selectors.EVENT_WRITE, waits)
 
     for i in range(clients):
         connect(i % 2)
     while time.monotonic() < end:
         for key, events in poll.select(0.5):
-            try:
+            line = typing.cast(socket.socket, key.fileobj)
+            with contextlib.suppress(OSError):
                 if events & selectors.EVENT_WRITE:
-                    key.fileobj.send(GARBAGE)
+                    line.send(GARBAGE)
                     if key.data:
-                        poll.modify(key.fileobj, selectors.EVENT_READ, key.data)
+                        poll.modify(line, selectors.EVENT_READ, key.data)
                         continue
                 else:
-                    key.fileobj.recv(512)
-            except OSError:
-                pass
-            poll.unregister(key.fileobj)
-            key.fileobj.close()
+                    line.recv(512)
+            poll.unregister(line)
+            line.close()
             connect(key.data)
 
 
-def halves(until):
+def halves(server: Server, until: float) -> None:
     """Two connections that begin a request and send no more, made anew where they are closed."""
-    open_ones = []
+    open_ones: list[socket.socket] = []
     while time.monotonic() < until:
-        open_ones = [it for it in open_ones if not is_closed(it, time.monotonic())]
-        try:
+        open_ones = [line for line in open_ones if not is_closed(line)]
+        with contextlib.suppress(OSError):
             while len(open_ones) < 2:
-                open_ones.append(connection(b"GET /lra HT"))
-        except OSError:
-            pass
+                open_ones.append(connection(server, b"GET /lra HT"))
         time.sleep(0.05)
 
 
-def slowest_of(until, node=1):
-    """The longest that a question waits, asked again and again until a moment."""
-    slowest = 0
-    while time.monotonic() < until:
-        began = time.monotonic()
-        if ask("GET", "/lra", node=node)[0] != 200:
-            return None
-        slowest = max(slowest, time.monotonic() - began)
-        time.sleep(0.1)
-    return slowest
+def beside_halves(server: Server, seconds: float) -> float:
+    """Has two half requests stand for so long. Until when."""
+    until = time.monotonic() + seconds
+    threading.Thread(target=halves, args=(server, until), daemon=True).start()
+    return until
 
 
-def flooded(folder):
-    """1,500 clients that send garbage as pulls, each of which is one of a run's sixteen, beside two half requests."""
-    server, seconds = Server(2, folder).wait_until_up(), 20
-    floods = [multiprocessing.Process(target=flood, args=(seconds, 500)) for _ in range(3)]
-    threading.Thread(target=halves, args=(time.monotonic() + seconds,), daemon=True).start()
-    for it in floods:
-        it.start()
-    during = slowest_of(time.monotonic() + seconds)
-    for it in floods:
-        it.join()
-    after = slowest_of(time.monotonic() + 2)
-    check(f"amid a flood of pulls another waits {during if during is None else round(during, 2)} seconds at most", during is not None and during < 5)
-    check(f"behind it {after if after is None else round(after, 2)}", after is not None and after < 5)
-    began = time.monotonic()
-    ended = server.end()
-    took = time.monotonic() - began
-    check(f"it ends {took:.1f} seconds behind its input then", ended[0] == 0 and took < 15, ended)
-
-
-def question(text=b"GET /lra HTTP/1.1\r\nHost: h\r\n\r\n"):
+def wait_of(server: Server, text: bytes) -> float:
     """How long it takes until a request is answered whole."""
     began = time.monotonic()
-    with connection(text) as it:
-        while it.recv(4096):
-            pass
+    exchange(server.address(1), text)
     return time.monotonic() - began
 
 
-def changes(folder):
-    """Changes of run beside two half requests: a client that asks amid one waits for it. Each sixteen pulls bring one at least."""
-    server = Server(1, folder).wait_until_up()
-    until, longest = time.monotonic() + 10, []
-    threading.Thread(target=halves, args=(until,), daemon=True).start()
-    while time.monotonic() < until:
-        waits = []
-        for _ in range(16):
-            question(GARBAGE)
-            waits.append(question())
-        longest.append(max(waits))
-    middle = sorted(longest)[len(longest) // 2] * 1000
-    check(f"of {len(longest)} changes of run half cost a client {middle:.1f} ms at most, the worst {max(longest) * 1000:.1f}", middle < 10, middle)
-    server.end()
-
-
-def memory_of(process):
-    """The most memory that a process has had, in MiB."""
-    with open(f"/proc/{process.pid}/status", encoding="utf-8") as it:
-        return next(int(line.split()[1]) for line in it if line.startswith("VmHWM")) / 1024
-
-
-def crowded(folder):
-    """64 LRAs of 32 participants that complete at once, all at one host."""
-    server, part = Server(1, folder).wait_until_up(), Participant()
-    lras = [ask("POST", "/lra", {})[1]["lra"] for _ in range(64)]
-    for lra in lras:
-        for place in range(32):
-            ask("PUT", f"/lra/{lra}/join", part.links(place))
-    began = time.monotonic()
-    for lra in lras:
-        ask("PUT", f"/lra/{lra}/close")
-    slowest, times = 0, []
-    while time.monotonic() < began + 60 and set(shown_by().values()) != {"Closed"}:
-        for lra in random.sample(lras, 8):
-            asked = time.monotonic()
-            ask("GET", f"/lra/{lra}")
-            times.append(time.monotonic() - asked)
-    took, slowest, most = time.monotonic() - began, max(times, default=0), memory_of(server.process)
-    check(f"2,048 participants complete in {took:.1f} seconds", took < 30, took)
-    check(f"{most:.0f} MiB of memory at most meanwhile", most < 64, most)
-    check(f"a status takes {slowest * 1000:.0f} ms at most meanwhile", slowest < 0.05, slowest)
-    server.end()
-
-
-def ask_on(count, codes):
-    """Asks for a page so many times over connections of their own, and notes what isn't answered as it is to be."""
+def ask_on(address: tuple[str, int], lra: str, count: int, wrong: list[str]) -> None:
+    """Asks for a status so many times, and notes what isn't answered as it is to be."""
     for _ in range(count):
-        it = http.client.HTTPConnection("127.0.0.1", PORT, timeout=60)
         try:
-            it.request("GET", "/lra/00000000-0000-8001-8000-000000000001")
-            answer = it.getresponse()
-            text = answer.read()
+            answer = request(address, "GET", f"/lra/{lra}")
             if answer.status != 200:
-                codes.append(text)
+                wrong.append(answer.text)
         except OSError as error:
-            codes.append(repr(error))
-        finally:
-            it.close()
+            wrong.append(repr(error))
 
 
-def many_runs(folder):
-    server, count = Server(1, folder).wait_until_up(), 100_000
-    ask("POST", "/lra", {})
-    with multiprocessing.Manager() as manager:
-        wrong, began = manager.list(), time.monotonic()
-        clients = [multiprocessing.Process(target=ask_on, args=(count // 8, wrong)) for _ in range(8)]
-        for it in clients:
-            it.start()
-        for it in clients:
-            it.join()
-        check(f"{count:,} requests over some hundred runs, {count / (time.monotonic() - began):.0f} a second: each is answered", not wrong, list(wrong)[:5])
-    server.end()
+class TestHostility(checks.Checked):
+    needs = (Server,)
+    takes = "some ten minutes"
+    # How often it is killed.
+    kills = 100
+
+    def answers(self, server: Server, what: str, most: float) -> None:
+        """Others are answered meanwhile."""
+        began = time.monotonic()
+        status = server.ask(1, "GET", "/lra")[0]
+        took = time.monotonic() - began
+        self.check(f"{what} others are answered after {took:.2f} seconds", status == 200 and took < most, status)
+
+    def ends(self, server: Server, what: Callable[[float], str], most: float) -> None:
+        """It ends soon."""
+        began = time.monotonic()
+        ended = server.end()
+        took = time.monotonic() - began
+        self.check(what(took), ended[0] == 0 and took < most, ended)
+
+    def test_crowd(self) -> None:
+        """Clients that are silent, send garbage, are gone, don't read, or are slow."""
+        most = resource.getrlimit(resource.RLIMIT_NOFILE)[1]
+        resource.setrlimit(resource.RLIMIT_NOFILE, (most, most))
+        server = self.server(1).wait_until_up()
+        fill(server, 250, 3)
+        silent = [connection(server) for _ in range(min(4000, most - 200))]
+        opened = time.monotonic()
+        self.answers(server, f"beside {len(silent)} connections that say nothing", 10)
+        for _ in range(200):
+            connection(server, random.randbytes(2000)).close()
+        self.answers(server, "behind 200 that sent garbage", 5)
+        for _ in range(200):
+            reset(connection(server, b"GET /lra HTTP/1.1\r\nHo"))
+        self.answers(server, "behind 200 that were reset amid a request", 5)
+        pull = b"POST /peer/pull HTTP/1.1\r\nHost: peer\r\nContent-Length: 9\r\n\r\n\1" + bytes(8)
+        unread = [connection(server, pull, 1) for _ in range(8)]
+        self.answers(server, f"beside {len(unread)} that don't read what they asked for", 25)
+        slow = [connection(server) for _ in range(8)]
+        threading.Thread(target=trickle, args=(slow,), daemon=True).start()
+        time.sleep(0.1)
+        self.answers(server, f"beside {len(slow)} that send a byte a second", 15)
+        self.check("those are closed", all(is_closed(line, time.monotonic() + 15) for line in slow))
+        are_closed = all(is_closed(line, opened + 45) for line in silent)
+        self.check("those that say nothing are closed after half a minute", are_closed)
+        ended = server.end()
+        self.check("it ends with its input then, and had nothing to say", ended == (0, ""), ended)
+
+    def is_refused(self, what: str, folder: str, nodes: int = 1, user: int | None = None) -> None:
+        """A journal with which it doesn't start."""
+        with open(f"{folder}/node-1.db", "rb") as file:
+            before = file.read()
+            server = self.server(nodes, folder, user=user)
+            server.is_up()
+            ended = server.end()
+            file.seek(0)
+            is_so = ended[0] == 1 and ended[1].endswith(JOURNAL) and file.read() == before
+        self.check(f"{what} is refused, and stays as it is", is_so, ended)
+
+    def test_wrong_journals(self) -> None:
+        """Journals that are another node's, none, or may not be written."""
+        own, pair, text = (self.folder_in(name) for name in ("own", "pair", "text"))
+        for nodes, folder in ((1, own), (2, pair)):
+            server = self.server(nodes, folder).wait_until_up()
+            server.begin(nodes)
+            server.end()
+        for end in ("", "-wal"):
+            os.replace(f"{pair}/node-2.db{end}", f"{pair}/node-1.db{end}")
+        self.is_refused("another node's journal", pair, 2)
+        with open(f"{text}/node-1.db", "w", encoding="utf-8") as file:
+            file.write("This is no database. " * 1000)
+        self.is_refused("a file that is no database", text)
+        subprocess.run(["chmod", "-R", "a=rX", self.folder], check=True)
+        self.is_refused("a read-only journal", own, user=NOBODY if os.getuid() == 0 else None)
+        subprocess.run(["chmod", "-R", "u+w", self.folder], check=True)
+
+    def shown_of(self, file: str, count: int, how: str) -> list[str] | tuple[int, str]:
+        """What a journal shows that is damaged so: its LRAs in order, or how the program ends."""
+        copy = f"{self.folder}/{file} {count} {how}"
+        shutil.copytree(f"{self.folder}/whole", copy)
+        damage(f"{copy}/{file}", count, how)
+        server = self.server(1, copy)
+        if not server.is_up():
+            return server.end()
+        shown = sorted(server.shown())
+        server.kill()
+        return shown
+
+    def test_torn(self) -> None:
+        """Damages the last pages of copies of a journal that a kill -9 left."""
+        server = self.server(1, self.folder_in("whole")).wait_until_up()
+        begun = fill(server, 120, 3)
+        server.kill()
+        ways = [(count, how) for count in (1, 4096, 100_000) for how in ("cut off", "zeros", "garbage")]
+        logs = [self.shown_of("node-1.db-wal", *way) for way in ways]
+        # 24 pages, one or more for each of four calls
+        is_so = all(shown == begun[:len(shown)] and len(shown) >= len(begun) - 7 for shown in logs)
+        lost_ones = len(begun) - min(map(len, logs))
+        self.check(f"of {len(begun)} LRAs a torn log loses the last {lost_ones} at most", is_so, logs)
+        bases = [self.shown_of("node-1.db", *way) for way in ways]
+        count = sum(isinstance(shown, tuple) and shown[0] == 1 and shown[1].endswith(JOURNAL) for shown in bases)
+        what = f"a torn database is refused ({count} of {len(bases)}), or is whole by its log"
+        self.check(what, count + bases.count(begun) == len(bases), bases)
+
+    def without_room(self, server: Server, lras: list[str]) -> None:
+        """What holds while the disk is full: the program lives, commands are refused, and questions are answered once
+        the journal is open."""
+        began, refused, slowest = time.monotonic(), [], 0.0
+        while time.monotonic() < began + 10:
+            refused.append(server.finish(1, random.choice(lras), "cancel"))
+            asked = time.monotonic()
+            is_answered = comes_to(20, lambda: server.ask(1, "GET", "/lra")[0] == 200)
+            slowest = max(slowest, time.monotonic() - asked)
+        what = f"while the disk is full {len(refused)} commands are refused"
+        what += f", and questions answered after {slowest:.1f} seconds at most"
+        is_so = server.is_running() and set(refused) == {503} and is_answered and slowest < 10
+        self.check(what, is_so, (server.process.poll(), set(refused)))
+
+    def test_full_disk(self) -> None:
+        """A disk that fills up under load, and has room again."""
+        disk = small_disk(self, "2m")
+        server = self.server(1, disk).wait_until_up()
+        overdue = server.begin(1, limit=5000)
+        begun, began = fill(server, 256, 3), time.monotonic()
+        self.without_room(server, begun)
+        time.sleep(2)
+        larger(disk)
+        full = time.monotonic() - began
+        is_well = comes_to(30, lambda: server.ask(1, "POST", "/lra", {})[0] == 201)
+        took = time.monotonic() - began - full
+        self.check(f"with room again it goes on by itself after {took:.1f} seconds", is_well and took < 10)
+        self.check("what was answered is there", set(begun) <= set(server.shown()))
+        is_over = comes_to(10, lambda: server.shown()[overdue] == "Cancelled")
+        self.check("what was overdue meanwhile is cancelled", is_over, server.shown()[overdue])
+        status, text = server.end()
+        lines = text.splitlines()
+        is_so = status == 0 and {line.split(": ")[1] for line in lines} <= OF_DISK and 0 < len(lines) <= full + 2
+        self.check(f"it warned {len(lines)} times in {full:.0f} seconds, of nothing else", is_so, (status, text))
+
+    def test_flooded(self) -> None:
+        """1,500 clients that send garbage as pulls, each of which is one of a run's sixteen, beside two half
+        requests."""
+        server, seconds = self.server(2).wait_until_up(), 20
+        given = server.address(1), seconds, 500
+        floods = [multiprocessing.Process(target=flood, args=given) for _ in range(3)]
+        until = beside_halves(server, seconds)
+        for one in floods:
+            one.start()
+        during = slowest_page(server, lambda: time.monotonic() >= until, 0.1)
+        for one in floods:
+            one.join()
+        behind = time.monotonic() + 2
+        after = slowest_page(server, lambda: time.monotonic() >= behind, 0.1)
+        self.check(f"amid a flood of pulls another waits {during:.2f} seconds at most", during < 5)
+        self.check(f"behind it {after:.2f}", after < 5)
+        self.ends(server, lambda took: f"it ends {took:.1f} seconds behind its input then", 15)
+
+    def test_changes(self) -> None:
+        """Changes of run beside two half requests: a client that asks amid one waits for it. Each sixteen pulls bring
+        one at least."""
+        server = self.server(1).wait_until_up()
+        until, longest = beside_halves(server, 10), []
+        while time.monotonic() < until:
+            waits = []
+            for _ in range(16):
+                wait_of(server, GARBAGE)
+                waits.append(wait_of(server, b"GET /lra HTTP/1.1\r\nHost: h\r\n\r\n"))
+            longest.append(max(waits))
+        middle, worst = sorted(longest)[len(longest) // 2] * 1000, max(longest) * 1000
+        what = f"of {len(longest)} changes of run half cost a client {middle:.1f} ms at most, the worst {worst:.1f}"
+        self.check(what, middle < 10, middle)
+        server.end()
+
+    def test_crowded(self) -> None:
+        """64 LRAs of 32 participants that complete at once, all at one host."""
+        server, part = self.server(1).wait_until_up(), self.participant()
+        lras = [server.begin(1) for _ in range(64)]
+        for lra in lras:
+            for place in range(32):
+                server.join(1, lra, **links_of(part, place))
+        began = time.monotonic()
+        for lra in lras:
+            server.finish(1, lra)
+        times = []
+        while time.monotonic() < began + 60 and set(server.shown().values()) != {"Closed"}:
+            for lra in random.sample(lras, 8):
+                asked = time.monotonic()
+                server.status(1, lra)
+                times.append(time.monotonic() - asked)
+        took, slowest, most = time.monotonic() - began, max(times, default=0), memory_of(server.process)
+        self.check(f"2,048 participants complete in {took:.1f} seconds", took < 30, took)
+        self.check(f"{most:.0f} MiB of memory at most meanwhile", most < 64, most)
+        self.check(f"a status takes {slowest * 1000:.0f} ms at most meanwhile", slowest < 0.05, slowest)
+        server.end()
+
+    def test_many_runs(self) -> None:
+        """Requests over some hundred runs."""
+        server, count = self.server(1).wait_until_up(), 100_000
+        lra = server.begin(1)
+        with multiprocessing.Manager() as manager:
+            wrong, began = manager.list(), time.monotonic()
+            given = server.address(1), lra, count // 8, wrong
+            clients = [multiprocessing.Process(target=ask_on, args=given) for _ in range(8)]
+            for client in clients:
+                client.start()
+            for client in clients:
+                client.join()
+            rate = count / (time.monotonic() - began)
+            what = f"{count:,} requests over some hundred runs, {rate:.0f} a second: each is answered"
+            self.check(what, not wrong, list(wrong)[:5])
+        server.end()
+
+    def test_dead_addresses(self) -> None:
+        """Participants at an address that nobody has: the program's end waits for no connection."""
+        server = self.server(1).wait_until_up()
+        for host in ("10.255.255.1", "192.0.2.1", "198.51.100.1", "203.0.113.1"):
+            lra = server.begin(1)
+            server.join(1, lra, compensate=f"http://{host}:81/c")
+            server.finish(1, lra, "cancel")
+        time.sleep(1)
+        self.ends(server, lambda took: f"beside calls to dead addresses it ends after {took:.1f} seconds", 5)
+
+    def killed(self, turn: int, part: Participant, bad: dict[str, list], counts: collections.Counter[str]) -> bool:
+        """Kills it once under load, and looks what is there then. Whether it starts again."""
+        noted: Notes = {}
+        server = self.server(NODES)
+        if turn % 5 == 4:  # killed while it starts, too
+            time.sleep(random.uniform(0, 0.05))
+            server.kill()
+            server = self.server(NODES)
+        server.is_up()
+        threads = under_load(server, part, noted)
+        server.kill()
+        for thread in threads:
+            thread.join()
+        server = self.server(NODES)
+        if not server.is_up():
+            bad["start"].append(server.end())
+            return False
+        bad["lost"] += lost(server, noted)
+        ended = settle(server)
+        bad["end"] += [(lra, status) for lra, status in ended.items() if status not in ENDED]
+        bad["order"] += misled(part, noted, ended)
+        is_looked_at = turn % 10 == 9 or turn == self.kills - 1
+        if is_looked_at and not comes_to(30, lambda: all(server.shown(node) == ended for node in HOMES)):
+            bad["agree"].append([server.shown(node) for node in HOMES])
+        counts["begins"] += len(noted)
+        counts["joins"] += sum(len(one.members) for one in noted.values())
+        counts["decisions"] += sum(one.is_decided for one in noted.values())
+        counts["calls"] += len(part.calls)
+        for lra in ended:
+            server.purge(home_of(lra), lra)
+        part.calls.clear()
+        server.kill()
+        return True
+
+    def test_kills(self) -> None:
+        """It is killed under load again and again: nothing answered is lost."""
+        part, counts = self.participant(), collections.Counter[str]()
+        bad: dict[str, list] = {"start": [], "lost": [], "end": [], "order": [], "agree": []}
+        for turn in range(self.kills):
+            if not self.killed(turn, part, bad, counts):
+                break
+        self.check(f"killed {self.kills} times under load it starts again each time", not bad["start"], bad["start"])
+        what = f"{counts['begins']} begins, {counts['joins']} joins and {counts['decisions']} decisions"
+        self.check(f"{what} that were answered are there", not bad["lost"], bad["lost"][:5])
+        self.check("all LRAs come to their ends", not bad["end"], bad["end"][:5])
+        self.check(f"in {counts['calls']} calls all completed, or compensated last to first", not bad["order"],
+                   bad["order"][:5])
+        self.check("all nodes agree then", not bad["agree"], bad["agree"][:1])
 
 
-def dead_addresses(folder):
-    """Participants at an address that nobody has: the program's end waits for no connection."""
-    server = Server(1, folder).wait_until_up()
-    for host in ("10.255.255.1", "192.0.2.1", "198.51.100.1", "203.0.113.1"):
-        lra = ask("POST", "/lra", {})[1]["lra"]
-        ask("PUT", f"/lra/{lra}/join", {"compensate": f"http://{host}:81/c"})
-        ask("PUT", f"/lra/{lra}/cancel")
-    time.sleep(1)
-    began = time.monotonic()
-    ended = server.end()
-    took = time.monotonic() - began
-    check(f"beside calls to dead addresses it ends after {took:.1f} seconds", ended[0] == 0 and took < 5, ended)
+def main() -> int:
+    words = checks.words_of(TestHostility)
+    for word in sys.argv[1:]:
+        if word.isdecimal():
+            TestHostility.kills = int(word)
+        elif word not in words:
+            Server.program = unproved.program_of(word)
+    checks.need(Server)
+    return checks.run(TestHostility, words=[word for word in sys.argv[1:] if word in words])
 
 
-def main():
-    if len(sys.argv) > 2:
-        Server.program = unproved.program_of(sys.argv[2])
-    for test in (crowd, wrong_journals, torn, full_disk, flooded, changes, crowded, many_runs, dead_addresses, kills):
-        with tempfile.TemporaryDirectory() as folder:
-            test(folder)
-    finish()
-
-
-main()
+if __name__ == "__main__":
+    sys.exit(main())

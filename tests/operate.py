@@ -1,353 +1,404 @@
 #!/usr/bin/env python3
 """Tests the operator's port, as who is on call meets it: python3 tests/operate.py [PROGRAM] [TEST..].
 
-PROGRAM is crates/lra_member/out/lra_member, or --unproved (demo/unproved.py). A TEST is one of paths, records, stuck, dead, metrics, ready,
-slow and cost; without one it does all, some two minutes. Each check prints a line; the status is 1 where one fails. Standard library
-alone."""
-import http.client
-import json
+PROGRAM is crates/lra_member/out/lra_member, or --unproved (tools/unproved.py). A TEST is one of paths, records, stuck,
+dead, metrics, ready, slow and cost; without one it does all, some two minutes. Each check prints a line; the status is
+1 where one fails. Standard library alone."""
 import os
 import socket
 import sys
-import tempfile
 import threading
 import time
+from collections.abc import Iterable
 
-from coordinator import check, comes_to, finish
-from group import SLOW, Group, Participant, ports
-import metrics
-import shapes
-import unproved
+sys.path.insert(0, os.path.dirname(os.path.dirname(os.path.abspath(__file__))))
+from tools import checks, metrics, shapes, unproved
+from tools.node import SLOW, Answer, Group, Json, comes_to, request
+from tools.ports import HOST, free_row
 
 LAST = "00000000-0000-8008-8000-ffffffffffff"
+UNKNOWN = LAST.replace("8008", "8001")
 BAD = "{\"refused\":\"E1 BadText\"}"
+# Queries that break their grammar, beside those of one LRA.
+BAD_QUERIES = ("after=x", "status=Ended", "status=", "x=1", "")
+# Samples by name and labels, but for the node's.
+Samples = dict[tuple[str, ...], float]
 
 
 class Operated(Group):
     """A group whose nodes have a port for operators each."""
 
-    def __init__(self, count, folder, *said):
-        super().__init__(count, folder, *said)
-        self.doors = ports(count)
+    def __init__(self, count: int, folder: str, *options: str) -> None:
+        super().__init__(count, folder, *options)
+        self.doors = free_row(count)
 
-    def run(self, number, said=None, word=None):
-        words = [*(self.said if said is None else said)]
-        super().run(number, [f"operate=127.0.0.1:{self.doors[number - 1]}", *words], word)
+    def run(self, number: int, options: Iterable[str] | None = None, word: str | None = None) -> None:
+        given = self.options if options is None else options
+        super().run(number, [f"operate={HOST}:{self.doors[number - 1]}", *given], word)
 
-    def at(self, node, path, method="GET", body=None, timeout=SLOW):
-        """The status, the fields and the text of an answer at a node's port for operators."""
-        connection = http.client.HTTPConnection("127.0.0.1", self.doors[node - 1], timeout=timeout)
-        try:
-            connection.request(method, path, body)
-            answer = connection.getresponse()
-            return answer.status, dict(answer.getheaders()), answer.read().decode()
-        finally:
-            connection.close()
+    def at(self, node: int, path: str, method: str = "GET") -> Answer:
+        """An answer at a node's port for operators."""
+        return request((HOST, self.doors[node - 1]), method, path)
 
-    def told(self, node, path, method="GET", body=None):
-        status, _fields, text = self.at(node, path, method, body)
-        return status, json.loads(text) if text else None
+    def told(self, node: int, path: str, method: str = "GET") -> tuple[int, Json]:
+        """The status and the JSON of such an answer."""
+        answer = self.at(node, path, method)
+        return answer.status, answer.json()
 
-    def samples(self, node):
-        """The counts, by name and labels but the node's."""
-        text = self.at(node, "/metrics")[2]
+    def calls(self, node: int) -> list[Json]:
+        """The calls that a node makes in vain."""
+        return self.told(node, "/calls")[1]["calls"]
+
+    def record(self, node: int, lra: str) -> Json:
+        """All that a node holds of an LRA."""
+        return self.told(node, f"/lra/{lra}")[1]
+
+    def refused(self, node: int, path: str, method: str = "GET") -> tuple[int, str]:
+        """The status and the text of such an answer."""
+        answer = self.at(node, path, method)
+        return answer.status, answer.text
+
+    def samples(self, node: int) -> Samples:
+        """The counts of a node."""
+        found = metrics.samples(self.at(node, "/metrics").text)
         return {(name, *sorted(f"{key}={value}" for key, value in labels.items() if key != "node")): value
-                for name, rows in metrics.read(text).items() for labels, value in rows}
+                for name, rows in found.items() for labels, value in rows}
 
-    def all_of(self, node, path):
+    def all_of(self, node: int, path: str) -> list[Json]:
         """All rows of a list, page by page."""
-        rows, after = [], None
+        rows: list[Json] = []
+        after = None
         while True:
             status, page = self.told(node, path + (f"?after={after}" if after else ""))
             if status != 200:
-                raise SystemExit(f"{path}: {status} {page}")
+                raise AssertionError(f"{path}: {status} {page}")
             rows += page["lras"]
             after = page["next"]
             if not after:
                 return rows
 
-
-def row(lra, status, members=0, parent=None, deadline=None):
-    return {"lra": lra, "status": status, "parent": parent, "members": members, "deadline": deadline}
-
-
-def paths(folder):
-    """Each path, what is no path, and what the interface has."""
-    group = Operated(2, folder).start()
-    check("it says where it listens", f"node 1: listens for operators on 127.0.0.1:{group.doors[0]}" in whole_log(group, 1), whole_log(group, 1))
-    check("health", group.told(1, "/health") == (200, {"node": 1, "nodes": 2}))
-    check("ready", comes_to(SLOW, lambda: group.told(1, "/ready") == (200, {"ready": True})))
-    status, fields, text = group.at(1, "/")
-    check("the page", status == 200 and fields["Content-Type"] == "text/html; charset=utf-8" and fields["X-Frame-Options"] == "DENY" and text.startswith("<!doctype html>") and len(text) > 10_000)
-    check("no calls in vain", group.told(1, "/calls") == (200, {"calls": []}))
-    check("no LRAs", group.told(1, "/lras") == (200, {"lras": [], "next": None}))
-    one, two = group.begin(1), group.begin(2)
-    group.all_come_to(one, "Active", (1, 2))
-    group.all_come_to(two, "Active", (1, 2))
-    nested = group.begin(1, {"parent": one})
-    group.all_come_to(nested, "Active", (1, 2))
-    rows = [row(one, "Active", 1), row(nested, "Active", 0, one), row(two, "Active")]
-    for node in (1, 2):
-        check(f"node {node} lists all", group.all_of(node, "/lras") == rows, group.all_of(node, "/lras"))
-        check(f"node {node} lists the roots", group.all_of(node, "/roots") == [rows[0], rows[2]])
-    check("beyond one", group.told(1, f"/lras?after={one}") == (200, {"lras": rows[1:], "next": None}))
-    check("of a status", group.told(1, "/roots?status=Active") == (200, {"lras": [rows[0], rows[2]], "next": None}))
-    check("of another", group.told(1, "/lras?status=Closed") == (200, {"lras": [], "next": None}))
-    check("both", group.told(1, f"/lras?after={one}&status=Active") == (200, {"lras": rows[1:], "next": None}))
-    for query in ("after=x", "status=Ended", "status=", f"status=Active&after={one}", f"after={one}&status=x", "x=1", "", f"after={one}&"):
-        check(f"a query that breaks its grammar: {query}", group.at(1, f"/lras?{query}")[::2] == (400, BAD), group.at(1, f"/lras?{query}"))
-    for path in ("/lra/x", "/lra/00000000-0000-8001-8000-00000000000g"):
-        check(f"an id that is none: {path}", group.at(1, path)[::2] == (400, BAD))
-    for path in (f"/lra/{one}/member/0/forgot", f"/lra/{one}/member/33/told", "/lra/x/member/1/told"):
-        check(f"a member that is none: {path}", group.at(1, path, "PUT")[::2] == (400, BAD))
-    check("an LRA that isn't known", group.told(1, "/lra/" + LAST.replace("8008", "8001")) == (404, {"refused": "E2 UnknownLra"}))
-    for method, path in (("GET", "/none"), ("POST", "/health"), ("PUT", "/roots"), ("PUT", f"/lra/{one}/member/1/told/"), ("DELETE", "/")):
-        check(f"no such path: {method} {path}", group.told(1, path, method) == (404, {"refused": "NoPath"}), group.told(1, path, method))
-    check("a method that the interface hasn't", group.at(1, f"/lra/{one}", "POST")[0] == 405)
-    check("the interface: begin", group.told(1, "/lra", "POST")[0] == 201)
-    check("the interface: close", group.told(1, f"/lra/{nested}/close", "PUT") == (200, {"lra": nested, "status": "Closed"}))
-    check("the interface: a purge", group.told(1, f"/lra/{nested}", "DELETE") == (409, {"refused": "E9 NotRoot"}))
-    check("each answer is as operate.json has it", compared(group, 1) == [], compared(group, 1))
-    check("it ends", group.end() == [0, 0])
+    def strange_shapes(self, node: int) -> list[str]:
+        """What of a node's answers isn't as docs/operate.json has it."""
+        return shapes.compare(f"http://{HOST}:{self.doors[node - 1]}")
 
 
-def whole_log(group, number):
-    with open(f"{group.folder}/{number}.log", encoding="utf-8") as file:
-        return file.read()
+def listed(lra: str, status: str, members: int = 0, parent: str | None = None) -> Json:
+    """An LRA as a list has it."""
+    return {"lra": lra, "status": status, "parent": parent, "members": members, "deadline": None}
 
 
-def compared(group, node):
-    """What of a node's answers isn't as docs/operate.json has it."""
-    text, said = shapes.operate(), []
-    for path in ("/health", "/ready", "/calls", "/lras", "/roots"):
-        answer = text["paths"][path]["get"]["responses"]["200"]["content"]["application/json"]["schema"]
-        said += shapes.differences(text, answer, group.told(node, path)[1], path)
-    schema = text["paths"]["/lra/{id}"]["get"]["responses"]["200"]["content"]["application/json"]["schema"]
-    for one in group.all_of(node, "/lras"):
-        said += shapes.differences(text, schema, group.told(node, f"/lra/{one['lra']}")[1], one["lra"])
-    return said
+def gone_link() -> str:
+    """A link at which nobody listens."""
+    return f"http://{HOST}:{free_row(1)[0]}/gone"
 
 
-def records(folder):
-    """All that is held of an LRA: members of each kind, what was heard of them, and what a purge would be answered."""
-    group, part = Operated(2, folder).start(), Participant()
-    lra = group.begin(1)
-    group.join(1, lra, compensate=f"{part.url}/c?a=\\b", complete=f"{part.url}/k", after=f"{part.url}/a")
-    nested = group.begin(1, {"parent": lra})
-    group.join(1, lra, compensate=f"{part.url}/x")
-    group.ask(1, "PUT", f"/lra/{lra}/member/3/leave")
-    links = {"compensate": f"{part.url}/c?a=\\b", "complete": f"{part.url}/k", "status": None, "forget": None, "after": f"{part.url}/a"}
-    member = {"member": 1, "kind": "participant", "status": "Active", "links": links, "completed": None, "compensated": None, "forgotten": False, "told": False}
-    members = [member, {"member": 2, "kind": "lra", "lra": nested}, {"member": 3, "kind": "left"}]
-    whole = {"lra": lra, "status": "Active", "parent": None, "deadline": None, "decision": None, "purge": "E8 NotEnded Active", "members": members}
-    check("an active one", group.told(1, f"/lra/{lra}") == (200, whole), group.told(1, f"/lra/{lra}"))
-    there = {**whole, "purge": "E4 NotHome 1"}
-    check("by another node", comes_to(SLOW, lambda: group.told(2, f"/lra/{lra}") == (200, there)), group.told(2, f"/lra/{lra}"))
-    check("a nested one", group.told(1, f"/lra/{nested}")[1] == {**whole, "lra": nested, "parent": lra, "purge": "E9 NotRoot", "members": []})
-    group.finish(1, lra)
-    done = {**member, "status": "Completed", "completed": "done", "told": True}
-    ended = {**whole, "status": "Closed", "decision": "close", "purge": "due", "members": [done, *members[1:]]}
-    check("a closed one", comes_to(SLOW, lambda: group.told(1, f"/lra/{lra}") == (200, ended)), group.told(1, f"/lra/{lra}"))
-    limited = group.ask(1, "POST", "/lra", {"limit": 600_000})[1]["lra"]
-    deadline = group.told(1, f"/lra/{limited}")[1]["deadline"]
-    check("a deadline", abs(deadline / 1000 - time.time() - 600) < 60, deadline)
-    check("each answer is as operate.json has it", compared(group, 1) == [], compared(group, 1))
-    check("purged", group.at(1, f"/lra/{lra}", "DELETE")[0] == 204 and group.told(1, f"/lra/{lra}") == (410, {"refused": "E3 NotHeld"}))
-    group.end()
+class TestOperators(checks.Checked):
+    needs = (Group,)
+
+    def operated(self, count: int, *options: str) -> Operated:
+        return self.group(count, *options, kind=Operated)
+
+    def are_shaped(self, group: Operated) -> None:
+        wrong = group.strange_shapes(1)
+        self.check("each answer is as operate.json has it", not wrong, wrong)
+
+    def test_paths(self) -> None:
+        """Each path, what is no path, and what the interface has."""
+        group = self.operated(2).start()
+        line = f"node 1: listens for operators on 127.0.0.1:{group.doors[0]}"
+        self.check("it says where it listens", line in group.whole_log(1), group.whole_log(1))
+        self.check("health", group.told(1, "/health") == (200, {"node": 1, "nodes": 2}))
+        self.check("ready", comes_to(SLOW, lambda: group.told(1, "/ready") == (200, {"ready": True})))
+        page = group.at(1, "/")
+        is_html = page.fields["Content-Type"] == "text/html; charset=utf-8" and page.fields["X-Frame-Options"] == "DENY"
+        is_whole = page.text.startswith("<!doctype html>") and len(page.text) > 10_000
+        self.check("the page", page.status == 200 and is_html and is_whole, page.fields)
+        self.check("no calls in vain", group.told(1, "/calls") == (200, {"calls": []}))
+        self.check("no LRAs", group.told(1, "/lras") == (200, {"lras": [], "next": None}))
+        one, two = group.begin(1), group.begin(2)
+        group.all_come_to(one, "Active", (1, 2))
+        group.all_come_to(two, "Active", (1, 2))
+        nested = group.begin(1, parent=one)
+        group.all_come_to(nested, "Active", (1, 2))
+        rows = [listed(one, "Active", 1), listed(nested, "Active", 0, one), listed(two, "Active")]
+        for node in (1, 2):
+            self.check(f"node {node} lists all", group.all_of(node, "/lras") == rows, group.all_of(node, "/lras"))
+            self.check(f"node {node} lists the roots", group.all_of(node, "/roots") == [rows[0], rows[2]])
+        self.check("beyond one", group.told(1, f"/lras?after={one}") == (200, {"lras": rows[1:], "next": None}))
+        self.check("of a status",
+                   group.told(1, "/roots?status=Active") == (200, {"lras": [rows[0], rows[2]], "next": None}))
+        self.check("of another", group.told(1, "/lras?status=Closed") == (200, {"lras": [], "next": None}))
+        self.check("both", group.told(1, f"/lras?after={one}&status=Active") == (200, {"lras": rows[1:], "next": None}))
+        self.refuses(group, one)
+        self.check("a method that the interface hasn't", group.at(1, f"/lra/{one}", "POST").status == 405)
+        self.check("the interface: begin", group.told(1, "/lra", "POST")[0] == 201)
+        self.check("the interface: close",
+                   group.told(1, f"/lra/{nested}/close", "PUT") == (200, {"lra": nested, "status": "Closed"}))
+        self.check("the interface: a purge",
+                   group.told(1, f"/lra/{nested}", "DELETE") == (409, {"refused": "E9 NotRoot"}))
+        self.are_shaped(group)
+        self.check("it ends", group.end() == [0, 0])
+
+    def refuses(self, group: Operated, one: str) -> None:
+        """What is no query, no id, no member and no path."""
+        for query in (*BAD_QUERIES, f"status=Active&after={one}", f"after={one}&status=x", f"after={one}&"):
+            seen = group.refused(1, f"/lras?{query}")
+            self.check(f"a query that breaks its grammar: {query}", seen == (400, BAD), seen)
+        for path in ("/lra/x", "/lra/00000000-0000-8001-8000-00000000000g"):
+            self.check(f"an id that is none: {path}", group.refused(1, path) == (400, BAD))
+        for path in (f"/lra/{one}/member/0/forgot", f"/lra/{one}/member/33/told", "/lra/x/member/1/told"):
+            self.check(f"a member that is none: {path}", group.refused(1, path, "PUT") == (400, BAD))
+        seen = group.told(1, f"/lra/{UNKNOWN}")
+        self.check("an LRA that isn't known", seen == (404, {"refused": "E2 UnknownLra"}), seen)
+        of_member = f"/lra/{one}/member/1/told/"
+        others = (("GET", "/none"), ("POST", "/health"), ("PUT", "/roots"), ("PUT", of_member), ("DELETE", "/"))
+        for method, path in others:
+            seen = group.told(1, path, method)
+            self.check(f"no such path: {method} {path}", seen == (404, {"refused": "NoPath"}), seen)
+
+    def test_records(self) -> None:
+        """All that is held of an LRA: members of each kind, what was heard of them, and what a purge would be
+        answered."""
+        group, part = self.operated(2).start(), self.participant()
+        lra = group.begin(1)
+        group.join(1, lra, compensate=f"{part.url}/c?a=\\b", complete=f"{part.url}/k", after=f"{part.url}/a")
+        nested = group.begin(1, parent=lra)
+        group.join(1, lra, compensate=f"{part.url}/x")
+        group.ask(1, "PUT", f"/lra/{lra}/member/3/leave")
+        links: Json = {"compensate": f"{part.url}/c?a=\\b", "complete": f"{part.url}/k", "status": None, "forget": None,
+                 "after": f"{part.url}/a"}
+        member: Json = {"member": 1, "kind": "participant", "status": "Active", "links": links, "completed": None,
+                  "compensated": None, "forgotten": False, "told": False}
+        members = [member, {"member": 2, "kind": "lra", "lra": nested}, {"member": 3, "kind": "left"}]
+        whole: Json = {"lra": lra, "status": "Active", "parent": None, "deadline": None, "decision": None,
+                 "purge": "E8 NotEnded Active", "members": members}
+        self.check("an active one", group.told(1, f"/lra/{lra}") == (200, whole), group.told(1, f"/lra/{lra}"))
+        there = {**whole, "purge": "E4 NotHome 1"}
+        self.check("by another node", comes_to(SLOW, lambda: group.told(2, f"/lra/{lra}") == (200, there)),
+                   group.told(2, f"/lra/{lra}"))
+        inside = {**whole, "lra": nested, "parent": lra, "purge": "E9 NotRoot", "members": []}
+        self.check("a nested one", group.record(1, nested) == inside)
+        group.finish(1, lra)
+        done = {**member, "status": "Completed", "completed": "done", "told": True}
+        ended = {**whole, "status": "Closed", "decision": "close", "purge": "due", "members": [done, *members[1:]]}
+        self.check("a closed one", comes_to(SLOW, lambda: group.told(1, f"/lra/{lra}") == (200, ended)),
+                   group.told(1, f"/lra/{lra}"))
+        limited = group.begin(1, limit=600_000)
+        deadline = group.record(1, limited)["deadline"]
+        self.check("a deadline", abs(deadline / 1000 - time.time() - 600) < 60, deadline)
+        self.are_shaped(group)
+        is_purged = group.at(1, f"/lra/{lra}", "DELETE").status == 204
+        self.check("purged", is_purged and group.told(1, f"/lra/{lra}") == (410, {"refused": "E3 NotHeld"}))
+        group.end()
+
+    def test_stuck(self) -> None:
+        """Who is called in vain, for what, where, how often, since when and with what answer."""
+        group, part = self.operated(2).start(), self.participant()
+        gone = gone_link()
+        part.answers["/busy"] = 503
+        lra = group.begin(1)
+        group.join(1, lra, compensate=gone)
+        group.join(1, lra, compensate=f"{part.url}/busy")
+        group.finish(1, lra, "cancel")
+        calls: list[Json] = []
+
+        def is_called() -> bool:
+            calls[:] = group.calls(1)
+            return len(calls) == 1 and calls[0]["times"] >= 3
+
+        self.check("the last to join is called in vain", comes_to(SLOW, is_called), calls)
+        one = calls[0]
+        seen = one["lra"], one["member"], one["kind"], one["link"], one["came"]
+        wanted = lra, 2, "compensate", f"{part.url}/busy", "503"
+        self.check("for what, where, and with what answer", seen == wanted, one)
+        self.check("since when, and when again",
+                   0 <= one["since"] < SLOW and (one["next"] is None or 0 <= one["next"] <= 30), one)
+        samples = group.samples(1)
+        again = samples[("lra_callbacks_total", "heard=again", "kind=compensate")]
+        self.check("it is counted", samples[("lra_callbacks_vain",)] == 1 and again >= 3, samples)
+        self.check("another node calls nobody", group.calls(2) == [])
+        part.answers["/busy"] = 200
+        self.check("once it answers, the next is",
+                   comes_to(SLOW, lambda: [call["member"] for call in group.calls(1)] == [1]),
+                   group.calls(1))
+        one = group.calls(1)[0]
+        self.check("which can't be reached", (one["link"], one["came"]) == (gone, "no connection"), one)
+        group.ask(2, "PUT", f"/lra/{lra}/member/1/report", {"act": "compensate", "outcome": "failed"})
+        self.check("a report ends that", comes_to(SLOW, lambda: group.calls(1) == []),
+                   group.calls(1))
+        self.check("and the LRA shows it",
+                   comes_to(SLOW, lambda: group.record(1, lra)["status"] == "FailedToCancel"))
+        group.end()
+
+    def test_dead(self) -> None:
+        """A forget and a listener that are gone for good."""
+        group = self.operated(2).start()
+        gone = gone_link()
+        part = self.participant()
+        part.answers["/c"] = 409
+        lra = group.begin(1)
+        group.join(1, lra, compensate=f"{part.url}/c", forget=gone, after=gone)
+        self.check("before it ends nothing is to be said",
+                   group.told(1, f"/lra/{lra}/member/1/forgot", "PUT")[0] == 409)
+        group.finish(1, lra, "cancel")
+        self.check("it fails", comes_to(SLOW, lambda: group.record(1, lra)["status"] == "FailedToCancel"))
+        self.check("a purge waits for the forget",
+                   group.record(1, lra)["purge"].startswith("E10 StillToForget"),
+                   group.told(1, f"/lra/{lra}"))
+        self.check("it is refused", group.at(1, f"/lra/{lra}", "DELETE").status == 409)
+        self.check("an operator says that it forgot", group.at(1, f"/lra/{lra}/member/1/forgot", "PUT").status == 204)
+        self.check("then it waits for the listener",
+                   group.record(1, lra)["purge"].startswith("E24 StillToTell"), group.told(1, f"/lra/{lra}"))
+        self.check("an operator says that it was told", group.at(1, f"/lra/{lra}/member/1/told", "PUT").status == 204)
+        self.check("then it is due", group.record(1, lra)["purge"] == "due")
+        log = group.whole_log(1)
+        for what in ("forgot", "was told of the end"):
+            self.check(f"the log says who {what}", f"node 1: an operator says that /lra/{lra}/member/1 {what}" in log,
+                       log)
+        self.check("no such participant",
+                   group.told(1, f"/lra/{lra}/member/2/told", "PUT") == (404, {"refused": "E5 UnknownMember"}))
+        self.check("the purge", group.at(1, f"/lra/{lra}", "DELETE").status == 204)
+        self.check("nobody is called in vain any more",
+                   comes_to(SLOW, lambda: group.calls(1) == []), group.calls(1))
+        group.end()
+
+    def test_metrics(self) -> None:
+        """The counts."""
+        group = self.operated(2, "keep=0").start()
+        for node in (1, 2):
+            wrong = metrics.problems(group.at(node, "/metrics").text)
+            self.check(f"node {node}'s counts are whole", not wrong, wrong)
+        fields = group.at(1, "/metrics").fields
+        self.check("of their type", fields["Content-Type"] == "text/plain; version=0.0.4", fields)
+        lras = [group.begin(1) for _ in range(5)]
+        group.ask(1, "GET", f"/lra/{UNKNOWN}")
+        group.finish(1, lras[0])
+        group.join(1, lras[1], compensate="http://127.0.0.1:1/x")
+        group.finish(1, lras[1], "cancel")
+        self.check("what has ended goes",
+                   comes_to(SLOW, lambda: group.samples(1)[("lra_swept_total", "came=gone")] == 1))
+        group.begin(1)
+        wanted = {
+            ("lra_calls_total", "call=begin"): 6, ("lra_calls_total", "call=close"): 1,
+            ("lra_calls_total", "call=cancel"): 1, ("lra_refused_total", "refusal=E2"): 1,
+            ("lra_refused_total", "refusal=E13"): 0,
+            ("lra_held", "status=Active"): 4, ("lra_held", "status=Cancelling"): 1, ("lra_held", "status=Closed"): 0,
+            ("lra_held_limit",): 256, ("lra_up",): 1, ("lra_ready",): 1, ("lra_swept_total", "came=gone"): 1,
+            ("lra_journal_failures_total",): 0, ("lra_front", "of=1"): 10,
+        }
+        shown: Samples = {}
+
+        def are_so() -> bool:
+            shown.update(group.samples(1))
+            return all(shown[key] == value for key, value in wanted.items())
+
+        self.check("what was done is counted", comes_to(SLOW, are_so),
+                   {key: shown.get(key) for key, value in wanted.items() if shown.get(key) != value})
+        pulls = sum(shown[("lra_pulls_total", f"came={came}", "from=2")] for came in ("new", "nothing"))
+        self.check("pulls, by node", pulls > 0 and shown[("lra_pulled_seconds", "from=2")] < SLOW)
+        self.check("when it started", abs(shown[("lra_start_seconds",)] - time.time()) < 10 * SLOW)
+        group.kill(2)
+        self.check("a peer that is away shows",
+                   comes_to(SLOW, lambda: group.samples(1)[("lra_pulls_total", "came=failed", "from=2")] > 0))
+        group.end(1)
+
+    def test_ready(self) -> None:
+        """What is told while the others aren't heard, and while the journal can't be opened."""
+        group = self.operated(2)
+        group.start(2)
+        group.kill(2)
+        group.run(1)
+        seen: set[tuple[int, str | None]] = set()
+
+        def is_seen() -> bool:
+            try:
+                status, answer = group.told(1, "/ready")
+            except OSError:
+                return False
+            seen.add((status, answer.get("cause")))
+            return status == 200
+
+        self.check("it is ready in the end", comes_to(SLOW, is_seen), seen)
+        self.check("and says why not before, if at all", seen <= {(200, None), (503, "behind")}, seen)
+        group.end(1)
+
+    def test_slow(self) -> None:
+        """Operators that are slow, silent or many hold up no client; and a client's flood holds up no operator for
+        long."""
+        group = self.operated(1).start()
+        silent = [socket.create_connection((HOST, group.doors[0])) for _ in range(20)]
+        began = time.monotonic()
+        group.begin(1)
+        self.check("clients don't wait for silent operators", time.monotonic() - began < 5)
+        began = time.monotonic()
+        code, took = group.at(1, "/health").status, time.monotonic() - began
+        self.check("the next operator waits a second for each", code == 200 and took < 60, (code, took))
+        for one in silent:
+            one.close()
+        flood = [socket.create_connection((HOST, group.ports[0])) for _ in range(200)]
+        for one in flood:
+            one.send(b"POST /lra HTTP/1.1\r\nHost: x\r\nContent-Length: 9\r\n\r\n")
+        began = time.monotonic()
+        codes = [group.at(1, path).status for path in ("/health", "/lras")]
+        took = time.monotonic() - began
+        self.check("a flood of half requests holds up no operator", codes == [200, 200] and took < 10, (codes, took))
+        for one in flood:
+            one.close()
+        parts = socket.create_connection((HOST, group.doors[0]))
+        parts.sendall(b"GET /health HTTP/1.1\r\nHo")
+        time.sleep(0.3)
+        parts.sendall(b"st: x\r\n\r\n")
+        parts.settimeout(SLOW)
+        self.check("a request in parts", parts.recv(4096).startswith(b"HTTP/1.1 200"), "")
+        parts.close()
+        self.check("it ends", group.end() == [0])
+
+    def test_cost(self) -> None:
+        """What a scrape each second, and the page's questions, cost a status by one client, at a full home."""
+        group = self.operated(2).start()
+        lras = [group.begin(1) for _ in range(250)]
+        group.all_come_to(lras[-1], "Active", (1, 2))
+
+        def rate(seconds: float) -> float:
+            count, until = 0, time.monotonic() + seconds
+            while time.monotonic() < until:
+                group.ask(1, "GET", f"/lra/{lras[count % 250]}")
+                count += 1
+            return count / seconds
+
+        stop = threading.Event()
+
+        def scrape() -> None:
+            while not stop.wait(1):
+                for node in (1, 2):
+                    group.at(node, "/metrics")
+                    group.at(node, "/calls")
+                    group.all_of(node, "/lras")
+
+        rate(1)
+        pairs = []
+        for _ in range(3):
+            stop.clear()
+            before = rate(3)
+            thread = threading.Thread(target=scrape)
+            thread.start()
+            beside = rate(3)
+            stop.set()
+            thread.join()
+            pairs.append((before, beside))
+        best = max(beside / before for before, beside in pairs)
+        what = f"{pairs[0][0]:.0f} a second without, {pairs[0][1]:.0f} with; {100 * (1 - best):.0f} % at the least"
+        self.check(f"scrapes cost a status little: {what}", best > 0.8, pairs)
+        group.end()
 
 
-def stuck(folder):
-    """Who is called in vain, for what, where, how often, since when and with what answer."""
-    group, part = Operated(2, folder).start(), Participant()
-    gone = f"http://127.0.0.1:{ports(1)[0]}/gone"
-    part.answers["/busy"] = 503
-    lra = group.begin(1)
-    group.join(1, lra, compensate=gone)
-    group.join(1, lra, compensate=f"{part.url}/busy")
-    group.finish(1, lra, "cancel")
-    shown = {}
-
-    def both():
-        shown["calls"] = group.told(1, "/calls")[1]["calls"]
-        return len(shown["calls"]) == 1 and shown["calls"][0]["times"] >= 3
-
-    check("the last to join is called in vain", comes_to(SLOW, both), shown)
-    one = shown["calls"][0]
-    check("for what, where, and with what answer", (one["lra"], one["member"], one["kind"], one["link"], one["came"]) == (lra, 2, "compensate", f"{part.url}/busy", "503"), one)
-    check("since when, and when again", 0 <= one["since"] < SLOW and (one["next"] is None or 0 <= one["next"] <= 30), one)
-    samples = group.samples(1)
-    check("it is counted", samples[("lra_callbacks_vain",)] == 1 and samples[("lra_callbacks_total", "heard=again", "kind=compensate")] >= 3, samples)
-    check("another node calls nobody", group.told(2, "/calls")[1] == {"calls": []})
-    part.answers["/busy"] = 200
-    check("once it answers, the next is", comes_to(SLOW, lambda: [it["member"] for it in group.told(1, "/calls")[1]["calls"]] == [1]), group.told(1, "/calls"))
-    one = group.told(1, "/calls")[1]["calls"][0]
-    check("which can't be reached", (one["link"], one["came"]) == (gone, "no connection"), one)
-    group.ask(2, "PUT", f"/lra/{lra}/member/1/report", {"act": "compensate", "outcome": "failed"})
-    check("a report ends that", comes_to(SLOW, lambda: group.told(1, "/calls")[1] == {"calls": []}), group.told(1, "/calls"))
-    check("and the LRA shows it", comes_to(SLOW, lambda: group.told(1, f"/lra/{lra}")[1]["status"] == "FailedToCancel"))
-    group.end()
-
-
-def dead(folder):
-    """A forget and a listener that are gone for good."""
-    group = Operated(2, folder).start()
-    gone = f"http://127.0.0.1:{ports(1)[0]}/gone"
-    part = Participant()
-    part.answers["/c"] = 409
-    lra = group.begin(1)
-    group.join(1, lra, compensate=f"{part.url}/c", forget=gone, after=gone)
-    check("before it ends nothing is to be said", group.told(1, f"/lra/{lra}/member/1/forgot", "PUT")[0] == 409)
-    group.finish(1, lra, "cancel")
-    check("it fails", comes_to(SLOW, lambda: group.told(1, f"/lra/{lra}")[1]["status"] == "FailedToCancel"))
-    check("a purge waits for the forget", group.told(1, f"/lra/{lra}")[1]["purge"].startswith("E10 StillToForget"), group.told(1, f"/lra/{lra}"))
-    check("it is refused", group.at(1, f"/lra/{lra}", "DELETE")[0] == 409)
-    check("an operator says that it forgot", group.at(1, f"/lra/{lra}/member/1/forgot", "PUT")[0] == 204)
-    check("then it waits for the listener", group.told(1, f"/lra/{lra}")[1]["purge"].startswith("E24 StillToTell"), group.told(1, f"/lra/{lra}"))
-    check("an operator says that it was told", group.at(1, f"/lra/{lra}/member/1/told", "PUT")[0] == 204)
-    check("then it is due", group.told(1, f"/lra/{lra}")[1]["purge"] == "due")
-    log = whole_log(group, 1)
-    for what in ("forgot", "was told of the end"):
-        check(f"the log says who {what}", f"node 1: an operator says that /lra/{lra}/member/1 {what}" in log, log)
-    check("no such participant", group.told(1, f"/lra/{lra}/member/2/told", "PUT") == (404, {"refused": "E5 UnknownMember"}))
-    check("the purge", group.at(1, f"/lra/{lra}", "DELETE")[0] == 204)
-    check("nobody is called in vain any more", comes_to(SLOW, lambda: group.told(1, "/calls")[1] == {"calls": []}), group.told(1, "/calls"))
-    group.end()
-
-
-def counted(folder):
-    """The counts."""
-    group = Operated(2, folder, "keep=0").start()
-    for node in (1, 2):
-        check(f"node {node}'s counts are whole", metrics.problems(group.at(node, "/metrics")[2]) == [], metrics.problems(group.at(node, "/metrics")[2]))
-    fields = group.at(1, "/metrics")[1]
-    check("of their type", fields["Content-Type"] == "text/plain; version=0.0.4", fields)
-    lras = [group.begin(1) for _ in range(5)]
-    group.ask(1, "GET", "/lra/" + LAST.replace("8008", "8001"))
-    group.finish(1, lras[0])
-    group.join(1, lras[1], compensate="http://127.0.0.1:1/x")
-    group.finish(1, lras[1], "cancel")
-    check("what has ended goes", comes_to(SLOW, lambda: group.samples(1)[("lra_swept_total", "came=gone")] == 1))
-    group.begin(1)
-    wanted = {("lra_calls_total", "call=begin"): 6, ("lra_calls_total", "call=close"): 1, ("lra_calls_total", "call=cancel"): 1,
-              ("lra_refused_total", "refusal=E2"): 1, ("lra_refused_total", "refusal=E13"): 0, ("lra_held", "status=Active"): 4,
-              ("lra_held", "status=Cancelling"): 1, ("lra_held", "status=Closed"): 0, ("lra_held_limit",): 256, ("lra_up",): 1, ("lra_ready",): 1,
-              ("lra_swept_total", "came=gone"): 1, ("lra_journal_failures_total",): 0, ("lra_front", "of=1"): 10}
-    shown = {}
-
-    def are_so():
-        shown.update(group.samples(1))
-        return all(shown[key] == value for key, value in wanted.items())
-
-    check("what was done is counted", comes_to(SLOW, are_so), {key: shown.get(key) for key, value in wanted.items() if shown.get(key) != value})
-    check("pulls, by node", shown[("lra_pulls_total", "came=new", "from=2")] + shown[("lra_pulls_total", "came=nothing", "from=2")] > 0 and shown[("lra_pulled_seconds", "from=2")] < SLOW)
-    check("when it started", abs(shown[("lra_start_seconds",)] - time.time()) < 10 * SLOW)
-    group.kill(2)
-    check("a peer that is away shows", comes_to(SLOW, lambda: group.samples(1)[("lra_pulls_total", "came=failed", "from=2")] > 0))
-    group.end(1)
-
-
-def ready(folder):
-    """What is told while the others aren't heard, and while the journal can't be opened."""
-    group = Operated(2, folder)
-    group.start(2)
-    group.kill(2)
-    group.run(1)
-    seen = set()
-
-    def is_seen():
-        try:
-            status, it = group.told(1, "/ready")
-        except OSError:
-            return False
-        seen.add((status, it.get("cause")))
-        return status == 200
-
-    check("it is ready in the end", comes_to(SLOW, is_seen), seen)
-    check("and says why not before, if at all", seen <= {(200, None), (503, "behind")}, seen)
-    group.end(1)
-
-
-def slow(folder):
-    """Operators that are slow, silent or many hold up no client; and a client's flood holds up no operator for long."""
-    group = Operated(1, folder).start()
-    silent = [socket.create_connection(("127.0.0.1", group.doors[0])) for _ in range(20)]
-    began = time.monotonic()
-    group.begin(1)
-    check("clients don't wait for silent operators", time.monotonic() - began < 5)
-    began = time.monotonic()
-    check("the next operator waits a second for each", group.at(1, "/health", timeout=SLOW)[0] == 200 and time.monotonic() - began < 60, time.monotonic() - began)
-    for one in silent:
-        one.close()
-    flood = [socket.create_connection(("127.0.0.1", group.ports[0])) for _ in range(200)]
-    for one in flood:
-        one.send(b"POST /lra HTTP/1.1\r\nHost: x\r\nContent-Length: 9\r\n\r\n")
-    began = time.monotonic()
-    check("a flood of half requests holds up no operator", group.told(1, "/health")[0] == 200 and group.told(1, "/lras")[0] == 200 and time.monotonic() - began < 10, time.monotonic() - began)
-    for one in flood:
-        one.close()
-    parts = socket.create_connection(("127.0.0.1", group.doors[0]))
-    parts.sendall(b"GET /health HTTP/1.1\r\nHo")
-    time.sleep(0.3)
-    parts.sendall(b"st: x\r\n\r\n")
-    parts.settimeout(SLOW)
-    check("a request in parts", parts.recv(4096).startswith(b"HTTP/1.1 200"), "")
-    parts.close()
-    check("it ends", group.end() == [0])
-
-
-def cost(folder):
-    """What a scrape each second, and the page's questions, cost a status by one client, at a full home."""
-    group = Operated(2, folder).start()
-    lras = [group.begin(1) for _ in range(250)]
-    group.all_come_to(lras[-1], "Active", (1, 2))
-
-    def rate(seconds):
-        count, until = 0, time.monotonic() + seconds
-        while time.monotonic() < until:
-            group.ask(1, "GET", f"/lra/{lras[count % 250]}")
-            count += 1
-        return count / seconds
-
-    stop = threading.Event()
-
-    def scrape():
-        while not stop.wait(1):
-            for node in (1, 2):
-                group.at(node, "/metrics")
-                group.at(node, "/calls")
-                group.all_of(node, "/lras")
-
-    rate(1)
-    pairs = []
-    for _round in range(3):
-        stop.clear()
-        before = rate(3)
-        thread = threading.Thread(target=scrape)
-        thread.start()
-        beside = rate(3)
-        stop.set()
-        thread.join()
-        pairs.append((before, beside))
-    best = max(beside / before for before, beside in pairs)
-    check(f"scrapes cost a status little: {pairs[0][0]:.0f} a second without, {pairs[0][1]:.0f} with; {100 * (1 - best):.0f} % at the least", best > 0.8, pairs)
-    group.end()
-
-
-TESTS = {"paths": paths, "records": records, "stuck": stuck, "dead": dead, "metrics": counted, "ready": ready, "slow": slow, "cost": cost}
-
-
-def main():
-    given = sys.argv[1:]
-    if given and given[0] == "--unproved":
-        Group.program, given = unproved.built("lra_member"), given[1:]
-    elif given and given[0] not in TESTS:
-        Group.program, given = os.path.abspath(given[0]), given[1:]
-    for name in given or TESTS:
-        print(f"{name}:", flush=True)
-        with tempfile.TemporaryDirectory() as folder:
-            TESTS[name](folder)
-    finish()
+def main() -> int:
+    given, words = sys.argv[1:], checks.words_of(TestOperators)
+    if given and given[0] not in words:
+        Group.program, given = unproved.program_of(given[0], "lra_member"), given[1:]
+    checks.need(Group)
+    return checks.run(TestOperators, words=given)
 
 
 if __name__ == "__main__":
-    main()
+    sys.exit(main())

@@ -1,24 +1,24 @@
 #!/usr/bin/env python3
-"""Tests the proxies of docs/OPERATING.md: two members that reach one another by proxies alone, with TLS and certificates on both sides, and
-one name for three nodes: python3 tests/proxies.py [PROGRAM]. The certificates are made here, by openssl; the proxies are nginx. Without
-these two it is skipped.
+"""Tests the proxies of docs/OPERATING.md: two members that reach one another by proxies alone, with TLS and
+certificates on both sides, and one name for three nodes: python3 tests/proxies.py [PROGRAM]. The certificates are made
+here, by openssl; the proxies are nginx. Without these two it is skipped.
 
-PROGRAM is crates/lra_member/out/lra_member, or --unproved (demo/unproved.py). Each check prints a line; the status is 1 where one fails."""
+PROGRAM is crates/lra_member/out/lra_member, or --unproved (tools/unproved.py). Each check prints a line; the status is
+1 where one fails."""
 import http.client
-import json
 import os
 import shutil
-import socket
 import ssl
 import subprocess
 import sys
-import tempfile
+import unittest
 
-from coordinator import TOP, check, comes_to, finish, is_open
-import unproved
+sys.path.insert(0, os.path.dirname(os.path.dirname(os.path.abspath(__file__))))
+from tools import checks, repo, unproved
+from tools.node import Group, Json, ask, comes_to, exchange, home_of, request, wait_for
+from tools.ports import HOST, free_row
 
-# The members' own ports, those of the proxies that take what others ask, those that bring what is asked of others, and the one name.
-OWN, INWARD, OUTWARD, FRONT = 24301, 24311, 24321, 24331
+HAS_BOTH = bool(shutil.which("nginx") and shutil.which("openssl"))
 
 # What stands around the servers of a file.
 AROUND = """
@@ -59,63 +59,65 @@ SERVERS = """
 """
 
 
-def openssl(*words):
-    subprocess.run(["openssl", *words], check=True, stdin=subprocess.DEVNULL, stdout=subprocess.DEVNULL, stderr=subprocess.DEVNULL)
+def openssl(*words: str) -> None:
+    subprocess.run(["openssl", *words], check=True, stdin=subprocess.DEVNULL, stdout=subprocess.DEVNULL,
+                   stderr=subprocess.DEVNULL)
 
 
-def authority(folder):
+def authority(folder: str) -> None:
     """One who signs certificates."""
-    openssl("req", "-x509", "-newkey", "rsa:2048", "-nodes", "-days", "2", "-subj", "/CN=ca", "-keyout", f"{folder}/ca.key", "-out", f"{folder}/ca.crt")
+    openssl("req", "-x509", "-newkey", "rsa:2048", "-nodes", "-days", "2", "-subj", "/CN=ca",
+            "-keyout", f"{folder}/ca.key", "-out", f"{folder}/ca.crt")
 
 
-def certificate(folder, to):
+def certificate(folder: str, to: str) -> None:
     """A member's certificate, signed by the one of a folder."""
     openssl("req", "-newkey", "rsa:2048", "-nodes", "-subj", "/CN=member", "-addext", "subjectAltName=DNS:member",
             "-keyout", f"{to}/member.key", "-out", f"{to}/member.csr")
-    openssl("x509", "-req", "-days", "2", "-in", f"{to}/member.csr", "-CA", f"{folder}/ca.crt", "-CAkey", f"{folder}/ca.key", "-CAcreateserial",
-            "-copy_extensions", "copy", "-out", f"{to}/member.crt")
+    openssl("x509", "-req", "-days", "2", "-in", f"{to}/member.csr", "-CA", f"{folder}/ca.crt",
+            "-CAkey", f"{folder}/ca.key", "-CAcreateserial", "-copy_extensions", "copy", "-out", f"{to}/member.crt")
 
 
-def proxy(folder, own, theirs):
-    """The proxy beside the member of one place, 0 or 1."""
-    return nginx(folder, SERVERS.format(folder=folder, own=OWN + own, inward=INWARD + own, outward=OUTWARD + own, theirs=INWARD + theirs))
+class Nginx:
+    """An nginx with some servers, whose files lie in a folder."""
+
+    def __init__(self, folder: str, servers: str) -> None:
+        repo.write(f"{folder}/nginx.conf", AROUND.format(folder=folder, servers=servers))
+        words = ["nginx", "-p", folder, "-c", f"{folder}/nginx.conf", "-e", f"{folder}/error.log", "-g", "daemon off;"]
+        self.process = subprocess.Popen(words, stdin=subprocess.DEVNULL)
+
+    def end(self) -> None:
+        self.process.terminate()
+        self.process.wait(60)
 
 
-def nginx(folder, servers):
-    """An nginx with these servers, whose files lie in a folder."""
-    with open(f"{folder}/nginx.conf", "w", encoding="utf-8") as file:
-        file.write(AROUND.format(folder=folder, servers=servers))
-    words = ["nginx", "-p", folder, "-c", f"{folder}/nginx.conf", "-e", f"{folder}/error.log", "-g", "daemon off;"]
-    return subprocess.Popen(words, stdin=subprocess.DEVNULL)
+class Behind(Group):
+    """Two members, each of which finds the other at its own proxy's way out."""
+
+    def __init__(self, count: int, folder: str, *options: str) -> None:
+        super().__init__(count, folder, *options)
+        self.inward, self.outward = free_row(count), free_row(count)
+
+    def addresses_for(self, number: int) -> list[str]:
+        ways = [port if node == number else self.outward[number - 1] for node, port in enumerate(self.ports, 1)]
+        return [f"{HOST}:{port}" for port in ways]
+
+    def servers(self, number: int, folder: str) -> str:
+        """The servers of the proxy beside a member."""
+        own, other = number - 1, 2 - number
+        return SERVERS.format(folder=folder, own=self.ports[own], inward=self.inward[own], outward=self.outward[own],
+                              theirs=self.inward[other])
 
 
-def member(program, folder, place):
-    """A member, to which its neighbour is the proxy's way out."""
-    addresses = [f"127.0.0.1:{OWN if place == 0 else OUTWARD + 1}", f"127.0.0.1:{OUTWARD if place == 0 else OWN + 1}"]
-    log = open(f"{folder}/log", "ab")
-    started = subprocess.Popen([program, str(place + 1), folder, *addresses], stdin=subprocess.PIPE, stderr=log)
-    log.close()
-    return started
-
-
-def ask(place, method, path, body=None, port=None):
-    connection = http.client.HTTPConnection("127.0.0.1", port or OWN + place, timeout=60)
-    try:
-        connection.request(method, path, None if body is None else json.dumps(body))
-        answer = connection.getresponse()
-        return answer.status, json.loads(answer.read() or b"null")
-    finally:
-        connection.close()
-
-
-def told_over_tls(place, folder=None):
-    """What comes of an empty pull at a proxy, with the certificate of a folder or with none: the body of the answer, if one comes."""
+def told_over_tls(port: int, folder: str | None = None) -> str:
+    """What comes of an empty pull at a proxy, with the certificate of a folder or with none: the body of the answer, if
+    one comes."""
     context = ssl.SSLContext(ssl.PROTOCOL_TLS_CLIENT)
     context.check_hostname = False
     context.verify_mode = ssl.CERT_NONE
     if folder:
         context.load_cert_chain(f"{folder}/member.crt", f"{folder}/member.key")
-    connection = http.client.HTTPSConnection("127.0.0.1", INWARD + place, context=context, timeout=20)
+    connection = http.client.HTTPSConnection(HOST, port, context=context, timeout=20)
     try:
         connection.request("POST", "/peer/pull", b"")
         return connection.getresponse().read().decode()
@@ -125,108 +127,115 @@ def told_over_tls(place, folder=None):
         connection.close()
 
 
-def shows(place, lra, status):
-    return comes_to(30, lambda: ask(place, "GET", f"/lra/{lra}")[1].get("status") == status)
-
-
-def test(program, folders, stranger):
-    check("each is shown by the other what it begins", all(
-        shows(1 - place, ask(place, "POST", "/lra", {})[1]["lra"], "Active") for place in (0, 1) for _ in range(3)))
-    lra = ask(0, "POST", "/lra", {})[1]["lra"]
-    ask(0, "PUT", f"/lra/{lra}/close")
-    check("and what it closes", shows(1, lra, "Closed"))
-    for what, folder in (("no certificate", None), ("one that another signed", stranger)):
-        seen = told_over_tls(0, folder)
-        check(f"a proxy refuses who has {what}", "SSL certificate" in seen and "E16" not in seen, seen)
-    seen = told_over_tls(0, folders[1])
-    check("who has a member's is answered by the member: an empty body is no pull", "E16 BadFrame 0" in seen, seen)
-    with socket.create_connection(("127.0.0.1", INWARD)) as it:
-        it.sendall(b"POST /peer/pull HTTP/1.1\r\nHost: a\r\nContent-Length: 0\r\n\r\n")
-        plain = it.recv(4096)
-    check("and who speaks without TLS is told so", b"400" in plain.split(b"\r\n")[0], plain)
-    for place in (0, 1):
-        with open(f"{folders[place]}/log", encoding="utf-8") as file:
-            told = file.read()
-        check(f"node {place + 1} has nothing to tell", told == "", told)
-
-
-def one_name_file(first):
+def one_name_file(front: int, ports: list[int]) -> str:
     """The file of docs/OPERATING.md by which three nodes have one name, with other ports."""
-    with open(f"{TOP}/docs/OPERATING.md", encoding="utf-8") as file:
-        text = file.read()
+    text = repo.read("docs/OPERATING.md")
     text = text[text.index("upstream each_in_turn"):]
-    text = text[: text.index("```")].replace("listen 80;", f"listen 127.0.0.1:{FRONT};")
-    for i in range(3):
-        text = text.replace(f"127.0.0.1:{8070 + i}", f"127.0.0.1:{first + i}")
+    text = text[: text.index("```")].replace("listen 80;", f"listen {HOST}:{front};")
+    for i, port in enumerate(ports):
+        text = text.replace(f"{HOST}:{8070 + i}", f"{HOST}:{port}")
     return text
 
 
-def one_name(program):
-    """Three nodes of one process behind one nginx."""
-    with tempfile.TemporaryDirectory() as folder:
-        os.chmod(folder, 0o755)
-        addresses = [f"127.0.0.1:{OWN + i}" for i in range(3)]
-        node = subprocess.Popen([program, "1-3", folder, "keep=600000", *addresses], stdin=subprocess.PIPE)
-        front = nginx(folder, one_name_file(OWN))
-        try:
-            if not comes_to(60, lambda: all(map(is_open, [*range(OWN, OWN + 3), FRONT]))):
-                raise SystemExit("the nodes and their proxy don't come up")
-            begun = [ask(0, "POST", "/lra", {}, FRONT) for _ in range(6)]
-            homes = sorted(it[1]["lra"][15:18] for it in begun)
-            check("begins go to the nodes in turn", homes == ["001", "001", "002", "002", "003", "003"], homes)
-            for _, answer in begun:
-                lra, home = answer["lra"], int(answer["lra"][17])
-                joined = ask(0, "PUT", f"/lra/{lra}/join", {"compensate": "http://127.0.0.1:9/c"}, FRONT)
-                nested = ask(0, "POST", f"/node/{home}/lra", {"parent": lra}, FRONT)
-                spelled = [ask(0, "GET", f"/lra/{it}", None, FRONT)[0] for it in (lra.upper(), lra.replace("-", ""), f"urn:uuid:{lra}", "{" + lra + "}")]
-                shown = ask(0, "GET", joined[1]["recovery"], None, FRONT)
-                closed = ask(0, "PUT", f"/lra/{lra}/close", None, FRONT)
-                check(f"calls for {lra[14:18]} go home", (joined[0], nested[0], spelled, shown[0], closed[0]) == (200, 201, [200] * 4, 200, 200), (joined, nested, spelled, shown, closed))
-            check("a page has all", comes_to(10, lambda: len(ask(0, "GET", "/lra", None, FRONT)[1]["lras"]) == 12))
-            with socket.create_connection(("127.0.0.1", FRONT)) as it:
-                it.sendall(b"POST /peer/pull HTTP/1.1\r\nHost: a\r\nContent-Length: 0\r\nConnection: close\r\n\r\n")
-                told = it.recv(4096)
-            check("nobody pulls by that name", b" 404 " in told.split(b"\r\n")[0], told)
-        finally:
-            node.stdin.close()
-            node.wait(60)
-            front.terminate()
-            front.wait(60)
+@unittest.skipUnless(HAS_BOTH, "there is no nginx, or no openssl")
+class TestProxies(checks.Checked):
+    needs = (Group,)
+
+    def setUp(self) -> None:
+        super().setUp()
+        os.chmod(self.folder, 0o755)
+
+    def nginx(self, folder: str, servers: str) -> None:
+        """An nginx that ends with the test."""
+        self.addCleanup(Nginx(folder, servers).end)
+
+    def test_members(self) -> None:
+        """Two members that reach one another by proxies alone."""
+        group = self.group(2, kind=Behind)
+        folders = {number: self.folder_in(f"proxy-{number}") for number in (1, 2)}
+        other, stranger = self.folder_in("other"), self.folder_in("stranger")
+        authority(self.folder)
+        authority(other)
+        for number, folder in folders.items():
+            certificate(self.folder, folder)
+            shutil.copy(f"{self.folder}/ca.crt", folder)
+            self.nginx(folder, group.servers(number, folder))
+        certificate(other, stranger)
+        group.start()
+        for port in (*group.inward, *group.outward):
+            wait_for(port, 60)
+        self.are_members(group)
+        self.refuses_strangers(group, folders[2], stranger)
+        for number in (1, 2):
+            self.check(f"node {number} has nothing to tell", group.log(number) == "", group.log(number))
+        group.end()
+
+    def are_members(self, group: Group) -> None:
+        """News come through."""
+        shown = [group.comes_to(3 - node, group.begin(node), "Active") for node in (1, 2) for _ in range(3)]
+        self.check("each is shown by the other what it begins", None not in shown, shown)
+        lra = group.begin(1)
+        group.finish(1, lra)
+        self.check("and what it closes", group.comes_to(2, lra, "Closed") is not None)
+
+    def refuses_strangers(self, group: Behind, folder: str, stranger: str) -> None:
+        """Nobody else comes through the first proxy."""
+        inward = group.inward[0]
+        for what, who in (("no certificate", None), ("one that another signed", stranger)):
+            seen = told_over_tls(inward, who)
+            self.check(f"a proxy refuses who has {what}", "SSL certificate" in seen and "E16" not in seen, seen)
+        seen = told_over_tls(inward, folder)
+        what = "who has a member's is answered by the member: an empty body is no pull"
+        self.check(what, "E16 BadFrame 0" in seen, seen)
+        plain = self.pulled(inward)
+        self.check("and who speaks without TLS is told so", b"400" in plain, plain)
+
+    def pulled(self, port: int) -> bytes:
+        """The first line of the answer to an empty pull, without TLS."""
+        pull = b"POST /peer/pull HTTP/1.1\r\nHost: a\r\nContent-Length: 0\r\nConnection: close\r\n\r\n"
+        return exchange((HOST, port), pull).split(b"\r\n")[0]
+
+    def test_one_name(self) -> None:
+        """Three nodes of one process behind one nginx."""
+        group, front = self.group(3, "keep=600000"), free_row(1)[0]
+        group.start(1, word="1-3")
+        self.nginx(self.folder, one_name_file(front, group.ports))
+        for port in (*group.ports, front):
+            wait_for(port, 60)
+        begun = [ask(front, "POST", "/lra", {})[1]["lra"] for _ in range(6)]
+        homes = sorted(map(home_of, begun))
+        self.check("begins go to the nodes in turn", homes == [1, 1, 2, 2, 3, 3], homes)
+        for lra in begun:
+            self.goes_home(front, lra)
+        all_of = comes_to(10, lambda: len(ask(front, "GET", "/lra")[1]["lras"]) == 12)
+        self.check("a page has all", all_of)
+        line = self.pulled(front)
+        self.check("nobody pulls by that name", b" 404 " in line, line)
+        group.end()
+
+    def goes_home(self, front: int, lra: str) -> None:
+        """Calls for an LRA, by the one name."""
+
+        def called(method: str, path: str, body: Json = None) -> tuple[int, Json]:
+            return ask(front, method, path, body)
+
+        joined = called("PUT", f"/lra/{lra}/join", {"compensate": f"http://{HOST}:9/c"})
+        nested = called("POST", f"/node/{home_of(lra)}/lra", {"parent": lra})
+        others = (lra.upper(), lra.replace("-", ""), f"urn:uuid:{lra}", "{" + lra + "}")
+        spelled = [called("GET", f"/lra/{other}")[0] for other in others]
+        shown = request((HOST, front), "GET", joined[1]["recovery"])
+        closed = called("PUT", f"/lra/{lra}/close")
+        codes = joined[0], nested[0], spelled, shown.status, closed[0]
+        self.check(f"calls for {lra[14:18]} go home", codes == (200, 201, [200] * 4, 200, 200), codes)
 
 
-def main():
-    if not shutil.which("nginx") or not shutil.which("openssl"):
-        print("skipped: there is no nginx, or no openssl")
-        return
-    program = unproved.program_of(sys.argv[1], "lra_member") if len(sys.argv) > 1 else f"{TOP}/crates/lra_member/out/lra_member"
-    with tempfile.TemporaryDirectory() as top:
-        os.chmod(top, 0o755)
-        folders = [f"{top}/{it}" for it in ("one", "two")]
-        stranger = f"{top}/stranger"
-        for it in [*folders, stranger, f"{top}/other"]:
-            os.mkdir(it)
-        authority(top)
-        authority(f"{top}/other")
-        for it in folders:
-            certificate(top, it)
-            shutil.copy(f"{top}/ca.crt", it)
-        certificate(f"{top}/other", stranger)
-        started = [proxy(folder, place, 1 - place) for place, folder in enumerate(folders)]
-        started += [member(program, folder, place) for place, folder in enumerate(folders)]
-        try:
-            ports = [*range(OWN, OWN + 2), *range(INWARD, INWARD + 2), *range(OUTWARD, OUTWARD + 2)]
-            if not comes_to(60, lambda: all(map(is_open, ports))):
-                raise SystemExit("the members and their proxies don't come up")
-            test(program, folders, stranger)
-        finally:
-            for it in started[2:]:
-                it.stdin.close()
-                it.wait(60)
-            for it in started[:2]:
-                it.terminate()
-                it.wait(60)
-    one_name(program)
-    finish()
+def main() -> int:
+    if len(sys.argv) > 1:
+        Group.program = unproved.program_of(sys.argv[1], "lra_member")
+    if HAS_BOTH:
+        checks.need(Group)
+    return checks.run(TestProxies)
 
 
-main()
+if __name__ == "__main__":
+    sys.exit(main())

@@ -1,5 +1,6 @@
-"""Members in network namespaces of their own, over a wire that takes its time and loses packets. Needs root, /dev/net/tun and `ip`; the
-kernel's netem isn't needed. Nothing stays behind: a namespace goes with its last process and file."""
+"""Members in network namespaces of their own, over a wire that takes its time and loses packets. Needs root,
+/dev/net/tun and `ip`; the kernel's netem isn't needed. Nothing stays behind: a namespace goes with its last process and
+file."""
 import contextlib
 import ctypes
 import fcntl
@@ -12,8 +13,10 @@ import struct
 import subprocess
 import threading
 import time
+import typing
+from collections.abc import Iterable, Iterator
 
-from group import Group
+from tools.node import Group
 
 LIBC = ctypes.CDLL(None, use_errno=True)
 NEW_NET = 0x40000000
@@ -21,36 +24,40 @@ SET_TUN, PLAIN_TUN = 0x400454CA, 0x1001
 PORT = 8070
 
 
-def call(code):
+def must(code: int) -> None:
+    """Raises what a call of the C library refused with."""
     if code:
         error = ctypes.get_errno()
         raise OSError(error, os.strerror(error))
 
 
-def enter(namespace):
+def enter(namespace: int) -> None:
     """Has this thread make its next sockets in a namespace."""
-    call(LIBC.setns(namespace, NEW_NET))
+    must(LIBC.setns(namespace, NEW_NET))
 
 
-def own_namespace():
+def own_namespace() -> int:
     return os.open("/proc/thread-self/ns/net", os.O_RDONLY | os.O_CLOEXEC)
 
 
 class Wire:
-    """So many namespaces, I with the address 10.77.0.I, and a thread that hands on the packets between them, or doesn't."""
+    """So many namespaces, I with the address 10.77.0.I, and a thread that hands on the packets between them, or
+    doesn't."""
 
-    def __init__(self, count, delay, loss):
+    def __init__(self, count: int, delay: float, loss: float) -> None:
         self.delay, self.loss, self.dice, self.sent, self.lost = delay, loss, random.Random(60), 0, 0
-        self.home, self.namespaces, self.devices = own_namespace(), {}, {}
+        self.home = own_namespace()
+        self.namespaces: dict[int, int] = {}
+        self.devices: dict[int, int] = {}
         for number in range(1, count + 1):
             self.add(number)
         self.wake = os.pipe()
         self.thread = threading.Thread(target=self.hand_on, daemon=True)
         self.thread.start()
 
-    def add(self, number):
+    def add(self, number: int) -> None:
         try:
-            call(LIBC.unshare(NEW_NET))
+            must(LIBC.unshare(NEW_NET))
             self.namespaces[number] = own_namespace()
             self.devices[number] = os.open("/dev/net/tun", os.O_RDWR | os.O_CLOEXEC)
             fcntl.ioctl(self.devices[number], SET_TUN, struct.pack("16sH", b"wire", PLAIN_TUN))
@@ -60,8 +67,9 @@ class Wire:
         finally:
             enter(self.home)
 
-    def hand_on(self):
-        waiting, count = [], 0
+    def hand_on(self) -> None:
+        waiting: list[tuple[float, int, int, bytes]] = []
+        count = 0
         while True:
             pause = max(0, waiting[0][0] - time.monotonic()) if waiting else None
             ready, _, _ = select.select([*self.devices.values(), self.wake[0]], [], [], pause)
@@ -83,41 +91,42 @@ class Wire:
                 os.write(to, packet)
 
     @contextlib.contextmanager
-    def inside(self, number):
+    def inside(self, number: int) -> Iterator[None]:
         enter(self.namespaces[number])
         try:
             yield
         finally:
             enter(self.home)
 
-    def __enter__(self):
+    def __enter__(self) -> typing.Self:
         return self
 
-    def __exit__(self, *_):
+    def __exit__(self, *_: object) -> None:
         os.write(self.wake[1], b".")
         self.thread.join()
-        for it in (self.home, *self.namespaces.values(), *self.devices.values(), *self.wake):
-            os.close(it)
+        for file in (self.home, *self.namespaces.values(), *self.devices.values(), *self.wake):
+            os.close(file)
 
 
 class GroupApart(Group):
     """Members each in a namespace of its own; a client reaches each in its namespace."""
 
-    def __init__(self, net, folder, *said):
-        super().__init__(len(net.namespaces), folder, *said)
+    def __init__(self, net: Wire, folder: str, *options: str) -> None:
+        super().__init__(len(net.namespaces), folder, *options)
         self.net = net
         self.addresses = [f"10.77.0.{number}:{PORT}" for number in net.namespaces]
 
-    def run(self, number, said=None, word=None):
+    def run(self, number: int, options: Iterable[str] | None = None, word: str | None = None) -> None:
+        given = self.options if options is None else options
         with self.net.inside(number):
-            super().run(number, (f"listen={self.addresses[number - 1]}", *(self.said if said is None else said)), word)
+            super().run(number, (f"listen={self.addresses[number - 1]}", *given), word)
 
-    def host(self, node):
+    def address(self, node: int) -> tuple[str, int]:
         return f"10.77.0.{node}", PORT
 
-    def inside(self, node):
+    def inside(self, node: int) -> contextlib.AbstractContextManager:
         return self.net.inside(node)
 
-    def is_up(self, node):
-        with self.net.inside(node), socket.socket() as it:
-            return it.connect_ex(self.host(node)) == 0
+    def is_reached(self, node: int) -> bool:
+        with self.net.inside(node), socket.socket() as probe:
+            return probe.connect_ex(self.address(node)) == 0

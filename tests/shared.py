@@ -1,0 +1,163 @@
+#!/usr/bin/env python3
+"""Tests what the programs in Python share: python3 tests/shared.py. It needs no built program. The status is 1 where a
+test fails. Standard library alone."""
+import contextlib
+import io
+import os
+import socket
+import sys
+import time
+import unittest
+import unittest.mock
+from email.message import Message
+
+sys.path.insert(0, os.path.dirname(os.path.dirname(os.path.abspath(__file__))))
+from tools import checks, repo, unproved
+from tools.load import Noted, misled
+from tools.node import ask, comes_to, exchange, home_of, without_starts
+from tools.page import squeeze
+from tools.participant import Participant, Reply
+from tools.ports import HOST, free_row, is_free, is_open, listens_at
+
+LRA = "00000000-0000-8002-8000-000000000001"
+
+
+class Busy(Participant):
+    """Is between two runs when it is asked the first two times."""
+
+    def answer(self, path: str, lra: str, fields: Message, body: bytes) -> Reply:
+        return (503, b'{"refused":"E20 RunFull"}') if len(self.calls) < 2 else (200, b'{"a":1}')
+
+
+class TestRepo(checks.Checked):
+    def test_crates(self) -> None:
+        """Libraries come before those that use them, each once."""
+        repo.write(f"{self.folder}/crates.txt", "# a: b\nlow: uuid\nmiddle: low  # why\nhigh: low middle url\n")
+        crates = repo.crates(self.folder)
+        self.same("crates in order", ["low", "middle", "high"], list(crates))
+        self.same("those below one", ["low", "middle"], repo.below("high", crates))
+
+    def test_heads(self) -> None:
+        """Heads of functions, of which calls are none."""
+        heads = ["fn one(", "    pub fn two<T>(", "pub(crate) const fn three("]
+        matches = [repo.FUNCTION.match(head) for head in heads]
+        self.same("heads", ["one", "two", "three"], [match and match[2] for match in matches])
+        self.check("no head", not repo.FUNCTION.match("    one(fn two"))
+
+    def test_copy(self) -> None:
+        """A copy has the code of all crates and one that is added, and no proofs."""
+        repo.copy_crates(self.folder)
+        crate = repo.add_crate(self.folder, "added", {"a/b.rt": "text"}, "lra_id")
+        self.same("the file that is added", "text", repo.read(f"{crate}/src/a/b.rt"))
+        self.same("what it uses", ["lra_id"], repo.crates(self.folder)["added"])
+        self.check("no proofs", not os.path.exists(f"{self.folder}/crates/lra_id/proofs"))
+
+    def test_found(self) -> None:
+        self.same("what is there", "b", repo.found("a(.)", "xab")[1])
+        with self.assertRaises(SystemExit):
+            repo.found("a", "b")
+
+    def test_squeeze(self) -> None:
+        """Strings stay as they are."""
+        page = '<style>a { b: c; }</style>\n<script>\n  // no\n  let a = "b  = c";\n</script>'
+        self.same("a page", '<style>a{b:c;}</style>\n<script>\nlet a="b  = c";\n</script>', squeeze(page))
+
+
+class TestPorts(checks.Checked):
+    def test_ports(self) -> None:
+        """Rows are free, and others each time; who listens holds its port."""
+        first, second = free_row(3), free_row(3)
+        self.check("a row", first == list(range(first[0], first[0] + 3)) and not set(first) & set(second))
+        with socket.create_server((HOST, first[0])):
+            self.check("a port that is held", is_open(first[0]) and not is_free(first[0]))
+            self.check("it is held by this process", listens_at(os.getpid(), first[:1]))
+            self.check("and others aren't", not listens_at(os.getpid(), first[:2]))
+        self.check("a port that is free", not is_open(first[1]) and is_free(first[1]))
+
+    def test_comes_to(self) -> None:
+        """It looks once at least, and not for much longer than it is to."""
+        began = time.monotonic()
+        self.check("what is so", comes_to(0, lambda: True))
+        self.check("what isn't", not comes_to(0.1, lambda: False) and time.monotonic() - began < 5)
+
+    def test_running(self) -> None:
+        self.same("no program runs there", None, unproved.running_in(self.folder))
+
+
+class TestNode(checks.Checked):
+    def test_participant(self) -> None:
+        """It answers as it is told to, and remembers what came."""
+        part = Participant(status=202)
+        part.answers = {"/a": 404, "/b": (200, b"[1]")}
+        self.same("by its path", [(404, {}), (200, [1]), (202, {})],
+                  [ask(part.port, "PUT", path) for path in ("/a", "/b", "/c")])
+        exchange((HOST, part.port), f"PUT /e HTTP/1.1\r\nLong-Running-Action-Ended: urn:uuid:{LRA}\r\n\r\n".encode())
+        self.same("the paths", ["/a", "/b", "/c", "/e"], part.paths())
+        self.same("the ends", ["/e"], [call.path for call in part.ends()])
+        self.same("those of an LRA", [("PUT", "/e")], part.made(LRA))
+        self.check("when", part.time_of("/a", 404) is not None and part.time_of("/a", 200) is None)
+        part.close()
+        self.check("closed", not is_open(part.port))
+        part.open()
+        self.same("open again", (404, {}), ask(part.port, "GET", "/a"))
+        part.close()
+
+    def test_ask(self) -> None:
+        """Who is between two runs is asked again."""
+        busy = Busy()
+        self.same("the answer", (200, {"a": 1}), ask(busy.port, "GET", "/"))
+        self.same("questions", 3, len(busy.calls))
+        self.same("unless it isn't to be", (200, {"a": 1}), ask(busy.port, "GET", "/", again=()))
+        busy.close()
+
+    def test_texts(self) -> None:
+        self.same("a home", 2, home_of(LRA))
+        log = "[INFO  lra_server::server] node 1: listens on 127.0.0.1:8070\nnode 1: a warning\n"
+        self.same("what is told besides", "node 1: a warning\n", without_starts(log))
+
+    def test_misled(self) -> None:
+        """Compensations come last to first; one that is called again at once counts once."""
+        part, one = Participant(), Noted()
+        one.members = {0: 1, 1: 2}
+        for order, is_so in (((1, 1, 0), True), ((0, 1), False), ((1,), False)):
+            part.calls.clear()
+            for place in order:
+                part.hear("PUT", f"/cancel/{place}", fields_of(LRA), b"")
+            found = list(misled(part, {LRA: one}, {LRA: "Cancelled"}))
+            self.check(f"calls to {order}", (not found) == is_so, found)
+        part.close()
+
+
+def fields_of(lra: str) -> Message:
+    """The fields of a call for an LRA."""
+    fields = Message()
+    fields["Long-Running-Action"] = f"urn:uuid:{lra}"
+    return fields
+
+
+class TestChecks(unittest.TestCase):
+    def test_run(self) -> None:
+        """A check that fails fails the run, and ends nothing; so does a test that can't go on."""
+
+        class Failing(checks.Checked):
+            def test_check(self) -> None:
+                self.check("this fails", False, "seen")
+                self.check("this is looked at all the same", True)
+
+            def test_raise(self) -> None:
+                raise SystemExit("it can't go on")
+
+            def test_skip(self) -> None:
+                self.skipTest("why")
+
+        with contextlib.redirect_stdout(io.StringIO()) as out, unittest.mock.patch.object(checks.Checked, "is_told"):
+            statuses = [checks.run(Failing, words=[word]) for word in ("check", "raise", "skip")]
+        self.assertEqual(statuses, [1, 1, 0])
+        lines = ["FAILED  this fails: seen", "ok      this is looked at all the same", "skipped skip: why", "1 failed"]
+        for line in lines:
+            self.assertIn(f"{line}\n", out.getvalue())
+        self.assertIn("FAILED  raise: ", out.getvalue())
+
+
+if __name__ == "__main__":
+    sys.exit(checks.run(TestRepo, TestPorts, TestNode, TestChecks))

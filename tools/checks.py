@@ -1,0 +1,133 @@
+"""Tests of many checks, each of which prints a line where a test is run as a program; and how it is run so."""
+import contextlib
+import os
+import sqlite3
+import tempfile
+import time
+import traceback
+import typing
+import unittest
+from collections.abc import Iterable
+
+from tools.node import Group, Server
+from tools.participant import Participant
+
+
+class Checked(unittest.TestCase):
+    """A test that goes on behind a check that fails. It has a folder of its own, which is gone behind it."""
+
+    # Whether each check prints a line.
+    is_told = False
+    # The programs that have to be built, and how long all takes where that is long.
+    needs: tuple[type[Server] | type[Group], ...] = ()
+    takes: str | None = None
+
+    @classmethod
+    def setUpClass(cls) -> None:
+        for kind in cls.needs:
+            if not os.access(kind.program, os.X_OK):
+                raise unittest.SkipTest(f"{kind.program} isn't there: ./coordinator builds it")
+        if cls.takes and not cls.is_told:
+            raise unittest.SkipTest(f"it takes {cls.takes}: run it by itself")
+
+    def setUp(self) -> None:
+        folder = tempfile.TemporaryDirectory()
+        self.addCleanup(folder.cleanup)
+        self.folder = folder.name
+
+    def check(self, what: str, is_so: object, seen: object = "") -> None:
+        """Whether something is so, and what was seen where it isn't."""
+        with self.subTest(what):
+            if self.is_told:
+                print(f"ok      {what}" if is_so else f"FAILED  {what}: {seen}", flush=True)
+            if not is_so:
+                self.fail(f"{what}: {seen}")
+
+    def same(self, what: str, wanted: object, seen: object) -> None:
+        """Whether something is what is wanted."""
+        self.check(what, wanted == seen, f"\n  wanted {wanted}\n  seen   {seen}")
+
+    def is_whole(self, journal: str, node: int) -> None:
+        """Whether SQLite finds a node's journal whole."""
+        with contextlib.closing(sqlite3.connect(journal)) as database:
+            found = database.execute("PRAGMA integrity_check").fetchone()
+        self.check(f"the journal of node {node} is whole", found == ("ok",), found)
+
+    def folder_in(self, *names: str) -> str:
+        """A folder in that of the test."""
+        path = os.path.join(self.folder, *names)
+        os.makedirs(path, exist_ok=True)
+        return path
+
+    def server(self, nodes: int, folder: str | None = None, **how: typing.Any) -> Server:
+        """A server that is started, and killed with the test."""
+        started = Server(nodes, folder or self.folder, **how)
+        self.addCleanup(started.__exit__)
+        return started
+
+    def participant(self, **how: typing.Any) -> Participant:
+        """A participant that is there as long as the test."""
+        part = Participant(**how)
+        self.addCleanup(part.close)
+        return part
+
+    def group(self, count: int, *options: str, kind: type[Group] = Group) -> typing.Any:
+        """Members that aren't started yet, and are killed with the test."""
+        made = kind(count, self.folder, *options)
+        self.addCleanup(made.__exit__)
+        return made
+
+
+class Lines(unittest.TestResult):
+    """Tells what no check tells: a test that can't go on, one that is skipped, and one that took its time."""
+
+    def startTest(self, test: unittest.TestCase) -> None:
+        super().startTest(test)
+        self.began = time.monotonic()
+
+    def stopTest(self, test: unittest.TestCase) -> None:
+        super().stopTest(test)
+        took = time.monotonic() - self.began
+        if took >= 1:
+            print(f"        {word_of(test)}: {took:.0f} seconds", flush=True)
+
+    def addError(self, test: unittest.TestCase, err: typing.Any) -> None:
+        super().addError(test, err)
+        print(f"FAILED  {word_of(test)}: {''.join(traceback.format_exception(*err)).rstrip()}", flush=True)
+
+    def addFailure(self, test: unittest.TestCase, err: typing.Any) -> None:
+        super().addFailure(test, err)
+        print(f"FAILED  {word_of(test)}: {err[1]}", flush=True)
+
+    def addSkip(self, test: unittest.TestCase, reason: str) -> None:
+        super().addSkip(test, reason)
+        print(f"skipped {word_of(test)}: {reason}", flush=True)
+
+
+def word_of(test: unittest.TestCase) -> str:
+    """The word by which a test is asked for."""
+    return test.id().rpartition(".")[2].removeprefix("test_")
+
+
+def words_of(kind: type[unittest.TestCase]) -> list[str]:
+    """The words of a class's tests, in their order there."""
+    return [name.removeprefix("test_") for name in vars(kind) if name.startswith("test_")]
+
+
+def run(*kinds: type[unittest.TestCase], words: Iterable[str] = ()) -> int:
+    """Runs the tests of some classes, all or those of some words, and gives the status for the system."""
+    Checked.is_told = True
+    every = [(kind, word) for kind in kinds for word in words_of(kind)]
+    chosen = [(kind, one) for word in words for kind, one in every if one == word]
+    result = Lines()
+    unittest.TestSuite(kind(f"test_{word}") for kind, word in chosen or every).run(result)
+    failed = len(result.failures) + len(result.errors)
+    print(f"{failed} failed")
+    return 1 if failed else 0
+
+
+def need(*kinds: type[Server] | type[Group]) -> None:
+    """Ends a test at once where one of its programs isn't there."""
+    for kind in kinds:
+        if not os.access(kind.program, os.X_OK):
+            raise SystemExit(f"{kind.program} isn't there: ./coordinator builds it")
