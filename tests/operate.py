@@ -251,6 +251,8 @@ class TestOperators(checks.Checked):
                    group.record(1, lra)["purge"].startswith("E24 StillToTell"), group.told(1, f"/lra/{lra}"))
         self.check("an operator says that it was told", group.at(1, f"/lra/{lra}/member/1/told", "PUT").status == 204)
         self.check("then it is due", group.record(1, lra)["purge"] == "due")
+        failed = ("lra_held", "status=FailedToCancel")
+        self.check("and is counted as held", comes_to(SLOW, lambda: group.samples(1)[failed] == 1), group.samples(1))
         log = group.whole_log(1)
         for what in ("forgot", "was told of the end"):
             self.check(f"the log says who {what}", f"node 1: an operator says that /lra/{lra}/member/1 {what}" in log,
@@ -258,6 +260,8 @@ class TestOperators(checks.Checked):
         self.check("no such participant",
                    group.told(1, f"/lra/{lra}/member/2/told", "PUT") == (404, {"refused": "E5 UnknownMember"}))
         self.check("the purge", group.at(1, f"/lra/{lra}", "DELETE").status == 204)
+        self.check("it isn't counted after that alone",
+                   comes_to(SLOW, lambda: group.samples(1)[failed] == 0), group.samples(1))
         self.check("nobody is called in vain any more",
                    comes_to(SLOW, lambda: group.calls(1) == []), group.calls(1))
         group.end()
@@ -284,7 +288,7 @@ class TestOperators(checks.Checked):
             ("lra_refused_total", "refusal=E13"): 0,
             ("lra_held", "status=Active"): 4, ("lra_held", "status=Cancelling"): 1, ("lra_held", "status=Closed"): 0,
             ("lra_held_limit",): 256, ("lra_up",): 1, ("lra_ready",): 1, ("lra_swept_total", "came=gone"): 1,
-            ("lra_journal_failures_total",): 0, ("lra_front", "of=1"): 10,
+            ("lra_journal_failures_total",): 0, ("lra_front", "of=1"): 10, ("lra_callbacks_due",): 1,
         }
         shown: Samples = {}
 
@@ -295,6 +299,7 @@ class TestOperators(checks.Checked):
         self.check("what was done is counted", comes_to(SLOW, are_so),
                    {key: shown.get(key) for key, value in wanted.items() if shown.get(key) != value})
         pulls = sum(shown[("lra_pulls_total", f"came={came}", "from=2")] for came in ("new", "nothing"))
+        self.check("connections are counted", shown[("lra_connections_total",)] > 10)
         self.check("pulls, by node", pulls > 0 and shown[("lra_pulled_seconds", "from=2")] < SLOW)
         self.check("when it started", abs(shown[("lra_start_seconds",)] - time.time()) < 10 * SLOW)
         group.kill(2)
