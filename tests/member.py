@@ -11,6 +11,7 @@ import concurrent.futures
 import glob
 import os
 import random
+import re
 import shutil
 import socket
 import subprocess
@@ -20,7 +21,7 @@ import time
 from collections.abc import Iterable
 
 sys.path.insert(0, os.path.dirname(os.path.dirname(os.path.abspath(__file__))))
-from tools import checks, unproved, wire
+from tools import checks, repo, unproved, wire
 from tools.load import ENDED, Load, lost, misled
 from tools.node import SLOW, Group, Json, Server, comes_to, end_input, home_of, in_ms
 from tools.participant import Participant
@@ -232,6 +233,13 @@ class TestMembers(checks.Checked):
             ran = self.run_with(*[word.replace("DIR", self.folder) for word in given])
             self.check(f"a folder that isn't there: {' '.join(given)}", (ran.returncode, ran.stderr) == (1, NO_FOLDER),
                        ran)
+        # The words of the page are taken: there is only no such folder.
+        lines = re.findall(r"^    (?:ExecStart=/opt/lra/)?lra_member (.*)$", repo.read("docs/OPERATING.md"), re.M)
+        self.check("the page has four commands", len(lines) == 4, lines)
+        for line in lines:
+            ran = self.run_with(*line.replace("/var/lib/lra", f"{self.folder}/none").split())
+            is_so = ran.returncode == 1 and b"there is no folder" in ran.stderr
+            self.check(f"OPERATING: lra_member {line}", is_so, ran)
         every = ["keep=0", "keep-failed=18446744073709551615"]
         with self.node("1", self.folder, f"listen=0.0.0.0:{third}", *every, f"elsewhere:{fourth}") as node:
             self.check("it listens where it is told to", comes_to(SLOW, lambda: is_open(third)) and not is_open(fourth))

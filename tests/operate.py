@@ -2,17 +2,20 @@
 """Tests the operator's port, as who is on call meets it: python3 tests/operate.py [PROGRAM] [TEST..].
 
 PROGRAM is crates/lra_member/out/lra_member, or --unproved (tools/unproved.py). A TEST is one of paths, records, stuck,
-dead, metrics, ready, slow and cost; without one it does all, some two minutes. Each check prints a line; the status is
-1 where one fails. Standard library alone."""
+dead, page, metrics, ready, slow and cost; without one it does all, some two minutes. Each check prints a line; the
+status is 1 where one fails. Standard library alone."""
+import json
 import os
+import re
 import socket
+import subprocess
 import sys
 import threading
 import time
 from collections.abc import Iterable
 
 sys.path.insert(0, os.path.dirname(os.path.dirname(os.path.abspath(__file__))))
-from tools import checks, metrics, shapes, unproved
+from tools import checks, metrics, repo, shapes, unproved
 from tools.node import SLOW, Answer, Group, Json, comes_to, request
 from tools.ports import HOST, free_row
 
@@ -90,6 +93,22 @@ def listed(lra: str, status: str, members: int = 0, parent: str | None = None) -
 def gone_link() -> str:
     """A link at which nobody listens."""
     return f"http://{HOST}:{free_row(1)[0]}/gone"
+
+
+def commands_of_page() -> list[tuple[str, Json]]:
+    """The commands that docs/OPERATING.md gives at the operator's port, each with what it shows behind it."""
+    chapter = repo.found(r"\n## The operator's port\n(.*?)\n## ", repo.read("docs/OPERATING.md"), re.S)[1]
+    found = re.findall(r"^    (curl .*)\n(?:    # (\{.*\})$)?", chapter, re.M)
+    return [(command, json.loads(shown.replace("[..]", "[]")) if shown else None) for command, shown in found]
+
+
+def has_form(shown: Json, seen: Json) -> bool:
+    """Whether an answer has no members but those that a page shows, and a list rows of that form."""
+    if isinstance(shown, dict) and isinstance(seen, dict):
+        return seen.keys() <= shown.keys() and all(has_form(shown[key], value) for key, value in seen.items())
+    if isinstance(shown, list) and isinstance(seen, list):
+        return not shown or all(has_form(shown[0], row) for row in seen)
+    return not isinstance(seen, dict | list)
 
 
 class TestOperators(checks.Checked):
@@ -264,6 +283,29 @@ class TestOperators(checks.Checked):
                    comes_to(SLOW, lambda: group.samples(1)[failed] == 0), group.samples(1))
         self.check("nobody is called in vain any more",
                    comes_to(SLOW, lambda: group.calls(1) == []), group.calls(1))
+        group.end()
+
+    def test_page(self) -> None:
+        """The commands of docs/OPERATING.md, as they stand there but for ports and ids."""
+        group = self.operated(2).start()
+        part = self.participant()
+        part.answers["/c"] = 409
+        stuck, failed = group.begin(1), group.begin(1)
+        group.join(1, stuck, compensate=gone_link())
+        group.join(1, failed, compensate=f"{part.url}/c", forget=gone_link(), after=gone_link())
+        for lra in (stuck, failed):
+            group.finish(1, lra, "cancel")
+        self.check("one fails", comes_to(SLOW, lambda: group.record(1, failed)["status"] == "FailedToCancel"))
+        self.check("one is called in vain", comes_to(SLOW, lambda: len(group.calls(1)) > 0))
+        commands = commands_of_page()
+        self.check("the page has seven commands", len(commands) == 7, commands)
+        for command, shown in commands:
+            lra = stuck if command.endswith("/report") else failed
+            line = command.replace(":8170", f":{group.doors[0]}").replace("/ID/", f"/{lra}/")
+            ran = subprocess.run(["sh", "-c", f"{line} -s -w '\\n%{{http_code}}'"], capture_output=True, text=True)
+            body, _, code = ran.stdout.rpartition("\n")
+            is_so = code == "204" if shown is None else code == "200" and has_form(shown, json.loads(body))
+            self.check(command, is_so, ran.stdout + ran.stderr)
         group.end()
 
     def test_metrics(self) -> None:

@@ -150,6 +150,17 @@ class TestWords(checks.Checked):
         for word in (str(2**64), "00", "+1", "1.5", "", "1\n"):
             self.check(f"MS isn't {word!r}", status_of(start.wrong_with(*right, [("--keep", word)])) == 2)
 
+    def test_pages(self) -> None:
+        """The commands of the pages are taken, as they stand there but for the folder."""
+        found = [(page, line) for page in ("README.md", "docs/OPERATING.md", "demo/README.md")
+                 for line in re.findall(r"^    (?:.* && )?\./coordinator ([^<\n]*)", repo.read(page), re.M)]
+        self.check("the pages have six commands", len(found) == 6, found)
+        for page, line in found:
+            options, (nodes, port, _) = start.options_of(line.split())
+            times = [(name, options[name]) for name in ("--keep", "--keep-failed") if name in options]
+            wrong = start.wrong_with(nodes, port, self.folder, times, options.get("--operate"))
+            self.check(f"{page}: ./coordinator {line}", wrong is None or wrong[1].endswith("is in use"), wrong)
+
     def test_count(self) -> None:
         """Words of another count, or in another order, are told the usage."""
         right = ("3", "8070", self.folder)
