@@ -2,8 +2,7 @@ mod Absorbed
 mod EmptyHomes
 mod Homes
 mod Indexed
-mod KnownReports
-mod Nesting
+mod JudgedAtHome
 pub mod Paging
 pub mod PreparedReplies
 pub mod Rooms

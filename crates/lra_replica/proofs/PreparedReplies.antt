@@ -24,7 +24,7 @@ use Rattle.lra_forest.specs.Places.{put_record}
 use Rattle.lra_forest.specs.Said.{members_at, shown_at}
 use Rattle.lra_forest.specs.Shape.{found_at}
 use Rattle.lra_history.specs.declared.command.Command.{Command}
-use Rattle.lra_history.specs.declared.command.Command.TheVariants.{Begin, Join, Leave, Decide, Report, Forgot, Told}
+use Rattle.lra_history.specs.declared.command.Command.TheVariants.{Begin, Join, Leave, Decide, Report, Forgot, Told, Purge}
 use Rattle.lra_history.specs.declared.command.CommandReply.{CommandReply}
 use Rattle.lra_history.specs.declared.command.CommandReply.TheVariants.{Began, Decided, Joined, Left, Reported}
 use Rattle.lra_history.specs.Growth.{IsSettled, member_changed, forgetting, hearing, joined, leaving, record_after, reporting}
@@ -56,23 +56,6 @@ answer_accepted j reply given change made e same is =
     subst (λ (k : Judgement). IsAnswer k reply change (Ok (record { reply = given; patch = Some made }))) (sym e)
     (inr (ap (λ (x : CommandReply). Ok (record { reply = x; patch = Some made })) same ∙ ap (λ (x : Change). Ok (record { reply = reply; patch = Some x })) is))
 
--- a refusal of the first half is one of the whole
-pub answer_unready : (view : View) (me : ℕ) (c : Command) (l : Id) (r : Refusal) → IsReadyNext view me c l (Err r) → IsNext view me c (Err r)
-answer_unready view me c l r (inl denied) = answer_denied (judge_on view me c) (accepted_on view me c) (change_on view me c) r denied
-answer_unready view me c l r (inr memory) = answer_memory (judge_on view me c) (accepted_on view me c) (change_on view me c) r memory.1 memory.0
-
--- a copy of the record of an LRA that has one
-pub ready_next : (view : View) (me : ℕ) (c : Command) (l : Id) (result : Result Record Refusal) → judge_on view me c ≡ Accepted → is_some (record_at view l) ≡ true
-    → IfOk result (λ copy. (old : Record) × (record_at view l ≡ Some old) × (copy ≡ with_stamp me (count view.front me + 1) old))
-    → IfErr result (λ r. (r ≡ NoMemory) ⊎ (record_at view l ≡ None))
-    → IsReadyNext view me c l result
-ready_next view me c l (Ok copy) taken there found lost = (taken, found)
-ready_next view me c l (Err r) taken there found lost = by lost
-  where
-    by : (r ≡ NoMemory) ⊎ (record_at view l ≡ None) → IsReadyNext view me c l (Err r)
-    by (inl memory) = inr (memory, taken)
-    by (inr none) = absurd (let wrong : false ≡ true = ap is_some (sym none) ∙ there in cc)
-
 -- A leave
 
 -- a participant has a number
@@ -95,13 +78,6 @@ member_next view me c l m f reply copy members change some replied changes after
     ∙ after old in
     answer_accepted (judge_on view me c) (accepted_on view me c) reply (change_on view me c) change ready.0 replied
     (change_is ∙ ap (one_change view me) next ∙ ap (λ (o : Option Record). option_map_or (λ (r : Record). one_change view me (record_after (next_fact_on view me c) r)) o (no_change view)) (sym ready.1.1) ∙ changes)
-
-pub leave_next : (view : View) (me : ℕ) (l : Id) (m : ℕ) (copy : Record) (members : List Member) (change : Change) → IsReadyNext view me (Leave l m) l (Ok copy)
-    → (1 ≤ m → members ≡ member_changed leaving (m - 1) copy.members) → change ≡ one_change view me (record copy { members = members })
-    → IsNext view me (Leave l m) (Ok (record { reply = Left; patch = Some change }))
-leave_next view me l m copy members change =
-    member_next view me (Leave l m) l m leaving Left copy members change
-    (λ taken. some_number (at_home view l.home) l.num m (leave_passed view me l m taken).1) refl refl (λ old. refl)
 
 record_next : (view : View) (me : ℕ) (l : Id) (verdict : Verdict) (copy old : Record) → copy ≡ with_stamp me (count view.front me + 1) old → record copy { decision = Some verdict } ≡ record_after (next_fact_on view me (Decide l verdict)) old
 record_next view me l verdict copy old is = ap (λ (r : Record). record r { decision = Some verdict }) is
@@ -168,11 +144,6 @@ member_settled S view l m settled stands =
     by None true same = ap (answered_member None true) (same refl)
     by None false same = refl
 
--- a copy has as many as may join
-pub join_few : (view : View) (me : ℕ) (l : Id) (links : Links) (copy : Record) → judge_on view me (Join l links) ≡ Accepted → ((old : Record) × (record_at view l ≡ Some old) × (copy ≡ with_stamp me (count view.front me + 1) old)) → length copy.members < 32
-join_few view me l links copy taken found =
-    omega (arith, (join_passed view me l links taken).1, numbers_on view l found.0 found.1, ap (λ (r : Record). length r.members) found.2)
-
 pub nest_few : (view : View) (me : ℕ) (p : Id) (deadline : ℕ) (copy : Record) → judge_on view me (Begin (Some p) deadline) ≡ Accepted → ((old : Record) × (record_at view p ≡ Some old) × (copy ≡ with_stamp me (count view.front me + 1) old)) → (copy.home ≡ me) × (length copy.members < 32)
 nest_few view me p deadline copy taken found =
     let own = nest_passed view me p deadline taken in (
@@ -183,19 +154,6 @@ nest_few view me p deadline copy taken found =
 one_more : (m : Member) (ms : List Member) → length (ms ++ m ∷ []) ≡ length ms + 1
 one_more m [] = refl
 one_more m (x ∷ ms) = omega (arith, one_more m ms)
-
-pub join_next : (view : View) (me : ℕ) (l : Id) (links : Links) (copy : Record) (members : List Member) (member : ℕ) (change : Change) → IsReadyNext view me (Join l links) l (Ok copy)
-    → members ≡ copy.members ++ joined links ∷ [] → member ≡ length members → change ≡ one_change view me (record copy { members = members })
-    → IsNext view me (Join l links) (Ok (record { reply = Joined l member; patch = Some change }))
-join_next view me l links copy members member change ready is number change_is =
-    let c : Command = Join l links in
-    let old = ready.1.0 in
-    let same : copy.members ≡ old.members = ap (λ (r : Record). r.members) ready.1.2 in
-    let many : member ≡ (by_view view).numbers l + 1 = number ∙ ap (λ (ms : List Member). length ms) is ∙ one_more (joined links) copy.members ∙ ap (λ (ms : List Member). length ms + 1) same ∙ ap (λ (n : ℕ). n + 1) (sym (numbers_on view l old ready.1.1)) in
-    let next : record copy { members = members } ≡ record_after (next_fact_on view me c) old =
-    ap (λ (r : Record). record r { members = members }) ready.1.2 ∙ ap (λ (ms : List Member). record (with_stamp me (count view.front me + 1) old) { members = ms }) (is ∙ ap (λ (ms : List Member). ms ++ joined links ∷ []) same) in
-    answer_accepted (judge_on view me c) (accepted_on view me c) (Joined l member) (change_on view me c) change ready.0 (ap (λ (n : ℕ). Joined l n) many)
-    (change_is ∙ ap (one_change view me) next ∙ ap (λ (o : Option Record). option_map_or (λ (r : Record). one_change view me (record_after (next_fact_on view me c) r)) o (no_change view)) (sym ready.1.1))
 
 pub nest_next : (view : View) (me : ℕ) (p : Id) (deadline : ℕ) (id : Id) (slot : ℕ) (copy child : Record) (members : List Member) (change : Change) → IsReadyNext view me (Begin (Some p) deadline) p (Ok copy)
     → id ≡ record { home = me; num = count view.front me + 1 } → members ≡ copy.members ++ Nested id.num ∷ [] → slot ≡ length members
@@ -216,26 +174,7 @@ nest_next view me p deadline id slot copy child members change ready named is nu
     (change_is ∙ ap (λ (r : Record). two_changes view me r child) next ∙ ap (two_changes view me (record_after (next_fact_on view me c) old)) new
     ∙ ap (λ (o : Option Record). option_map_or (λ (r : Record). two_changes view me (record_after (next_fact_on view me c) r) (fresh_record view.front me (Some (record { number = p.num; slot = (by_view view).numbers p + 1 })) deadline)) o (no_change view)) (sym ready.1.1))
 
-pub root_next : (view : View) (me deadline : ℕ) (id : Id) (next : Record) (change : Change) → judge_on view me (Begin None deadline) ≡ Accepted
-    → id ≡ record { home = me; num = count view.front me + 1 } → next ≡ fresh_record view.front me None deadline → change ≡ one_change view me next
-    → IsNext view me (Begin None deadline) (Ok (record { reply = Began id 0; patch = Some change }))
-root_next view me deadline id next change taken named is change_is =
-    let c : Command = Begin None deadline in
-    answer_accepted (judge_on view me c) (accepted_on view me c) (Began id 0) (change_on view me c) change taken (ap (λ (l : Id). Began l 0) named) (change_is ∙ ap (one_change view me) is)
-
 -- A report
-
-pub report_some : (view : View) (me : ℕ) (l : Id) (m : ℕ) (act : Act) (outcome : Outcome) → judge_on view me (Report l m act outcome) ≡ Accepted → 1 ≤ m
-report_some view me l m act outcome taken =
-    let t = by_view view in
-    let none = accepted_open (refusal_by t view.front me (Report l m act outcome)) (t.heard l m act outcome) (spent view.front me) taken in
-    some_number (at_home view l.home) l.num m (report_passed t view.front me l m act outcome none).1
-
-pub report_next : (view : View) (me : ℕ) (l : Id) (m : ℕ) (act : Act) (outcome : Outcome) (copy : Record) (members : List Member) (change : Change) → IsReadyNext view me (Report l m act outcome) l (Ok copy)
-    → (1 ≤ m → members ≡ member_changed (reporting act outcome) (m - 1) copy.members) → change ≡ one_change view me (record copy { members = members })
-    → IsNext view me (Report l m act outcome) (Ok (record { reply = Reported; patch = Some change }))
-report_next view me l m act outcome copy members change =
-    member_next view me (Report l m act outcome) l m (reporting act outcome) Reported copy members change (report_some view me l m act outcome) refl refl (λ old. refl)
 
 -- That a participant was told something
 
@@ -259,21 +198,8 @@ notice_next ToForget view me l m reply copy members change replied =
 notice_next OfTheEnd view me l m reply copy members change replied =
     member_next view me (Told l m) l m hearing reply copy members change (told_some view me l m) replied refl (λ old. refl)
 
--- what is made of the command
-pub notice_judged : (notice : Notice) (view : View) (me : ℕ) (l : Id) (m : ℕ) → judge_on view me (command_for notice l m) ≡ judgement_for notice view me l m
-notice_judged ToForget view me l m = refl
-notice_judged OfTheEnd view me l m = refl
-
-pub notice_plain : (notice : Notice) (nodes me : ℕ) (l : Id) (m : ℕ) → IsPlain nodes me (command_for notice l m)
-notice_plain ToForget nodes me l m = tt
-notice_plain OfTheEnd nodes me l m = tt
-
-pub ok_any : {X : Type 0} (P : Type 0) (r : Result X Refusal) → P → IfOk r (λ _. P)
-ok_any P (Ok x) p = p
-ok_any P (Err e) p = tt
-
 -- so what a prepare answers is what the definitions give
-pub prepared_settled : (S : List Fact) (view : View) (me : ℕ) (c : Command) (result : Result Prepared Refusal) → IsPlain (length view.front) me c → me ≤ length view.front → IsSettled S → StandsFor S view
+prepared_settled : (S : List Fact) (view : View) (me : ℕ) (c : Command) (result : Result Prepared Refusal) → IsPlain (length view.front) me c → me ≤ length view.front → IsSettled S → StandsFor S view
     → IfOk result (λ _. judge_on view me c ≡ Accepted → 1 ≤ me) → IsNext view me c result → IsPrepared S view me c result
 prepared_settled S view me c result plain there settled stands some next = by (judge_on view me c) refl (sym (judge_view S view me c plain settled stands)) next
   where
@@ -291,27 +217,22 @@ prepared_settled S view me c result plain there settled stands some next = by (j
     by AlreadyKnown here e is = subst (λ (x : Result Prepared Refusal). IsPrepared S view me c x) (sym is) (sym (ap (λ (j : Judgement). reply_by j (accepted S view.front me c)) e), e)
     by Accepted here e is = taken here e result some is
 
--- running out of memory, where it is accepted
-pub memory_prepared : (S : List Fact) (view : View) (me : ℕ) (c : Command) (result : Result Prepared Refusal) → IsPlain (length view.front) me c → IsSettled S → StandsFor S view → judge_on view me c ≡ Accepted → result ≡ Err NoMemory
-    → IsPrepared S view me c result
-memory_prepared S view me c result plain settled stands taken is = subst (IsPrepared S view me c) (sym is) (inl (refl, sym (judge_view S view me c plain settled stands) ∙ taken))
+-- of a node, every begin is plain
+plain_at : (nodes me : ℕ) (c : Command) → 1 ≤ me → me ≤ nodes → IsPlain nodes me c
+plain_at nodes me (Begin parent deadline) some there = (some, there)
+plain_at nodes me (Join l links) some there = tt
+plain_at nodes me (Leave l m) some there = tt
+plain_at nodes me (Decide l verdict) some there = tt
+plain_at nodes me (Report l m act outcome) some there = tt
+plain_at nodes me (Forgot l m) some there = tt
+plain_at nodes me (Told l m) some there = tt
+plain_at nodes me (Purge root) some there = tt
 
--- where a report is accepted, or that one was told, its LRA has a record: only memory may want for a copy of it
-unready : (S : List Fact) (view : View) (me : ℕ) (c : Command) (l : Id) (refusal : Refusal) → StandsFor S view → (judge S view.front me c ≡ Accepted → is_held S l ≡ true) → judge S view.front me c ≡ Accepted
-    → (refusal ≡ NoMemory) ⊎ (record_at view l ≡ None) → IsPrepared S view me c (Err refusal)
-unready S view me c l refusal stands gives taken (inl memory) = inl (memory, taken)
-unready S view me c l refusal stands gives taken (inr none) = let held = gives taken in absurd (never_lost S view l stands held (held_within S view l stands held) none)
-
-pub report_unready : (S : List Fact) (view : View) (me : ℕ) (l : Id) (m : ℕ) (act : Act) (outcome : Outcome) (refusal : Refusal) → IsSettled S → StandsFor S view → judge_on view me (Report l m act outcome) ≡ Accepted
-    → (refusal ≡ NoMemory) ⊎ (record_at view l ≡ None) → IsPrepared S view me (Report l m act outcome) (Err refusal)
-report_unready S view me l m act outcome refusal settled stands taken lost =
-    unready S view me (Report l m act outcome) l refusal stands (λ e. (lawful_gives S view.front me (Report l m act outcome) e).0.held) (sym (judge_view S view me (Report l m act outcome) tt settled stands) ∙ taken) lost
-
-pub notice_unready : (notice : Notice) (S : List Fact) (view : View) (me : ℕ) (l : Id) (m : ℕ) (refusal : Refusal) → IsSettled S → StandsFor S view → judge_on view me (command_for notice l m) ≡ Accepted
-    → (refusal ≡ NoMemory) ⊎ (record_at view l ≡ None) → IsPrepared S view me (command_for notice l m) (Err refusal)
-notice_unready notice S view me l m refusal settled stands taken lost =
-    unready S view me (command_for notice l m) l refusal stands (by notice) (sym (judge_view S view me (command_for notice l m) (notice_plain notice (length view.front) me l m) settled stands) ∙ taken) lost
+-- so of each node and of each settled set
+pub prepared_of_set : (S : List Fact) (view : View) (me : ℕ) (c : Command) (result : Result Prepared Refusal) → 1 ≤ me → me ≤ length view.front → IsSettled S → StandsFor S view → IsNext view me c result → IsPrepared S view me c result
+prepared_of_set S view me c result some there settled stands next =
+    prepared_settled S view me c result (plain_at (length view.front) me c some there) there settled stands (some_if_ok result) next
   where
-    by : (n : Notice) → judge S view.front me (command_for n l m) ≡ Accepted → is_held S l ≡ true
-    by ToForget e = (lawful_gives S view.front me (Forgot l m) e).0.held
-    by OfTheEnd e = (lawful_gives S view.front me (Told l m) e).0.held
+    some_if_ok : (r : Result Prepared Refusal) → IfOk r (λ _. judge_on view me c ≡ Accepted → 1 ≤ me)
+    some_if_ok (Ok prepared) = λ taken. some
+    some_if_ok (Err refusal) = tt

@@ -1,27 +1,149 @@
-// The eight commands, each prepared as a patch that adds its fact: a file each, and one for forgot and told.
-ghost use Rattle.std.specs.Prelude.{◌≡◌, ◌≤◌, length};
-ghost use Rattle.lra_replica.specs.Prepared.{IsNext, HasRoom, IsPrepared};
-ghost use Rattle.lra_replica.specs.Replicas.{KeepsRoom, view_of};
+// The eight commands: each is judged at the home of the LRA that it names, and one that is accepted becomes a patch that adds its fact.
+ghost use Rattle.std.specs.Prelude.{◌≡◌, ◌≤◌, ◌<◌, Ok, IfOk, false, length};
+ghost use Rattle.std.specs.Option.{option_map_or};
+ghost use Rattle.lra_id.specs.Ids.{last_number};
+ghost use Rattle.lra_id.specs.Fronts.{count};
+ghost use Rattle.lra_history.specs.Next.{judge_on};
+ghost use Rattle.lra_history.specs.Replies.{Accepted};
 ghost use Rattle.lra_history.specs.Views.{OfItsSet};
+ghost use Rattle.lra_replica.specs.AtHome.{lost_by, named_by};
+ghost use Rattle.lra_replica.specs.Prepared.{HasRoom, IsNext, IsPrepared, judged_as};
+ghost use Rattle.lra_replica.specs.Replicas.{KeepsRoom, view_of};
 
 mod begin;
 mod decide;
 mod fact;
 mod join;
+mod judging;
 mod leave;
 mod notices;
 mod purge;
-mod refusals;
 mod report;
 
+use crate::commands::judging::judge;
 use crate::{Prepared, Replica};
 use lra_facts::Refusal;
-use lra_history::Command;
-use lra_id::NodeId;
-use std::alloc::Global;
+use lra_history::{Command, CommandReply};
+use lra_id::{Front, LraId, NodeId};
+use std::alloc::{AllocError, Global};
+
+/// The LRA that a command names, if it names one.
+fn named(command: &Command) -> Option<LraId>
+    ensures { result ≡ named_by command.now }
+{
+    match command {
+        Command::Begin { parent, .. } => *parent,
+        Command::Join { id, .. } => Some(*id),
+        Command::Leave { id, .. } => Some(*id),
+        Command::Decide { id, .. } => Some(*id),
+        Command::Report { id, .. } => Some(*id),
+        Command::Forgot { id, .. } => Some(*id),
+        Command::Told { id, .. } => Some(*id),
+        Command::Purge { root } => Some(*root),
+    }
+}
+
+/// The home at which a command of a node is judged.
+fn home_of(command: &Command, me: NodeId) -> NodeId
+    ensures { result ≡ option_map_or (λ l. l.home) (named_by command.now) me }
+{
+    match named(command) {
+        Some(id) => id.home(),
+        None => me,
+    }
+}
+
+/// Why a command is refused whose LRA has a home that is no node.
+fn lost(front: &Front, command: &Command) -> Refusal
+    ensures { result ≡ lost_by front.now command.now }
+{
+    match named(command) {
+        Some(id) if front.covers(id) => Refusal::NotHeld,
+        _ => Refusal::UnknownLra,
+    }
+}
 
 impl Replica {
-    /// Prepares what a command asks of a node, by the function of that command, which says what it costs and its errors.
+    /// What the node makes of a command: whether it is known already, and is accepted otherwise; or why it is refused.
+    fn judge(&self, me: NodeId, command: &Command) -> Result<bool, Refusal>
+        requires { me ≤ length self.now.front }
+        ensures judged { judge_on (view_of self.now) me command.now ≡ judged_as result }
+        ensures left { result ≡ Ok false → count self.now.front me < last_number }
+    {
+        let front = self.front();
+        match self.home(home_of(command, me)) {
+            Some(home) => judge(home, &front, me, command),
+            None => Err(lost(&front, command)),
+        }
+    }
+
+    /// Prepares an accepted command, by the function of that command. Only memory can be wanting.
+    fn accept(
+        &mut self,
+        alloc: Global,
+        me: NodeId,
+        command: Command,
+    ) -> Result<Prepared, AllocError>
+        requires node { me ≤ length self.old.front }
+        requires left { count self.old.front me < last_number }
+        requires accepted { judge_on (view_of self.old) me command ≡ Accepted }
+        ensures view { view_of self.new ≡ view_of self.old }
+        ensures room { IfOk result (λ prepared. HasRoom (Ok prepared) self.new) }
+        ensures stays { KeepsRoom self.old self.new }
+        ensures next { IfOk result
+            (λ prepared. IsNext (view_of self.old) me command (Ok prepared)) }
+    {
+        match command {
+            Command::Begin { parent, deadline } => match parent {
+                Some(parent) => self.accept_nested(alloc, me, parent, deadline),
+                None => self.accept_root(alloc, me, deadline),
+            },
+            Command::Join { id, links } => self.accept_join(alloc, me, id, links),
+            Command::Leave { id, member } => self.accept_leave(alloc, me, id, member),
+            Command::Decide { id, verdict } => self.accept_decision(alloc, me, id, verdict),
+            Command::Report {
+                id,
+                member,
+                act,
+                outcome,
+            } => self.accept_report(alloc, me, id, member, act, outcome),
+            Command::Forgot { id, member } => self.accept_forgot(alloc, me, id, member),
+            Command::Told { id, member } => self.accept_told(alloc, me, id, member),
+            Command::Purge { root } => self.accept_purge(alloc, me, root),
+        }
+    }
+
+    /// What a command comes to: a refusal, that it is known already, or its patch.
+    fn outcome(
+        &mut self,
+        alloc: Global,
+        me: NodeId,
+        command: Command,
+    ) -> Result<Prepared, Refusal>
+        requires { me ≤ length self.old.front }
+        ensures view { view_of self.new ≡ view_of self.old }
+        ensures room { HasRoom result self.new }
+        ensures stays { KeepsRoom self.old self.new }
+        ensures next { IsNext (view_of self.old) me command result }
+        ensures some { 1 ≤ me }
+    {
+        // A node's number is at least 1: only a call of a `NodeId` tells.
+        let _ = me.number();
+        match self.judge(me, &command) {
+            Err(refusal) => Err(refusal),
+            Ok(true) => Ok(Prepared {
+                reply: CommandReply::Known,
+                patch: None,
+            }),
+            Ok(false) => match self.accept(alloc, me, command) {
+                Ok(prepared) => Ok(prepared),
+                Err(_) => Err(Refusal::NoMemory),
+            },
+        }
+    }
+
+    /// Prepares what a command asks of a node. `begin`, `join` and the others, which do it for one command each, say what that
+    /// costs and its errors.
     pub fn prepare(
         &mut self,
         alloc: Global,
@@ -36,20 +158,6 @@ impl Replica {
         ensures prepared { OfItsSet (view_of self.old)
             (λ S. IsPrepared S (view_of self.old) me command result) }
     {
-        match command {
-            Command::Begin { parent, deadline } => self.begin(alloc, me, parent, deadline),
-            Command::Join { id, links } => self.join(alloc, me, id, links),
-            Command::Leave { id, member } => self.leave(alloc, me, id, member),
-            Command::Decide { id, verdict } => self.decide(alloc, me, id, verdict),
-            Command::Report {
-                id,
-                member,
-                act,
-                outcome,
-            } => self.report(alloc, me, id, member, act, outcome),
-            Command::Forgot { id, member } => self.forgot(alloc, me, id, member),
-            Command::Told { id, member } => self.told(alloc, me, id, member),
-            Command::Purge { root } => self.purge(alloc, me, root),
-        }
+        self.outcome(alloc, me, command)
     }
 }

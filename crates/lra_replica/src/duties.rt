@@ -67,28 +67,6 @@ impl Replica {
         }
     }
 
-    /// Of the participants under a root, the least that has a link for the end of its LRA and was not told of it.
-    pub(crate) fn least_unheard(&self, root: LraId) -> Option<Due>
-        requires { root.home ≤ length self.now.front }
-        ensures { result ≡ (by_view (view_of self.now)).least_untold root }
-    {
-        match self.home(root.home()) {
-            Some(records) => records.least_unheard(root),
-            None => None,
-        }
-    }
-
-    /// Of the participants under a root, the least that is still to be told to forget.
-    pub(crate) fn least_forget_duty(&self, root: LraId) -> Option<Due>
-        requires { root.home ≤ length self.now.front }
-        ensures { result ≡ (by_view (view_of self.now)).least_owed root }
-    {
-        match self.home(root.home()) {
-            Some(records) => records.least_forget_duty(root),
-            None => None,
-        }
-    }
-
     /// The participant of an LRA with this member number, if the LRA is held and has one.
     pub fn participant(&self, id: LraId, member: u8) -> Option<&Participant>
         ensures says { option_copied result ≡ participant_in (view_of self.now) id member }

@@ -1,51 +1,27 @@
 // An LRA is closed or cancelled.
-ghost use Rattle.std.specs.Prelude.{◌≡◌, ◌≤◌, ◌<◌, None, length, true, Ok, IfOk, is_some};
+ghost use Rattle.std.specs.Prelude.{◌≡◌, ◌≤◌, ◌<◌, Ok, IfOk, is_some, length, true};
 ghost use Rattle.lra_id.specs.Ids.{last_number};
 ghost use Rattle.lra_id.specs.Fronts.{count};
-ghost use Rattle.lra_states.specs.declared.outcome.Verdict.{Verdict};
-ghost use Rattle.lra_history.specs.declared.command.Command.TheVariants.{Decide};
-ghost use Rattle.lra_history.specs.Next.{judge_on};
-ghost use Rattle.lra_replica.specs.Prepared.{judged_by, IsNext, IsReadyNext, HasRoom, IsPrepared};
-ghost use Rattle.lra_replica.specs.Replicas.{view_of, KeepsRoom};
 ghost use Rattle.lra_forest.specs.Forests.{id_of};
 ghost use Rattle.lra_forest.specs.Places.{put_record};
 ghost use Rattle.lra_forest.specs.Said.{shown_at};
 ghost use Rattle.lra_forest.specs.Shape.{found_at};
+ghost use Rattle.lra_history.specs.declared.command.Command.TheVariants.{Decide};
+ghost use Rattle.lra_history.specs.Next.{judge_on};
+ghost use Rattle.lra_history.specs.Replies.{Accepted};
 ghost use Rattle.lra_history.specs.Views.{OfItsSet, record_at, records_at};
+ghost use Rattle.lra_replica.specs.Prepared.{HasRoom, IsNext, IsPrepared};
+ghost use Rattle.lra_replica.specs.Replicas.{KeepsRoom, view_of};
 
 use crate::{Prepared, Replica};
 use lra_facts::Refusal;
 use lra_forest::Record;
-use lra_history::CommandReply;
+use lra_history::{Command, CommandReply};
 use lra_id::{LraId, NodeId};
 use lra_states::{LraStatus, Verdict};
-use std::alloc::Global;
+use std::alloc::{AllocError, Global};
 
 impl Replica {
-    fn refusal_of_decide(&self, me: NodeId, id: LraId) -> Option<Refusal>
-        ensures judged { (verdict : Verdict) →
-            judge_on (view_of self.now) me (Decide id verdict) ≡ judged_by result }
-        ensures left { result ≡ None → count self.now.front me < last_number }
-    {
-        if let Some(denied) = self.refusal_unless_active(me, id) {
-            return Some(denied);
-        }
-        self.refusal_to_number(me)
-    }
-
-    fn ready_to_decide(&self, me: NodeId, id: LraId) -> Result<Record, Refusal>
-        ensures ready { (verdict : Verdict) →
-            IsReadyNext (view_of self.now) me (Decide id verdict) id result }
-        ensures some { IfOk result (λ _. 1 ≤ me) }
-        ensures left { IfOk result (λ _. count self.now.front me < last_number) }
-        ensures home { IfOk result (λ copy. copy.home ≤ length self.now.front) }
-    {
-        if let Some(refusal) = self.refusal_of_decide(me, id) {
-            return Err(refusal);
-        }
-        self.stamped(id, me)
-    }
-
     fn shown_with(&mut self, next: Record) -> (Result<LraStatus, Refusal>, Record)
         requires { next.home ≤ length self.old.front }
         ensures same { view_of self.new ≡ view_of self.old }
@@ -57,6 +33,36 @@ impl Replica {
     {
         let place = usize::from(next.home.number()) - 1;
         self.homes[place].status_with(next)
+    }
+
+    /// Prepares a decision that is accepted.
+    pub(crate) fn accept_decision(
+        &mut self,
+        alloc: Global,
+        me: NodeId,
+        id: LraId,
+        verdict: Verdict,
+    ) -> Result<Prepared, AllocError>
+        requires node { me ≤ length self.old.front }
+        requires left { count self.old.front me < last_number }
+        requires accepted { judge_on (view_of self.old) me (Decide id verdict) ≡ Accepted }
+        ensures view { view_of self.new ≡ view_of self.old }
+        ensures room { IfOk result (λ prepared. HasRoom (Ok prepared) self.new) }
+        ensures stays { KeepsRoom self.old self.new }
+        ensures next { IfOk result
+            (λ prepared. IsNext (view_of self.old) me (Decide id verdict) (Ok prepared)) }
+    {
+        let mut next = self.stamped(id, me)?;
+        next.decision = Some(verdict);
+        let (shown, next) = self.shown_with(next);
+        let Ok(status) = shown else {
+            unreachable!();
+        };
+        let patch = self.patch_of_one(alloc, me, next)?;
+        Ok(Prepared {
+            reply: CommandReply::Decided(id, status),
+            patch: Some(patch),
+        })
     }
 
     /// Prepares a decision: an LRA is closed or cancelled. It costs a copy of the LRA's record, and a look at those that it
@@ -76,17 +82,6 @@ impl Replica {
         ensures prepared { OfItsSet (view_of self.old)
             (λ S. IsPrepared S (view_of self.old) me (Decide id verdict) result) }
     {
-        let mut next = self.ready_to_decide(me, id)?;
-        next.decision = Some(verdict);
-        let (shown, next) = self.shown_with(next);
-        let status = match shown {
-            Ok(status) => status,
-            Err(refusal) => return Err(refusal),
-        };
-        let patch = self.patch_of_one(alloc, me, next)?;
-        Ok(Prepared {
-            reply: CommandReply::Decided(id, status),
-            patch: Some(patch),
-        })
+        self.prepare(alloc, me, Command::Decide { id, verdict })
     }
 }

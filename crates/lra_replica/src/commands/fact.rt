@@ -1,8 +1,7 @@
 // What the fact of a command changes: the front, and one record or two.
-ghost use Rattle.std.specs.Prelude.{◌≡◌, ◌≤◌, ◌<◌, ◌+◌, ◌⊎◌, Some, None, IfOk, IfErr, OnOk, length};
+ghost use Rattle.std.specs.Prelude.{◌≡◌, ◌≤◌, ◌<◌, ◌+◌, Some, IfOk, OnOk, is_some, length, true};
 ghost use Rattle.lra_id.specs.Ids.{last_number};
 ghost use Rattle.lra_id.specs.Fronts.{count};
-ghost use Rattle.lra_facts.specs.declared.refusal.Refusal.TheVariants.{NoMemory};
 ghost use Rattle.lra_forest.specs.declared.record.Record.{Record};
 ghost use Rattle.lra_history.specs.Growth.{stamped};
 ghost use Rattle.lra_history.specs.Changes.{with_stamp, one_change, raised, two_changes};
@@ -10,7 +9,6 @@ ghost use Rattle.lra_replica.specs.Replicas.{view_of, Fits, KeepsRoom, spare_at}
 ghost use Rattle.lra_history.specs.Views.{record_at};
 
 use crate::{Patch, Replica};
-use lra_facts::Refusal;
 use lra_forest::Record;
 use lra_id::{Front, LraId, NodeId};
 use std::alloc::{AllocError, Global};
@@ -26,19 +24,18 @@ pub fn stamp(stamps: &mut Front, node: NodeId, num: u64)
 }
 
 impl Replica {
-    /// A copy of an LRA's record with the number of a node's next fact.
-    pub(crate) fn stamped(&self, id: LraId, node: NodeId) -> Result<Record, Refusal>
-        requires { count self.now.front node < last_number }
+    /// A copy of the record of an LRA that is held, with the number of a node's next fact.
+    pub(crate) fn stamped(&self, id: LraId, node: NodeId) -> Result<Record, AllocError>
+        requires left { count self.now.front node < last_number }
+        requires held { is_some (record_at (view_of self.now) id) ≡ true }
         ensures some { IfOk result (λ _. 1 ≤ node) }
         ensures home { IfOk result (λ copy. copy.home ≤ length self.now.front) }
         ensures found { IfOk result (λ copy. (old : Record)
             × (record_at (view_of self.now) id ≡ Some old)
             × (copy ≡ with_stamp node (count self.now.front node + 1) old)) }
-        ensures lost { IfErr result (λ refusal. (refusal ≡ NoMemory)
-            ⊎ (record_at (view_of self.now) id ≡ None)) }
     {
         let Some(record) = self.record(id) else {
-            return Err(Refusal::NotHeld);
+            unreachable!();
         };
         let mut copy = record.clone()?;
         stamp(&mut copy.stamps, node, self.front().count(node) + 1);

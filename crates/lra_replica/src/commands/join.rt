@@ -1,52 +1,53 @@
 // A participant joins.
-ghost use Rattle.std.specs.Prelude.{◌≡◌, ◌≤◌, ◌<◌, None, length, IfOk};
+ghost use Rattle.std.specs.Prelude.{◌≡◌, ◌≤◌, ◌<◌, Ok, IfOk, length};
 ghost use Rattle.lra_id.specs.Ids.{last_number};
 ghost use Rattle.lra_id.specs.Fronts.{count};
-ghost use Rattle.lra_facts.specs.declared.links.Links.{Links};
 ghost use Rattle.lra_history.specs.declared.command.Command.TheVariants.{Join};
 ghost use Rattle.lra_history.specs.Next.{judge_on};
-ghost use Rattle.lra_replica.specs.Prepared.{judged_by, IsNext, IsReadyNext, HasRoom, IsPrepared};
-ghost use Rattle.lra_replica.specs.Replicas.{view_of, KeepsRoom};
+ghost use Rattle.lra_history.specs.Replies.{Accepted};
 ghost use Rattle.lra_history.specs.Views.{OfItsSet};
+ghost use Rattle.lra_replica.specs.Prepared.{HasRoom, IsNext, IsPrepared};
+ghost use Rattle.lra_replica.specs.Replicas.{KeepsRoom, view_of};
 
 use crate::{Prepared, Replica};
 use lra_facts::{Links, Refusal};
-use lra_forest::{MAX_MEMBERS, Member, Participant, Record};
-use lra_history::CommandReply;
+use lra_forest::{Member, Participant};
+use lra_history::{Command, CommandReply};
 use lra_id::{LraId, NodeId};
-use std::alloc::Global;
+use std::alloc::{AllocError, Global};
 
 impl Replica {
-    fn refusal_of_join(&self, me: NodeId, id: LraId) -> Option<Refusal>
-        ensures judged { (links : Links) →
-            judge_on (view_of self.now) me (Join id links) ≡ judged_by result }
-        ensures left { result ≡ None → count self.now.front me < last_number }
+    /// Prepares a join that is accepted.
+    pub(crate) fn accept_join(
+        &mut self,
+        alloc: Global,
+        me: NodeId,
+        id: LraId,
+        links: Links,
+    ) -> Result<Prepared, AllocError>
+        requires node { me ≤ length self.old.front }
+        requires left { count self.old.front me < last_number }
+        requires accepted { judge_on (view_of self.old) me (Join id links) ≡ Accepted }
+        ensures view { view_of self.new ≡ view_of self.old }
+        ensures room { IfOk result (λ prepared. HasRoom (Ok prepared) self.new) }
+        ensures stays { KeepsRoom self.old self.new }
+        ensures next { IfOk result
+            (λ prepared. IsNext (view_of self.old) me (Join id links) (Ok prepared)) }
     {
-        if let Some(refusal) = self.refusal_to_number_member(me, id) {
-            return Some(refusal);
-        }
-        self.refusal_to_number(me)
-    }
-
-    fn ready_to_join(&self, me: NodeId, id: LraId) -> Result<Record, Refusal>
-        ensures ready { (links : Links) →
-            IsReadyNext (view_of self.now) me (Join id links) id result }
-        ensures left { IfOk result (λ _. count self.now.front me < last_number) }
-        ensures home { IfOk result (λ copy. copy.home ≤ length self.now.front) }
-        ensures few { IfOk result (λ copy. length copy.members < 32) }
-    {
-        if let Some(refusal) = self.refusal_of_join(me, id) {
-            return Err(refusal);
-        }
-        let copy = match self.stamped(id, me) {
-            Ok(copy) => copy,
-            Err(refusal) => return Err(refusal),
-        };
-        // This was asked. It tells what is known of the copy.
-        if copy.members.len() >= MAX_MEMBERS {
-            return Err(Refusal::MembersFull);
-        }
-        Ok(copy)
+        let mut next = self.stamped(id, me)?;
+        next.members.push(Member::Participant(Participant {
+            links,
+            completed: None,
+            compensated: None,
+            forgotten: false,
+            told: false,
+        }))?;
+        let member = next.members.len() as u8;
+        let patch = self.patch_of_one(alloc, me, next)?;
+        Ok(Prepared {
+            reply: CommandReply::Joined(id, member),
+            patch: Some(patch),
+        })
     }
 
     /// Prepares a join: a participant with these links joins the LRA under its next member number. It costs a copy of the
@@ -66,22 +67,6 @@ impl Replica {
         ensures prepared { OfItsSet (view_of self.old)
             (λ S. IsPrepared S (view_of self.old) me (Join id links) result) }
     {
-        let mut next = match self.ready_to_join(me, id) {
-            Ok(copy) => copy,
-            Err(refusal) => return Err(refusal),
-        };
-        next.members.push(Member::Participant(Participant {
-            links,
-            completed: None,
-            compensated: None,
-            forgotten: false,
-            told: false,
-        }))?;
-        let member = next.members.len() as u8;
-        let patch = self.patch_of_one(alloc, me, next)?;
-        Ok(Prepared {
-            reply: CommandReply::Joined(id, member),
-            patch: Some(patch),
-        })
+        self.prepare(alloc, me, Command::Join { id, links })
     }
 }

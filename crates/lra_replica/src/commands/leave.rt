@@ -1,23 +1,21 @@
 // A participant leaves.
-ghost use Rattle.std.specs.Prelude.{◌≡◌, ◌≤◌, ◌<◌, ◌-◌, None, IfOk, length, [], ◌∷◌};
+ghost use Rattle.std.specs.Prelude.{◌≡◌, ◌≤◌, ◌<◌, ◌-◌, Ok, IfOk, length};
 ghost use Rattle.lra_id.specs.Ids.{last_number};
 ghost use Rattle.lra_id.specs.Fronts.{count};
-ghost use Rattle.lra_history.specs.Growth.{member_changed, leaving};
-ghost use Rattle.lra_replica.specs.Replicas.{view_of, KeepsRoom};
-ghost use Rattle.lra_facts.specs.Refusals.{first, unknown, away};
 ghost use Rattle.lra_history.specs.declared.command.Command.TheVariants.{Leave};
+ghost use Rattle.lra_history.specs.Growth.{leaving, member_changed};
 ghost use Rattle.lra_history.specs.Next.{judge_on};
-ghost use Rattle.lra_replica.specs.Prepared.{judged_by, IsNext, IsReadyNext, HasRoom, IsPrepared};
-ghost use Rattle.lra_history.specs.Readings.{by_view};
-ghost use Rattle.lra_history.specs.Replies.{gone_by, inactive_by, stranger_by};
+ghost use Rattle.lra_history.specs.Replies.{Accepted};
 ghost use Rattle.lra_history.specs.Views.{OfItsSet};
+ghost use Rattle.lra_replica.specs.Prepared.{HasRoom, IsNext, IsPrepared};
+ghost use Rattle.lra_replica.specs.Replicas.{KeepsRoom, view_of};
 
 use crate::{Prepared, Replica};
 use lra_facts::Refusal;
-use lra_forest::{Member, Members, Participant, Record};
-use lra_history::CommandReply;
+use lra_forest::{Member, Members};
+use lra_history::{Command, CommandReply};
 use lra_id::{LraId, NodeId};
-use std::alloc::Global;
+use std::alloc::{AllocError, Global};
 
 fn leaving(member: &Member) -> Member
     ensures { result ≡ leaving member.now }
@@ -38,38 +36,30 @@ fn leave_from(members: &mut Members, number: u8)
 }
 
 impl Replica {
-    fn refusal_to_leave(&self, me: NodeId, id: LraId, member: u8) -> Option<Refusal>
-        ensures { let t = by_view (view_of self.now) in result ≡ first (unknown self.now.front
-            id ∷ gone_by t id ∷ away me id ∷ stranger_by t id member ∷ inactive_by t id ∷ []) }
+    /// Prepares a leave that is accepted.
+    pub(crate) fn accept_leave(
+        &mut self,
+        alloc: Global,
+        me: NodeId,
+        id: LraId,
+        member: u8,
+    ) -> Result<Prepared, AllocError>
+        requires node { me ≤ length self.old.front }
+        requires left { count self.old.front me < last_number }
+        requires accepted { judge_on (view_of self.old) me (Leave id member) ≡ Accepted }
+        ensures view { view_of self.new ≡ view_of self.old }
+        ensures room { IfOk result (λ prepared. HasRoom (Ok prepared) self.new) }
+        ensures stays { KeepsRoom self.old self.new }
+        ensures next { IfOk result
+            (λ prepared. IsNext (view_of self.old) me (Leave id member) (Ok prepared)) }
     {
-        if let Some(refusal) = self.refusal_at_home(me, id) {
-            return Some(refusal);
-        }
-        if let Some(refusal) = self.refusal_of_stranger(id, member) {
-            return Some(refusal);
-        }
-        self.refusal_of_inactive(id)
-    }
-
-    fn refusal_of_leave(&self, me: NodeId, id: LraId, member: u8) -> Option<Refusal>
-        ensures judged { judge_on (view_of self.now) me (Leave id member) ≡ judged_by result }
-        ensures left { result ≡ None → count self.now.front me < last_number }
-    {
-        if let Some(refusal) = self.refusal_to_leave(me, id, member) {
-            return Some(refusal);
-        }
-        self.refusal_to_number(me)
-    }
-
-    fn ready_to_leave(&self, me: NodeId, id: LraId, member: u8) -> Result<Record, Refusal>
-        ensures ready { IsReadyNext (view_of self.now) me (Leave id member) id result }
-        ensures left { IfOk result (λ _. count self.now.front me < last_number) }
-        ensures home { IfOk result (λ copy. copy.home ≤ length self.now.front) }
-    {
-        if let Some(refusal) = self.refusal_of_leave(me, id, member) {
-            return Err(refusal);
-        }
-        self.stamped(id, me)
+        let mut next = self.stamped(id, me)?;
+        leave_from(&mut next.members, member);
+        let patch = self.patch_of_one(alloc, me, next)?;
+        Ok(Prepared {
+            reply: CommandReply::Left,
+            patch: Some(patch),
+        })
     }
 
     /// Prepares a leave of a participant. It costs what `join` costs. Errors, the first that holds: E2, E3, E4, E5, E6, E14,
@@ -89,12 +79,6 @@ impl Replica {
         ensures prepared { OfItsSet (view_of self.old)
             (λ S. IsPrepared S (view_of self.old) me (Leave id member) result) }
     {
-        let mut next = self.ready_to_leave(me, id, member)?;
-        leave_from(&mut next.members, member);
-        let patch = self.patch_of_one(alloc, me, next)?;
-        Ok(Prepared {
-            reply: CommandReply::Left,
-            patch: Some(patch),
-        })
+        self.prepare(alloc, me, Command::Leave { id, member })
     }
 }

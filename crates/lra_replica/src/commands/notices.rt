@@ -1,20 +1,20 @@
 // What a participant was told: that it may forget, or that its LRA has ended.
-ghost use Rattle.std.specs.Prelude.{◌≡◌, ◌≤◌, ◌<◌, ◌-◌, OnOk, length, ◌||◌, Ok, false, true};
+ghost use Rattle.std.specs.Prelude.{◌≡◌, ◌≤◌, ◌<◌, ◌-◌, Ok, IfOk, OnOk, length};
 ghost use Rattle.lra_id.specs.Ids.{last_number};
 ghost use Rattle.lra_id.specs.Fronts.{count};
-ghost use Rattle.lra_history.specs.Growth.{forgetting, hearing, member_changed};
-ghost use Rattle.lra_replica.specs.Replicas.{view_of, KeepsRoom};
-ghost use Rattle.lra_forest.specs.Participants.{answered_of};
 ghost use Rattle.lra_history.specs.declared.command.Command.TheVariants.{Forgot, Told};
-ghost use Rattle.lra_replica.specs.Notices.{command_for, is_due_by, judgement_for, noted, refusal_for, reply_to, undue_by, was_given_by};
-ghost use Rattle.lra_replica.specs.Prepared.{IsNext, HasRoom, IsPrepared, judged_as};
-ghost use Rattle.lra_history.specs.Readings.{by_view};
+ghost use Rattle.lra_history.specs.Growth.{forgetting, hearing, member_changed};
+ghost use Rattle.lra_history.specs.Next.{judge_on};
+ghost use Rattle.lra_history.specs.Replies.{Accepted};
 ghost use Rattle.lra_history.specs.Views.{OfItsSet};
+ghost use Rattle.lra_replica.specs.Prepared.{HasRoom, IsNext, IsPrepared};
+ghost use Rattle.lra_replica.specs.Replicas.{KeepsRoom, view_of};
+ghost use Rattle.lra_replica.specs.Notices.{command_for, noted, reply_to};
 
 use crate::{Prepared, Replica};
 use lra_facts::Refusal;
 use lra_forest::{Member, Members, Participant};
-use lra_history::CommandReply;
+use lra_history::{Command, CommandReply};
 use lra_id::{LraId, NodeId};
 use std::alloc::{AllocError, Global};
 
@@ -94,140 +94,23 @@ fn note_at(members: &mut Members, number: u8, notice: Notice) -> Result<(), Allo
 }
 
 impl Replica {
-    fn is_to_forget(&self, id: LraId, member: u8) -> Result<bool, Refusal>
-        ensures { let t = by_view (view_of self.now)
-            in result ≡ answered_of (t.held id) (t.participant id member) (t.owed id member) }
-    {
-        match self.home_of(id) {
-            Ok(home) => home.is_to_forget(id, member),
-            Err(refusal) => Err(refusal),
-        }
-    }
-
-    fn has_forgotten(&self, id: LraId, member: u8) -> Result<bool, Refusal>
-        ensures { let t = by_view (view_of self.now)
-            in result ≡ answered_of (t.held id) (t.participant id member) (t.forgot id member) }
-    {
-        match self.home_of(id) {
-            Ok(home) => home.has_forgotten(id, member),
-            Err(refusal) => Err(refusal),
-        }
-    }
-
-    fn is_to_hear(&self, id: LraId, member: u8) -> Result<bool, Refusal>
-        ensures { let t = by_view (view_of self.now)
-            in result ≡ answered_of (t.held id) (t.participant id member) (t.to_hear id member) }
-    {
-        match self.home_of(id) {
-            Ok(home) => home.is_to_hear(id, member),
-            Err(refusal) => Err(refusal),
-        }
-    }
-
-    fn was_told(&self, id: LraId, member: u8) -> Result<bool, Refusal>
-        ensures { let t = by_view (view_of self.now)
-            in result ≡ answered_of (t.held id) (t.participant id member) (t.told id member) }
-    {
-        match self.home_of(id) {
-            Ok(home) => home.was_told(id, member),
-            Err(refusal) => Err(refusal),
-        }
-    }
-
-    fn is_due(&self, id: LraId, member: u8, notice: Notice) -> Result<bool, Refusal>
-        ensures { let t = by_view (view_of self.now) in result
-            ≡ answered_of (t.held id) (t.participant id member) (is_due_by notice t id member) }
-    {
-        match notice {
-            Notice::ToForget => self.is_to_forget(id, member),
-            Notice::OfTheEnd => self.is_to_hear(id, member),
-        }
-    }
-
-    fn was_given(&self, id: LraId, member: u8, notice: Notice) -> Result<bool, Refusal>
-        ensures { let t = by_view (view_of self.now) in result
-            ≡ answered_of (t.held id) (t.participant id member) (was_given_by notice t id member) }
-    {
-        match notice {
-            Notice::ToForget => self.has_forgotten(id, member),
-            Notice::OfTheEnd => self.was_told(id, member),
-        }
-    }
-
-    fn is_due_or_given(&self, id: LraId, member: u8, notice: Notice) -> Result<bool, Refusal>
-        ensures { let t = by_view (view_of self.now)
-            in result ≡ answered_of (t.held id) (t.participant id member)
-            (is_due_by notice t id member || was_given_by notice t id member) }
-    {
-        match self.is_due(id, member, notice) {
-            Ok(false) => self.was_given(id, member, notice),
-            answer => answer,
-        }
-    }
-
-    fn refusal_of_undue(&self, id: LraId, member: u8, notice: Notice) -> Option<Refusal>
-        ensures { let t = by_view (view_of self.now) in t.held id ≡ true →
-            t.participant id member ≡ true → result ≡ undue_by notice t id member }
-    {
-        match self.is_due_or_given(id, member, notice) {
-            Ok(true) => None,
-            _ => self.not_due(id),
-        }
-    }
-
-    fn refusal_to_give(&self, id: LraId, member: u8, notice: Notice) -> Option<Refusal>
-        ensures { result ≡ refusal_for notice (view_of self.now) id member }
-    {
-        if let Some(refusal) = self.refusal_to_show(id) {
-            return Some(refusal);
-        }
-        if let Some(refusal) = self.refusal_of_stranger(id, member) {
-            return Some(refusal);
-        }
-        self.refusal_of_undue(id, member, notice)
-    }
-
-    fn knows(&self, me: NodeId, id: LraId, member: u8, notice: Notice) -> Result<bool, Refusal>
-        ensures judged { judgement_for notice (view_of self.now) me id member
-            ≡ judged_as result }
-        ensures left { result ≡ Ok false → count self.now.front me < last_number }
-    {
-        if let Some(refusal) = self.refusal_to_give(id, member, notice) {
-            return Err(refusal);
-        }
-        let known = self.was_given(id, member, notice)?;
-        if known {
-            return Ok(true);
-        }
-        match self.refusal_to_number(me) {
-            Some(refusal) => Err(refusal),
-            None => Ok(false),
-        }
-    }
-
-    fn prepare_notice(
+    fn accept_notice(
         &mut self,
         alloc: Global,
         me: NodeId,
         id: LraId,
         member: u8,
         notice: Notice,
-    ) -> Result<Prepared, Refusal>
-        requires { me ≤ length self.old.front }
+    ) -> Result<Prepared, AllocError>
+        requires node { me ≤ length self.old.front }
+        requires left { count self.old.front me < last_number }
+        requires accepted { judge_on (view_of self.old) me (command_for notice id member) ≡ Accepted }
         ensures view { view_of self.new ≡ view_of self.old }
-        ensures room { HasRoom result self.new }
+        ensures room { IfOk result (λ prepared. HasRoom (Ok prepared) self.new) }
         ensures stays { KeepsRoom self.old self.new }
-        ensures next { IsNext (view_of self.old) me (command_for notice id member) result }
-        ensures prepared { OfItsSet (view_of self.old)
-            (λ S. IsPrepared S (view_of self.old) me (command_for notice id member) result) }
+        ensures next { IfOk result
+            (λ prepared. IsNext (view_of self.old) me (command_for notice id member) (Ok prepared)) }
     {
-        let known = self.knows(me, id, member, notice)?;
-        if known {
-            return Ok(Prepared {
-                reply: CommandReply::Known,
-                patch: None,
-            });
-        }
         let mut next = self.stamped(id, me)?;
         note_at(&mut next.members, member, notice)?;
         let patch = self.patch_of_one(alloc, me, next)?;
@@ -235,6 +118,46 @@ impl Replica {
             reply: notice.reply(),
             patch: Some(patch),
         })
+    }
+
+    /// Prepares that a participant was told to forget, where that is accepted.
+    pub(crate) fn accept_forgot(
+        &mut self,
+        alloc: Global,
+        me: NodeId,
+        id: LraId,
+        member: u8,
+    ) -> Result<Prepared, AllocError>
+        requires node { me ≤ length self.old.front }
+        requires left { count self.old.front me < last_number }
+        requires accepted { judge_on (view_of self.old) me (Forgot id member) ≡ Accepted }
+        ensures view { view_of self.new ≡ view_of self.old }
+        ensures room { IfOk result (λ prepared. HasRoom (Ok prepared) self.new) }
+        ensures stays { KeepsRoom self.old self.new }
+        ensures next { IfOk result
+            (λ prepared. IsNext (view_of self.old) me (Forgot id member) (Ok prepared)) }
+    {
+        self.accept_notice(alloc, me, id, member, Notice::ToForget)
+    }
+
+    /// Prepares that a participant was told of the end, where that is accepted.
+    pub(crate) fn accept_told(
+        &mut self,
+        alloc: Global,
+        me: NodeId,
+        id: LraId,
+        member: u8,
+    ) -> Result<Prepared, AllocError>
+        requires node { me ≤ length self.old.front }
+        requires left { count self.old.front me < last_number }
+        requires accepted { judge_on (view_of self.old) me (Told id member) ≡ Accepted }
+        ensures view { view_of self.new ≡ view_of self.old }
+        ensures room { IfOk result (λ prepared. HasRoom (Ok prepared) self.new) }
+        ensures stays { KeepsRoom self.old self.new }
+        ensures next { IfOk result
+            (λ prepared. IsNext (view_of self.old) me (Told id member) (Ok prepared)) }
+    {
+        self.accept_notice(alloc, me, id, member, Notice::OfTheEnd)
     }
 
     /// Prepares that a participant was told to forget, which any node may enter. Where it was told already, it is known, and
@@ -255,10 +178,11 @@ impl Replica {
         ensures prepared { OfItsSet (view_of self.old)
             (λ S. IsPrepared S (view_of self.old) me (Forgot id member) result) }
     {
-        self.prepare_notice(alloc, me, id, member, Notice::ToForget)
+        self.prepare(alloc, me, Command::Forgot { id, member })
     }
 
-    /// Prepares that a participant was told that its LRA has ended, which any node may enter. When it is known, its cost and its errors are as for `forgot`.
+    /// Prepares that a participant was told that its LRA has ended, which any node may enter. When it is known, its cost and
+    /// its errors are as for `forgot`.
     pub fn told(
         &mut self,
         alloc: Global,
@@ -274,6 +198,6 @@ impl Replica {
         ensures prepared { OfItsSet (view_of self.old)
             (λ S. IsPrepared S (view_of self.old) me (Told id member) result) }
     {
-        self.prepare_notice(alloc, me, id, member, Notice::OfTheEnd)
+        self.prepare(alloc, me, Command::Told { id, member })
     }
 }

@@ -1,21 +1,19 @@
 // What was heard of an act of a participant.
-ghost use Rattle.std.specs.Prelude.{◌≡◌, ◌≤◌, ◌<◌, ◌-◌, OnOk, length, [], ◌∷◌, true, Ok, false};
+ghost use Rattle.std.specs.Prelude.{◌≡◌, ◌≤◌, ◌<◌, ◌-◌, Ok, IfOk, OnOk, length};
 ghost use Rattle.lra_id.specs.Ids.{last_number};
 ghost use Rattle.lra_id.specs.Fronts.{count};
-ghost use Rattle.lra_history.specs.Growth.{member_changed, reporting};
-ghost use Rattle.lra_replica.specs.Replicas.{view_of, KeepsRoom};
-ghost use Rattle.lra_facts.specs.Refusals.{first, unknown};
-ghost use Rattle.lra_history.specs.Next.{judge_on};
-ghost use Rattle.lra_history.specs.Readings.{by_view};
-ghost use Rattle.lra_history.specs.Replies.{gone_by, stranger_by, unasked_by};
 ghost use Rattle.lra_history.specs.declared.command.Command.TheVariants.{Report};
-ghost use Rattle.lra_replica.specs.Prepared.{IsNext, HasRoom, IsPrepared, judged_as};
+ghost use Rattle.lra_history.specs.Growth.{member_changed, reporting};
+ghost use Rattle.lra_history.specs.Next.{judge_on};
+ghost use Rattle.lra_history.specs.Replies.{Accepted};
 ghost use Rattle.lra_history.specs.Views.{OfItsSet};
+ghost use Rattle.lra_replica.specs.Prepared.{HasRoom, IsNext, IsPrepared};
+ghost use Rattle.lra_replica.specs.Replicas.{KeepsRoom, view_of};
 
 use crate::{Prepared, Replica};
 use lra_facts::Refusal;
 use lra_forest::{Member, Members, Participant};
-use lra_history::CommandReply;
+use lra_history::{Command, CommandReply};
 use lra_id::{LraId, NodeId};
 use lra_states::{Act, Outcome};
 use std::alloc::{AllocError, Global};
@@ -59,52 +57,32 @@ fn report_to(
 }
 
 impl Replica {
-    fn refusal_of_unasked(&self, id: LraId, member: u8, act: Act) -> Option<Refusal>
-        ensures { let t = by_view (view_of self.now) in t.held id ≡ true →
-            t.participant id member ≡ true → result ≡ unasked_by t id member act }
-    {
-        match self.demands(id, member, act) {
-            Ok(true) => None,
-            _ => self.not_due(id),
-        }
-    }
-
-    fn refusal_to_report(&self, id: LraId, member: u8, act: Act) -> Option<Refusal>
-        ensures { let t = by_view (view_of self.now) in result ≡ first (unknown self.now.front
-            id ∷ gone_by t id ∷ stranger_by t id member ∷ unasked_by t id member act ∷ []) }
-    {
-        if let Some(refusal) = self.refusal_to_show(id) {
-            return Some(refusal);
-        }
-        if let Some(refusal) = self.refusal_of_stranger(id, member) {
-            return Some(refusal);
-        }
-        self.refusal_of_unasked(id, member, act)
-    }
-
-    fn knows_report(
-        &self,
+    /// Prepares a report that is accepted.
+    pub(crate) fn accept_report(
+        &mut self,
+        alloc: Global,
         me: NodeId,
         id: LraId,
         member: u8,
         act: Act,
         outcome: Outcome,
-    ) -> Result<bool, Refusal>
-        ensures judged { judge_on (view_of self.now) me (Report id member act outcome)
-            ≡ judged_as result }
-        ensures left { result ≡ Ok false → count self.now.front me < last_number }
+    ) -> Result<Prepared, AllocError>
+        requires node { me ≤ length self.old.front }
+        requires left { count self.old.front me < last_number }
+        requires accepted { judge_on (view_of self.old) me (Report id member act outcome) ≡ Accepted }
+        ensures view { view_of self.new ≡ view_of self.old }
+        ensures room { IfOk result (λ prepared. HasRoom (Ok prepared) self.new) }
+        ensures stays { KeepsRoom self.old self.new }
+        ensures next { IfOk result
+            (λ prepared. IsNext (view_of self.old) me (Report id member act outcome) (Ok prepared)) }
     {
-        if let Some(refusal) = self.refusal_to_report(id, member, act) {
-            return Err(refusal);
-        }
-        let known = self.has_heard(id, member, act, outcome)?;
-        if known {
-            return Ok(true);
-        }
-        match self.refusal_to_number(me) {
-            Some(refusal) => Err(refusal),
-            None => Ok(false),
-        }
+        let mut next = self.stamped(id, me)?;
+        report_to(&mut next.members, member, act, outcome)?;
+        let patch = self.patch_of_one(alloc, me, next)?;
+        Ok(Prepared {
+            reply: CommandReply::Reported,
+            patch: Some(patch),
+        })
     }
 
     /// Prepares a report of an outcome of an act of a participant, which any node may enter. Where this outcome or a greater
@@ -127,19 +105,12 @@ impl Replica {
         ensures prepared { OfItsSet (view_of self.old)
             (λ S. IsPrepared S (view_of self.old) me (Report id member act outcome) result) }
     {
-        let known = self.knows_report(me, id, member, act, outcome)?;
-        if known {
-            return Ok(Prepared {
-                reply: CommandReply::Known,
-                patch: None,
-            });
-        }
-        let mut next = self.stamped(id, me)?;
-        report_to(&mut next.members, member, act, outcome)?;
-        let patch = self.patch_of_one(alloc, me, next)?;
-        Ok(Prepared {
-            reply: CommandReply::Reported,
-            patch: Some(patch),
-        })
+        let command = Command::Report {
+            id,
+            member,
+            act,
+            outcome,
+        };
+        self.prepare(alloc, me, command)
     }
 }
