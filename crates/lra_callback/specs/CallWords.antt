@@ -2,7 +2,7 @@
 use Rattle.std.specs.Prelude.{ℕ, List, codes}
 use Rattle.lra_states.specs.declared.outcome.Outcome.TheVariants.{Busy, Done, Failed}
 use Rattle.lra_callback.specs.declared.answer.Heard.{Heard}
-use Rattle.lra_callback.specs.declared.answer.Heard.TheVariants.{Told, Forgotten, Informed, Again}
+use Rattle.lra_callback.specs.declared.answer.Heard.TheVariants.{Outcome, Forgot, Told, Again}
 use Rattle.lra_callback.specs.declared.answer.Kind.{Kind}
 use Rattle.lra_callback.specs.declared.answer.Kind.TheVariants.{Complete, Compensate, Status, Forget, After}
 
@@ -14,9 +14,9 @@ kind_name Forget = codes "forget"
 kind_name After = codes "after"
 
 abbrev pub heard_name : Heard → List ℕ
-heard_name (Told Busy) = codes "Busy"
-heard_name (Told Done) = codes "Done"
-heard_name (Told Failed) = codes "Failed"
-heard_name Forgotten = codes "Forgotten"
-heard_name Informed = codes "Told"
+heard_name (Outcome Busy) = codes "Busy"
+heard_name (Outcome Done) = codes "Done"
+heard_name (Outcome Failed) = codes "Failed"
+heard_name Forgot = codes "Forgotten"
+heard_name Told = codes "Told"
 heard_name Again = codes "Again"

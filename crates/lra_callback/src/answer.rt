@@ -51,13 +51,16 @@ pub enum Answer {
     Broken,
 }
 
-/// What is heard of an answer: an outcome of the act, that the participant was told to forget or that its LRA has
-/// ended, or nothing that counts, so that it is to be called again.
+/// What is heard of an answer. Of one that counts for nothing the participant is to be called again.
 #[derive(Clone, Copy, Debug, PartialEq, Eq)]
 pub enum Heard {
-    Told(Outcome),
-    Forgotten,
-    Informed,
+    /// This outcome of the act.
+    Outcome(Outcome),
+    /// It was told to forget.
+    Forgot,
+    /// It was told that its LRA has ended.
+    Told,
+    /// Nothing that counts.
     Again,
 }
 
@@ -67,11 +70,11 @@ impl Heard {
         ensures { result.now ≡ heard_name self }
     {
         match self {
-            Heard::Told(Outcome::Busy) => "Busy",
-            Heard::Told(Outcome::Done) => "Done",
-            Heard::Told(Outcome::Failed) => "Failed",
-            Heard::Forgotten => "Forgotten",
-            Heard::Informed => "Told",
+            Heard::Outcome(Outcome::Busy) => "Busy",
+            Heard::Outcome(Outcome::Done) => "Done",
+            Heard::Outcome(Outcome::Failed) => "Failed",
+            Heard::Forgot => "Forgotten",
+            Heard::Told => "Told",
             Heard::Again => "Again",
         }
     }
@@ -82,14 +85,14 @@ impl Heard {
         ensures { result ≡ command_heard id member act self }
     {
         match self {
-            Heard::Told(outcome) => Some(Command::Report {
+            Heard::Outcome(outcome) => Some(Command::Report {
                 id,
                 member,
                 act,
                 outcome,
             }),
-            Heard::Forgotten => Some(Command::Forgot { id, member }),
-            Heard::Informed => Some(Command::Told { id, member }),
+            Heard::Forgot => Some(Command::Forgot { id, member }),
+            Heard::Told => Some(Command::Told { id, member }),
             Heard::Again => None,
         }
     }
@@ -148,9 +151,9 @@ fn heard_by_act(code: u16) -> Heard
     ensures { result ≡ heard_by_act code }
 {
     match code {
-        200 | 204 | 410 => Heard::Told(Outcome::Done),
-        202 => Heard::Told(Outcome::Busy),
-        409 => Heard::Told(Outcome::Failed),
+        200 | 204 | 410 => Heard::Outcome(Outcome::Done),
+        202 => Heard::Outcome(Outcome::Busy),
+        409 => Heard::Outcome(Outcome::Failed),
         _ => Heard::Again,
     }
 }
@@ -159,16 +162,16 @@ fn heard_by_status(act: Act, code: u16, body: &[u8]) -> Heard
     ensures { result ≡ heard_by_status act code body.now }
 {
     if code == 410 {
-        return Heard::Told(Outcome::Done);
+        return Heard::Outcome(Outcome::Done);
     }
     if code != 200 {
         return Heard::Again;
     }
     let name = unquoted(without_trailing(without_leading(body)));
     if name == done_status(act).name().as_bytes() {
-        Heard::Told(Outcome::Done)
+        Heard::Outcome(Outcome::Done)
     } else if name == failed_status(act).name().as_bytes() {
-        Heard::Told(Outcome::Failed)
+        Heard::Outcome(Outcome::Failed)
     } else {
         Heard::Again
     }
@@ -178,7 +181,7 @@ fn heard_by_forget(code: u16) -> Heard
     ensures { result ≡ heard_by_forget code }
 {
     match code {
-        200 | 204 | 404 | 410 => Heard::Forgotten,
+        200 | 204 | 404 | 410 => Heard::Forgot,
         _ => Heard::Again,
     }
 }
@@ -187,7 +190,7 @@ fn heard_by_after(code: u16) -> Heard
     ensures { result ≡ heard_by_after code }
 {
     match code {
-        200 | 204 | 410 => Heard::Informed,
+        200 | 204 | 410 => Heard::Told,
         _ => Heard::Again,
     }
 }

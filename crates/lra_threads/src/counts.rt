@@ -115,9 +115,9 @@ pub(crate) fn kind_place(kind: Kind) -> usize {
 /// The place of what was heard.
 fn heard_place(heard: Option<Heard>) -> usize {
     match heard {
-        Some(Heard::Told(Outcome::Done)) => 0,
-        Some(Heard::Told(Outcome::Failed)) => 1,
-        Some(Heard::Told(Outcome::Busy)) => 2,
+        Some(Heard::Outcome(Outcome::Done)) => 0,
+        Some(Heard::Outcome(Outcome::Failed)) => 1,
+        Some(Heard::Outcome(Outcome::Busy)) => 2,
         Some(Heard::Again) | None => 4,
         Some(_) => 3,
     }

@@ -545,7 +545,7 @@ impl Post {
         let mut mail = self.mail.lock(rt);
         let who = Called::of(letter.duty());
         match letter.heard() {
-            Heard::Told(Outcome::Busy) => mail.calls.pause(who, now),
+            Heard::Outcome(Outcome::Busy) => mail.calls.pause(who, now),
             _ => mail.calls.forget(who),
         }
         mail.stir(calls_nobody(letter.duty()));

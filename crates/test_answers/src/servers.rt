@@ -6,7 +6,7 @@ use lra_states::{Act, Outcome};
 use std::alloc::Global;
 use std::test::Fail;
 
-const DONE: Heard = Heard::Told(Outcome::Done);
+const DONE: Heard = Heard::Outcome(Outcome::Done);
 
 /// The server, what it writes, the code that is read, and what is heard.
 const ANSWERS: [(&str, &str, Option<u16>, Heard); 14] = [
@@ -62,7 +62,7 @@ const ANSWERS: [(&str, &str, Option<u16>, Heard); 14] = [
         "Express, sendStatus(409)",
         "HTTP/1.1 409 Conflict\r\nX-Powered-By: Express\r\nContent-Type: text/plain; charset=utf-8\r\nContent-Length: 8\r\nConnection: close\r\n\r\nConflict",
         Some(409),
-        Heard::Told(Outcome::Failed),
+        Heard::Outcome(Outcome::Failed),
     ),
     (
         "Go, a handler that writes nothing",
@@ -80,7 +80,7 @@ const ANSWERS: [(&str, &str, Option<u16>, Heard); 14] = [
         "Flask, an empty text with 202",
         "HTTP/1.1 202 ACCEPTED\r\nServer: Werkzeug/3.1.8 Python/3.11.7\r\nDate: Tue, 24 Nov 2026 10:00:00 GMT\r\nContent-Type: text/html; charset=utf-8\r\nContent-Length: 0\r\nConnection: close\r\n\r\n",
         Some(202),
-        Heard::Told(Outcome::Busy),
+        Heard::Outcome(Outcome::Busy),
     ),
     (
         "Python's http.server, end_headers and no length",

@@ -23,7 +23,7 @@ fn refusal_to_show(home: &Forest, front: &Front, id: LraId) -> Option<Refusal>
     if !front.covers(id) {
         return Some(Refusal::UnknownLra);
     }
-    if home.want(id).is_err() {
+    if home.get(id).is_none() {
         return Some(Refusal::NotHeld);
     }
     None
