@@ -79,6 +79,9 @@ impl<J: Run, S: Alter> Model for Locked<J, S> {
         × (IsTrue J.opening.own → IsOwn (state S.Store l.book.journal.opened)) };
 }
 
+// Why a call is refused is exact here alone, under the lock. No pass knows how many calls the
+// others made, so a desk that is full at a hundred receipts would be proved: tests meet E19 to E21
+// by their cause.
 impl<J: Run, S: Alter> Locked<J, S> {
     fn enter(
         &mut self,
