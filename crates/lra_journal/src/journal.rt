@@ -56,7 +56,8 @@ impl<S: Alter> Journal<S> {
     /// Opens the journal of a node of so many. A store without tables gets them, with the rows of a node that has no facts; else
     /// the replica is read from the rows, and rows of version 1 are written anew in version 2, in one transaction. E16 at the place of the first row that breaks the format, of another node, count of
     /// nodes or version too; E17, which leaves a new store as it was; E18 where a transaction is on or the rows can't be read.
-    /// Each refusal gives the connection back.
+    /// Each refusal gives the connection back. Of E18 on a third table no clause speaks but `cause`
+    /// and `busy`.
     pub fn open(
         alloc: Global,
         mut connection: Connection<S>,

@@ -28,7 +28,8 @@ const LAST_PORT: u16 = 65_528;
 const LAST_LINES: u64 = 500;
 
 /// Runs a server until standard input ends, or plays a script over standard input. Each gives its exit status, as `serve` and
-/// `play` say. Where the arguments ask for something else it ends with 2, and the usage.
+/// `play` say. Where the arguments ask for something else it ends with 2, and the usage. Std has no
+/// clause on arguments, so tests/serve.py shows that the folder is handed on.
 fn main(rt: HostRuntime) -> ExitCode {
     let Ok(given) = env::args(&rt) else {
         return ExitCode::from(1);

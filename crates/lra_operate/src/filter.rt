@@ -17,6 +17,8 @@ pub struct Filter {
     pub is_of_roots: bool,
 }
 
+/// The status of this name. `LraStatus::from_name` says what it finds by a relation; a query is
+/// read by a function, so that what is wanted is one.
 fn status_named(name: &str) -> Option<LraStatus>
     ensures { result ≡ status_named name.now }
 {
