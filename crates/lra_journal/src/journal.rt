@@ -97,7 +97,9 @@ impl<S: Alter> Journal<S> {
         // A connection whose transaction is on is refused, before all else, and comes back as it was.
         ensures busy { connection.in_transaction ≡ true →
             MatchResult result (λ _. ⊥) (λ e. (e.0 ≡ JournalFailed) × (e.1 ≡ connection)) }
-        // Of a journal E18 else comes only where the disk failed, or where SQL refuses to write rows of version 1 anew.
+        // Of a journal E18 else comes only where the disk failed, or where SQL refuses to write
+        // rows of version 1 anew: a table that holds the greatest row id takes no further row. Only
+        // the kit counts here, since without a journal there is no counter of its own.
         ensures failed { IfErr result (λ e. HasCleanDisk (state S.Store e.1) →
             IsJournal (state S.Store connection) → connection.in_transaction ≡ false →
             connection.step_limit ≡ None → e.0 ≡ JournalFailed →
