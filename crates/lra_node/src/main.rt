@@ -72,7 +72,7 @@ fn hold(rt: &HostRuntime) -> Option<File> {
 }
 
 /// Nothing is known of what a file held, and it is supposed that a torn write leaves each byte old or new. The kit's `Unknown` says the
-/// same, but can't be copied.
+/// same, but can't be copied. A start is a type, and one serves all files and openings.
 #[derive(Clone, Copy, Drop)]
 struct UnknownFiles;
 
