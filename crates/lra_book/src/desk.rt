@@ -19,7 +19,8 @@ use std::sync::ledger::{Blank, Ledger, Share};
 use std::sync::{Mutex, Wait, ledger};
 
 /// Which run it is: its ledger, its node, the view that the node had when it began, and whether it is known that the journal was
-/// opened on a store of its own.
+/// opened on a store of its own. Whoever says so has to prove it. No clause of the server needs it,
+/// so only `test_calls` does.
 pub trait Run: Ledger {
     ghost use Rattle.lra_book.specs.Desks.{Opening};
 
