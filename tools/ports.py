@@ -58,8 +58,8 @@ def sockets_of(process: int) -> Iterator[str]:
 
 
 def listens_at(process: int, ports: Iterable[int]) -> bool:
-    """Whether a process itself listens at all these ports of 127.0.0.1: that another answers there says nothing of
-    it."""
+    """Whether a process itself listens at all these ports of 127.0.0.1. A connection would tell no more than that
+    somebody answers there."""
     own = set(sockets_of(process))
     held = {address for address, number in listening() if f"socket:[{number}]" in own}
     return all(f"0100007F:{port:04X}" in held for port in ports)

@@ -1,4 +1,4 @@
-// The bodies of answers.
+// The bodies of answers. JSON goes out as text in pieces, since nothing in it needs an escape.
 ghost use Rattle.std.specs.Prelude.{◌≡◌, ◌++◌, IfOk, OnOk};
 ghost use Rattle.std.specs.Fmt.{decimal};
 ghost use Rattle.lra_id.specs.Ids.{text_of};

@@ -205,6 +205,7 @@ fn lost_index(trail: &[Entry], receipts: &[Receipt]) -> Option<u64>
 
 impl<S: Alter> Book<S> {
     /// The book of node `me` of so many, over its journal, with no run on. A refusal hands the connection back.
+    /// It has the clauses of `Journal::open`, since nothing above a layer names the layer below it.
     pub fn open(
         alloc: Global,
         connection: Connection<S>,

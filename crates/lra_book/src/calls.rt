@@ -12,7 +12,8 @@ use lra_replica::Page;
 use lra_states::{LraStatus, MemberStatus};
 use std::marker::Model;
 
-/// The body of a pull: the bytes in which another node says what it has.
+/// The body of a pull: the bytes in which another node says what it has. It is no `Bytes` of
+/// `lra_http`, since what a book is asked is no part of a message.
 #[derive(Debug, Drop)]
 pub struct PullBody {
     pub(crate) bytes: Vec<u8>,

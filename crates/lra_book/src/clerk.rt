@@ -28,6 +28,8 @@ pub trait Clerk {
     ghost called: { (old new : Self) → TheCall → ℕ → Result TheReply TheRefusal → Type 0 };
 
     /// Makes a call at a moment, and puts its receipt last on the list; or refuses it, E17 to E21, and leaves the list.
+    /// `reply` lends what came of it: a reply that the call itself lent told a caller through this
+    /// trait nothing, and no clause on it could say that the list grew by just it.
     fn call(&mut self, alloc: Global, call: Call, now: u64) -> Result<(), Refusal>
         ensures { MatchResult result (λ _. IsOutcome
             (receipts self.old) (receipts self.new) call (Ok (last_reply (receipts self.new)))

@@ -1,4 +1,5 @@
-// What crosses threads: a book may be handed to another thread, and shared under a lock.
+// What crosses threads: a book may be handed to another thread, and shared under a lock. The
+// functions do nothing: their bounds show it.
 use crate::desk::{Desk, DeskPass, Locked, Run};
 use crate::{Book, Pass, Receipt};
 use sqlite::Alter;

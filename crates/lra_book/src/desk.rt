@@ -19,7 +19,8 @@ use std::sync::ledger::{Blank, Ledger, Share};
 use std::sync::{Mutex, Wait, ledger};
 
 /// Which run it is: its ledger, its node, the view that the node had when it began, and whether it is known that the journal was
-/// opened on a store of its own.
+/// opened on a store of its own. Whoever says so has to prove it. No clause of the server needs it,
+/// so only `test_calls` does.
 pub trait Run: Ledger {
     ghost use Rattle.lra_book.specs.Desks.{Opening};
 
@@ -79,6 +80,9 @@ impl<J: Run, S: Alter> Model for Locked<J, S> {
         × (IsTrue J.opening.own → IsOwn (state S.Store l.book.journal.opened)) };
 }
 
+// Why a call is refused is exact here alone, under the lock. No pass knows how many calls the
+// others made, so a desk that is full at a hundred receipts would be proved: tests meet E19 to E21
+// by their cause.
 impl<J: Run, S: Alter> Locked<J, S> {
     fn enter(
         &mut self,

@@ -44,7 +44,9 @@ impl fmt::Display for Kind {
     }
 }
 
-/// What came back of a call: the code and the body of a whole response, or no whole response.
+/// What came back of a call: the code and the body of a whole response, or no whole response. A
+/// code is a `u16`, since `StatusCode` of `http` has none below 100 or above 999, and each has to
+/// be heard.
 #[derive(Debug, Drop)]
 pub enum Answer {
     Code(u16, Bytes),

@@ -33,7 +33,8 @@ pub trait Caller {
 }
 
 /// A caller over one connection, for one call: its request says that the connection ends with the answer. Over a socket a
-/// buffered reader goes below, since a head is read one byte a call.
+/// buffered reader goes below, since a head is read one byte a call. Each clause would hold of a
+/// second call too.
 #[derive(Drop)]
 pub struct NetCaller<R, W> {
     reader: R,

@@ -100,6 +100,7 @@ impl Clone for Duties {
 }
 
 /// What a participant is called for: to do an act, to be released from remembering it, or to hear that its LRA has ended.
+/// The `Errand` of `lra_forest` is what is owed at a record.
 #[derive(Clone, Copy)]
 enum Errand {
     Call(Act),

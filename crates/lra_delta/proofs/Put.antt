@@ -31,7 +31,8 @@ homes_typed homes all = All-from_recursion (All IsTypedRecord) (records_told hom
     each [] f = tt
     each (told ∷ ts) f = (f.0, each ts f.1)
 
--- one element more
+-- one element more. Without it `All P (take (i + 1) xs)` stays open in a loop, and its other clause
+-- with it; so `text_next` goes beside it
 pub all_next : {X : Type 0} (P : X → Type 0) (xs : List X) (i : ℕ) (x : X) → i < length xs → x ≡ get_or xs i x → All P (take i xs) → P x → All P (take (i + 1) xs)
 all_next P xs i x within at so_far here =
     subst (All P) (ap (λ y. take i xs ++ y ∷ []) at ∙ sym (take_more xs i x within)) (All-push P (take i xs) x so_far here)

@@ -28,7 +28,8 @@ record_in homes l = find (is_of l) (records_at (map (λ (home : HomeRecords). ho
 abbrev pub homes_told : List Told → List HomeRecords
 homes_told told = map (λ (t : Told). t.records) told
 
--- what was told stays told. Else what is kept is told, if it is asked for
+-- what was told stays told. Else what is kept is told, if it is asked for. Said so, two steps are
+-- one by cases on an option (`asked_twice`)
 abbrev pub told_too : (asked : Bool) → (kept told : Option Record) → Option Record
 told_too asked kept (Some r) = Some r
 told_too asked kept None = if asked then kept else None

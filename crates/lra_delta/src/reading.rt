@@ -18,7 +18,9 @@ impl Delta {
     /// A frame of exactly so many bytes, of version 1 or 2, read from a source number by number and text by text: over a socket a buffered reader
     /// goes below. What is behind them is left unread. `interrupted` counts the interrupted calls of the message that they belong
     /// to. E16 at the place of the first field that isn't whole within the frame or breaks its rule, of which no more was read than
-    /// tells so, and nothing behind it. `Cut` or `ReadFault` where the source ends or fails before that.
+    /// tells so, and nothing behind it: of a link whose length breaks its rule that length alone,
+    /// and no field for which the stated length has no room. `Cut` or `ReadFault` where the source
+    /// ends or fails before that.
     pub fn read<S: Source>(
         alloc: Global,
         reader: &mut S,

@@ -6,7 +6,8 @@ ghost use Rattle.sqlite.specs.Held.{Held, held_code};
 use sqlite::{Alter, Connection};
 use std::marker::{Model, PhantomData};
 
-/// What a connection was when its journal was opened, for clauses alone. It has no bytes.
+/// What a connection was when its journal was opened, for clauses alone. It has no bytes. With
+/// std's `Snapshot` in its place a journal isn't found to cross threads.
 #[derive(Drop)]
 pub struct First<S: Alter> {
     of: PhantomData<S>,

@@ -56,7 +56,8 @@ impl<S: Alter> Journal<S> {
     /// Opens the journal of a node of so many. A store without tables gets them, with the rows of a node that has no facts; else
     /// the replica is read from the rows, and rows of version 1 are written anew in version 2, in one transaction. E16 at the place of the first row that breaks the format, of another node, count of
     /// nodes or version too; E17, which leaves a new store as it was; E18 where a transaction is on or the rows can't be read.
-    /// Each refusal gives the connection back.
+    /// Each refusal gives the connection back. Of E18 on a third table no clause speaks but `cause`
+    /// and `busy`.
     pub fn open(
         alloc: Global,
         mut connection: Connection<S>,
@@ -96,7 +97,9 @@ impl<S: Alter> Journal<S> {
         // A connection whose transaction is on is refused, before all else, and comes back as it was.
         ensures busy { connection.in_transaction ≡ true →
             MatchResult result (λ _. ⊥) (λ e. (e.0 ≡ JournalFailed) × (e.1 ≡ connection)) }
-        // Of a journal E18 else comes only where the disk failed, or where SQL refuses to write rows of version 1 anew.
+        // Of a journal E18 else comes only where the disk failed, or where SQL refuses to write
+        // rows of version 1 anew: a table that holds the greatest row id takes no further row. Only
+        // the kit counts here, since without a journal there is no counter of its own.
         ensures failed { IfErr result (λ e. HasCleanDisk (state S.Store e.1) →
             IsJournal (state S.Store connection) → connection.in_transaction ≡ false →
             connection.step_limit ≡ None → e.0 ≡ JournalFailed →

@@ -84,7 +84,8 @@ fn put_homes<S: Alter>(
     Ok(())
 }
 
-/// Writes the row of each record, and then that of the version.
+/// Writes the row of each record, and then that of the version. Records come from pages here, and
+/// from a list in `put_patch`: so each has its own loop.
 fn put_rows<S: Alter>(
     alloc: Global,
     tx: &mut Transaction<'_, S>,

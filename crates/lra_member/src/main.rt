@@ -1,4 +1,5 @@
-//! The program: one node, or some, of a group whose other nodes are in processes of their own.
+//! The program: one node, or some, of a group whose other nodes are in processes of their own. It
+//! isn't `lra_node`, since the words and statuses of `serve` are fixed.
 #![tactic(auto)]
 
 mod asked;

@@ -14,7 +14,8 @@ pub enum Unasked {
     NoMemory,
 }
 
-/// The number that a word spells in decimal, without leading zeros.
+/// The number that a word spells in decimal, without leading zeros. `lra_script` reads one from
+/// bytes, by a function that is private there.
 pub fn number_of(word: &str) -> Option<u64>
     ensures { MatchOption result ((n : ℕ) → n < 2 ^ 64 → word.now ≡ decimal n → ⊥)
         (λ n. word.now ≡ decimal n) }

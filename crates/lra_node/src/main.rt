@@ -28,7 +28,8 @@ const LAST_PORT: u16 = 65_528;
 const LAST_LINES: u64 = 500;
 
 /// Runs a server until standard input ends, or plays a script over standard input. Each gives its exit status, as `serve` and
-/// `play` say. Where the arguments ask for something else it ends with 2, and the usage.
+/// `play` say. Where the arguments ask for something else it ends with 2, and the usage. Std has no
+/// clause on arguments, so tests/serve.py shows that the folder is handed on.
 fn main(rt: HostRuntime) -> ExitCode {
     let Ok(given) = env::args(&rt) else {
         return ExitCode::from(1);
@@ -71,7 +72,7 @@ fn hold(rt: &HostRuntime) -> Option<File> {
 }
 
 /// Nothing is known of what a file held, and it is supposed that a torn write leaves each byte old or new. The kit's `Unknown` says the
-/// same, but can't be copied.
+/// same, but can't be copied. A start is a type, and one serves all files and openings.
 #[derive(Clone, Copy, Drop)]
 struct UnknownFiles;
 

@@ -9,7 +9,10 @@ use lra_book::Summary;
 use lra_id::LraId;
 use lra_states::LraStatus;
 
-/// Which LRAs a list shows: of those beyond one, those with a status, and roots alone.
+/// Which LRAs a list shows: of those beyond one, those with a status, and roots alone. It doesn't
+/// go by what a purge would answer, nor tells a list since when an LRA has ended: for each row the
+/// node would have to look through its home. `/lra/ID` tells of one, and the page remembers when it
+/// first saw an end.
 #[derive(Clone, Copy, Debug, PartialEq, Eq)]
 pub struct Filter {
     pub after: Option<LraId>,
@@ -17,6 +20,8 @@ pub struct Filter {
     pub is_of_roots: bool,
 }
 
+/// The status of this name. `LraStatus::from_name` says what it finds by a relation; a query is
+/// read by a function, so that what is wanted is one.
 fn status_named(name: &str) -> Option<LraStatus>
     ensures { result ≡ status_named name.now }
 {

@@ -32,6 +32,9 @@ fn ask<W: Sink>(alloc: Global, writer: &mut W, front: &Front) -> Result<(), Faul
 /// asks once, and applies nothing: what comes is for `lra_delta::prepare`, which also looks whether it is of as many nodes. Errors:
 /// each `Fault`, with NotOffered for another status, whose body is left unread; and E16 with its place where the body is no frame,
 /// as soon as its first bad field has come, and nothing behind that field is read.
+/// It looks at no more than it must. It follows no redirect, and doesn't look at Content-Type,
+/// since a frame is told by its first bytes. The node that is asked refuses a front with too great
+/// counts.
 pub fn pull<R: Source, W: Sink>(
     alloc: Global,
     reader: &mut R,

@@ -1,4 +1,6 @@
--- A line spells at most one ask: its words tell the form, and the form's words each value.
+-- A line spells at most one ask: its words tell the form, and the form's words each value. No table
+-- of pairs is needed: the forms have names in a plain data type, two bytes tell the form, and
+-- `subst` carries that over.
 use Rattle.std.proofs.Common.{◌≡◌, ℕ, suc, ◌<◌, ◌≤◌, ◌^◌, ◌+◌, ◌*◌, ◌==◌, inl, inr, Bool, true, false, cond, List, [], ◌∷◌, ◌++◌, Option, Some, None, IfSome, if◌then◌else◌, codes, get_or, take, drop, refl, ap, sym, subst, ◌∙◌, arith}
 use Rattle.std.specs.Prelude.{All, map}
 use Rattle.std.specs.Fmt.{decimal}

@@ -22,7 +22,8 @@ use Rattle.lra_script.specs.LineParts.{words_of}
 
 -- How a line spells an answer
 
--- the words that are left of a line have this text behind the space before them; where no words are left there is no text
+-- the words that are left of a line have this text behind the space before them; where no words are
+-- left there is no text. So the rest of a line is said by its words
 abbrev pub IsRestOf : List (List ℕ) → List ℕ → Type 0
 IsRestOf words text = ((words ≡ []) × (text ≡ [])) ⊎ (words ≡ words_of text)
 

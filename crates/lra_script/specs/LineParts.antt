@@ -6,7 +6,9 @@ abbrev pub onto_first : ℕ → List (List ℕ) → List (List ℕ)
 onto_first b [] = (b ∷ []) ∷ []
 onto_first b (part ∷ parts) = (b ∷ part) ∷ parts
 
--- what stands before, between and after the bytes that equal `at`: always one part more than there are such bytes
+-- what stands before, between and after the bytes that equal `at`: always one part more than there
+-- are such bytes. One recursion parts a text into lines and into words, so no law about joining
+-- words is owed
 abbrev pub parts : ℕ → List ℕ → List (List ℕ)
 parts at [] = [] ∷ []
 parts at (b ∷ bs) = if b == at then [] ∷ parts at bs else onto_first b (parts at bs)

@@ -195,7 +195,8 @@ TextOfLines answers s (line ∷ lines) out [] = ⊥
 abbrev pub ScriptText : ℕ → State → List (List ℕ) → List ℕ → List State → Type 0
 ScriptText nodes s lines out states = TextOfLines (Answers nodes) s lines out states
 
--- the same, where no line runs out of memory
+-- the same, where no line runs out of memory. It is one text, since an event has one reply and
+-- leaves one state
 abbrev pub TextInRoom : ℕ → State → List (List ℕ) → List ℕ → List State → Type 0
 TextInRoom nodes s lines out states = TextOfLines (AnswersInRoom nodes) s lines out states
 

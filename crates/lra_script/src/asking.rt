@@ -1,4 +1,5 @@
-// What a line asks, and how it is read.
+// What a line asks, and how it is read. Here stands the choice by the verb, in words.rt what one
+// word is, in asking/ the words of each command: each has one definition beside it.
 ghost use Rattle.std.specs.Prelude.{◌≤◌, IfOk, MatchOption};
 ghost use Rattle.lra_script.specs.declared.asking.Ask.{Ask};
 ghost use Rattle.lra_script.specs.Asks.{ReadsArguments, Spells};
@@ -41,7 +42,8 @@ pub enum Ask {
         node: NodeId,
         base: Front,
     },
-    /// `sendold NODE COUNT ..`: it sends the same in version 1 of frames.
+    /// `sendold NODE COUNT ..`: it sends the same in version 1 of frames. A line spells one ask by
+    /// its verb, so this is another ask and no version of `Send`.
     SendOld {
         node: NodeId,
         base: Front,

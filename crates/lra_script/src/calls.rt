@@ -70,7 +70,8 @@ fn push_further(alloc: Global, text: &mut String, duties: &[Duty]) -> Result<(),
 }
 
 /// Has a node hear what a participant answered to a call of this kind: what was heard is entered, or the participant is to be
-/// called again.
+/// called again. The answer is heard before the LRA is looked at, so a 503 about an unknown LRA is
+/// `Again`. Only of a status the LRA is looked at first, since its act is the LRA's.
 pub fn hear_answer(
     alloc: Global,
     world: &mut World,

@@ -17,7 +17,8 @@ use lra_world::World;
 use std::alloc::{AllocError, Global};
 use std::str;
 
-/// What a node holds.
+/// What a node holds. It lends the replica with a clause over all that this `Holds`, so each
+/// question is a function of a `&Replica`, and takes one line where it is asked.
 pub fn held(world: &World, node: NodeId) -> &Replica
     requires { IsNodeOf (length world.now.replicas) node }
     ensures holds { (s : State) →
@@ -66,7 +67,7 @@ pub fn show_front(alloc: Global, replica: &Replica) -> Result<String, AllocError
     format!(in alloc; "front {front}\n")
 }
 
-/// Whether two nodes hold the same.
+/// Whether two nodes hold the same. Nodes of one history do where their fronts are equal.
 pub fn show_same(alloc: Global, one: &Replica, other: &Replica) -> Result<String, AllocError>
     ensures { IfOk result
         (λ text. TellsSame (view_of one.now ≡ view_of other.now) (string_bytes text)) }

@@ -16,7 +16,8 @@ use Rattle.lra_trail.specs.Servers.{Turn, trail_at}
 abbrev pub HasCall : List Entry → Call → Reply → Type 0
 HasCall trail call reply = (now : ℕ) × In (entry call now reply) trail
 
--- in these turns the one node gave a frame, and the other took it
+-- In these turns the one node gave a frame, and the other took it. It is said of the frame and not
+-- of its number, so the proof reads two trails, and no run of the world
 pub record Tells (from to : ℕ) (turns : List Turn) : Type 0 where
   pub frame : Frame
   pub asked : List ℕ

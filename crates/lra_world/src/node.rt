@@ -144,6 +144,7 @@ pub fn bytes_since(
 }
 
 /// A node starts again from the bytes of its own frame since the front of zeros, which has all that it holds.
+/// Should these be refused, which in a lawful history they aren't, it stays as it is.
 pub fn restart(alloc: Global, replica: &mut Replica) -> Result<Reply, AllocError>
     ensures nodes { length replica.new.front ≡ length replica.old.front }
     ensures same { (h : History) (v : List ℕ) → IsLawful h →

@@ -246,6 +246,7 @@ impl World {
         self.happen(alloc, event)
     }
 
+    /// `step` without the headline, so that this is shown once.
     fn happen(&mut self, alloc: Global, event: Event) -> Result<Reply, AllocError>
         ensures step { (s : State) →
             IsWorldOf s self.old → IfOk result (λ reply. Happens s event reply self.new) }
@@ -265,7 +266,8 @@ impl World {
     }
 
     /// Many events happen, one after another. Running out of memory stops the run at an event that has not happened, and gives the
-    /// replies to those before it.
+    /// replies to those before it. Each event is copied, since `step` takes a command's links for
+    /// its own.
     pub fn run(&mut self, alloc: Global, events: &[Event]) -> Result<Vec<Reply>, Stopped>
         ensures headline { (s : State) → IsWorldOf s self.old →
             IfOk result (λ replies. LeadsTo s events.now replies.items self.new) }

@@ -1,4 +1,5 @@
-// Reading what joins.
+// Reading what joins. The words are read once for each of five links, as the definition does; one
+// pass would need an invariant over five answers.
 ghost use Rattle.std.specs.Prelude.{◌≡◌, ◌≤◌, codes, drop, length, true, IfOk, MatchOption};
 ghost use Rattle.std.specs.List.{list_all, list_any};
 ghost use Rattle.std.specs.Option.{option_copied};
