@@ -89,6 +89,7 @@ chain_within zero S l = l ∷ []
 chain_within (suc steps) S l = l ∷ option_map_or (chain_within steps S) (parent_of S l) []
 
 -- l, its parent and so on to the root. A parent has a lesser number, so that many steps are enough
+-- (it recurs on the LRA's own number, which the law on chains hides)
 abbrev pub chain : List Fact → Id → List Id
 chain S l = chain_within l.num S l
 

@@ -54,6 +54,8 @@ impl Link {
             Ok(url) if is_link(&url) => Ok(Link {
                 text: String::from_str(alloc, url.as_str())?,
             }),
+            // An overflow counts as a lack of memory too. For a short text that is no link the
+            // contract allows E17, since the parser may need memory before it can tell.
             Err(ParseError::OutOfMemory | ParseError::Overflow) => Err(Refusal::NoMemory),
             _ => Err(Refusal::BadText),
         }

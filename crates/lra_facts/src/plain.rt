@@ -11,6 +11,7 @@ use lra_id::{LAST_NUMBER, LraId, NodeId};
 use lra_states::{Act, LraStatus, MemberStatus, Outcome, Verdict};
 
 /// Whether the evaluators may read a list: its facts have numbers, and a nested LRA is begun at its parent's home after it.
+/// It tests what callers don't know.
 pub fn are_in_order(facts: &[Fact]) -> bool
     ensures { IsTrue result ↔ (AllByRecursion NamesEarlier facts.now
         × AllByRecursion IsNumbered facts.now) }
@@ -179,6 +180,7 @@ fn begins_held(facts: &[Fact], home: NodeId, fact: &Fact) -> bool
 }
 
 /// How many LRAs of a home are held.
+/// It also asks that numbers are in range.
 pub fn held_at(facts: &[Fact], home: NodeId) -> usize
     requires earlier { AllByRecursion NamesEarlier facts.now }
     requires numbered { AllByRecursion IsNumbered facts.now }

@@ -34,6 +34,7 @@ pub struct Due {
 }
 
 /// What a participant is called for without regard to the saga: to complete, to forget, or to hear that its LRA has ended.
+/// The `Errand` of `lra_callback` is what a call is for.
 #[derive(Clone, Copy)]
 enum Errand {
     Complete,
@@ -52,6 +53,8 @@ enum Owing {
 }
 
 /// The root that was asked last whether it is ended, and whether it is.
+/// What is remembered between turns is a condition and an invariant over records, so it is no
+/// premise above.
 #[derive(Clone, Copy)]
 struct LastRoot {
     root: u64,
@@ -267,6 +270,8 @@ impl Forest {
     }
 
     /// Whether the LRA with the second number is the one with the first, or nested in it, by its chain of parents.
+    /// `root_of`, `depth_at` and `wanted` walk up likewise: of a closure one walk would have to say
+    /// what each says of itself. Not tried.
     pub(crate) fn is_under(&self, above: u64, num: u64) -> bool
         ensures { result ≡ is_under_at (found_at self.now.home self.now.records) above num }
     {

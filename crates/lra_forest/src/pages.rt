@@ -20,6 +20,9 @@ const MAX_PAGES: usize = 1 << 32;
 /// Records in order of their numbers, on pages of at most 32. Behind them there are empty pages, each with its room: a record
 /// for which there is no room on its page takes one of those, and no memory. Since a full page is halved for it, each empty
 /// page is room for 16 records, less what stands beyond 16 on the pages by now.
+/// So a put moves the records of one page. A page is a vector and no array, so that to insert one
+/// moves 24 bytes for each page after it. Two sparse pages aren't merged. Room is counted where it
+/// is needed, so that no put has to keep a count; that one empty page is kept no clause says.
 #[derive(Debug, Drop)]
 pub(crate) struct Pages {
     pages: Vec<Page>,

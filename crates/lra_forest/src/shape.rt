@@ -106,6 +106,7 @@ impl Forest {
     }
 
     /// Whether the record of each LRA that is nested here is there once the records are changed.
+    /// That it names this one as its parent is asked from the child's side.
     fn has_nested(&self, changes: &Changes, members: &[Member]) -> bool
         requires { changes.now.records.home ≡ self.now.home }
         ensures { IsTrue result ↔

@@ -297,6 +297,7 @@ told_changes f S T more l m body =
     same k a = heard_kept f S T more l k a (rw body refl)
 
 -- a told of a member whose number was given
+-- (as `forgot_record`, but for the mark; one lemma for both was not tried)
 pub told_record : (f : Fact) (S T : List Fact) → IsMore f S T → IsSettled S → (nodes : ℕ) (l : Id) (m : ℕ) → f.body ≡ Told l m → 1 ≤ m → is_begun S l ≡ true → record_of nodes T l ≡ record_after f (record_of nodes S l)
 told_record f S T more settled nodes l m body some b =
     record_gained f S T more settled (λ p g. absurd (let wrong : gives_number p (Told l m) ≡ true = rw body at g in cc)) nodes l b (rw body (same_self l))

@@ -258,6 +258,7 @@ forgot_passed u v node l m none =
     (passed (u.held l) NotHeld after_gone.0, passed (u.participant l m) UnknownMember after_stranger.0)
 
 -- and what a told does
+-- (as `forgot_passed`, but for the mark; one lemma for both was not tried)
 pub told_passed : (u : Reading) (v : List ℕ) (node : ℕ) (l : Id) (m : ℕ) → refusal_by u v node (Told l m) ≡ None → (u.held l ≡ true) × (u.participant l m ≡ true)
 told_passed u v node l m none =
     let after_unknown = open_first (unknown v l) _ none in

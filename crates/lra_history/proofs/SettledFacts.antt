@@ -28,6 +28,7 @@ use Rattle.lra_history.proofs.AcceptedCommands.{IsGiven, lawful_gives, number_le
 use Rattle.lra_history.proofs.Basics.{held_begun}
 
 -- what is asked of each fact of a settled set
+-- (it carries both "one more lawful fact" and "each closed set")
 pub record MeetsSettled (T : List Fact) (f : Fact) : Type 0 where
   pub givers : (l : Id) → gives_number l f.body ≡ true → f.origin ≡ l.home
   pub numbers : (l : Id) (m : ℕ) (links : Links) → f.body ≡ Join l m links → m ≡ member_number T l f.num

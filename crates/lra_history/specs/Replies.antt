@@ -27,6 +27,8 @@ use Rattle.lra_history.specs.declared.command.CommandReply.TheVariants.{Began, J
 -- Readings
 
 -- what is told of LRAs and their participants
+-- (one definition over two readings, by a set or by a view, keeps one order of refusals: code meets
+-- it over the view with hardly an answer, and one law ties the two)
 pub record Reading : Type 0 where
   pub held : Id → Bool
   pub want : Id → Option Verdict

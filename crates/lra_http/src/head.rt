@@ -84,6 +84,9 @@ fn is_spaced(spaced: bool, byte: u8) -> bool
 /// Whether the parser is asked after this byte, the last of so many: at the end of a line once a space has come, at
 /// lengths that double, and past the limit. A head has a space behind the empty lines before it, so that a peer that sends
 /// line ends alone is looked at a few times and not after each.
+/// To ask more rarely changes no clause: only more bytes are taken before `BadHead`. Who sends
+/// garbage without a line's end waits for the next such length, and a target that is no UTF-8
+/// shows at the space behind it.
 fn is_due(spaced: bool, byte: u8, size: usize, most: usize) -> bool
     ensures { MayLack spaced byte size most result }
 {

@@ -78,6 +78,7 @@ fn read_final_head<S: Source>(
             interrupted,
         )?;
         let spans = parts_of(&head, &mut headers);
+        // One that goes past the room for heads was `HeadTooLong` before.
         if spans.code == 101 {
             return Err(Fault::BadHead);
         }

@@ -80,6 +80,7 @@ impl LraId {
 
     /// Reads any of the four text forms of a UUID: hyphenated, simple, in braces, or after `urn:uuid:`. The digits may be
     /// in either case, the prefix in lower case alone. A UUID of another layout is refused.
+    /// `uuid` takes the prefix in any case, so the lower case is tested here.
     pub fn from_text(text: &str) -> Result<LraId, BadText>
         ensures found { IfOk result (λ id. IsId id × IsTextOf text.now id) }
         ensures refused { IfErr result (λ _. (id : Id) → IsId id → IsTextOf text.now id → ⊥) }
@@ -88,6 +89,7 @@ impl LraId {
     }
 
     /// Reads what `from_text` reads, from bytes that need not be text.
+    /// A script's line need not be.
     pub fn from_ascii(text: &[u8]) -> Result<LraId, BadText>
         ensures found { IfOk result (λ id. IsId id × IsTextOf text.now id) }
         ensures refused { IfErr result (λ _. (id : Id) → IsId id → IsTextOf text.now id → ⊥) }

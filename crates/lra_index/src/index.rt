@@ -12,6 +12,7 @@ use std::alloc::{AllocError, Global};
 use std::marker::Model;
 
 /// For each node the stamps that the records of LRAs have of it, with their LRAs, in order.
+/// It has eight origins however many nodes there are, so no invariant bounds a record's stamps.
 #[derive(Debug, Drop)]
 pub struct Index {
     origins: Vec<Origin>,

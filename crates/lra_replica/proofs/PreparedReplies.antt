@@ -190,6 +190,7 @@ told_some view me l m taken =
     let none = accepted_open (refusal_by t view.front me (Told l m)) (t.told l m) (spent view.front me) taken in
     some_number (at_home view l.home) l.num m (told_passed t view.front me l m none).1
 
+-- (two functions of one shape are one over an enum, so one lemma by cases serves both)
 pub notice_next : (notice : Notice) (view : View) (me : ℕ) (l : Id) (m : ℕ) (reply : CommandReply) (copy : Record) (members : List Member) (change : Change) → reply ≡ reply_to notice → IsReadyNext view me (command_for notice l m) l (Ok copy)
     → (1 ≤ m → members ≡ member_changed (noted notice) (m - 1) copy.members) → change ≡ one_change view me (record copy { members = members })
     → IsNext view me (command_for notice l m) (Ok (record { reply = reply; patch = Some change }))

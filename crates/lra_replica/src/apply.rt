@@ -26,6 +26,8 @@ fn stamps_at(home: &Forest, num: u64) -> Option<Front>
 }
 
 /// Puts a record in its place at its home, and answers with the stamps of the one that it replaces.
+/// It is over the homes alone: so the invariant that ties them to the index is one record for its
+/// caller.
 fn put_among(homes: &mut Vec<Forest>, added: Record) -> Option<Front>
     requires numbered { AreHomesFrom 1 homes.old.items }
     requires ordered { AllByRecursion (λ h. AreOf h.home h.records) homes.old.items }

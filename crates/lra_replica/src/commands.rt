@@ -114,12 +114,7 @@ impl Replica {
     }
 
     /// What a command comes to: a refusal, that it is known already, or its patch.
-    fn outcome(
-        &mut self,
-        alloc: Global,
-        me: NodeId,
-        command: Command,
-    ) -> Result<Prepared, Refusal>
+    fn outcome(&mut self, alloc: Global, me: NodeId, command: Command) -> Result<Prepared, Refusal>
         requires { me ≤ length self.old.front }
         ensures view { view_of self.new ≡ view_of self.old }
         ensures room { HasRoom result self.new }

@@ -183,6 +183,7 @@ impl Replica {
     /// Merges another replica of as many nodes into this one, by the rules of `absorb`. E16 at place 0 where the merged
     /// records would break the shape; replicas of one history never do. On any refusal nothing changes. It costs a copy of
     /// the other, and what `absorb` costs.
+    /// The other is copied so that `absorb` moves new records.
     pub fn merge(&mut self, alloc: Global, other: &Replica) -> Result<(), Refusal>
         requires { length self.old.front ≡ length other.now.front }
         ensures merged { OnOk result (view_of self.new

@@ -1,5 +1,7 @@
 // What a node makes of a command, by the records of the home of the LRA that the command names: its first refusal, that it is known
 // already, or that it is accepted.
+// The questions answer what the definitions do, an optional refusal; with `?` each would need a
+// second form.
 ghost use Rattle.std.specs.Prelude.{◌≡◌, ◌<◌, [], ◌∷◌, None, Some, Ok, false, true};
 ghost use Rattle.lra_id.specs.Fronts.{count};
 ghost use Rattle.lra_id.specs.Ids.{last_number};

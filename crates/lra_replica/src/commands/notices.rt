@@ -163,6 +163,8 @@ impl Replica {
     /// Prepares that a participant was told to forget, which any node may enter. Where it was told already, it is known, and
     /// there is no patch. It costs a copy of the LRA's record and a look at those of its root's tree. Errors, the
     /// first that holds: E2, E3, E5, E7; where it isn't known E14, E17.
+    /// One function over `Notice` does this and `told`; each has clauses of its own, as callers
+    /// cite one.
     pub fn forgot(
         &mut self,
         alloc: Global,
