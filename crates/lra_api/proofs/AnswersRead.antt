@@ -22,8 +22,8 @@ use Rattle.lra_states.specs.declared.status.LraStatus.TheVariants.{Active}
 use Rattle.lra_facts.specs.declared.refusal.Refusal.{Refusal}
 use Rattle.lra_facts.specs.declared.refusal.Refusal.TheVariants.{BadText, UnknownLra, NotHeld, NotHome, UnknownMember, NotActive, NotDue, NotEnded, NotRoot, StillToForget, StillToTell, MembersFull, DepthFull, LrasFull, NumbersSpent, Gap, NeedsVersion2, BadFrame, NoMemory, JournalFailed, Stopped, RunFull, TrailLost, Strange}
 use Rattle.lra_facts.specs.RefusalTexts.{refusal_text}
-use Rattle.lra_history.specs.declared.command.CommandReply.{CommandReply}
-use Rattle.lra_history.specs.declared.command.CommandReply.TheVariants as command
+use Rattle.lra_facts.specs.declared.command.CommandReply.{CommandReply}
+use Rattle.lra_facts.specs.declared.command.CommandReply.TheVariants as command
 use Rattle.lra_delta.specs.Encoding.{encoding}
 use Rattle.lra_book.specs.declared.calls.Reply.{Reply}
 use Rattle.lra_book.specs.declared.calls.Reply.TheVariants as reply

@@ -5,7 +5,7 @@ use Rattle.lra_id.specs.Ids.{Id}
 use Rattle.lra_states.specs.declared.outcome.Act.{Act}
 use Rattle.lra_states.specs.declared.outcome.Outcome.{Outcome}
 use Rattle.lra_facts.specs.declared.refusal.Refusal.TheVariants.{BadText, NoMemory}
-use Rattle.lra_history.specs.declared.command.Command.TheVariants as command
+use Rattle.lra_facts.specs.declared.command.Command.TheVariants as command
 use Rattle.lra_http.specs.declared.message.Request.{Request}
 use Rattle.lra_book.specs.declared.calls.Call.{Call}
 use Rattle.lra_book.specs.declared.calls.Call.TheVariants as call

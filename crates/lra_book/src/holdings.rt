@@ -10,9 +10,8 @@ ghost use Rattle.lra_book.specs.Next.{IsSurvey, held_reply, record_reply};
 
 use crate::Reply;
 use crate::preparing::act;
-use lra_facts::Refusal;
+use lra_facts::{Command, CommandReply, Refusal};
 use lra_forest::{Members, Record};
-use lra_history::{Command, CommandReply};
 use lra_id::{LraId, NodeId};
 use lra_replica::{Replica, Row};
 use lra_states::{LraStatus, MemberStatus};

@@ -1,7 +1,7 @@
 // What a call comes to, and carrying it out.
 ghost use Rattle.std.specs.Prelude.{◌≡◌, ◌≤◌, ◌<◌, ℕ, Err, IfErr, IfOk, IfSome, IsTrue, OnErr, OnOk, length};
 ghost use Rattle.lra_facts.specs.declared.refusal.Refusal.TheVariants.{NoMemory};
-ghost use Rattle.lra_history.specs.declared.command.Command.TheVariants.{Decide};
+ghost use Rattle.lra_facts.specs.declared.command.Command.TheVariants.{Decide};
 ghost use Rattle.lra_history.specs.Next.{member_shown_on, next_view, overdue_on, reply_on, shown_on};
 ghost use Rattle.lra_history.specs.Views.{View};
 ghost use Rattle.lra_replica.specs.Replicas.{Fits, view_of};
@@ -20,8 +20,7 @@ use crate::holdings::{hold, survey_beyond};
 use crate::{Call, PullBody, Reply};
 use lra_callback::pick;
 use lra_delta::Delta;
-use lra_facts::Refusal;
-use lra_history::{Command, CommandReply};
+use lra_facts::{Command, CommandReply, Refusal};
 use lra_id::{LraId, NodeId};
 use lra_journal::Journal;
 use lra_peer::serve_pull;

@@ -4,7 +4,7 @@ ghost use Rattle.lra_callback.specs.CallWords.{heard_name, kind_name};
 ghost use Rattle.lra_callback.specs.HeardCommands.{command_heard};
 ghost use Rattle.lra_callback.specs.Answers.{done_status, failed_status, heard_by_act, heard_by_after, heard_by_forget, heard_by_status, heard_of, unquoted, without_leading, without_trailing};
 
-use lra_history::Command;
+use lra_facts::Command;
 use lra_http::Bytes;
 use lra_id::LraId;
 use lra_states::{Act, MemberStatus, Outcome};

@@ -19,21 +19,11 @@ ghost use Rattle.lra_delta.specs.Telling.{AreHomes, AreTold, homes_told, is_list
 
 use crate::Delta;
 use lra_facts::Refusal;
-use lra_forest::{Forest, Record, Records, Told};
+use lra_forest::{Forest, Record, Told};
 use lra_id::{Front, MAX_NODES, NodeId};
 use lra_index::Entry;
 use lra_replica::Replica;
 use std::alloc::{AllocError, Global};
-
-fn numbers_of(alloc: Global, records: Records<'_>) -> Result<Vec<u64>, AllocError>
-    ensures { IfOk result (λ numbers. numbers.items ≡ map (λ (r : Record). r.num) records.entry) }
-{
-    let mut numbers = Vec::new(alloc);
-    for record in records {
-        numbers.push(record.num)?;
-    }
-    Ok(numbers)
-}
 
 /// The numbers of all LRAs that are held at a home, where it purged after the base.
 pub(crate) fn live_since(
@@ -47,7 +37,7 @@ pub(crate) fn live_since(
         (map (λ (r : Record). r.num) home.now.records) else None)) }
 {
     if base.count(home.home()) < purges.count(home.home()) {
-        Ok(Some(numbers_of(alloc, home.records())?))
+        Ok(Some(home.numbers(alloc)?))
     } else {
         Ok(None)
     }

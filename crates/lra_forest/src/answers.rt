@@ -160,7 +160,8 @@ impl Forest {
         let Some(participant) = participant_at(record.members.get(member)) else {
             return Err(Refusal::UnknownMember);
         };
-        Ok(plain::demands(self.wanted(id.num()), &participant.links, act))
+        let want = self.wanted_of(id.num(), record);
+        Ok(plain::demands(want, &participant.links, act))
     }
 
     /// Whether this outcome of an act was heard of the participant of an LRA with this member number, or a greater one.

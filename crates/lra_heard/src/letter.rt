@@ -6,7 +6,7 @@ ghost use Rattle.lra_callback.specs.declared.answer.Heard.TheVariants.{Again};
 ghost use Rattle.lra_heard.specs.Letters.{IsHeardIn, IsUnheardIn, came_of};
 
 use lra_callback::{Answer, Caller, Duty, Heard, hear, request_of};
-use lra_history::Command;
+use lra_facts::Command;
 use lra_turns::{Came, Due};
 use std::alloc::Global;
 use std::marker::Model;

@@ -22,8 +22,8 @@ use Rattle.lra_forest.proofs.LeastDutyUnderARoot.{least_said, least_untold_said}
 use Rattle.lra_forest.proofs.RecordCounts.{held_count}
 use Rattle.lra_forest.proofs.MembersAndStamps.{find_in}
 use Rattle.lra_forest.proofs.RecordsSayTheSet.{demanded_said, depth_said, ended_said, heard_said, member_shown_said, numbers_said, participant_said, shown_said, want_said}
-use Rattle.lra_history.specs.declared.command.Command.{Command}
-use Rattle.lra_history.specs.declared.command.Command.TheVariants.{Begin, Join, Leave, Decide, Report, Forgot, Told, Purge}
+use Rattle.lra_facts.specs.declared.command.Command.{Command}
+use Rattle.lra_facts.specs.declared.command.Command.TheVariants.{Begin, Join, Leave, Decide, Report, Forgot, Told, Purge}
 use Rattle.lra_history.specs.Growth.{IsSettled}
 use Rattle.lra_history.specs.Next.{judge_on}
 use Rattle.lra_history.specs.Readings.{by_view}

@@ -12,7 +12,7 @@ use Rattle.lra_forest.specs.OnlyChanges.{AreOnlyChanges}
 use Rattle.lra_forest.specs.Places.{put_record}
 use Rattle.lra_forest.specs.declared.record.Place.{Place}
 use Rattle.lra_history.specs.Views.{View, record_at, records_at, StandsFor}
-use Rattle.lra_history.specs.declared.command.Command.{Command}
+use Rattle.lra_facts.specs.declared.command.Command.{Command}
 use Rattle.lra_history.specs.Growth.{IsMore, begun_record, stamped}
 use Rattle.lra_history.specs.Replies.{AlreadyKnown, Accepted, judge, next_fact}
 

@@ -8,7 +8,7 @@ ghost use Rattle.lra_id.specs.Ids.{Id};
 ghost use Rattle.lra_facts.specs.declared.fact.Body.TheVariants.{Purge};
 ghost use Rattle.lra_facts.specs.declared.fact.Fact.{Fact};
 ghost use Rattle.lra_facts.specs.Sets.{is_held, is_root, is_under};
-ghost use Rattle.lra_history.specs.declared.command.Command.{Command};
+ghost use Rattle.lra_facts.specs.declared.command.Command.{Command};
 ghost use Rattle.lra_history.specs.Growth.{IsMore, IsSettled};
 ghost use Rattle.lra_history.specs.Histories.{Entry, History, IsClosed, IsLawful, facts, with_entry};
 ghost use Rattle.lra_history.specs.NodeViews.{IsCurrent, IsViewIn, entry_for};

@@ -2,7 +2,4 @@
 //! command changes in a view, and the merge of two views. There is no state here: definitions, and the laws of them.
 #![tactic(auto)]
 
-mod command;
 pub mod laws;
-
-pub use command::{Command, CommandReply};

@@ -12,8 +12,8 @@ use Rattle.lra_forest.specs.declared.record.Member.{Member}
 use Rattle.lra_forest.specs.declared.record.Member.TheVariants as member
 use Rattle.lra_forest.specs.declared.record.Participant.{Participant}
 use Rattle.lra_forest.specs.declared.record.Place.{Place}
-use Rattle.lra_history.specs.declared.command.CommandReply.{CommandReply}
-use Rattle.lra_history.specs.declared.command.CommandReply.TheVariants.{Refused}
+use Rattle.lra_facts.specs.declared.command.CommandReply.{CommandReply}
+use Rattle.lra_facts.specs.declared.command.CommandReply.TheVariants.{Refused}
 use Rattle.lra_book.specs.declared.holdings.Holding.{Holding}
 use Rattle.lra_operate.specs.Json.{id_or_null, key, name_or_null, named, number_or_null, opened, quoted, truth, word}
 

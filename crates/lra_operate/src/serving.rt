@@ -20,8 +20,7 @@ use lra_api::{
     serve_request,
 };
 use lra_book::{Call, Clerk, Reply};
-use lra_facts::Refusal;
-use lra_history::Command;
+use lra_facts::{Command, Refusal};
 use lra_http::{MAX_BODY_BYTES, Request, Sink, Source, read_request};
 use std::alloc::{AllocError, Global};
 

@@ -14,7 +14,7 @@ use Rattle.lra_facts.specs.Sets.{is_held, is_participant, is_root, want}
 use Rattle.lra_facts.proofs.Membership.{any_from}
 use Rattle.lra_forest.proofs.Bools.{and_left}
 use Rattle.lra_forest.proofs.NumberedMembers.{same_self}
-use Rattle.lra_history.specs.declared.command.Command.TheVariants.{Forgot, Purge, Report, Told}
+use Rattle.lra_facts.specs.declared.command.Command.TheVariants.{Forgot, Purge, Report, Told}
 use Rattle.lra_history.specs.Growth.{IsMore, IsSettled}
 use Rattle.lra_history.specs.NodeViews.{IsCurrent}
 use Rattle.lra_history.specs.Replies.{Accepted, body_for, judge, judged}

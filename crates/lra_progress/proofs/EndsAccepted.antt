@@ -10,7 +10,7 @@ use Rattle.lra_facts.specs.declared.refusal.Refusal.{Refusal}
 use Rattle.lra_facts.specs.Duties.{is_pending}
 use Rattle.lra_facts.specs.Refusals.{first, unless}
 use Rattle.lra_facts.specs.Sets.{heard, is_demanded, is_heard, is_held, is_participant}
-use Rattle.lra_history.specs.declared.command.Command.TheVariants.{Report}
+use Rattle.lra_facts.specs.declared.command.Command.TheVariants.{Report}
 use Rattle.lra_history.specs.Replies.{Accepted, judge, judged}
 use Rattle.lra_history.specs.Views.{IsCounted}
 use Rattle.lra_history.proofs.Basics.{held_begun}

@@ -23,7 +23,7 @@ use Rattle.lra_facts.proofs.Membership.{any_agree, most_bounds}
 use Rattle.lra_forest.proofs.CompensationUnderAnLra.{held_above}
 use Rattle.lra_forest.proofs.NumberedMembers.{same_self}
 use Rattle.lra_forest.proofs.SagaOrder.{top_is}
-use Rattle.lra_history.specs.declared.command.Command.TheVariants.{Report}
+use Rattle.lra_facts.specs.declared.command.Command.TheVariants.{Report}
 use Rattle.lra_history.specs.Growth.{IsMore, IsSettled}
 use Rattle.lra_history.specs.Histories.{facts}
 use Rattle.lra_history.specs.NodeViews.{IsCurrent}

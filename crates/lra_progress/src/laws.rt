@@ -11,7 +11,7 @@ ghost use Rattle.lra_facts.specs.declared.fact.Fact.{Fact};
 ghost use Rattle.lra_facts.specs.Duties.{is_pending};
 ghost use Rattle.lra_facts.specs.Lists.{In};
 ghost use Rattle.lra_facts.specs.Sets.{is_ended, is_held, is_root, want};
-ghost use Rattle.lra_history.specs.declared.command.Command.TheVariants.{Purge, Report};
+ghost use Rattle.lra_facts.specs.declared.command.Command.TheVariants.{Purge, Report};
 ghost use Rattle.lra_history.specs.Growth.{IsSettled};
 ghost use Rattle.lra_history.specs.Histories.{History, IsClosed, IsLawful, facts};
 ghost use Rattle.lra_history.specs.Replies.{Accepted, judge};

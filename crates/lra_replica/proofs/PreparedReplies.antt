@@ -23,10 +23,10 @@ use Rattle.lra_forest.specs.Participants.{participant_at}
 use Rattle.lra_forest.specs.Places.{put_record}
 use Rattle.lra_forest.specs.Said.{members_at, shown_at}
 use Rattle.lra_forest.specs.Shape.{found_at}
-use Rattle.lra_history.specs.declared.command.Command.{Command}
-use Rattle.lra_history.specs.declared.command.Command.TheVariants.{Begin, Join, Leave, Decide, Report, Forgot, Told, Purge}
-use Rattle.lra_history.specs.declared.command.CommandReply.{CommandReply}
-use Rattle.lra_history.specs.declared.command.CommandReply.TheVariants.{Began, Decided, Joined, Left, Reported}
+use Rattle.lra_facts.specs.declared.command.Command.{Command}
+use Rattle.lra_facts.specs.declared.command.Command.TheVariants.{Begin, Join, Leave, Decide, Report, Forgot, Told, Purge}
+use Rattle.lra_facts.specs.declared.command.CommandReply.{CommandReply}
+use Rattle.lra_facts.specs.declared.command.CommandReply.TheVariants.{Began, Decided, Joined, Left, Reported}
 use Rattle.lra_history.specs.Growth.{IsSettled, member_changed, forgetting, hearing, joined, leaving, record_after, reporting}
 use Rattle.lra_history.specs.Next.{accepted_on, change_on, change_record, changed, judge_on, next_fact_on, member_shown_on, no_change, shown_on}
 use Rattle.lra_history.specs.Changes.{fresh_record, with_stamp, Change, one_change, patched, two_changes}

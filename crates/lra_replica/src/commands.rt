@@ -22,8 +22,7 @@ mod report;
 
 use crate::commands::judging::judge;
 use crate::{Prepared, Replica};
-use lra_facts::Refusal;
-use lra_history::{Command, CommandReply};
+use lra_facts::{Command, CommandReply, Refusal};
 use lra_id::{Front, LraId, NodeId};
 use std::alloc::{AllocError, Global};
 

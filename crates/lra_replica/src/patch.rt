@@ -2,7 +2,7 @@
 ghost use Rattle.std.specs.Prelude.{◌≡◌};
 
 use lra_forest::Record;
-use lra_history::CommandReply;
+use lra_facts::CommandReply;
 use lra_id::{Front, LraId};
 use std::marker::Model;
 

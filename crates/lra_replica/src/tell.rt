@@ -1,11 +1,10 @@
 // What one node tells another.
-ghost use Rattle.std.specs.Prelude.{◌≡◌, IfOk, map};
-ghost use Rattle.lra_forest.specs.declared.record.Record.{Record};
+ghost use Rattle.std.specs.Prelude.{◌≡◌, IfOk};
 ghost use Rattle.lra_history.specs.Merging.{IsTelling, TellsAll};
 ghost use Rattle.lra_replica.specs.Replicas.{view_of};
 
 use crate::Replica;
-use lra_forest::{Records, Told};
+use lra_forest::Told;
 use lra_id::Front;
 use std::alloc::{AllocError, Global};
 use std::marker::Model;
@@ -44,16 +43,6 @@ impl Taken {
     }
 }
 
-fn numbers_of(alloc: Global, records: Records<'_>) -> Result<Vec<u64>, AllocError>
-    ensures { IfOk result (λ numbers. numbers.items ≡ map (λ (r : Record). r.num) records.entry) }
-{
-    let mut numbers = Vec::new(alloc);
-    for record in records {
-        numbers.push(record.num)?;
-    }
-    Ok(numbers)
-}
-
 impl Replica {
     /// All that it has, as it is told to another.
     pub fn tell_all(&self, alloc: Global) -> Result<Taken, AllocError>
@@ -62,7 +51,7 @@ impl Replica {
         let mut homes = Vec::new(alloc);
         for home in &self.homes {
             homes.push(Told {
-                held: Some(numbers_of(alloc, home.records())?),
+                held: Some(home.numbers(alloc)?),
                 records: home.clone()?,
             })?;
         }

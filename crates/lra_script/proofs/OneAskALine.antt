@@ -17,7 +17,7 @@ use Rattle.lra_states.specs.declared.outcome.Outcome.{Outcome}
 use Rattle.lra_states.specs.declared.outcome.Outcome.TheVariants.{Busy, Done, Failed}
 use Rattle.lra_states.specs.declared.outcome.Verdict.TheVariants.{Close, Cancel}
 use Rattle.lra_facts.specs.Links.{Links}
-use Rattle.lra_history.specs.declared.command.Command.TheVariants.{Begin, Join, Leave, Decide, Report, Forgot, Told, Purge}
+use Rattle.lra_facts.specs.declared.command.Command.TheVariants.{Begin, Join, Leave, Decide, Report, Forgot, Told, Purge}
 use Rattle.lra_callback.specs.declared.answer.Answer.{Answer}
 use Rattle.lra_callback.specs.declared.answer.Answer.TheVariants.{Code, Broken}
 use Rattle.lra_callback.specs.declared.answer.Kind.{Kind}

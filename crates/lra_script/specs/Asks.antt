@@ -6,8 +6,8 @@ use Rattle.lra_states.specs.Names.{verdict_name, act_name, outcome_name}
 use Rattle.lra_callback.specs.CallWords.{kind_name}
 use Rattle.lra_script.specs.declared.asking.Ask.{Ask}
 use Rattle.lra_script.specs.declared.asking.Ask.TheVariants.{Enter, Tick, Send, SendOld, Deliver, Restart, Show, Member, Duties, Hear, Front, Same, Text, Read}
-use Rattle.lra_history.specs.declared.command.Command.{Command}
-use Rattle.lra_history.specs.declared.command.Command.TheVariants.{Begin, Join, Leave, Decide, Report, Forgot, Told, Purge}
+use Rattle.lra_facts.specs.declared.command.Command.{Command}
+use Rattle.lra_facts.specs.declared.command.Command.TheVariants.{Begin, Join, Leave, Decide, Report, Forgot, Told, Purge}
 use Rattle.lra_script.specs.CallLines.{IsAnswerInRange, GivesAnswer}
 use Rattle.lra_script.specs.Joins.{GivesLinks}
 use Rattle.lra_script.specs.LineParts.{words_of}

@@ -11,9 +11,9 @@ use Rattle.lra_facts.specs.RefusalTexts.{refusal_text}
 use Rattle.lra_facts.specs.declared.refusal.Refusal.{Refusal}
 use Rattle.lra_facts.specs.declared.refusal.Refusal.TheVariants.{BadText, NoMemory}
 use Rattle.lra_forest.specs.Dues.{AreAll}
-use Rattle.lra_history.specs.declared.command.Command.{Command}
-use Rattle.lra_history.specs.declared.command.CommandReply.{CommandReply}
-use Rattle.lra_history.specs.declared.command.CommandReply.TheVariants.{Began, Joined, Left, Decided, Reported, Known, Forgotten, Told, Purged, Refused as NotEntered}
+use Rattle.lra_facts.specs.declared.command.Command.{Command}
+use Rattle.lra_facts.specs.declared.command.CommandReply.{CommandReply}
+use Rattle.lra_facts.specs.declared.command.CommandReply.TheVariants.{Began, Joined, Left, Decided, Reported, Known, Forgotten, Told, Purged, Refused as NotEntered}
 use Rattle.lra_world.specs.declared.event.Event.{Event}
 use Rattle.lra_delta.specs.declared.version.Version.TheVariants.{One, Two}
 use Rattle.lra_world.specs.declared.event.Event.TheVariants.{Act as ActEvent, Deliver as DeliverEvent, Restart as RestartEvent, Send as SendEvent, Tick as TickEvent}

@@ -15,7 +15,7 @@ use crate::words::{Verb, Words};
 use answers::hear_of;
 use joins::join_of;
 use lra_callback::{Answer, Kind};
-use lra_history::Command;
+use lra_facts::Command;
 use lra_id::{Front, LraId, NodeId};
 use lra_states::Verdict;
 use lras::{begin_of, decide_of, purge_of, read_of, show_of, text_of};

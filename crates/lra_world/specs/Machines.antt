@@ -5,8 +5,8 @@ use Rattle.lra_id.specs.Fronts.{IsBelow, join_fronts}
 use Rattle.lra_id.specs.Ids.{Id}
 use Rattle.lra_facts.specs.declared.fact.Fact.{Fact}
 use Rattle.lra_facts.specs.declared.refusal.Refusal.TheVariants.{BadFrame, BadText, Gap}
-use Rattle.lra_history.specs.declared.command.Command.{Command}
-use Rattle.lra_history.specs.declared.command.CommandReply.{CommandReply}
+use Rattle.lra_facts.specs.declared.command.Command.{Command}
+use Rattle.lra_facts.specs.declared.command.CommandReply.{CommandReply}
 use Rattle.lra_history.specs.Growth.{IsMore}
 use Rattle.lra_history.specs.Histories.{History, IsClosed, IsLawful, facts}
 use Rattle.lra_history.specs.Changes.{Change, patched, raised}

@@ -1,7 +1,6 @@
 // What may happen in a world, and what is replied to it.
 use lra_delta::Version;
-use lra_facts::Refusal;
-use lra_history::{Command, CommandReply};
+use lra_facts::{Command, CommandReply, Refusal};
 use lra_id::{Front, LraId, NodeId};
 use std::alloc::AllocError;
 

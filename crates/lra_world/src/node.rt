@@ -15,8 +15,7 @@ ghost use Rattle.lra_world.specs.declared.event.Reply.TheVariants.{Restarted};
 
 use crate::Reply;
 use lra_delta::{Delta, Version, encode, encode_v1, prepare};
-use lra_facts::Refusal;
-use lra_history::{Command, CommandReply};
+use lra_facts::{Command, CommandReply, Refusal};
 use lra_id::{Front, NodeId};
 use lra_replica::{Prepared, Replica};
 use std::alloc::{AllocError, Global};

@@ -18,8 +18,7 @@ ghost use Rattle.lra_facts.specs.declared.refusal.Refusal.TheVariants.{BadText, 
 use crate::node::{act, bytes_since, restart, take_bytes};
 use crate::{Event, Reply, Stopped};
 use lra_delta::Version;
-use lra_facts::Refusal;
-use lra_history::{Command, CommandReply};
+use lra_facts::{Command, CommandReply, Refusal};
 use lra_id::{Front, LraId, NodeId};
 use lra_replica::Replica;
 use lra_states::{LraStatus, MemberStatus, Verdict};

@@ -2,7 +2,7 @@
 ghost use Rattle.std.specs.Prelude.{◌≡◌, ◌≤◌, ◌<◌, ◌+◌, None, Some, Ok, IfOk, length};
 ghost use Rattle.lra_id.specs.Ids.{last_number};
 ghost use Rattle.lra_id.specs.Fronts.{count};
-ghost use Rattle.lra_history.specs.declared.command.Command.TheVariants.{Begin};
+ghost use Rattle.lra_facts.specs.declared.command.Command.TheVariants.{Begin};
 ghost use Rattle.lra_history.specs.Changes.{fresh_record};
 ghost use Rattle.lra_history.specs.Next.{judge_on};
 ghost use Rattle.lra_history.specs.Replies.{Accepted};
@@ -12,9 +12,8 @@ ghost use Rattle.lra_replica.specs.Replicas.{KeepsRoom, view_of};
 
 use crate::commands::fact::stamp;
 use crate::{Prepared, Replica};
-use lra_facts::Refusal;
+use lra_facts::{Command, CommandReply, Refusal};
 use lra_forest::{Member, Members, Place, Record};
-use lra_history::{Command, CommandReply};
 use lra_id::{Front, LraId, NodeId};
 use std::alloc::{AllocError, Global};
 

@@ -11,9 +11,8 @@ ghost use Rattle.lra_history.specs.Replies.{crowded_by, deep_by, early_by, full_
 ghost use Rattle.lra_replica.specs.AtHome.{IsOfHome, by_home};
 ghost use Rattle.lra_replica.specs.Prepared.{judged_as};
 
-use lra_facts::Refusal;
+use lra_facts::{Command, Refusal};
 use lra_forest::{Forest, MAX_DEPTH, MAX_HELD, MAX_MEMBERS};
-use lra_history::Command;
 use lra_id::{Front, LAST_NUMBER, LraId, NodeId};
 use lra_states::Act;
 

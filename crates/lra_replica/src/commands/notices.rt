@@ -2,7 +2,7 @@
 ghost use Rattle.std.specs.Prelude.{◌≡◌, ◌≤◌, ◌<◌, ◌-◌, Ok, IfOk, OnOk, length};
 ghost use Rattle.lra_id.specs.Ids.{last_number};
 ghost use Rattle.lra_id.specs.Fronts.{count};
-ghost use Rattle.lra_history.specs.declared.command.Command.TheVariants.{Forgot, Told};
+ghost use Rattle.lra_facts.specs.declared.command.Command.TheVariants.{Forgot, Told};
 ghost use Rattle.lra_history.specs.Growth.{forgetting, hearing, member_changed};
 ghost use Rattle.lra_history.specs.Next.{judge_on};
 ghost use Rattle.lra_history.specs.Replies.{Accepted};
@@ -12,9 +12,8 @@ ghost use Rattle.lra_replica.specs.Replicas.{KeepsRoom, view_of};
 ghost use Rattle.lra_replica.specs.Notices.{command_for, noted, reply_to};
 
 use crate::{Prepared, Replica};
-use lra_facts::Refusal;
+use lra_facts::{Command, CommandReply, Refusal};
 use lra_forest::{Member, Members, Participant};
-use lra_history::{Command, CommandReply};
 use lra_id::{LraId, NodeId};
 use std::alloc::{AllocError, Global};
 

@@ -7,7 +7,7 @@ ghost use Rattle.lra_script.specs.Asks.{IsNodeOf, ReadsArguments, parent_words};
 
 use crate::asking::Ask;
 use crate::words::{Words, id_of, node_of, number_of};
-use lra_history::Command;
+use lra_facts::Command;
 use lra_id::{LraId, NodeId};
 use lra_states::Verdict;
 

@@ -10,7 +10,7 @@ ghost use Rattle.lra_script.specs.Asks.{IsMemberNumber, IsNodeOf, ReadsArguments
 use super::lras::next_node_and_id;
 use crate::asking::Ask;
 use crate::words::{Words, member_number_of};
-use lra_history::Command;
+use lra_facts::Command;
 use lra_id::{LraId, NodeId};
 use lra_states::{Act, Outcome};
 

@@ -1,5 +1,5 @@
 // What a node is asked to enter, and what it replies.
-use lra_facts::{Links, Refusal};
+use crate::{Links, Refusal};
 use lra_id::LraId;
 use lra_states::{Act, LraStatus, Outcome, Verdict};
 use std::alloc::AllocError;
