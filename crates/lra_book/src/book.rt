@@ -6,6 +6,7 @@ ghost use Rattle.sqlite.specs.State.{HasCleanDisk, Survives};
 ghost use Rattle.sqlite_disk.specs.Disk.{MoreFaults};
 ghost use Rattle.sqlite.specs.Tree.{Trees};
 ghost use Rattle.lra_history.specs.Views.{empty_view};
+ghost use Rattle.lra_history.specs.Changes.{with_patch};
 ghost use Rattle.lra_replica.specs.Replicas.{Fits, view_of};
 ghost use Rattle.lra_book.specs.Books.{IsBegun, IsEntered, IsEnded, IsLegal, IsNotBegun, IsNotEntered, IsOpened, MayCommit, Stays, has_room_for, moves_in, refusal_at_once};
 ghost use Rattle.lra_journal.specs.Broken.{IsBrokenAt};
@@ -18,7 +19,7 @@ ghost use Rattle.lra_delta.specs.declared.version.Version.{Version};
 ghost use Rattle.lra_journal.specs.Tables.{IsJournal};
 ghost use Rattle.lra_book.specs.Desks.{AreSeen, IsLostBelow};
 ghost use Rattle.lra_book.specs.Looks.{lesser, look_of, lost_from};
-ghost use Rattle.lra_book.specs.Next.{IsNext, with_patch};
+ghost use Rattle.lra_book.specs.Next.{IsNext};
 ghost use Rattle.lra_book.specs.Trails.{entry, stands, tells};
 
 use crate::preparing::{carry_out, prepare};

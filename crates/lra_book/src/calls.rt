@@ -34,14 +34,14 @@ impl PullBody {
         PullBody { bytes }
     }
 
-    /// They as a slice.
+    /// These bytes as a slice.
     pub fn as_slice(&self) -> &[u8]
         ensures { result.now ≡ self.now }
     {
         &self.bytes
     }
 
-    /// They as a vector.
+    /// These bytes as a vector.
     pub fn into_vec(self) -> Vec<u8>
         ensures { result.items ≡ self }
     {

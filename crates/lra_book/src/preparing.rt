@@ -4,6 +4,7 @@ ghost use Rattle.lra_facts.specs.declared.refusal.Refusal.TheVariants.{NoMemory}
 ghost use Rattle.lra_facts.specs.declared.command.Command.TheVariants.{Decide};
 ghost use Rattle.lra_history.specs.Next.{member_shown_on, next_view, overdue_on, reply_on, shown_on};
 ghost use Rattle.lra_history.specs.Views.{View};
+ghost use Rattle.lra_history.specs.Changes.{with_patch};
 ghost use Rattle.lra_replica.specs.Replicas.{Fits, view_of};
 ghost use Rattle.lra_peer.specs.PullBodies.{asked};
 ghost use Rattle.lra_callback.specs.ViewDuties.{duties_of};
@@ -14,7 +15,7 @@ ghost use Rattle.sqlite.specs.Held.{state};
 ghost use Rattle.sqlite.specs.State.{HasCleanDisk, Survives};
 ghost use Rattle.lra_book.specs.declared.calls.Reply.TheVariants.{Due};
 ghost use Rattle.lra_book.specs.Books.{IsStoreFault};
-ghost use Rattle.lra_book.specs.Next.{IsListing, IsNext, IsTakeReply, expire_reply, expired, member_reply, pull_reply, status_reply, view_expired, with_patch};
+ghost use Rattle.lra_book.specs.Next.{IsListing, IsNext, IsTakeReply, expire_reply, expired, member_reply, pull_reply, status_reply, view_expired};
 
 use crate::holdings::{hold, survey_beyond};
 use crate::{Call, PullBody, Reply};

@@ -1,10 +1,10 @@
 // One call over a connection: a request is written, and its answer read.
 ghost use Rattle.std.specs.Prelude.{◌≡◌, ◌⊎◌, IfOk, OnErr};
-ghost use Rattle.lra_http.specs.Streams.{AllWell};
+ghost use Rattle.lra_http.specs.Streams.{AllWell, IsSent};
 ghost use Rattle.lra_http.specs.MessageTexts.{request_text};
 ghost use Rattle.lra_http.specs.declared.message.CallRequest.{CallRequest as TheRequest};
 ghost use Rattle.lra_callback.specs.declared.answer.Answer.{Answer as TheAnswer};
-ghost use Rattle.lra_callback.specs.OneCall.{IsBroken, IsOfStatus, IsSent, IsTold, IsUnsent, answer_reads};
+ghost use Rattle.lra_callback.specs.OneCall.{IsBroken, IsOfStatus, IsTold, IsUnsent, answer_reads};
 
 use crate::Answer;
 use lra_http::{CallRequest, Fault, MAX_BODY_BYTES, Sink, Source, read_response, write_request};

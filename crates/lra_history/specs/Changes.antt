@@ -44,6 +44,11 @@ abbrev pub patched : Change → View → View
 patched change view =
     record { front = change.front; purges = change.purges; records = put_each change.records (remove_each change.removed view.records) }
 
+-- the same, if there is one
+abbrev pub with_patch : Option Change → View → View
+with_patch None view = view
+with_patch (Some change) view = patched change view
+
 -- what a patch removes and puts at a home
 abbrev pub ids_of : ℕ → List Id → List Id
 ids_of home ids = filter (λ l. l.home == home) ids

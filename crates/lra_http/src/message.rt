@@ -26,14 +26,14 @@ impl Bytes {
         Bytes { bytes }
     }
 
-    /// They as a slice.
+    /// These bytes as a slice.
     pub fn as_slice(&self) -> &[u8]
         ensures { result.now ≡ self.now }
     {
         &self.bytes
     }
 
-    /// They as a vector.
+    /// These bytes as a vector.
     pub fn into_vec(self) -> Vec<u8>
         ensures { result.items ≡ self }
     {
@@ -63,7 +63,7 @@ impl Text {
         Text { text }
     }
 
-    /// It as a text.
+    /// This text as a `str`.
     pub fn as_str(&self) -> &str
         ensures { result.now ≡ self.now }
     {

@@ -4,8 +4,9 @@ ghost use Rattle.lra_delta.specs.Frames.{Frame};
 ghost use Rattle.lra_delta.specs.declared.version.Version.{Version};
 ghost use Rattle.lra_delta.specs.Rules.{IsDeltaAs};
 ghost use Rattle.lra_delta.specs.Encoding.{encoding_as};
-ghost use Rattle.lra_peer.specs.PullAnswers.{IsAnswer, IsOfStreams, IsSent, IsUnsent, IsUnsentBy, StopsPull, TellsDelta};
+ghost use Rattle.lra_peer.specs.PullAnswers.{IsAnswer, IsOfStreams, IsUnsent, IsUnsentBy, StopsPull, TellsDelta};
 ghost use Rattle.lra_peer.specs.Texts.{pull_text};
+ghost use Rattle.lra_http.specs.Streams.{IsSent};
 
 use crate::PullError;
 use crate::answer::answered;

@@ -55,11 +55,6 @@ pub record IsChanged (old new : Machine) (node : ℕ) (So : ReplicaState → Rep
 
 -- Commands
 
--- the view after a patch, if there is one
-abbrev pub with_patch : Option Change → View → View
-with_patch None view = view
-with_patch (Some change) view = patched change view
-
 -- only a command that is accepted changes a view: then it stands for the set with the command's fact
 abbrev pub Becomes : Judgement → List Fact → View → ℕ → Command → View → Type 0
 Becomes (Denied r) S old me c new = new ≡ old

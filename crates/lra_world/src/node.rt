@@ -3,6 +3,7 @@ ghost use Rattle.std.specs.Prelude.{◌≡◌, ◌⊎◌, ◌≤◌, ℕ, List, 
 ghost use Rattle.lra_history.specs.Histories.{History, IsClosed, IsLawful, facts};
 ghost use Rattle.lra_replica.specs.Replicas.{Fits, view_of};
 ghost use Rattle.lra_history.specs.Views.{OfItsSet, StandsFor};
+ghost use Rattle.lra_history.specs.Changes.{with_patch};
 ghost use Rattle.lra_id.specs.Fronts.{IsBelow};
 ghost use Rattle.lra_facts.specs.declared.refusal.Refusal.TheVariants.{Gap, NeedsVersion2, NoMemory};
 ghost use Rattle.lra_delta.specs.Frames.{frame_of};
@@ -10,7 +11,7 @@ ghost use Rattle.lra_delta.specs.Grammar.{IsOfGrammar};
 ghost use Rattle.lra_delta.specs.Rules.{IsDeltaAs};
 ghost use Rattle.lra_delta.specs.Encoding.{encoding_as};
 ghost use Rattle.lra_world.specs.Worlds.{IsViewOf, needs_later};
-ghost use Rattle.lra_world.specs.Machines.{IsActed, TakesBytes, TakesFrame, with_patch};
+ghost use Rattle.lra_world.specs.Machines.{IsActed, TakesBytes, TakesFrame};
 ghost use Rattle.lra_world.specs.declared.event.Reply.TheVariants.{Restarted};
 
 use crate::Reply;
