@@ -18,7 +18,7 @@ use Rattle.lra_http.specs.Faults.{fault_name}
 use Rattle.lra_http.proofs.PlainValues.{Short, decimal_visible, is_visible, length_is, lines_short, literal_visible, plain_visible, sized}
 use Rattle.lra_http.proofs.WholeMessages.{whole_response}
 use Rattle.lra_id.proofs.VisibleTexts.{text_length, text_visible}
-use Rattle.lra_states.specs.declared.status.LraStatus.TheVariants.{Active}
+use Rattle.lra_id.specs.declared.status.LraStatus.TheVariants.{Active}
 use Rattle.lra_facts.specs.declared.refusal.Refusal.{Refusal}
 use Rattle.lra_facts.specs.declared.refusal.Refusal.TheVariants.{BadText, UnknownLra, NotHeld, NotHome, UnknownMember, NotActive, NotDue, NotEnded, NotRoot, StillToForget, StillToTell, MembersFull, DepthFull, LrasFull, NumbersSpent, Gap, NeedsVersion2, BadFrame, NoMemory, JournalFailed, Stopped, RunFull, TrailLost, Strange}
 use Rattle.lra_facts.specs.RefusalTexts.{refusal_text}

@@ -1,8 +1,8 @@
 // What follows of the definitions alone.
 ghost use Rattle.std.specs.Prelude.{◌≡◌, ◌<◌, ◌≤◌, ◌^◌, ℕ, List, length};
 ghost use Rattle.lra_id.specs.Ids.{Id, IsId};
-ghost use Rattle.lra_states.specs.declared.status.LraStatus.{LraStatus as TheLraStatus};
-ghost use Rattle.lra_states.specs.declared.status.MemberStatus.{MemberStatus as TheMemberStatus};
+ghost use Rattle.lra_id.specs.declared.status.LraStatus.{LraStatus as TheLraStatus};
+ghost use Rattle.lra_id.specs.declared.status.MemberStatus.{MemberStatus as TheMemberStatus};
 ghost use Rattle.lra_http.specs.declared.fault.Fault.{Fault as TheFault};
 ghost use Rattle.lra_book.specs.declared.calls.Reply.{Reply as TheReply};
 ghost use Rattle.lra_api.specs.declared.routing.Unrouted.{Unrouted as TheUnrouted};

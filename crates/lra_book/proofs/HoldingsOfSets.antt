@@ -3,8 +3,8 @@ use Rattle.std.proofs.Common.{◌≡◌, ◌≤◌, ◌∙◌, ◌++◌, ◌∷�
 use Rattle.std.specs.List.{AllByRecursion}
 use Rattle.std.specs.Option.{option_map_or}
 use Rattle.lra_id.specs.Ids.{Id, is_fact_number}
-use Rattle.lra_states.specs.declared.status.LraStatus.{LraStatus}
-use Rattle.lra_states.specs.declared.status.MemberStatus.{MemberStatus}
+use Rattle.lra_id.specs.declared.status.LraStatus.{LraStatus}
+use Rattle.lra_id.specs.declared.status.MemberStatus.{MemberStatus}
 use Rattle.lra_facts.specs.declared.fact.Fact.{Fact}
 use Rattle.lra_facts.specs.declared.refusal.Refusal.{Refusal}
 use Rattle.lra_facts.specs.declared.refusal.Refusal.TheVariants.{NotHeld}

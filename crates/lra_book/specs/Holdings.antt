@@ -2,8 +2,8 @@
 use Rattle.std.specs.Prelude.{◌++◌, ◌∷◌, ℕ, zero, suc, Bool, Option, Some, None, List, [], Result, Ok, Err, length, map}
 use Rattle.std.specs.Option.{option_map}
 use Rattle.lra_id.specs.Ids.{Id}
-use Rattle.lra_states.specs.declared.status.LraStatus.{LraStatus}
-use Rattle.lra_states.specs.declared.status.MemberStatus.{MemberStatus}
+use Rattle.lra_id.specs.declared.status.LraStatus.{LraStatus}
+use Rattle.lra_id.specs.declared.status.MemberStatus.{MemberStatus}
 use Rattle.lra_facts.specs.declared.refusal.Refusal.{Refusal}
 use Rattle.lra_forest.specs.declared.record.Place.{Place}
 use Rattle.lra_forest.specs.declared.record.Record.{Record}

@@ -6,9 +6,8 @@ use crate::{Holding, Survey};
 use lra_callback::Duties;
 use lra_delta::Delta;
 use lra_facts::{Command, CommandReply, Refusal};
-use lra_id::LraId;
+use lra_id::{LraId, LraStatus, MemberStatus};
 use lra_replica::Page;
-use lra_states::{LraStatus, MemberStatus};
 use std::marker::Model;
 
 /// The body of a pull: the bytes in which another node says what it has. It is no `Bytes` of

@@ -22,11 +22,10 @@ use crate::{Call, PullBody, Reply};
 use lra_callback::pick;
 use lra_delta::Delta;
 use lra_facts::{Command, CommandReply, Refusal};
-use lra_id::{LraId, NodeId};
+use lra_id::{LraId, NodeId, Verdict};
 use lra_journal::Journal;
 use lra_peer::serve_pull;
 use lra_replica::{Patch, Prepared, Replica};
-use lra_states::Verdict;
 use sqlite::Alter;
 use std::alloc::Global;
 

@@ -1,7 +1,7 @@
 -- what is heard where no whole response came
 use Rattle.std.proofs.Common.{◌≡◌, ◌∙◌, ◌<◌, ◌++◌, ℕ, List, [], Some, length, refl, subst, sym}
 use Rattle.std.proofs.lemmas.List.{append_cancel_left}
-use Rattle.lra_states.specs.declared.outcome.Act.{Act}
+use Rattle.lra_id.specs.declared.outcome.Act.{Act}
 use Rattle.lra_http.specs.ByteResponses.{Response}
 use Rattle.lra_http.specs.Responses.{HasNoResponse, IsResponse, IsMessage, head_room}
 use Rattle.lra_http.specs.Streams.{GivenBytes, Gives}

@@ -6,8 +6,7 @@ ghost use Rattle.lra_callback.specs.Answers.{done_status, failed_status, heard_b
 
 use lra_facts::Command;
 use lra_http::Bytes;
-use lra_id::LraId;
-use lra_states::{Act, MemberStatus, Outcome};
+use lra_id::{Act, LraId, MemberStatus, Outcome};
 use std::fmt;
 
 /// What a participant is called for: to complete, to compensate, for the status of one of these, to forget, or to hear that its

@@ -13,9 +13,8 @@ ghost use Rattle.lra_callback.specs.ViewDuties.{act_by, duties_of, duty_by, show
 use crate::Kind;
 use lra_facts::{Link, Refusal};
 use lra_forest::{Due, Participant};
-use lra_id::{LraId, NodeId};
+use lra_id::{Act, LraId, LraStatus, NodeId, Outcome, Verdict};
 use lra_replica::Replica;
-use lra_states::{Act, LraStatus, Outcome, Verdict};
 use std::alloc::{AllocError, Global};
 use std::marker::Model;
 

@@ -20,8 +20,7 @@ use crate::order::Last;
 use crate::version::Version;
 use lra_facts::{Link, Links};
 use lra_forest::{Member, Members, Participant, Place, Record, Told};
-use lra_id::{Front, NodeId};
-use lra_states::Verdict;
+use lra_id::{Front, NodeId, Verdict};
 use std::alloc::Global;
 
 #[tactic(auto, unfolding(crate::specs::Reading::place_at))]

@@ -1,7 +1,6 @@
 // What nodes enter in their lists.
 use crate::Links;
-use lra_id::{LraId, NodeId};
-use lra_states::{Act, Outcome, Verdict};
+use lra_id::{Act, LraId, NodeId, Outcome, Verdict};
 
 /// What a fact says.
 #[derive(Debug, Drop)]

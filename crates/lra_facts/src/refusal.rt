@@ -2,8 +2,7 @@
 ghost use Rattle.std.specs.Prelude.{◌≡◌, Some};
 ghost use Rattle.lra_facts.specs.RefusalTexts.{refusal_text};
 
-use lra_id::{Front, LraId, NodeId};
-use lra_states::LraStatus;
+use lra_id::{Front, LraId, LraStatus, NodeId};
 use std::alloc::AllocError;
 use std::fmt;
 

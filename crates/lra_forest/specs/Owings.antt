@@ -2,8 +2,8 @@
 use Rattle.std.specs.Prelude.{◌≡◌, IfSome, ◌+◌, ◌&&◌, ℕ, Bool, false, Option, Some, None, List, [], ◌∷◌, if◌then◌else◌, is_some}
 use mathlib.Core.Bool.{not}
 use Rattle.lra_id.specs.Ids.{Id, is_fact_number}
-use Rattle.lra_states.specs.declared.outcome.Verdict.{Verdict}
-use Rattle.lra_states.specs.declared.outcome.Verdict.TheVariants.{Close, Cancel}
+use Rattle.lra_id.specs.declared.outcome.Verdict.{Verdict}
+use Rattle.lra_id.specs.declared.outcome.Verdict.TheVariants.{Close, Cancel}
 use Rattle.lra_facts.specs.declared.fact.Fact.{Fact}
 use Rattle.lra_facts.specs.Duties.{has_to_forget, is_after_duty, is_at_end, is_forget_duty, is_over, is_pending}
 use Rattle.lra_facts.specs.Sets.{is_root, want}

@@ -5,7 +5,7 @@ use mathlib.Core.Bool.{not}
 use Rattle.std.specs.List.{range_with_len}
 use Rattle.std.specs.Option.{option_map_or}
 use Rattle.lra_id.specs.Ids.{is_fact_number}
-use Rattle.lra_states.specs.declared.outcome.Act.TheVariants.{Complete}
+use Rattle.lra_id.specs.declared.outcome.Act.TheVariants.{Complete}
 use Rattle.lra_facts.specs.Duties.{is_pending, wants_cancel}
 use Rattle.lra_facts.specs.Sets.{demands}
 use Rattle.lra_forest.specs.declared.duties.Due.{Due}

@@ -2,7 +2,7 @@
 ghost use Rattle.std.specs.Prelude.{◌≡◌, ◌↔◌, ℕ, List, Err, None, Some, find, is_some, length, nat_le, if◌then◌else◌};
 ghost use Rattle.std.specs.List.{AllByRecursion};
 ghost use Rattle.std.specs.Option.{option_copied};
-ghost use Rattle.lra_states.specs.States.{level};
+ghost use Rattle.lra_id.specs.States.{level};
 ghost use Rattle.lra_facts.specs.declared.fact.Fact.{Fact};
 ghost use Rattle.lra_facts.specs.declared.refusal.Refusal.TheVariants.{NotHeld};
 ghost use Rattle.lra_facts.specs.Sets.{IsNumbered, depth, is_demanded, is_heard, is_held, is_participant, numbers_given};
@@ -15,8 +15,7 @@ ghost use Rattle.lra_forest.specs.Standing.{IsNested, IsSeated, IsWhole, Stands,
 
 use crate::{Forest, MAX_DEPTH, Member, Participant, Record};
 use lra_facts::{Refusal, plain};
-use lra_id::LraId;
-use lra_states::{Act, Outcome};
+use lra_id::{Act, LraId, Outcome};
 
 /// The participant that a member is.
 pub fn participant_at(member: Option<&Member>) -> Option<&Participant>

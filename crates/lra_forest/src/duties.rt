@@ -22,8 +22,7 @@ use crate::forest::MAX_DEPTH;
 use crate::seen::status_of;
 use crate::{Forest, Member, Members, Participant, Place, Record};
 use lra_facts::Refusal;
-use lra_id::LraId;
-use lra_states::{MemberStatus, Outcome, Verdict};
+use lra_id::{LraId, MemberStatus, Outcome, Verdict};
 use std::alloc::{AllocError, Global};
 
 /// A participant of which something is due, by its LRA and its member number.

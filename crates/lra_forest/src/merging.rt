@@ -8,8 +8,7 @@ ghost use Rattle.lra_forest.specs.Shape.{found_at};
 
 use crate::{Forest, Member, Members, Participant, Record, Records};
 use lra_facts::Link;
-use lra_id::LraId;
-use lra_states::Outcome;
+use lra_id::{LraId, Outcome};
 use std::alloc::{AllocError, Global};
 
 /// What another node tells of a home.

@@ -1,12 +1,12 @@
 // What is seen of participants.
 ghost use Rattle.std.specs.Prelude.{◌≡◌, ◌&&◌, is_some};
 ghost use mathlib.Core.Bool.{not};
-ghost use Rattle.lra_states.specs.States.{shown};
+ghost use Rattle.lra_id.specs.States.{shown};
 ghost use Rattle.lra_forest.specs.Statuses.{seen_by, seen_or, status_in};
 
 use crate::Participant;
 use lra_facts::plain;
-use lra_states::{LraStatus, MemberStatus, Verdict};
+use lra_id::{LraStatus, MemberStatus, Verdict};
 
 /// What is seen of some participants: whether one has something left to do, one failed to complete, and one failed to
 /// compensate.

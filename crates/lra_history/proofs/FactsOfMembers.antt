@@ -2,10 +2,10 @@
 use Rattle.std.proofs.Common.{◌≡◌, inl, inr, ◌≤◌, ◌<◌, ◌+◌, ◌-◌, ◌==◌, ◌&&◌, ℕ, zero, suc, List, [], ◌∷◌, refl, sym, ap, subst, ◌∙◌, Bool, true, false, cond, arith, Option, Some, None, filter, map, length, slice_get, nat_lt, is_some}
 use Rattle.std.proofs.lemmas.Bool.Decides.{nat_tests}
 use Rattle.lra_id.specs.Ids.{Id}
-use Rattle.lra_states.specs.States.{greater}
-use Rattle.lra_states.specs.declared.outcome.Act.{Act}
-use Rattle.lra_states.specs.declared.outcome.Act.TheVariants.{Complete, Compensate}
-use Rattle.lra_states.specs.declared.outcome.Outcome.{Outcome}
+use Rattle.lra_id.specs.States.{greater}
+use Rattle.lra_id.specs.declared.outcome.Act.{Act}
+use Rattle.lra_id.specs.declared.outcome.Act.TheVariants.{Complete, Compensate}
+use Rattle.lra_id.specs.declared.outcome.Outcome.{Outcome}
 use Rattle.lra_facts.specs.declared.fact.Body.{Body}
 use Rattle.lra_facts.specs.declared.fact.Body.TheVariants.{Begin, Join, Leave, Decide, Report, Forgot, Told, Purge}
 use Rattle.lra_facts.specs.declared.fact.Fact.{Fact}

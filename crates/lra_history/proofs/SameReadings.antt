@@ -3,10 +3,10 @@ use Rattle.std.specs.Option.{option_map_or}
 use Rattle.std.proofs.Common.{◌≡◌, inl, inr, ◌||◌, ◌≤◌, ◌-◌, ℕ, List, [], ◌∷◌, refl, sym, ap, ◌∙◌, Bool, true, false, arith, Option, Some, None, Ok, find, is_none, is_some, length, nat_lt}
 use Rattle.std.proofs.lemmas.List.{get_or_past}
 use Rattle.lra_id.specs.Ids.{Id}
-use Rattle.lra_states.specs.declared.outcome.Act.{Act}
-use Rattle.lra_states.specs.declared.outcome.Outcome.{Outcome}
-use Rattle.lra_states.specs.declared.outcome.Verdict.{Verdict}
-use Rattle.lra_states.specs.declared.status.LraStatus.{LraStatus}
+use Rattle.lra_id.specs.declared.outcome.Act.{Act}
+use Rattle.lra_id.specs.declared.outcome.Outcome.{Outcome}
+use Rattle.lra_id.specs.declared.outcome.Verdict.{Verdict}
+use Rattle.lra_id.specs.declared.status.LraStatus.{LraStatus}
 use Rattle.lra_facts.specs.declared.fact.Fact.{Fact}
 use Rattle.lra_facts.specs.declared.refusal.Refusal.{Refusal}
 use Rattle.lra_facts.specs.declared.refusal.Refusal.TheVariants.{DepthFull, LrasFull, MembersFull, NotActive, NotDue, NotEnded, NotHeld, NotRoot, StillToForget, StillToTell, UnknownMember}

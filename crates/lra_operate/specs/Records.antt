@@ -2,10 +2,10 @@
 use Rattle.std.specs.Prelude.{◌+◌, ℕ, zero, suc, List, [], ◌++◌, codes, Option, Some, None, if◌then◌else◌, nat_eq, option_map, option_and_then, slice_get}
 use Rattle.std.specs.Fmt.{decimal}
 use Rattle.lra_id.specs.Ids.{Id, is_fact_number, text_of}
-use Rattle.lra_states.specs.Names.{lra_name, member_name, outcome_name, verdict_name}
-use Rattle.lra_states.specs.declared.outcome.Outcome.{Outcome}
-use Rattle.lra_states.specs.declared.outcome.Verdict.{Verdict}
-use Rattle.lra_states.specs.declared.status.MemberStatus.{MemberStatus}
+use Rattle.lra_id.specs.Names.{lra_name, member_name, outcome_name, verdict_name}
+use Rattle.lra_id.specs.declared.outcome.Outcome.{Outcome}
+use Rattle.lra_id.specs.declared.outcome.Verdict.{Verdict}
+use Rattle.lra_id.specs.declared.status.MemberStatus.{MemberStatus}
 use Rattle.lra_facts.specs.Links.{Links}
 use Rattle.lra_facts.specs.RefusalTexts.{refusal_text}
 use Rattle.lra_forest.specs.declared.record.Member.{Member}

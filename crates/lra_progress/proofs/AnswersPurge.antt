@@ -3,9 +3,9 @@ use Rattle.std.proofs.Common.{◌≡◌, ◌⊎◌, inl, inr, ◌||◌, ◌≤�
 use mathlib.Core.Bool.{not}
 use Rattle.lra_id.specs.Ids.{Id, last_number, same_id}
 use Rattle.lra_id.specs.Fronts.{count, is_covered}
-use Rattle.lra_states.specs.declared.outcome.Act.{Act}
-use Rattle.lra_states.specs.declared.outcome.Outcome.TheVariants.{Done}
-use Rattle.lra_states.specs.declared.outcome.Verdict.{Verdict}
+use Rattle.lra_id.specs.declared.outcome.Act.{Act}
+use Rattle.lra_id.specs.declared.outcome.Outcome.TheVariants.{Done}
+use Rattle.lra_id.specs.declared.outcome.Verdict.{Verdict}
 use Rattle.lra_facts.specs.declared.fact.Fact.{Fact}
 use Rattle.lra_facts.specs.declared.refusal.Refusal.{Refusal}
 use Rattle.lra_facts.specs.Duties.{has_forgot, has_told, is_after_duty, is_forget_duty, is_forgot, is_told_of}

@@ -3,8 +3,8 @@ use Rattle.std.proofs.Common.{◌≡◌, ◌≤◌, ◌<◌, ℕ, List, [], ◌�
 use Rattle.std.proofs.lemmas.Bool.Decides.{nat_tests}
 use Rattle.lra_id.specs.Ids.{Id, last_number}
 use Rattle.lra_id.specs.Fronts.{count, is_covered}
-use Rattle.lra_states.specs.States.{level}
-use Rattle.lra_states.specs.declared.outcome.Outcome.{Outcome}
+use Rattle.lra_id.specs.States.{level}
+use Rattle.lra_id.specs.declared.outcome.Outcome.{Outcome}
 use Rattle.lra_facts.specs.declared.fact.Fact.{Fact}
 use Rattle.lra_facts.specs.declared.refusal.Refusal.{Refusal}
 use Rattle.lra_facts.specs.Duties.{is_pending}

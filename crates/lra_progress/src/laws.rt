@@ -4,9 +4,9 @@ ghost use Rattle.std.specs.Prelude.{◌≡◌, ◌⊎◌, ◌≤◌, ◌<◌, �
 ghost use Rattle.std.specs.List.{list_any};
 ghost use Rattle.lra_id.specs.Fronts.{IsBelow, count};
 ghost use Rattle.lra_id.specs.Ids.{Id, last_number};
-ghost use Rattle.lra_states.specs.declared.outcome.Outcome.{Outcome as TheOutcome};
-ghost use Rattle.lra_states.specs.declared.outcome.Verdict.{Verdict as TheVerdict};
-ghost use Rattle.lra_states.specs.declared.outcome.Verdict.TheVariants.{Close};
+ghost use Rattle.lra_id.specs.declared.outcome.Outcome.{Outcome as TheOutcome};
+ghost use Rattle.lra_id.specs.declared.outcome.Verdict.{Verdict as TheVerdict};
+ghost use Rattle.lra_id.specs.declared.outcome.Verdict.TheVariants.{Close};
 ghost use Rattle.lra_facts.specs.declared.fact.Fact.{Fact};
 ghost use Rattle.lra_facts.specs.Duties.{is_pending};
 ghost use Rattle.lra_facts.specs.Lists.{In};

@@ -13,8 +13,7 @@ ghost use Rattle.lra_history.specs.Views.{OfItsSet};
 use crate::Replica;
 use lra_facts::Refusal;
 use lra_forest::Records;
-use lra_id::{LraId, NodeId};
-use lra_states::LraStatus;
+use lra_id::{LraId, LraStatus, NodeId};
 use std::alloc::{AllocError, Global};
 use std::marker::Model;
 

@@ -1,8 +1,8 @@
 // What is to be changed in a replica.
 ghost use Rattle.std.specs.Prelude.{◌≡◌};
 
-use lra_forest::Record;
 use lra_facts::CommandReply;
+use lra_forest::Record;
 use lra_id::{Front, LraId};
 use std::marker::Model;
 

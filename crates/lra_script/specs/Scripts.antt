@@ -3,10 +3,10 @@ use Rattle.std.specs.Prelude.{◌≡◌, ℕ, ◌<◌, ◌≤◌, ◌⊎◌, Lis
 use Rattle.std.specs.Fmt.{decimal}
 use Rattle.lra_id.specs.Fronts.{front_text}
 use Rattle.lra_id.specs.Ids.{Id, id_text, text_of}
-use Rattle.lra_states.specs.Names.{lra_name, member_name}
-use Rattle.lra_states.specs.declared.status.LraStatus.{LraStatus}
-use Rattle.lra_states.specs.declared.outcome.Act.{Act}
-use Rattle.lra_states.specs.declared.status.MemberStatus.{MemberStatus}
+use Rattle.lra_id.specs.Names.{lra_name, member_name}
+use Rattle.lra_id.specs.declared.status.LraStatus.{LraStatus}
+use Rattle.lra_id.specs.declared.outcome.Act.{Act}
+use Rattle.lra_id.specs.declared.status.MemberStatus.{MemberStatus}
 use Rattle.lra_facts.specs.RefusalTexts.{refusal_text}
 use Rattle.lra_facts.specs.declared.refusal.Refusal.{Refusal}
 use Rattle.lra_facts.specs.declared.refusal.Refusal.TheVariants.{BadText, NoMemory}

@@ -18,9 +18,8 @@ use crate::showing::held;
 use crate::telling::{Room, refusal_line, tell};
 use lra_callback::{Answer, Duty, Heard, Kind, act_wanted, hear, pick};
 use lra_facts::{Command, CommandReply, Refusal};
-use lra_id::{LraId, NodeId};
+use lra_id::{Act, LraId, LraStatus, NodeId};
 use lra_replica::Replica;
-use lra_states::{Act, LraStatus};
 use lra_world::{Event, Reply, World};
 use std::alloc::{AllocError, Global};
 

@@ -2,7 +2,7 @@
 
 use lra_book::{Call, Reply};
 use lra_facts::{Command, CommandReply, Refusal};
-use lra_states::Verdict;
+use lra_id::Verdict;
 use lra_threads::Asked;
 
 /// What a command asks for.

@@ -1,8 +1,7 @@
 // Which roots of a node's home have ended, and are to be purged; and how full the home is. It outlives the runs of the node; a start
 // begins anew.
 
-use lra_id::{LAST_NUMBER, LraId, NodeId};
-use lra_states::LraStatus;
+use lra_id::{LAST_NUMBER, LraId, LraStatus, NodeId};
 use std::alloc::Global;
 use std::sync::atomic::{AtomicBool, AtomicU64, Ordering};
 use std::sync::{Mutex, Wait};

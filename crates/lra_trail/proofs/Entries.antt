@@ -4,7 +4,7 @@ use Rattle.std.specs.Prelude.{drop, nat_lt}
 use Rattle.lra_id.specs.Fronts.{IsBelow, join_fronts, meet_fronts}
 use Rattle.lra_id.specs.Ids.{Id}
 use Rattle.lra_id.proofs.Pairs.{meet_below}
-use Rattle.lra_states.specs.declared.outcome.Verdict.TheVariants.{Cancel}
+use Rattle.lra_id.specs.declared.outcome.Verdict.TheVariants.{Cancel}
 use Rattle.lra_facts.specs.declared.refusal.Refusal.{Refusal}
 use Rattle.lra_facts.specs.declared.refusal.Refusal.TheVariants.{BadFrame}
 use Rattle.lra_facts.specs.Sets.{IsNumbered}

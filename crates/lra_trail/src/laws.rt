@@ -3,8 +3,8 @@ pub mod rounds;
 
 ghost use Rattle.std.specs.Prelude.{◌≡◌, ◌≤◌, ◌⊎◌, ℕ, List, Ok, Some, length};
 ghost use Rattle.lra_id.specs.Ids.{Id};
-ghost use Rattle.lra_states.specs.declared.status.LraStatus.{LraStatus};
-ghost use Rattle.lra_states.specs.declared.status.MemberStatus.{MemberStatus};
+ghost use Rattle.lra_id.specs.declared.status.LraStatus.{LraStatus};
+ghost use Rattle.lra_id.specs.declared.status.MemberStatus.{MemberStatus};
 ghost use Rattle.lra_history.specs.Views.{StandsFor, View, empty_view};
 ghost use Rattle.lra_delta.specs.Frames.{Frame};
 ghost use Rattle.lra_delta.specs.Rules.{IsDelta, IsDeltaAs};

@@ -3,7 +3,7 @@
 use Rattle.std.specs.Prelude.{◌≡◌, ◌⊎◌, ◌≤◌, ◌<◌, ◌+◌, ◌-◌, ◌==◌, ◌&&◌, ℕ, Bool, true, false, Option, Some, None, List, [], ◌∷◌, ◌++◌, Err, get_or, if◌then◌else◌, length, nat_le, replicate, slice_get, slice_set, take}
 use Rattle.lra_id.specs.Fronts.{IsBelow, join_fronts}
 use Rattle.lra_id.specs.Ids.{Id}
-use Rattle.lra_states.specs.declared.outcome.Verdict.TheVariants.{Cancel}
+use Rattle.lra_id.specs.declared.outcome.Verdict.TheVariants.{Cancel}
 use Rattle.lra_facts.specs.declared.fact.Fact.{Fact}
 use Rattle.lra_facts.specs.declared.refusal.Refusal.TheVariants.{BadFrame, BadText, Gap, NeedsVersion2}
 use Rattle.lra_facts.specs.Lists.{In}

@@ -19,9 +19,8 @@ use crate::node::{act, bytes_since, restart, take_bytes};
 use crate::{Event, Reply, Stopped};
 use lra_delta::Version;
 use lra_facts::{Command, CommandReply, Refusal};
-use lra_id::{Front, LraId, NodeId};
+use lra_id::{Front, LraId, LraStatus, MemberStatus, NodeId, Verdict};
 use lra_replica::Replica;
-use lra_states::{LraStatus, MemberStatus, Verdict};
 use std::alloc::{AllocError, Global};
 use std::marker::Model;
 

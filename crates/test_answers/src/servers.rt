@@ -2,7 +2,7 @@
 use http::Method;
 use lra_callback::{Answer, Heard, Kind, NetCaller, hear};
 use lra_http::{Bytes, CallRequest, Fields, OverRead, OverWrite, Text};
-use lra_states::{Act, Outcome};
+use lra_id::{Act, Outcome};
 use std::alloc::Global;
 use std::test::Fail;
 

@@ -2,8 +2,8 @@
 ghost use Rattle.std.specs.Prelude.{◌≡◌, ◌≤◌, ◌&&◌, ℕ, List, false, length, true};
 ghost use Rattle.lra_id.specs.Fronts.{is_covered, join_fronts};
 ghost use Rattle.lra_id.specs.Ids.{Id};
-ghost use Rattle.lra_states.specs.States.{greater};
-ghost use Rattle.lra_states.specs.declared.outcome.Act.{Act as TheAct};
+ghost use Rattle.lra_id.specs.States.{greater};
+ghost use Rattle.lra_id.specs.declared.outcome.Act.{Act as TheAct};
 ghost use Rattle.lra_facts.specs.declared.fact.Fact.{Fact};
 ghost use Rattle.lra_facts.specs.Lists.{In};
 ghost use Rattle.lra_facts.specs.Sets.{heard, is_held};

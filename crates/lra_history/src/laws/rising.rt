@@ -2,8 +2,8 @@
 ghost use Rattle.std.specs.Prelude.{◌≡◌, ◌≤◌, ℕ, List, Some, true};
 ghost use Rattle.lra_id.specs.Fronts.{IsBelow, is_covered};
 ghost use Rattle.lra_id.specs.Ids.{Id};
-ghost use Rattle.lra_states.specs.declared.outcome.Verdict.{Verdict};
-ghost use Rattle.lra_states.specs.declared.outcome.Verdict.TheVariants.{Cancel, Close};
+ghost use Rattle.lra_id.specs.declared.outcome.Verdict.{Verdict};
+ghost use Rattle.lra_id.specs.declared.outcome.Verdict.TheVariants.{Cancel, Close};
 ghost use Rattle.lra_facts.specs.Duties.{is_at_end};
 ghost use Rattle.lra_facts.specs.Sets.{is_root, want};
 ghost use Rattle.lra_history.specs.Histories.{History, IsClosed, IsLawful, Made, facts};

@@ -16,8 +16,7 @@ ghost use Rattle.lra_replica.specs.Replicas.{KeepsRoom, view_of};
 use crate::{Prepared, Replica};
 use lra_facts::{Command, CommandReply, Refusal};
 use lra_forest::Record;
-use lra_id::{LraId, NodeId};
-use lra_states::{LraStatus, Verdict};
+use lra_id::{LraId, LraStatus, NodeId, Verdict};
 use std::alloc::{AllocError, Global};
 
 impl Replica {

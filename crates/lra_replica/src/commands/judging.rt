@@ -13,8 +13,7 @@ ghost use Rattle.lra_replica.specs.Prepared.{judged_as};
 
 use lra_facts::{Command, Refusal};
 use lra_forest::{Forest, MAX_DEPTH, MAX_HELD, MAX_MEMBERS};
-use lra_id::{Front, LAST_NUMBER, LraId, NodeId};
-use lra_states::Act;
+use lra_id::{Act, Front, LAST_NUMBER, LraId, NodeId};
 
 /// The refusal to show an LRA, where none of its id is held.
 fn refusal_to_show(home: &Forest, front: &Front, id: LraId) -> Option<Refusal>

@@ -13,8 +13,7 @@ ghost use Rattle.lra_replica.specs.Replicas.{KeepsRoom, view_of};
 use crate::{Prepared, Replica};
 use lra_facts::{Command, CommandReply, Refusal};
 use lra_forest::{Member, Members, Participant};
-use lra_id::{LraId, NodeId};
-use lra_states::{Act, Outcome};
+use lra_id::{Act, LraId, NodeId, Outcome};
 use std::alloc::{AllocError, Global};
 
 fn reported(participant: Participant, act: Act, outcome: Outcome) -> Participant
