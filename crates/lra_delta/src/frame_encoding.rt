@@ -15,7 +15,7 @@ ghost use Rattle.lra_delta.specs.Typed.{IsTyped, IsTypedRecord};
 
 use crate::Delta;
 use crate::buffer::Buffer;
-use crate::count::Count;
+use crate::count::ByteCount;
 use crate::output::Output;
 use crate::record_encoding::{put_byte, put_front, put_numbers, put_record};
 use crate::version::Version;
@@ -143,7 +143,7 @@ pub(crate) fn put_body<O: Output>(out: &mut O, version: Version, delta: &Delta)
 fn body_length(version: Version, delta: &Delta) -> u64
     ensures { result ≡ length (body version delta.now) % 2 ^ 64 }
 {
-    let mut count = Count::new();
+    let mut count = ByteCount::new();
     put_body(&mut count, version, delta);
     count.total()
 }
