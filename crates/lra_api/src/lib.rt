@@ -1,4 +1,5 @@
-//! The HTTP interface of a node: a request is read, the call that it asks for is made, and its answer is written.
+//! The HTTP interface of a node: a request is read, the call that it asks for is made, and its
+//! answer is written.
 #![tactic(auto)]
 
 mod answers;

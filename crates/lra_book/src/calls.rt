@@ -65,7 +65,8 @@ pub enum Call {
     Page(Option<LraId>),
     /// Show all that is held of an LRA.
     Record(LraId),
-    /// List the LRAs that are held beyond this one, or from the first on, each with what is held of it in short.
+    /// List the LRAs that are held beyond this one, or from the first on, each with what is held of
+    /// it in short.
     Survey(Option<LraId>),
     /// Name the participants that are to be called.
     Duties,

@@ -190,7 +190,8 @@ fn answer(reply: Result<Reply, Refusal>) -> Result<Step, Refusal>
     }
 }
 
-/// Prepares a call of a node at a moment: its reply, and what it changes, if anything. Only memory can be wanting.
+/// Prepares a call of a node at a moment: its reply, and what it changes, if anything. Only memory
+/// can be wanting.
 pub fn prepare(
     alloc: Global,
     replica: &mut Replica,
@@ -263,7 +264,8 @@ fn store<S: Alter>(
     }
 }
 
-/// Stores a patch, if there is one, and then makes its changes. Where it isn't stored, nothing is changed.
+/// Stores a patch, if there is one, and then makes its changes. Where it isn't stored, nothing is
+/// changed.
 pub fn carry_out<S: Alter>(
     alloc: Global,
     journal: &mut Journal<S>,

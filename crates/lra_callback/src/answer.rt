@@ -9,8 +9,8 @@ use lra_http::Bytes;
 use lra_id::{Act, LraId, MemberStatus, Outcome};
 use std::fmt;
 
-/// What a participant is called for: to complete, to compensate, for the status of one of these, to forget, or to hear that its
-/// LRA has ended.
+/// What a participant is called for: to complete, to compensate, for the status of one of these, to
+/// forget, or to hear that its LRA has ended.
 #[derive(Clone, Copy, Debug, PartialEq, Eq)]
 pub enum Kind {
     Complete,
@@ -52,7 +52,8 @@ pub enum Answer {
     Broken,
 }
 
-/// What is heard of an answer. Of one that counts for nothing the participant is to be called again.
+/// What is heard of an answer. Of one that counts for nothing the participant is to be called
+/// again.
 #[derive(Clone, Copy, Debug, PartialEq, Eq)]
 pub enum Heard {
     /// This outcome of the act.
@@ -80,8 +81,8 @@ impl Heard {
         }
     }
 
-    /// The command that enters it, where it was heard of a participant in a call for this act: a report of the act, a forgot or a told;
-    /// none where the participant is to be called again.
+    /// The command that enters it, where it was heard of a participant in a call for this act: a
+    /// report of the act, a forgot or a told; none where the participant is to be called again.
     pub fn command(self, id: LraId, member: u8, act: Act) -> Option<Command>
         ensures { result ≡ command_heard id member act self }
     {

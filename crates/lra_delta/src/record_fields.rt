@@ -149,7 +149,8 @@ fn links_of(
     }
 }
 
-/// What it takes is dropped. An early return that drops four links has an end for each that is given.
+/// What it takes is dropped. An early return that drops four links has an end for each that is
+/// given.
 fn let_go(
     complete: Option<Link>,
     compensate: Option<Link>,

@@ -197,11 +197,12 @@ impl Delta {
         Delta::new(*base, front, purges, homes)
     }
 
-    /// What a replica tells another that has the facts which a base of as many nodes counts: its front and last purges, the
-    /// records that have a stamp beyond the base, and of each home that purged after the base the numbers of all LRAs that it
-    /// holds there. E15 with the replica's front where the base is not below that. It finds each node's stamps beyond the base
-    /// by halving, looks up the record of each such stamp, and copies it once. It looks at no other record, but that it goes
-    /// over those of a home whose numbers it tells.
+    /// What a replica tells another that has the facts which a base of as many nodes counts: its
+    /// front and last purges, the records that have a stamp beyond the base, and of each home that
+    /// purged after the base the numbers of all LRAs that it holds there. E15 with the replica's
+    /// front where the base is not below that. It finds each node's stamps beyond the base by
+    /// halving, looks up the record of each such stamp, and copies it once. It looks at no other
+    /// record, but that it goes over those of a home whose numbers it tells.
     pub fn since(alloc: Global, replica: &Replica, base: &Front) -> Result<Delta, Refusal>
         requires { length base.now ≡ length replica.now.front }
         ensures frame { IfOk result (λ delta. (delta ≡ frame_of (view_of replica.now) base.now)

@@ -19,7 +19,8 @@ fn body_size(delta: &Delta) -> Option<u64>
 }
 
 impl Delta {
-    /// How many bytes encode it in version 2, or `None` where no number of 64 bits counts them. It takes no memory.
+    /// How many bytes encode it in version 2, or `None` where no number of 64 bits counts them. It
+    /// takes no memory.
     pub fn length(&self) -> Option<u64>
         ensures some { IfSome result (λ n. n ≡ length (encoding self.now)) }
         ensures none { IfNone result (2 ^ 64 ≤ length (encoding self.now)) }

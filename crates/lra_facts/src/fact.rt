@@ -5,7 +5,8 @@ use lra_id::{Act, LraId, NodeId, Outcome, Verdict};
 /// What a fact says.
 #[derive(Debug, Drop)]
 pub enum Body {
-    /// An LRA is begun, whose id is the fact's origin and number. The deadline is a moment in milliseconds, 0 for none.
+    /// An LRA is begun, whose id is the fact's origin and number. The deadline is a moment in
+    /// milliseconds, 0 for none.
     Begin {
         parent: Option<LraId>,
         deadline: u64,

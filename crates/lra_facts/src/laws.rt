@@ -1,4 +1,5 @@
-// Laws of the definitions, for every list of facts: each function does nothing, and its contract is the law.
+// Laws of the definitions, for every list of facts: each function does nothing, and its contract is
+// the law.
 ghost use Rattle.std.specs.Prelude.{◌≡◌, ◌++◌, ◌∷◌, [], ℕ, List, Some, true};
 ghost use Rattle.std.specs.List.{AllByRecursion};
 ghost use Rattle.std.specs.Option.{option_map_or};

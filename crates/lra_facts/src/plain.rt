@@ -1,4 +1,5 @@
-//! Slow evaluators: what a list of facts says, read from every fact at each call. They take no memory.
+//! Slow evaluators: what a list of facts says, read from every fact at each call. They take no
+//! memory.
 ghost use Rattle.std.specs.Prelude.{◌≡◌, ◌↔◌, IsTrue, ◌+◌, ◌&&◌, is_some};
 ghost use mathlib.Core.Bool.{not};
 ghost use Rattle.std.specs.List.{list_any, AllByRecursion};
@@ -9,8 +10,8 @@ ghost use Rattle.lra_id.specs.States.{same_member_status, shown};
 use crate::{Body, Fact, Links};
 use lra_id::{Act, LAST_NUMBER, LraId, LraStatus, MemberStatus, NodeId, Outcome, Verdict};
 
-/// Whether the evaluators may read a list: its facts have numbers, and a nested LRA is begun at its parent's home after it.
-/// It tests what callers don't know.
+/// Whether the evaluators may read a list: its facts have numbers, and a nested LRA is begun at its
+/// parent's home after it. It tests what callers don't know.
 pub fn are_in_order(facts: &[Fact]) -> bool
     ensures { IsTrue result ↔ (AllByRecursion NamesEarlier facts.now
         × AllByRecursion IsNumbered facts.now) }
@@ -108,7 +109,8 @@ fn decided_above(facts: &[Fact], verdict: Verdict, id: LraId) -> bool
     }
 }
 
-/// What an LRA wants: to be cancelled if it or an ancestor is, else to be closed if it or an ancestor is.
+/// What an LRA wants: to be cancelled if it or an ancestor is, else to be closed if it or an
+/// ancestor is.
 pub fn want_of(facts: &[Fact], id: LraId) -> Option<Verdict>
     requires { AllByRecursion NamesEarlier facts.now }
     ensures { result ≡ want facts.now id }

@@ -82,8 +82,9 @@ impl Forest {
         None
     }
 
-    /// Of the LRAs of the home that want nothing and whose deadline has passed, the one with the least number. It looks at
-    /// each record once, and where a deadline has passed at those of the LRAs that it is nested in.
+    /// Of the LRAs of the home that want nothing and whose deadline has passed, the one with the
+    /// least number. It looks at each record once, and where a deadline has passed at those of the
+    /// LRAs that it is nested in.
     pub fn overdue(&self, now: u64) -> Option<LraId>
         ensures says { result ≡ first_overdue self.now.home
             (found_at self.now.home self.now.records) now self.now.records }
@@ -112,7 +113,8 @@ impl Forest {
         depth
     }
 
-    /// How deep an LRA is nested, where a root has depth 1. It looks up the record of each that it is nested in.
+    /// How deep an LRA is nested, where a root has depth 1. It looks up the record of each that it
+    /// is nested in.
     pub fn depth(&self, id: LraId) -> Result<u64, Refusal>
         ensures says { let at = found_at id.home self.now.records
             in result ≡ answered (is_some (at id.num)) (depth_at at id.num) }
@@ -142,8 +144,8 @@ impl Forest {
         Ok(record.members.len())
     }
 
-    /// Whether what an LRA wants demands an act of its participant with this member number. It looks up the records of the
-    /// LRA and of those that it is nested in.
+    /// Whether what an LRA wants demands an act of its participant with this member number. It
+    /// looks up the records of the LRA and of those that it is nested in.
     pub fn demands(&self, id: LraId, member: u8, act: Act) -> Result<bool, Refusal>
         ensures says { let at = found_at id.home self.now.records
             in result ≡ answered_of (is_some (at id.num))
@@ -163,7 +165,8 @@ impl Forest {
         Ok(plain::demands(want, &participant.links, act))
     }
 
-    /// Whether this outcome of an act was heard of the participant of an LRA with this member number, or a greater one.
+    /// Whether this outcome of an act was heard of the participant of an LRA with this member
+    /// number, or a greater one.
     pub fn has_heard(
         &self,
         id: LraId,

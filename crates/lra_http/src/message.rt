@@ -71,8 +71,8 @@ impl Text {
     }
 }
 
-/// A field: its name, and its value without the white space around it (RFC 9110, section 5). Neither is looked at when it is
-/// written: what comes from outside must have no line end.
+/// A field: its name, and its value without the white space around it (RFC 9110, section 5).
+/// Neither is looked at when it is written: what comes from outside must have no line end.
 #[derive(Debug, Drop)]
 pub struct Field {
     pub name: Bytes,

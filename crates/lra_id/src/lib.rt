@@ -1,5 +1,5 @@
-//! The names of nodes and of LRAs, their texts, and fronts; the statuses of LRAs and of their participants, and the words for what is
-//! asked and heard.
+//! The names of nodes and of LRAs, their texts, and fronts; the statuses of LRAs and of their
+//! participants, and the words for what is asked and heard.
 #![tactic(auto)]
 
 mod front;

@@ -9,7 +9,8 @@ ghost use Rattle.lra_id.specs.States.{greater, level};
 use crate::BadText;
 use std::fmt;
 
-/// What a participant is asked to do: to complete where its LRA closes, to compensate where it is cancelled.
+/// What a participant is asked to do: to complete where its LRA closes, to compensate where it is
+/// cancelled.
 #[derive(Clone, Copy, Debug, PartialEq, Eq)]
 pub enum Act {
     Complete,
@@ -48,7 +49,8 @@ impl fmt::Display for Act {
     }
 }
 
-/// What was heard of an act. Of several outcomes the greatest is shown: Busy is less than Done, and Done than Failed.
+/// What was heard of an act. Of several outcomes the greatest is shown: Busy is less than Done, and
+/// Done than Failed.
 #[derive(Clone, Copy, Debug, PartialEq, Eq, PartialOrd, Ord)]
 pub enum Outcome {
     Busy,

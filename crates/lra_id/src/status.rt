@@ -21,7 +21,8 @@ pub enum LraStatus {
 }
 
 impl LraStatus {
-    /// Its place in the order in which an LRA's statuses follow each other, from 0 for Active to 6 for FailedToCancel.
+    /// Its place in the order in which an LRA's statuses follow each other, from 0 for Active to 6
+    /// for FailedToCancel.
     pub fn rank(self) -> u8
         ensures { result ≡ rank self }
     {

@@ -138,7 +138,8 @@ fn wanted_by_put(path: &str) -> Wanted
     }
 }
 
-/// What a request wants: one of the operator's own paths by its own method, else what the interface has.
+/// What a request wants: one of the operator's own paths by its own method, else what the interface
+/// has.
 pub fn wanted_by(paths: &Paths, request: &Request) -> Wanted
     ensures { result ≡ wanted request.now }
 {

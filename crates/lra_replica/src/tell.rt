@@ -9,8 +9,8 @@ use lra_id::Front;
 use std::alloc::{AllocError, Global};
 use std::marker::Model;
 
-/// What another node tells: its front and last purges, and of each home some records and, where it tells them, the numbers of
-/// all LRAs that it holds there.
+/// What another node tells: its front and last purges, and of each home some records and, where it
+/// tells them, the numbers of all LRAs that it holds there.
 #[derive(Debug, Drop)]
 pub struct Taken {
     pub(crate) front: Front,
@@ -30,7 +30,8 @@ impl Model for Taken {
 }
 
 impl Taken {
-    /// What a node tells that has this front and these last purges, and tells this of each home, one for each node.
+    /// What a node tells that has this front and these last purges, and tells this of each home,
+    /// one for each node.
     pub fn new(front: Front, purges: Front, homes: Vec<Told>) -> Taken
         requires { IsTelling (record { front = front; purges = purges; homes = homes.items }) }
         ensures { result ≡ record { front = front; purges = purges; homes = homes.items } }

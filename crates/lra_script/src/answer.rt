@@ -19,7 +19,8 @@ use lra_id::NodeId;
 use lra_world::{Event, World};
 use std::alloc::{AllocError, Global};
 
-/// What a line prints, and what it does to the world of so many nodes. Running out of memory is no event.
+/// What a line prints, and what it does to the world of so many nodes. Running out of memory is no
+/// event.
 pub fn answer(
     alloc: Global,
     world: &mut World,
@@ -103,7 +104,8 @@ fn happen(alloc: Global, world: &mut World, event: Event) -> Result<String, Allo
         IfOk result (λ text. HasHappened s event (string_bytes text) world.new) }
     ensures err { (s : State) → IsWorldOf s world.old → OnErr result (IsWorldOf s world.new) }
 {
-    // Without a value of this type here the toolchain's borrow checker can't build its plan for a `Reply`.
+    // Without a value of this type here the toolchain's borrow checker can't build its plan for a
+    // `Reply`.
     let _ = CommandReply::Refused(Refusal::NoMemory);
     let room = Room::new(alloc)?;
     match world.step(alloc, event) {

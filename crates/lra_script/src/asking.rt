@@ -25,8 +25,9 @@ use std::alloc::{AllocError, Global};
 /// What a line asks.
 #[derive(Debug, Drop)]
 pub enum Ask {
-    /// `begin NODE DEADLINE`, `begin NODE DEADLINE PARENT`, `join NODE ID WORD=LINK ..`, `leave NODE ID M`, `close NODE ID`, `cancel NODE ID`,
-    /// `report NODE ID M ACT OUTCOME`, `forgot NODE ID M`, `told NODE ID M`, `purge NODE ID`: a node is asked to enter something.
+    /// `begin NODE DEADLINE`, `begin NODE DEADLINE PARENT`, `join NODE ID WORD=LINK ..`, `leave
+    /// NODE ID M`, `close NODE ID`, `cancel NODE ID`, `report NODE ID M ACT OUTCOME`, `forgot NODE
+    /// ID M`, `told NODE ID M`, `purge NODE ID`: a node is asked to enter something.
     Enter {
         node: NodeId,
         command: Command,
@@ -47,7 +48,8 @@ pub enum Ask {
         node: NodeId,
         base: Front,
     },
-    /// `deliver K NODE`, `deliver K NODE BYTES`: a frame that was sent comes to a node, or the first so many bytes of it.
+    /// `deliver K NODE`, `deliver K NODE BYTES`: a frame that was sent comes to a node, or the
+    /// first so many bytes of it.
     Deliver {
         frame: u64,
         node: NodeId,
@@ -72,7 +74,8 @@ pub enum Ask {
     Duties {
         node: NodeId,
     },
-    /// `answer NODE ID M KIND CODE`, `answer NODE ID M KIND CODE BODY`: a node is told what a participant answered to a call.
+    /// `answer NODE ID M KIND CODE`, `answer NODE ID M KIND CODE BODY`: a node is told what a
+    /// participant answered to a call.
     Hear {
         node: NodeId,
         id: LraId,
@@ -95,7 +98,8 @@ pub enum Ask {
     Read(LraId),
 }
 
-/// What a line asks of a world of so many nodes. Only the links of a join and the body of an answer take memory.
+/// What a line asks of a world of so many nodes. Only the links of a join and the body of an answer
+/// take memory.
 pub fn ask_of(alloc: Global, line: &[u8], nodes: u8) -> Result<Option<Ask>, AllocError>
     requires { nodes ≤ 8 }
     ensures { IfOk result (λ found.

@@ -18,7 +18,8 @@ pub enum Event {
         base: Front,
         version: Version,
     },
-    /// The first so many bytes of a frame that was sent come to a node. Frames are numbered from 1 as they are sent.
+    /// The first so many bytes of a frame that was sent come to a node. Frames are numbered from 1
+    /// as they are sent.
     Deliver {
         frame: usize,
         node: NodeId,
@@ -88,7 +89,8 @@ pub enum Reply {
     Refused(Refusal),
 }
 
-/// A run stopped at an event, since memory was wanting: the events before it were replied so, and it has not happened.
+/// A run stopped at an event, since memory was wanting: the events before it were replied so, and
+/// it has not happened.
 #[derive(Debug, Drop)]
 pub struct Stopped {
     /// The replies to the events before it.

@@ -119,8 +119,8 @@ fn encoded(alloc: Global, told: &Delta, version: Version) -> Result<Vec<u8>, Ref
     }
 }
 
-/// The bytes of what a node tells another that has the facts of a base. E15 where the node doesn't count the base, and then E23
-/// where the version can't tell it.
+/// The bytes of what a node tells another that has the facts of a base. E15 where the node doesn't
+/// count the base, and then E23 where the version can't tell it.
 pub fn bytes_since(
     alloc: Global,
     replica: &Replica,
@@ -143,8 +143,8 @@ pub fn bytes_since(
     encoded(alloc, &told, version)
 }
 
-/// A node starts again from the bytes of its own frame since the front of zeros, which has all that it holds.
-/// Should these be refused, which in a lawful history they aren't, it stays as it is.
+/// A node starts again from the bytes of its own frame since the front of zeros, which has all that
+/// it holds. Should these be refused, which in a lawful history they aren't, it stays as it is.
 pub fn restart(alloc: Global, replica: &mut Replica) -> Result<Reply, AllocError>
     ensures nodes { length replica.new.front ≡ length replica.old.front }
     ensures same { (h : History) (v : List ℕ) → IsLawful h →

@@ -1,4 +1,5 @@
-// Answers of participants as servers write them, by their public documents: to a call to complete, with an empty body if they can.
+// Answers of participants as servers write them, by their public documents: to a call to complete,
+// with an empty body if they can.
 use http::Method;
 use lra_callback::{Answer, Heard, Kind, NetCaller, hear};
 use lra_http::{Bytes, CallRequest, Fields, OverRead, OverWrite, Text};

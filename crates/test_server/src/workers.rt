@@ -43,8 +43,8 @@ impl Arrivals for Given {
     }
 }
 
-/// Holds each worker before a call until two have come there, 10,000 turns at most. It counts those who come before a call, those who
-/// come behind one, and those who waited in vain.
+/// Holds each worker before a call until two have come there, 10,000 turns at most. It counts those
+/// who come before a call, those who come behind one, and those who waited in vain.
 #[derive(Drop)]
 struct Meeting<'a, C: Clock> {
     clock: &'a C,

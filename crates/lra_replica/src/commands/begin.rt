@@ -111,9 +111,10 @@ impl Replica {
         })
     }
 
-    /// Prepares the begin of an LRA, top-level or in a parent, with a deadline in milliseconds, 0 for none. A root costs one
-    /// insertion, a nested LRA a copy of its parent's record and a look at those that the parent is nested in. Errors, the
-    /// first that holds: of a root E13, E14; of a nested LRA E2, E3, E4, E6, E11, E12, E13, E14; and E17.
+    /// Prepares the begin of an LRA, top-level or in a parent, with a deadline in milliseconds, 0
+    /// for none. A root costs one insertion, a nested LRA a copy of its parent's record and a look
+    /// at those that the parent is nested in. Errors, the first that holds: of a root E13, E14; of
+    /// a nested LRA E2, E3, E4, E6, E11, E12, E13, E14; and E17.
     pub fn begin(
         &mut self,
         alloc: Global,

@@ -63,9 +63,9 @@ impl Replica {
         })
     }
 
-    /// Prepares a decision: an LRA is closed or cancelled. It costs a copy of the LRA's record, and a look at those that it
-    /// is nested in and at those that are nested in it. Errors, the first that holds: E2, E3, E4, E6, E14, E17.
-    /// Only the copy and the patch take memory.
+    /// Prepares a decision: an LRA is closed or cancelled. It costs a copy of the LRA's record, and
+    /// a look at those that it is nested in and at those that are nested in it. Errors, the first
+    /// that holds: E2, E3, E4, E6, E14, E17. Only the copy and the patch take memory.
     pub fn decide(
         &mut self,
         alloc: Global,

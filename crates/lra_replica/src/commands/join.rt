@@ -49,8 +49,9 @@ impl Replica {
         })
     }
 
-    /// Prepares a join: a participant with these links joins the LRA under its next member number. It costs a copy of the
-    /// LRA's record and a look at those that it is nested in. Errors, the first that holds: E2, E3, E4, E6, E11, E14, E17.
+    /// Prepares a join: a participant with these links joins the LRA under its next member number.
+    /// It costs a copy of the LRA's record and a look at those that it is nested in. Errors, the
+    /// first that holds: E2, E3, E4, E6, E11, E14, E17.
     pub fn join(
         &mut self,
         alloc: Global,

@@ -1,7 +1,6 @@
-// What a node makes of a command, by the records of the home of the LRA that the command names: its first refusal, that it is known
-// already, or that it is accepted.
-// The questions answer what the definitions do, an optional refusal; with `?` each would need a
-// second form.
+// What a node makes of a command, by the records of the home of the LRA that the command names: its
+// first refusal, that it is known already, or that it is accepted. The questions answer what the
+// definitions do, an optional refusal; with `?` each would need a second form.
 ghost use Rattle.std.specs.Prelude.{◌≡◌, ◌<◌, [], ◌∷◌, None, Some, Ok, false, true};
 ghost use Rattle.lra_id.specs.Fronts.{count};
 ghost use Rattle.lra_id.specs.Ids.{last_number};
@@ -373,7 +372,8 @@ fn refusal_to_number(front: &Front, me: NodeId) -> Option<Refusal>
     None
 }
 
-/// What a node makes of a command: whether it is known already, and is accepted otherwise; or why it is refused.
+/// What a node makes of a command: whether it is known already, and is accepted otherwise; or why
+/// it is refused.
 pub(crate) fn judge(
     home: &Forest,
     front: &Front,

@@ -61,8 +61,8 @@ impl Replica {
         })
     }
 
-    /// Prepares a leave of a participant. It costs what `join` costs. Errors, the first that holds: E2, E3, E4, E5, E6, E14,
-    /// E17.
+    /// Prepares a leave of a participant. It costs what `join` costs. Errors, the first that holds:
+    /// E2, E3, E4, E5, E6, E14, E17.
     pub fn leave(
         &mut self,
         alloc: Global,

@@ -17,7 +17,8 @@ use lra_forest::{Member, Members, Participant};
 use lra_id::{LraId, NodeId};
 use std::alloc::{AllocError, Global};
 
-/// What a participant is told without an outcome: a call brings it, and any node enters that it came.
+/// What a participant is told without an outcome: a call brings it, and any node enters that it
+/// came.
 #[derive(Clone, Copy)]
 enum Notice {
     /// It may forget its LRA.
@@ -159,11 +160,11 @@ impl Replica {
         self.accept_notice(alloc, me, id, member, Notice::OfTheEnd)
     }
 
-    /// Prepares that a participant was told to forget, which any node may enter. Where it was told already, it is known, and
-    /// there is no patch. It costs a copy of the LRA's record and a look at those of its root's tree. Errors, the
-    /// first that holds: E2, E3, E5, E7; where it isn't known E14, E17.
-    /// One function over `Notice` does this and `told`; each has clauses of its own, as callers
-    /// cite one.
+    /// Prepares that a participant was told to forget, which any node may enter. Where it was told
+    /// already, it is known, and there is no patch. It costs a copy of the LRA's record and a look
+    /// at those of its root's tree. Errors, the first that holds: E2, E3, E5, E7; where it isn't
+    /// known E14, E17. One function over `Notice` does this and `told`; each has clauses of its
+    /// own, as callers cite one.
     pub fn forgot(
         &mut self,
         alloc: Global,
@@ -182,8 +183,8 @@ impl Replica {
         self.prepare(alloc, me, Command::Forgot { id, member })
     }
 
-    /// Prepares that a participant was told that its LRA has ended, which any node may enter. When it is known, its cost and
-    /// its errors are as for `forgot`.
+    /// Prepares that a participant was told that its LRA has ended, which any node may enter. When
+    /// it is known, its cost and its errors are as for `forgot`.
     pub fn told(
         &mut self,
         alloc: Global,

@@ -71,8 +71,9 @@ impl Replica {
         })
     }
 
-    /// Prepares a purge: a root that is ended is removed, with all that is nested in it. It costs a look at each of the home's
-    /// records. Errors, the first that holds: E2, E3, E4, E9, E8, E10, E24, E14, E17.
+    /// Prepares a purge: a root that is ended is removed, with all that is nested in it. It costs a
+    /// look at each of the home's records. Errors, the first that holds: E2, E3, E4, E9, E8, E10,
+    /// E24, E14, E17.
     pub fn purge(&mut self, alloc: Global, me: NodeId, root: LraId) -> Result<Prepared, Refusal>
         requires { me ≤ length self.old.front }
         ensures view { view_of self.new ≡ view_of self.old }

@@ -83,9 +83,10 @@ impl Replica {
         })
     }
 
-    /// Prepares a report of an outcome of an act of a participant, which any node may enter. Where this outcome or a greater
-    /// one was heard, it is known, and there is no patch. It costs a copy of the LRA's record and a look at those that it is
-    /// nested in. Errors, the first that holds: E2, E3, E5, E7; where it isn't known E14, E17.
+    /// Prepares a report of an outcome of an act of a participant, which any node may enter. Where
+    /// this outcome or a greater one was heard, it is known, and there is no patch. It costs a copy
+    /// of the LRA's record and a look at those that it is nested in. Errors, the first that holds:
+    /// E2, E3, E5, E7; where it isn't known E14, E17.
     pub fn report(
         &mut self,
         alloc: Global,
