@@ -37,8 +37,7 @@ fn since_both(alloc: Global, replica: &Replica, front: &Front) -> Result<Delta, 
 /// count. So there is never a gap, and the asker lacks nothing of what the frame leaves out. E16 at
 /// the place of the body's first fault: at 0 where it counts another number of nodes, at 1 where
 /// its front isn't whole or has a count of more than 48 bits, and just past the front where bytes
-/// are left over. It costs what
-/// `Delta::since` costs.
+/// are left over. It costs what `Delta::since` costs.
 pub fn serve_pull(alloc: Global, body: &[u8], replica: &Replica) -> Result<Delta, Refusal>
     // Which frame it is, or which place.
     ensures exact { Serves
