@@ -1,6 +1,6 @@
 """Has the prover refuse wrong bodies, many in one check: `python3 tests/wrong.py NAME..`, each NAME a crate, or `--all`
-for every crate, as `.ci/run` does behind the gate. Crates are tried side by side, `--jobs N` of them: without it as many as there are
-processors, and 4 GB of memory free for each.
+for every crate, as `.ci/run` does behind the gate. Crates are tried side by side, `--jobs N` of them: without it as
+many as there are processors, and 4 GB of memory free for each.
 
 A wrong body is a file tests/wrong/NAME/WHAT.edit of the form that must-fail/ has: a line 'file: src/x.rt', and pairs of
 lines 'old: TEXT' and 'new: TEXT', each TEXT one line that stands exactly once in the file. A line 'fn: PATH' names the
