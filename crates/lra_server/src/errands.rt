@@ -6,8 +6,8 @@ use lra_threads::Node;
 use std::sync::{Condvar, CondvarTimeouts, Mutex, Wait};
 use std::time::{Clock, Duration};
 
-/// How long is waited for a call to be made at once, in milliseconds.
-const SLICE: u64 = 100;
+/// How long is waited for a call to be made at once.
+const SLICE_MS: u64 = 100;
 
 /// How often that is waited: five seconds in all.
 const SLICES: u32 = 50;
@@ -79,7 +79,7 @@ impl Errands {
 
     // What came of the call that was wanted last, if it is made within a slice.
     fn wait_a_slice<R: Wait + Clock>(&self, rt: &R) -> Option<Result<Reply, Refusal>> {
-        let time = Duration::from_millis(SLICE);
+        let time = Duration::from_millis(SLICE_MS);
         let (mut counter, _) = self.made.wait_timeout_while(
             rt,
             self.counter.lock(rt),

@@ -11,8 +11,8 @@ use std::net::{IpAddr, Ipv4Addr, Ipv6Addr, Net, SocketAddr, TcpStream, ToSocketA
 use std::sync::{Arc, Wait};
 use std::time::{Clock, Duration};
 
-/// How long another node may take to be reached, in milliseconds.
-const REACH: u64 = 1_000;
+/// How long another node may take to be reached.
+const REACH_MS: u64 = 1_000;
 
 /// Where a node is reached: a host, by its name or its IP address, and a port.
 #[derive(Drop)]
@@ -51,7 +51,7 @@ fn connect<R: Wait + Clock + Net<Stream = TcpStream>>(
     signal: &Signal,
     peer: &Peer,
 ) -> io::Result<TcpStream> {
-    let (host, time) = (peer.host.as_str(), Duration::from_millis(REACH));
+    let (host, time) = (peer.host.as_str(), Duration::from_millis(REACH_MS));
     connect_to_one(rt, signal, (host, peer.port).to_socket_addrs(rt)?, time)
 }
 
@@ -139,7 +139,7 @@ impl Site {
     ) -> io::Result<TcpStream> {
         match &self.others {
             Others::Here(first) => {
-                let time = Duration::from_millis(REACH);
+                let time = Duration::from_millis(REACH_MS);
                 TcpStream::connect_timeout(rt, &address_of(*first, other), time)
             }
             Others::Apart(peers) => match peer_at(peers.as_slice(), other) {

@@ -1,6 +1,7 @@
 // Which roots of a node's home have ended, and are to be purged; and how full the home is. It outlives the runs of the node; a start
 // begins anew.
 
+use crate::clock::now;
 use lra_id::{LAST_NUMBER, LraId, NodeId};
 use lra_states::LraStatus;
 use std::alloc::Global;
@@ -8,23 +9,23 @@ use std::sync::atomic::{AtomicBool, AtomicU64, Ordering};
 use std::sync::{Mutex, Wait};
 use std::time::{Clock, Duration};
 
-/// How often the home is looked through at most, in milliseconds.
-const LOOK: u64 = 250;
+/// How often the home is looked through at most.
+const LOOK_MS: u64 = 250;
 
-/// How often where many of its places are taken, in milliseconds.
-const LOOK_OF_MANY: u64 = 50;
+/// How often where many of its places are taken.
+const LOOK_OF_MANY_MS: u64 = 50;
 
-/// How often it is looked through at most to know what its LRAs show, in milliseconds.
-const LOOK_TO_COUNT: u64 = 1_000;
+/// How often it is looked through at most to know what its LRAs show.
+const LOOK_TO_COUNT_MS: u64 = 1_000;
 
 /// How many are many: half of them.
 const HALF: u64 = 128;
 
-/// The first pause before a purge that was refused is tried again, in milliseconds. It doubles each time.
-const FIRST_PAUSE: u64 = 1_000;
+/// The first pause before a purge that was refused is tried again. It doubles each time.
+const FIRST_PAUSE_MS: u64 = 1_000;
 
-/// The longest, in milliseconds.
-const LAST_PAUSE: u64 = 60_000;
+/// The longest.
+const LAST_PAUSE_MS: u64 = 60_000;
 
 /// How many LRAs a home holds, and so how many that have ended are remembered at most.
 pub(crate) const PLACES: u64 = 256;
@@ -69,8 +70,8 @@ struct Ended {
     id: LraId,
     /// When it is to be purged; never where it is nested in another.
     until: Option<Duration>,
-    /// How long it paused behind the last purge that was refused.
-    pause: u64,
+    /// How long it paused after the last purge that was refused.
+    pause_ms: u64,
     /// The LRA of which a participant is to be told something before.
     waits_for: Option<LraId>,
     /// Whether the look that goes on, or the last one, has found it.
@@ -154,7 +155,7 @@ impl Ended {
         Ended {
             id,
             until: Some(until),
-            pause: 0,
+            pause_ms: 0,
             waits_for: None,
             is_found: true,
         }
@@ -162,8 +163,11 @@ impl Ended {
 
     /// Has it wait, longer than the last time, or until a participant of an LRA was told.
     fn wait_from(&mut self, now: Duration, waits_for: Option<LraId>) {
-        self.pause = self.pause.saturating_mul(2).clamp(FIRST_PAUSE, LAST_PAUSE);
-        self.until = Some(now.saturating_add(Duration::from_millis(self.pause)));
+        self.pause_ms = self
+            .pause_ms
+            .saturating_mul(2)
+            .clamp(FIRST_PAUSE_MS, LAST_PAUSE_MS);
+        self.until = Some(now.saturating_add(Duration::from_millis(self.pause_ms)));
         self.waits_for = waits_for;
     }
 
@@ -193,12 +197,12 @@ impl Swept {
         self.beyond = first;
         self.looks = true;
         let time = if self.taken >= HALF {
-            LOOK_OF_MANY
+            LOOK_OF_MANY_MS
         } else {
-            LOOK
+            LOOK_MS
         };
         self.looks_at = now.saturating_add(Duration::from_millis(time));
-        self.counts_at = now.saturating_add(Duration::from_millis(LOOK_TO_COUNT));
+        self.counts_at = now.saturating_add(Duration::from_millis(LOOK_TO_COUNT_MS));
         self.counted = 0;
         self.showing = [0; 7];
     }
@@ -324,7 +328,7 @@ impl Sweep {
         if !self.counts && !self.purges() {
             return false;
         }
-        let now = rt.monotonic().unwrap_or(Duration::from_millis(0));
+        let now = now(rt);
         let swept = self.swept.lock(rt);
         swept.looks
             || swept.due(now).is_some()
@@ -336,7 +340,7 @@ impl Sweep {
         if !self.counts && !self.purges() {
             return None;
         }
-        let now = rt.monotonic().unwrap_or(Duration::from_millis(0));
+        let now = now(rt);
         let mut swept = self.swept.lock(rt);
         if !swept.looks {
             if let Some(id) = swept.due(now) {
@@ -355,7 +359,7 @@ impl Sweep {
     }
 
     /// How long one is kept that stands like this, in milliseconds, if it is ever to be purged.
-    fn time_of(&self, seen: Standing) -> Option<u64> {
+    fn keep_ms(&self, seen: Standing) -> Option<u64> {
         match seen {
             Standing::GoingOn => None,
             Standing::Ended => self.keep.ended,
@@ -365,7 +369,7 @@ impl Sweep {
 
     /// Tells of an LRA on a page.
     pub fn see<R: Wait + Clock>(&self, rt: &R, id: LraId, status: LraStatus) {
-        let now = rt.monotonic().unwrap_or(Duration::from_millis(0));
+        let now = now(rt);
         let mut swept = self.swept.lock(rt);
         swept.beyond = Some(id);
         if !swept.looks {
@@ -378,7 +382,7 @@ impl Sweep {
             return;
         }
         swept.count(status);
-        if let Some(time) = self.time_of(Standing::of(status)) {
+        if let Some(time) = self.keep_ms(Standing::of(status)) {
             swept.note(id, now.saturating_add(Duration::from_millis(time)));
         }
     }
@@ -393,7 +397,7 @@ impl Sweep {
 
     /// Tells what came of a purge.
     pub fn purged<R: Wait + Clock>(&self, rt: &R, id: LraId, purged: Purged) {
-        let now = rt.monotonic().unwrap_or(Duration::from_millis(0));
+        let now = now(rt);
         let mut swept = self.swept.lock(rt);
         if purged == Purged::Gone {
             swept.ended.retain(|ended| ended.id != id);
