@@ -28,7 +28,7 @@ sys.path.insert(0, os.path.dirname(os.path.dirname(os.path.abspath(__file__))))
 from tools import prover, repo
 from tools.repo import TOP
 
-REPLICAS = ("lra_id", "lra_states", "lra_facts", "lra_forest", "lra_history", "lra_replica", "lra_delta", "lra_world",
+REPLICAS = ("lra_id", "lra_facts", "lra_forest", "lra_history", "lra_replica", "lra_delta", "lra_world",
             "lra_http", "lra_callback")
 # The libraries of each program.
 USES = {

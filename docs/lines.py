@@ -37,7 +37,7 @@ LAYERS = [
     ("lra_index", "stamps, in order"),
     ("lra_facts", "facts and definitions"),
     ("lra_http", "HTTP messages"),
-    ("lra_states", "lra_id", "words and ids"),
+    ("lra_id", "ids and words"),
 ]
 
 

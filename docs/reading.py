@@ -18,7 +18,7 @@ CALL = "crates/lra_world/src/world.rt", "step", "headline"
 # The types of that call: what it is called on, takes and answers.
 TYPES = "World", "Event", "Reply"
 # The libraries that are read, in reading order.
-CRATES = ["lra_id", "lra_states", "lra_facts", "lra_forest", "lra_history", "lra_index", "lra_replica", "lra_delta",
+CRATES = ["lra_id", "lra_facts", "lra_forest", "lra_history", "lra_index", "lra_replica", "lra_delta",
           "lra_peer", "lra_callback", "lra_world", "lra_progress", "lra_book", "lra_trail"]
 # The laws of progress: each row counts what those before it don't.
 PROGRESS = "crates/lra_progress/src/laws.rt"

@@ -2,7 +2,7 @@
 """Compares docs/openapi.json with the code: python3 tests/openapi.py. Standard library alone.
 
 Each path and method of the one has to stand in the other's table (lra_api/src/path.rt, table.rt), with the words of
-statuses, acts and outcomes as lra_states prints them. The status is 1 where they differ."""
+statuses, acts and outcomes as lra_id prints them. The status is 1 where they differ."""
 import json
 import os
 import re
@@ -21,7 +21,7 @@ def calls_of_code() -> set[tuple[str, str]]:
 
 def words_of_code(kind: str, file: str) -> set[str]:
     """The names that the code has for a type's values."""
-    return set(re.findall(rf'{kind}::\w+ => "(\w+)"', repo.read(f"crates/lra_states/src/{file}.rt")))
+    return set(re.findall(rf'{kind}::\w+ => "(\w+)"', repo.read(f"crates/lra_id/src/{file}.rt")))
 
 
 class TestInterface(checks.Checked):

@@ -18,19 +18,19 @@ use Rattle.lra_http.specs.Faults.{fault_name}
 use Rattle.lra_http.proofs.PlainValues.{Short, decimal_visible, is_visible, length_is, lines_short, literal_visible, plain_visible, sized}
 use Rattle.lra_http.proofs.WholeMessages.{whole_response}
 use Rattle.lra_id.proofs.VisibleTexts.{text_length, text_visible}
-use Rattle.lra_states.specs.declared.status.LraStatus.TheVariants.{Active}
+use Rattle.lra_id.specs.declared.status.LraStatus.TheVariants.{Active}
 use Rattle.lra_facts.specs.declared.refusal.Refusal.{Refusal}
 use Rattle.lra_facts.specs.declared.refusal.Refusal.TheVariants.{BadText, UnknownLra, NotHeld, NotHome, UnknownMember, NotActive, NotDue, NotEnded, NotRoot, StillToForget, StillToTell, MembersFull, DepthFull, LrasFull, NumbersSpent, Gap, NeedsVersion2, BadFrame, NoMemory, JournalFailed, Stopped, RunFull, TrailLost, Strange}
 use Rattle.lra_facts.specs.RefusalTexts.{refusal_text}
-use Rattle.lra_history.specs.declared.command.CommandReply.{CommandReply}
-use Rattle.lra_history.specs.declared.command.CommandReply.TheVariants as command
+use Rattle.lra_facts.specs.declared.command.CommandReply.{CommandReply}
+use Rattle.lra_facts.specs.declared.command.CommandReply.TheVariants as command
 use Rattle.lra_delta.specs.Encoding.{encoding}
 use Rattle.lra_book.specs.declared.calls.Reply.{Reply}
 use Rattle.lra_book.specs.declared.calls.Reply.TheVariants as reply
 use Rattle.lra_api.specs.declared.routing.Unrouted.{Unrouted}
 use Rattle.lra_api.specs.declared.routing.Unrouted.TheVariants as unrouted
-use Rattle.lra_api.specs.declared.table.Place.{Place}
-use Rattle.lra_api.specs.declared.table.Place.TheVariants as place
+use Rattle.lra_api.specs.declared.table.Endpoint.{Endpoint}
+use Rattle.lra_api.specs.declared.table.Endpoint.TheVariants as endpoint
 use Rattle.lra_api.specs.Table.{allowed}
 use Rattle.lra_api.specs.Wholes.{IsNumbered, IsNumberedCommand, IsWhole}
 use Rattle.lra_api.specs.declared.answers.FieldName.{FieldName}
@@ -323,28 +323,28 @@ listed_plain value passes trimmed = record {
   trimmed = trimmed;
 }
 
-allowed_plain : (p : Place) → IsPlain (field Allow (allowed p))
+allowed_plain : (p : Endpoint) → IsPlain (field Allow (allowed p))
 unfolding trim_ows
-allowed_plain place.Lras = listed_plain (allowed place.Lras) refl refl
-allowed_plain place.Lra = listed_plain (allowed place.Lra) refl refl
-allowed_plain place.Join = listed_plain (allowed place.Join) refl refl
-allowed_plain place.Close = listed_plain (allowed place.Close) refl refl
-allowed_plain place.Cancel = listed_plain (allowed place.Cancel) refl refl
-allowed_plain place.Member = listed_plain (allowed place.Member) refl refl
-allowed_plain place.Leave = listed_plain (allowed place.Leave) refl refl
-allowed_plain place.Report = listed_plain (allowed place.Report) refl refl
-allowed_plain place.Pull = listed_plain (allowed place.Pull) refl refl
+allowed_plain endpoint.Lras = listed_plain (allowed endpoint.Lras) refl refl
+allowed_plain endpoint.Lra = listed_plain (allowed endpoint.Lra) refl refl
+allowed_plain endpoint.Join = listed_plain (allowed endpoint.Join) refl refl
+allowed_plain endpoint.Close = listed_plain (allowed endpoint.Close) refl refl
+allowed_plain endpoint.Cancel = listed_plain (allowed endpoint.Cancel) refl refl
+allowed_plain endpoint.Member = listed_plain (allowed endpoint.Member) refl refl
+allowed_plain endpoint.Leave = listed_plain (allowed endpoint.Leave) refl refl
+allowed_plain endpoint.Report = listed_plain (allowed endpoint.Report) refl refl
+allowed_plain endpoint.Pull = listed_plain (allowed endpoint.Pull) refl refl
 
-allowed_short : (p : Place) → length (allowed p) ≤ 200
-allowed_short place.Lras = omega arith
-allowed_short place.Lra = omega arith
-allowed_short place.Join = omega arith
-allowed_short place.Close = omega arith
-allowed_short place.Cancel = omega arith
-allowed_short place.Member = omega arith
-allowed_short place.Leave = omega arith
-allowed_short place.Report = omega arith
-allowed_short place.Pull = omega arith
+allowed_short : (p : Endpoint) → length (allowed p) ≤ 200
+allowed_short endpoint.Lras = omega arith
+allowed_short endpoint.Lra = omega arith
+allowed_short endpoint.Join = omega arith
+allowed_short endpoint.Close = omega arith
+allowed_short endpoint.Cancel = omega arith
+allowed_short endpoint.Member = omega arith
+allowed_short endpoint.Leave = omega arith
+allowed_short endpoint.Report = omega arith
+allowed_short endpoint.Pull = omega arith
 
 sound_unrouted : (limit : ℕ) (u : Unrouted) → limit < 2 ^ 64 → length (unrouted_answer u).body ≤ limit → IsSound limit (unrouted_answer u)
 sound_unrouted limit unrouted.NoPath fits low = sound_json limit 404 (refusal_body (codes "NoPath")) code_404 fits low

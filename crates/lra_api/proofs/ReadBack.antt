@@ -9,11 +9,11 @@ use Rattle.uuid.specs.Text.{lower, parsed}
 use Rattle.uuid.proofs.RoundTrips.{parses_hyphenated}
 use Rattle.lra_id.proofs.VisibleTexts.{text_length}
 use Rattle.lra_id.specs.Ids.{Id, IsId, layout, text_of}
-use Rattle.lra_states.specs.Names.{lra_name, member_name}
-use Rattle.lra_states.specs.declared.status.LraStatus.{LraStatus}
-use Rattle.lra_states.specs.declared.status.LraStatus.TheVariants as lra
-use Rattle.lra_states.specs.declared.status.MemberStatus.{MemberStatus}
-use Rattle.lra_states.specs.declared.status.MemberStatus.TheVariants as member
+use Rattle.lra_id.specs.Names.{lra_name, member_name}
+use Rattle.lra_id.specs.declared.status.LraStatus.{LraStatus}
+use Rattle.lra_id.specs.declared.status.LraStatus.TheVariants as lra
+use Rattle.lra_id.specs.declared.status.MemberStatus.{MemberStatus}
+use Rattle.lra_id.specs.declared.status.MemberStatus.TheVariants as member
 use Rattle.lra_http.specs.declared.message.Field.{Field}
 use Rattle.lra_http.specs.ByteResponses.{Response}
 use Rattle.lra_api.specs.Answers.{begun, found, joined, shown}

@@ -4,10 +4,10 @@ use Rattle.matchit.specs.Router.{RouteOf, Refused, nearest}
 use Rattle.matchit.specs.Rows.{RowsOf}
 use Rattle.matchit.specs.declared.error.InsertError.{InsertError}
 use Rattle.matchit.specs.declared.error.InsertError.TheVariants.{Conflict, InvalidParam, InvalidParamSegment, InvalidCatchAll, OutOfMemory}
-use Rattle.lra_api.specs.declared.table.Place.{Place}
+use Rattle.lra_api.specs.declared.table.Endpoint.{Endpoint}
 
 -- a route that conflicts with none is refused for lack of memory alone
-pub only_memory : (p : List ℕ) (rows : RowsOf (RouteOf Place)) (e : InsertError) → nearest p rows ≡ None → Refused p rows e → e ≡ OutOfMemory
+pub only_memory : (p : List ℕ) (rows : RowsOf (RouteOf Endpoint)) (e : InsertError) → nearest p rows ≡ None → Refused p rows e → e ≡ OutOfMemory
 only_memory p rows OutOfMemory none r = refl
 only_memory p rows (Conflict with) none r = let both : Some r.0 ≡ None = sym r.1 ∙ none in cc
 only_memory p rows InvalidParamSegment none r = absurd r

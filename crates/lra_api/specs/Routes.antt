@@ -2,21 +2,21 @@
 use Rattle.std.specs.Prelude.{◌≡◌, ◌⊎◌, ℕ, List, [], ◌∷◌, codes, drop, take, Option, Some, None, option_and_then, option_map, if◌then◌else◌, Result, Ok, Err}
 use Rattle.std.specs.Str.{bytes_eq}
 use Rattle.lra_id.specs.Ids.{Id}
-use Rattle.lra_states.specs.declared.outcome.Act.{Act}
-use Rattle.lra_states.specs.declared.outcome.Outcome.{Outcome}
+use Rattle.lra_id.specs.declared.outcome.Act.{Act}
+use Rattle.lra_id.specs.declared.outcome.Outcome.{Outcome}
 use Rattle.lra_facts.specs.declared.refusal.Refusal.TheVariants.{BadText, NoMemory}
-use Rattle.lra_history.specs.declared.command.Command.TheVariants as command
+use Rattle.lra_facts.specs.declared.command.Command.TheVariants as command
 use Rattle.lra_http.specs.declared.message.Request.{Request}
 use Rattle.lra_book.specs.declared.calls.Call.{Call}
 use Rattle.lra_book.specs.declared.calls.Call.TheVariants as call
 use Rattle.lra_api.specs.declared.routing.Unrouted.{Unrouted}
 use Rattle.lra_api.specs.declared.routing.Unrouted.TheVariants.{NoPath, NoMethod, Refused}
-use Rattle.lra_api.specs.declared.table.Place.{Place}
+use Rattle.lra_api.specs.declared.table.Endpoint.{Endpoint}
 use Rattle.lra_api.specs.declared.table.Action.{Action}
 use Rattle.lra_api.specs.declared.table.Action.TheVariants as action
 use Rattle.lra_api.specs.Bodies.{act_by, deadline_by, links_by, object_in, outcome_by, parent_by, some_id}
 use Rattle.lra_api.specs.Names.{id_of, member_of}
-use Rattle.lra_api.specs.Paths.{id_part, member_part, path_of, place_of, query_of}
+use Rattle.lra_api.specs.Paths.{id_part, member_part, path_of, endpoint_of, query_of}
 use Rattle.lra_api.specs.Table.{action_at, verb_of}
 
 abbrev pub id_in : List ℕ → Option Id
@@ -116,18 +116,18 @@ abbrev pub or_bad_text : Option Call → Result Call Unrouted
 or_bad_text (Some call) = Ok call
 or_bad_text None = Err (Refused BadText)
 
-abbrev pub by_action : ℕ → Request → Place → Option Action → Result Call Unrouted
-by_action now request place (Some a) = or_bad_text (call_of now a request)
-by_action now request place None = Err (NoMethod place)
+abbrev pub by_action : ℕ → Request → Endpoint → Option Action → Result Call Unrouted
+by_action now request endpoint (Some a) = or_bad_text (call_of now a request)
+by_action now request endpoint None = Err (NoMethod endpoint)
 
-abbrev pub by_place : ℕ → Request → Option Place → Result Call Unrouted
-by_place now request (Some place) = by_action now request place (action_at place (verb_of request.method))
-by_place now request None = Err NoPath
+abbrev pub by_endpoint : ℕ → Request → Option Endpoint → Result Call Unrouted
+by_endpoint now request (Some endpoint) = by_action now request endpoint (action_at endpoint (verb_of request.method))
+by_endpoint now request None = Err NoPath
 
 -- the call that a request asks for at a moment: by its path, then by its method, then by its id, number, query and body; or
 -- the first of these that is wrong
 abbrev pub routed : ℕ → Request → Result Call Unrouted
-routed now request = by_place now request (place_of (path_of request.target))
+routed now request = by_endpoint now request (endpoint_of (path_of request.target))
 
 -- it is that, or the memory was wanting
 abbrev pub Routes : Result Call Unrouted → Result Call Unrouted → Type 0

@@ -4,15 +4,12 @@ use Rattle.lra_http.specs.declared.Sink.{Ghosts as OfSink}
 use Rattle.lra_http.specs.declared.Source.{Ghosts as OfSource}
 use Rattle.lra_http.specs.declared.fault.Fault.{Fault}
 use Rattle.lra_http.specs.declared.message.Request.{Request}
+use Rattle.lra_http.specs.Bodies.{max_body_bytes}
 use Rattle.lra_http.specs.Requests.{IsMessage, Shows}
 use Rattle.lra_http.specs.Faults.{Stops}
 use Rattle.lra_http.specs.Streams.{AllWell, GivesWhat, IsFlushed, IsLost, Reads, Takes, TakesPart}
 
 -- Reading
-
--- the most bytes of a request's body
-abbrev pub max_body_bytes : ℕ
-max_body_bytes = 65536
 
 -- the most calls that take bytes of a request: a head that is too long is told at its last byte but one
 abbrev pub max_reads : ℕ

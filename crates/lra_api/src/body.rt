@@ -13,7 +13,8 @@ pub(crate) enum Kind<'a> {
     Frame(&'a Delta),
 }
 
-/// The body of an answer: bytes, or the encoding of a delta that is lent, which is made as it is written.
+/// The body of an answer: bytes, or the encoding of a delta that is lent, which is made as it is
+/// written.
 #[derive(Drop)]
 pub struct Body<'a> {
     kind: Kind<'a>,

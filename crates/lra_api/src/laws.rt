@@ -1,8 +1,8 @@
 // What follows of the definitions alone.
 ghost use Rattle.std.specs.Prelude.{◌≡◌, ◌<◌, ◌≤◌, ◌^◌, ℕ, List, length};
 ghost use Rattle.lra_id.specs.Ids.{Id, IsId};
-ghost use Rattle.lra_states.specs.declared.status.LraStatus.{LraStatus as TheLraStatus};
-ghost use Rattle.lra_states.specs.declared.status.MemberStatus.{MemberStatus as TheMemberStatus};
+ghost use Rattle.lra_id.specs.declared.status.LraStatus.{LraStatus as TheLraStatus};
+ghost use Rattle.lra_id.specs.declared.status.MemberStatus.{MemberStatus as TheMemberStatus};
 ghost use Rattle.lra_http.specs.declared.fault.Fault.{Fault as TheFault};
 ghost use Rattle.lra_book.specs.declared.calls.Reply.{Reply as TheReply};
 ghost use Rattle.lra_api.specs.declared.routing.Unrouted.{Unrouted as TheUnrouted};
@@ -10,9 +10,9 @@ ghost use Rattle.lra_api.specs.Answers.{answer_of, begun, fault_answer, found, j
 ghost use Rattle.lra_api.specs.Texts.{member_body};
 ghost use Rattle.lra_api.specs.Wholes.{IsNumbered, IsWhole};
 
-/// What a client reads of an answer, its status, fields and body, tells it all that was replied: of which LRA it tells, what
-/// that shows, and which member number was given. Of a participant it tells the LRA and what the participant shows, to one that
-/// knows for which number it asked.
+/// What a client reads of an answer, its status, fields and body, tells it all that was replied: of
+/// which LRA it tells, what that shows, and which member number was given. Of a participant it
+/// tells the LRA and what the participant shows, to one that knows for which number it asked.
 pub fn an_answer_tells_its_reply()
     ensures begun { (a b : Id) → IsId a → IsId b → begun a ≡ begun b → a ≡ b }
     ensures joined { (a b : Id) (m n : ℕ) →
@@ -23,8 +23,8 @@ pub fn an_answer_tells_its_reply()
         IsId b → found (member_body a m x) ≡ found (member_body b m y) → (a ≡ b) × (x ≡ y) }
 {}
 
-/// The text of each answer is one whole response with its status, fields and body, for any reader whose limit on bodies is at
-/// least the body's length, and whatever follows it.
+/// The text of each answer is one whole response with its status, fields and body, for any reader
+/// whose limit on bodies is at least the body's length, and whatever follows it.
 pub fn an_answer_is_a_whole_response()
     ensures reply { (limit : ℕ) (r : TheReply) (rest : List ℕ) → limit < 2 ^ 64 →
         IsNumbered r → length (answer_of r).body ≤ limit → IsWhole limit (answer_of r) rest }

@@ -1,4 +1,5 @@
-//! The HTTP interface of a node: a request is read, the call that it asks for is made, and its answer is written.
+//! The HTTP interface of a node: a request is read, the call that it asks for is made, and its
+//! answer is written.
 #![tactic(auto)]
 
 mod answers;
@@ -18,4 +19,4 @@ pub use names::{id_of, member_of};
 pub use path::{Paths, id_part, member_part, part_of, path_of, query_of, rest_of};
 pub use routing::{Unrouted, route};
 pub use serving::{ServeError, end, end_refused, serve_fault, serve_one, serve_request};
-pub use table::{Place, Verb, verb_of};
+pub use table::{Endpoint, Verb, verb_of};

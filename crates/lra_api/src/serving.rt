@@ -20,7 +20,8 @@ use std::alloc::{AllocError, Global};
 /// Why a request was not served as it was asked.
 #[derive(Clone, Copy, Debug, PartialEq, Eq)]
 pub enum ServeError {
-    /// The clerk refused the call, E17 to E21; or E17: the memory was refused here, and the clerk refused nothing.
+    /// The clerk refused the call, E17 to E21; or E17: the memory was refused here, and the clerk
+    /// refused nothing.
     Refused(Refusal),
     /// The input ended before the request did.
     Cut,
@@ -49,7 +50,8 @@ fn told_if_starved(refusal: Option<Refusal>) -> Result<(), ServeError>
     }
 }
 
-/// Writes that the memory was refused, if there is enough for it, and tells that, or the refusal behind which it was.
+/// Writes that the memory was refused, if there is enough for it, and tells that, or the refusal
+/// behind which it was.
 fn end_no_memory<W: Sink>(
     alloc: Global,
     writer: &mut W,
@@ -98,7 +100,8 @@ fn end_with<W: Sink>(
     }
 }
 
-/// Writes an answer, if there was memory to make it, and tells the refusal behind it, if there is one.
+/// Writes an answer, if there was memory to make it, and tells the refusal behind it, if there is
+/// one.
 pub fn end<W: Sink>(
     alloc: Global,
     writer: &mut W,
@@ -161,7 +164,8 @@ fn end_unrouted<W: Sink>(
     end(alloc, writer, made, None)
 }
 
-/// Serves a request that was read: makes the call that it asks for by the table of paths, and writes the answer.
+/// Serves a request that was read: makes the call that it asks for by the table of paths, and
+/// writes the answer.
 pub fn serve_request<W: Sink, C: Clerk>(
     alloc: Global,
     paths: &Paths,
@@ -209,10 +213,11 @@ pub fn serve_fault<W: Sink>(alloc: Global, writer: &mut W, fault: Fault) -> Resu
     }
 }
 
-/// Reads one request, makes the call that it asks for by the table of paths, and writes one answer. Errors: the clerk's own refusals, E17 to E21,
-/// which are written too and go before a fault of writing; `Cut` and `ReadFault`, behind which nothing is written; `WriteFault`,
-/// before which a prefix of the answer was; and E17 where the memory is refused here and the clerk refused nothing: a call that was
-/// made then stands.
+/// Reads one request, makes the call that it asks for by the table of paths, and writes one answer.
+/// Errors: the clerk's own refusals, E17 to E21, which are written too and go before a fault of
+/// writing; `Cut` and `ReadFault`, behind which nothing is written; `WriteFault`, before which a
+/// prefix of the answer was; and E17 where the memory is refused here and the clerk refused
+/// nothing: a call that was made then stands.
 pub fn serve_one<R: Source, W: Sink, C: Clerk>(
     alloc: Global,
     paths: &Paths,
@@ -221,9 +226,9 @@ pub fn serve_one<R: Source, W: Sink, C: Clerk>(
     clerk: &mut C,
     now: u64,
 ) -> Result<(), ServeError>
-    // What was read is a whole request, or its fault. Of a request that asks for a call, that call is made at this moment, once,
-    // and the text of the answer to its reply or refusal is written; else none is made, and the text of the answer to what is wrong
-    // is written.
+    // What was read is a whole request, or its fault. Of a request that asks for a call, that call
+    // is made at this moment, once, and the text of the answer to its reply or refusal is written;
+    // else none is made, and the text of the answer to what is wrong is written.
     ensures served { (read : Result TheRequest TheFault)
         × IsReading R.Source reader.old reader.new read × Serves (clerk.new ≡ clerk.old)
         (Makes C.Clerk clerk.old clerk.new now) W.Sink writer.old writer.new now read result }

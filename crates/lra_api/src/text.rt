@@ -5,9 +5,8 @@ ghost use Rattle.lra_id.specs.Ids.{text_of};
 ghost use Rattle.lra_api.specs.Texts.{member_body, more_rows, next_of, next_text, of_lra, of_status, page_body, recovery_path, refusal_body, rows_text, status_body, urn};
 ghost use Rattle.lra_api.specs.Texts as spec;
 
-use lra_id::LraId;
+use lra_id::{LraId, LraStatus, MemberStatus};
 use lra_replica::{Page, Row};
-use lra_states::{LraStatus, MemberStatus};
 use std::alloc::{AllocError, Global};
 
 fn push(body: &mut Vec<u8>, text: &str) -> Result<(), AllocError>

@@ -3,8 +3,8 @@ use Rattle.std.proofs.Common.{◌≡◌, ◌≤◌, ◌∙◌, ◌++◌, ◌∷�
 use Rattle.std.specs.List.{AllByRecursion}
 use Rattle.std.specs.Option.{option_map_or}
 use Rattle.lra_id.specs.Ids.{Id, is_fact_number}
-use Rattle.lra_states.specs.declared.status.LraStatus.{LraStatus}
-use Rattle.lra_states.specs.declared.status.MemberStatus.{MemberStatus}
+use Rattle.lra_id.specs.declared.status.LraStatus.{LraStatus}
+use Rattle.lra_id.specs.declared.status.MemberStatus.{MemberStatus}
 use Rattle.lra_facts.specs.declared.fact.Fact.{Fact}
 use Rattle.lra_facts.specs.declared.refusal.Refusal.{Refusal}
 use Rattle.lra_facts.specs.declared.refusal.Refusal.TheVariants.{NotHeld}
@@ -13,8 +13,8 @@ use Rattle.lra_facts.specs.Sets.{is_held, shows_now}
 use Rattle.lra_forest.specs.declared.record.Record.{Record}
 use Rattle.lra_forest.specs.Records.{record_of}
 use Rattle.lra_forest.proofs.Bools.{and_right}
-use Rattle.lra_history.specs.declared.command.Command.TheVariants.{Purge}
-use Rattle.lra_history.specs.declared.command.CommandReply.{CommandReply}
+use Rattle.lra_facts.specs.declared.command.Command.TheVariants.{Purge}
+use Rattle.lra_facts.specs.declared.command.CommandReply.{CommandReply}
 use Rattle.lra_history.specs.Growth.{IsSettled}
 use Rattle.lra_history.specs.Next.{member_shown_on, reply_on, shown_on}
 use Rattle.lra_history.specs.Readings.{by_view}

@@ -4,14 +4,14 @@ use Rattle.std.proofs.lemmas.Bool.Decides.{nat_tests}
 use Rattle.std.specs.Prelude.{IfSome, nat_le, nat_lt}
 use Rattle.lra_facts.specs.declared.refusal.Refusal.TheVariants.{RunFull, Stopped, TrailLost}
 use Rattle.lra_facts.specs.Refusals.{first, unless}
-use Rattle.lra_history.specs.Changes.{Change}
+use Rattle.lra_history.specs.Changes.{Change, with_patch}
 use Rattle.lra_history.specs.Views.{View}
 use Rattle.lra_book.specs.declared.calls.Call.{Call}
 use Rattle.lra_book.specs.declared.calls.Entry.{Entry}
 use Rattle.lra_book.specs.Books.{BookState, IsBook, refusal_at_once}
 use Rattle.sqlite_trees.specs.declared.store.Store.{Ghosts}
 use Rattle.lra_journal.specs.Keeping.{JournalState, Keeps}
-use Rattle.lra_book.specs.Next.{IsNext, with_patch}
+use Rattle.lra_book.specs.Next.{IsNext}
 use Rattle.lra_book.specs.Trails.{LeadsTo}
 use Rattle.lra_book.proofs.Trails.{legal_on}
 

@@ -6,6 +6,7 @@ ghost use Rattle.sqlite.specs.State.{HasCleanDisk, Survives};
 ghost use Rattle.sqlite_disk.specs.Disk.{MoreFaults};
 ghost use Rattle.sqlite.specs.Tree.{Trees};
 ghost use Rattle.lra_history.specs.Views.{empty_view};
+ghost use Rattle.lra_history.specs.Changes.{with_patch};
 ghost use Rattle.lra_replica.specs.Replicas.{Fits, view_of};
 ghost use Rattle.lra_book.specs.Books.{IsBegun, IsEntered, IsEnded, IsLegal, IsNotBegun, IsNotEntered, IsOpened, MayCommit, Stays, has_room_for, moves_in, refusal_at_once};
 ghost use Rattle.lra_journal.specs.Broken.{IsBrokenAt};
@@ -18,7 +19,7 @@ ghost use Rattle.lra_delta.specs.declared.version.Version.{Version};
 ghost use Rattle.lra_journal.specs.Tables.{IsJournal};
 ghost use Rattle.lra_book.specs.Desks.{AreSeen, IsLostBelow};
 ghost use Rattle.lra_book.specs.Looks.{lesser, look_of, lost_from};
-ghost use Rattle.lra_book.specs.Next.{IsNext, with_patch};
+ghost use Rattle.lra_book.specs.Next.{IsNext};
 ghost use Rattle.lra_book.specs.Trails.{entry, stands, tells};
 
 use crate::preparing::{carry_out, prepare};
@@ -204,8 +205,9 @@ fn lost_index(trail: &[Entry], receipts: &[Receipt]) -> Option<u64>
 }
 
 impl<S: Alter> Book<S> {
-    /// The book of node `me` of so many, over its journal, with no run on. A refusal hands the connection back.
-    /// It has the clauses of `Journal::open`, since nothing above a layer names the layer below it.
+    /// The book of node `me` of so many, over its journal, with no run on. A refusal hands the
+    /// connection back. It has the clauses of `Journal::open`, since nothing above a layer names
+    /// the layer below it.
     pub fn open(
         alloc: Global,
         connection: Connection<S>,
@@ -218,19 +220,20 @@ impl<S: Alter> Book<S> {
         ensures opened { IfOk result (λ book. IsOpened me nodes book
             × (book.journal.opened ≡ connection)) }
         ensures rows { IfOk result (λ book. Keeps S.Store me book.journal book.records) }
-        // A new store gets the rows of a view of no facts. Of a journal's rows, in version 1 or 2, the records are those that they
-        // stand for, by the rules of that version.
+        // A new store gets the rows of a view of no facts. Of a journal's rows, in version 1 or 2,
+        // the records are those that they stand for, by the rules of that version.
         ensures made { IfOk result (λ book. HasCleanDisk (state S.Store book.journal.connection) →
             IsNew (state S.Store connection) → book.records ≡ empty_view nodes) }
         ensures reads { IfOk result (λ book. HasCleanDisk (state S.Store book.journal.connection) →
             IsJournal (state S.Store connection) → (version : Version)
             × StandsAs version me (state S.Store connection).now.trees book.records
             × KeepsRulesAs version book.records) }
-        // The records keep the rules by which rows are read. So rows that break them aren't opened, where none stands twice.
+        // The records keep the rules by which rows are read. So rows that break them aren't opened,
+        // where none stands twice.
         ensures ruled { IfOk result (λ book. HasCleanDisk (state S.Store book.journal.connection) →
             IsOwn (state S.Store connection) → KeepsRules book.records) }
-        // Why it is refused: where the rows break the format, for lack of memory, or by the database. What the connection shows
-        // is left, while it is open.
+        // Why it is refused: where the rows break the format, for lack of memory, or by the
+        // database. What the connection shows is left, while it is open.
         ensures place { IfErr result (λ e. HasCleanDisk (state S.Store e.1) →
             IsJournal (state S.Store connection) → (k : ℕ) →
             e.0 ≡ BadFrame k → IsBrokenAt me nodes (state S.Store connection).now.trees k) }
@@ -239,10 +242,12 @@ impl<S: Alter> Book<S> {
         ensures unchanged { IfErr result (λ e. HasCleanDisk (state S.Store e.1) →
             IsOwn (state S.Store connection) → IsTrue (state S.Store e.1).is_open →
             (state S.Store e.1).now ≡ (state S.Store connection).now) }
-        // A connection whose transaction is on is refused, before all else, and comes back as it was.
+        // A connection whose transaction is on is refused, before all else, and comes back as it
+        // was.
         ensures busy { connection.in_transaction ≡ true →
             MatchResult result (λ _. ⊥) (λ e. (e.0 ≡ JournalFailed) × (e.1 ≡ connection)) }
-        // Of a journal E18 else comes only where the disk failed, or where SQL refuses to write rows of version 1 anew.
+        // Of a journal E18 else comes only where the disk failed, or where SQL refuses to write
+        // rows of version 1 anew.
         ensures failed { IfErr result (λ e. HasCleanDisk (state S.Store e.1) →
             IsJournal (state S.Store connection) → connection.in_transaction ≡ false →
             connection.step_limit ≡ None → e.0 ≡ JournalFailed →
@@ -250,8 +255,8 @@ impl<S: Alter> Book<S> {
             ⊎ IsUnwritable me (state S.Store connection).now.trees) }
         ensures cause { IfErr result (λ e. (e.0 ≡ NoMemory)
             ⊎ ((e.0 ≡ JournalFailed) ⊎ ((k : ℕ) × (e.0 ≡ BadFrame k)))) }
-        // Of a journal of version 2 a stop leaves what it left before. Of one of version 1 it may also leave its rows in version 2,
-        // and of a new store the rows of a view of no facts.
+        // Of a journal of version 2 a stop leaves what it left before. Of one of version 1 it may
+        // also leave its rows in version 2, and of a new store the rows of a view of no facts.
         ensures crash { IfOk result
             (λ book. Survives (state S.Store connection) (state S.Store book.journal.connection)
             (MayLeaveOpened (state S.Store connection) me nodes)) }
@@ -287,8 +292,8 @@ impl<S: Alter> Book<S> {
         &self.trail
     }
 
-    /// Begins a run: empties the trail, with room for all entries of a run, and takes what the node holds as its opening. It
-    /// gives the run's first pass. E19 where the journal failed.
+    /// Begins a run: empties the trail, with room for all entries of a run, and takes what the node
+    /// holds as its opening. It gives the run's first pass. E19 where the journal failed.
     pub fn start_run(&mut self, alloc: Global) -> Result<Pass, Refusal>
         requires { self.old.opening ≡ None }
         ensures pass { IfOk result (λ pass. pass ≡ 0) }
@@ -322,10 +327,11 @@ impl<S: Alter> Book<S> {
         None
     }
 
-    /// Makes a call at a moment, and enters it with its reply: it is prepared, stored, made and entered, in this order. The
-    /// receipt and the room for it are there before anything is stored. E19 where the journal failed before, E21 where the
-    /// pass has seen more than the trail has, E20 where the run has no room for the call: looked at first, in this order. E17,
-    /// and nothing changed. E18 where the journal refused: from then on the book is stopped.
+    /// Makes a call at a moment, and enters it with its reply: it is prepared, stored, made and
+    /// entered, in this order. The receipt and the room for it are there before anything is stored.
+    /// E19 where the journal failed before, E21 where the pass has seen more than the trail has,
+    /// E20 where the run has no room for the call: looked at first, in this order. E17, and nothing
+    /// changed. E18 where the journal refused: from then on the book is stopped.
     pub fn call(
         &mut self,
         alloc: Global,
@@ -343,7 +349,8 @@ impl<S: Alter> Book<S> {
         // A stop leaves what it left before, or rows for the view that comes next.
         ensures crash { Survives (state S.Store self.old.journal.connection)
             (state S.Store self.new.journal.connection) (MayCommit S.Store self.old call now) }
-        // While the connection is open, a stop leaves only rows for the records. So no answered call is lost.
+        // While the connection is open, a stop leaves only rows for the records. So no answered
+        // call is lost.
         ensures durable { HasCleanDisk (state S.Store self.new.journal.connection) →
             IsOwn (state S.Store self.new.journal.opened) →
             IsTrue (state S.Store self.new.journal.connection).is_open → (db : Trees) →
@@ -383,14 +390,16 @@ impl<S: Alter> Book<S> {
         })
     }
 
-    /// Whether the trail has all that a pass has seen, and each of its receipts. E19 where the journal failed before, E21 where
-    /// the pass has seen more than the trail has, with its length, or where a receipt isn't the trail's entry at its index, with
-    /// the least such index: looked at in this order.
+    /// Whether the trail has all that a pass has seen, and each of its receipts. E19 where the
+    /// journal failed before, E21 where the pass has seen more than the trail has, with its length,
+    /// or where a receipt isn't the trail's entry at its index, with the least such index: looked
+    /// at in this order.
     pub fn look(&self, pass: &Pass, receipts: &[Receipt]) -> Result<(), Refusal>
         ensures ok { OnOk result (look_of self.now pass.now receipts.now ≡ None) }
         ensures refused { IfErr result
             (λ refusal. look_of self.now pass.now receipts.now ≡ Some refusal) }
-        // E21 is at a place that the pass has seen, if its receipts are of entries that it has seen.
+        // E21 is at a place that the pass has seen, if its receipts are of entries that it has
+        // seen.
         ensures lost { AreSeen pass.now receipts.now → IfErr result (IsLostBelow pass.now) }
     {
         if self.stopped {

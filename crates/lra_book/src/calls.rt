@@ -5,11 +5,9 @@ ghost use Rattle.lra_book.specs.Next.{is_move};
 use crate::{Holding, Survey};
 use lra_callback::Duties;
 use lra_delta::Delta;
-use lra_facts::Refusal;
-use lra_history::{Command, CommandReply};
-use lra_id::LraId;
+use lra_facts::{Command, CommandReply, Refusal};
+use lra_id::{LraId, LraStatus, MemberStatus};
 use lra_replica::Page;
-use lra_states::{LraStatus, MemberStatus};
 use std::marker::Model;
 
 /// The body of a pull: the bytes in which another node says what it has. It is no `Bytes` of
@@ -35,14 +33,14 @@ impl PullBody {
         PullBody { bytes }
     }
 
-    /// They as a slice.
+    /// These bytes as a slice.
     pub fn as_slice(&self) -> &[u8]
         ensures { result.now ≡ self.now }
     {
         &self.bytes
     }
 
-    /// They as a vector.
+    /// These bytes as a vector.
     pub fn into_vec(self) -> Vec<u8>
         ensures { result.items ≡ self }
     {
@@ -67,7 +65,8 @@ pub enum Call {
     Page(Option<LraId>),
     /// Show all that is held of an LRA.
     Record(LraId),
-    /// List the LRAs that are held beyond this one, or from the first on, each with what is held of it in short.
+    /// List the LRAs that are held beyond this one, or from the first on, each with what is held of
+    /// it in short.
     Survey(Option<LraId>),
     /// Name the participants that are to be called.
     Duties,

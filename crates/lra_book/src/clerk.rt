@@ -23,13 +23,15 @@ pub trait Clerk {
     /// The receipts of its calls, in order.
     ghost receipts: { Self → List TheReceipt };
 
-    /// What holds of the clerk before and after one call at a moment, of which this came: each clerk says what makes its
-    /// replies true. It is told of one call alone, so what meets it made that call, once, and no other.
+    /// What holds of the clerk before and after one call at a moment, of which this came: each
+    /// clerk says what makes its replies true. It is told of one call alone, so what meets it made
+    /// that call, once, and no other.
     ghost called: { (old new : Self) → TheCall → ℕ → Result TheReply TheRefusal → Type 0 };
 
-    /// Makes a call at a moment, and puts its receipt last on the list; or refuses it, E17 to E21, and leaves the list.
-    /// `reply` lends what came of it: a reply that the call itself lent told a caller through this
-    /// trait nothing, and no clause on it could say that the list grew by just it.
+    /// Makes a call at a moment, and puts its receipt last on the list; or refuses it, E17 to E21,
+    /// and leaves the list. `reply` lends what came of it: a reply that the call itself lent told a
+    /// caller through this trait nothing, and no clause on it could say that the list grew by just
+    /// it.
     fn call(&mut self, alloc: Global, call: Call, now: u64) -> Result<(), Refusal>
         ensures { MatchResult result (λ _. IsOutcome
             (receipts self.old) (receipts self.new) call (Ok (last_reply (receipts self.new)))
@@ -91,7 +93,8 @@ impl<S: Alter> BookClerk<S> {
         (book, pass, receipts)
     }
 
-    /// Makes a call at a moment, and puts its receipt last on the list. There is room for it before the call.
+    /// Makes a call at a moment, and puts its receipt last on the list. There is room for it before
+    /// the call.
     fn enter(&mut self, alloc: Global, call: Call, now: u64) -> Result<(), Refusal>
         ensures entered { OnOk result (IsEnteredBy self.old self.new call now) }
         ensures refused { IfErr result (λ refusal. IsRefusedBy self.old self.new call refusal) }

@@ -18,9 +18,9 @@ use std::marker::{Brand, Model};
 use std::sync::ledger::{Blank, Ledger, Share};
 use std::sync::{Mutex, Wait, ledger};
 
-/// Which run it is: its ledger, its node, the view that the node had when it began, and whether it is known that the journal was
-/// opened on a store of its own. Whoever says so has to prove it. No clause of the server needs it,
-/// so only `test_calls` does.
+/// Which run it is: its ledger, its node, the view that the node had when it began, and whether it
+/// is known that the journal was opened on a store of its own. Whoever says so has to prove it. No
+/// clause of the server needs it, so only `test_calls` does.
 pub trait Run: Ledger {
     ghost use Rattle.lra_book.specs.Desks.{Opening};
 
@@ -34,7 +34,8 @@ impl Run for Brand {
         { node = 0; view = record { front = []; purges = []; records = [] }; own = false } };
 }
 
-/// What a thread keeps of its calls: what it has seen, a share of the run's ledger, and its receipts.
+/// What a thread keeps of its calls: what it has seen, a share of the run's ledger, and its
+/// receipts.
 #[derive(Drop)]
 pub struct DeskPass<J: Run> {
     pass: Pass,
@@ -298,8 +299,8 @@ impl<J: Run, S: Alter> Desk<J, S> {
         }
     }
 
-    /// Makes a call at a moment, and puts its receipt last on the pass's list. There is room for it before the lock is taken.
-    /// E17 to E21 leave the pass.
+    /// Makes a call at a moment, and puts its receipt last on the pass's list. There is room for it
+    /// before the lock is taken. E17 to E21 leave the pass.
     pub fn call<R: Wait>(
         &self,
         alloc: Global,
@@ -334,8 +335,8 @@ impl<J: Run, S: Alter> Desk<J, S> {
         Ok(())
     }
 
-    /// Ends the run, with all passes that `new` gave. It gives the book and the trail, and says whether the receipts are the
-    /// trail's entries, each once: E22 where they differ.
+    /// Ends the run, with all passes that `new` gave. It gives the book and the trail, and says
+    /// whether the receipts are the trail's entries, each once: E22 where they differ.
     pub fn close(self, passes: Vec<DeskPass<J>>) -> (Book<S>, Vec<Entry>, Result<(), Refusal>)
         requires all { (vec_len passes ≡ J.parts) × (1 ≤ vec_len passes) }
         ensures legal { LeadsTo J.opening.node J.opening.view result.1.items result.0.records }

@@ -10,12 +10,10 @@ ghost use Rattle.lra_book.specs.Next.{IsSurvey, held_reply, record_reply};
 
 use crate::Reply;
 use crate::preparing::act;
-use lra_facts::Refusal;
+use lra_facts::{Command, CommandReply, Refusal};
 use lra_forest::{Members, Record};
-use lra_history::{Command, CommandReply};
-use lra_id::{LraId, NodeId};
+use lra_id::{LraId, LraStatus, MemberStatus, NodeId};
 use lra_replica::{Replica, Row};
-use lra_states::{LraStatus, MemberStatus};
 use std::alloc::{AllocError, Global};
 use std::marker::Model;
 
@@ -27,7 +25,7 @@ pub struct MemberStatuses {
 
 impl Model for MemberStatuses {
     ghost use Rattle.std.specs.Prelude.{List, Option};
-    ghost use Rattle.lra_states.specs.declared.status.MemberStatus.{MemberStatus};
+    ghost use Rattle.lra_id.specs.declared.status.MemberStatus.{MemberStatus};
 
     ghost Value = { List (Option MemberStatus) };
 

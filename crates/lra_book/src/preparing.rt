@@ -1,9 +1,10 @@
 // What a call comes to, and carrying it out.
 ghost use Rattle.std.specs.Prelude.{◌≡◌, ◌≤◌, ◌<◌, ℕ, Err, IfErr, IfOk, IfSome, IsTrue, OnErr, OnOk, length};
 ghost use Rattle.lra_facts.specs.declared.refusal.Refusal.TheVariants.{NoMemory};
-ghost use Rattle.lra_history.specs.declared.command.Command.TheVariants.{Decide};
+ghost use Rattle.lra_facts.specs.declared.command.Command.TheVariants.{Decide};
 ghost use Rattle.lra_history.specs.Next.{member_shown_on, next_view, overdue_on, reply_on, shown_on};
 ghost use Rattle.lra_history.specs.Views.{View};
+ghost use Rattle.lra_history.specs.Changes.{with_patch};
 ghost use Rattle.lra_replica.specs.Replicas.{Fits, view_of};
 ghost use Rattle.lra_peer.specs.PullBodies.{asked};
 ghost use Rattle.lra_callback.specs.ViewDuties.{duties_of};
@@ -14,19 +15,17 @@ ghost use Rattle.sqlite.specs.Held.{state};
 ghost use Rattle.sqlite.specs.State.{HasCleanDisk, Survives};
 ghost use Rattle.lra_book.specs.declared.calls.Reply.TheVariants.{Due};
 ghost use Rattle.lra_book.specs.Books.{IsStoreFault};
-ghost use Rattle.lra_book.specs.Next.{IsListing, IsNext, IsTakeReply, expire_reply, expired, member_reply, pull_reply, status_reply, view_expired, with_patch};
+ghost use Rattle.lra_book.specs.Next.{IsListing, IsNext, IsTakeReply, expire_reply, expired, member_reply, pull_reply, status_reply, view_expired};
 
 use crate::holdings::{hold, survey_beyond};
 use crate::{Call, PullBody, Reply};
 use lra_callback::pick;
 use lra_delta::Delta;
-use lra_facts::Refusal;
-use lra_history::{Command, CommandReply};
-use lra_id::{LraId, NodeId};
+use lra_facts::{Command, CommandReply, Refusal};
+use lra_id::{LraId, NodeId, Verdict};
 use lra_journal::Journal;
 use lra_peer::serve_pull;
 use lra_replica::{Patch, Prepared, Replica};
-use lra_states::Verdict;
 use sqlite::Alter;
 use std::alloc::Global;
 
@@ -191,7 +190,8 @@ fn answer(reply: Result<Reply, Refusal>) -> Result<Step, Refusal>
     }
 }
 
-/// Prepares a call of a node at a moment: its reply, and what it changes, if anything. Only memory can be wanting.
+/// Prepares a call of a node at a moment: its reply, and what it changes, if anything. Only memory
+/// can be wanting.
 pub fn prepare(
     alloc: Global,
     replica: &mut Replica,
@@ -264,7 +264,8 @@ fn store<S: Alter>(
     }
 }
 
-/// Stores a patch, if there is one, and then makes its changes. Where it isn't stored, nothing is changed.
+/// Stores a patch, if there is one, and then makes its changes. Where it isn't stored, nothing is
+/// changed.
 pub fn carry_out<S: Alter>(
     alloc: Global,
     journal: &mut Journal<S>,

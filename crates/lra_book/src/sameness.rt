@@ -4,7 +4,7 @@ ghost use Rattle.lra_book.specs.Sameness.{same_call, same_command, same_duties, 
 
 use crate::{Call, Holding, Reply, Survey};
 use lra_callback::Duties;
-use lra_history::Command;
+use lra_facts::Command;
 use lra_replica::Page;
 
 fn same_command(a: &Command, b: &Command) -> bool

@@ -5,7 +5,8 @@ use Rattle.lra_http.specs.declared.fault.Fault.TheVariants.{Cut, ReadFault, Writ
 use Rattle.lra_http.specs.Responses.{HasNoResponse, IsResponse, head_room}
 use Rattle.lra_http.specs.Streams.{AllWell, Calls, GivenBytes, IsLost, OnReadFault}
 use Rattle.lra_http.proofs.Left.{response_found}
-use Rattle.lra_callback.specs.OneCall.{IsUnanswered, max_answer_bytes, answer_reads}
+use Rattle.lra_http.specs.Bodies.{max_body_bytes}
+use Rattle.lra_callback.specs.OneCall.{IsUnanswered, answer_reads}
 
 -- where a whole message P is refused for these two faults alone, any other fault tells that there is none
 none_there : {H : Type 0} (P : List ℕ → H → List ℕ → List ℕ → Type 0) (old : Option (List ℕ)) (fault : Fault)
@@ -32,7 +33,7 @@ not_read P old LengthNeeded Lost Well found calls memory = inr (none_there P old
 not_read P old NotOffered Lost Well found calls memory = inr (none_there P old NotOffered found (λ e. absurd (cc)) memory)
 
 pub broken_so : (old new : GivenBytes) (before after : Calls) → IsUnanswered old new before after
-    → IsLost answer_reads 0 before after ⊎ IfSome old.left (HasNoResponse head_room max_answer_bytes)
+    → IsLost answer_reads 0 before after ⊎ IfSome old.left (HasNoResponse head_room max_body_bytes)
 broken_so old new before after (fault, memory, stops, calls) =
-    not_read (IsResponse head_room max_answer_bytes) old.left fault (IsLost answer_reads 0 before after) (AllWell answer_reads 0 before after)
-    (response_found max_answer_bytes old new fault stops) calls memory
+    not_read (IsResponse head_room max_body_bytes) old.left fault (IsLost answer_reads 0 before after) (AllWell answer_reads 0 before after)
+    (response_found max_body_bytes old new fault stops) calls memory

@@ -4,11 +4,11 @@ use mathlib.Core.Bool.{not}
 use Rattle.std.specs.List.{list_any}
 use Rattle.std.specs.Option.{option_map_or}
 use Rattle.lra_id.specs.Ids.{Id}
-use Rattle.lra_states.specs.declared.outcome.Act.{Act}
-use Rattle.lra_states.specs.declared.outcome.Act.TheVariants.{Complete as CompleteAct, Compensate as CompensateAct}
-use Rattle.lra_states.specs.declared.outcome.Verdict.{Verdict}
-use Rattle.lra_states.specs.declared.outcome.Verdict.TheVariants.{Close, Cancel}
-use Rattle.lra_states.specs.declared.status.LraStatus.{LraStatus}
+use Rattle.lra_id.specs.declared.outcome.Act.{Act}
+use Rattle.lra_id.specs.declared.outcome.Act.TheVariants.{Complete as CompleteAct, Compensate as CompensateAct}
+use Rattle.lra_id.specs.declared.outcome.Verdict.{Verdict}
+use Rattle.lra_id.specs.declared.outcome.Verdict.TheVariants.{Close, Cancel}
+use Rattle.lra_id.specs.declared.status.LraStatus.{LraStatus}
 use Rattle.lra_facts.specs.declared.fact.Fact.{Fact}
 use Rattle.lra_facts.specs.Links.{Links}
 use Rattle.lra_facts.specs.Duties.{has_forgot, has_to_compensate, has_to_forget, holds_back, is_after_duty, is_at_end, is_compensation_due, is_forget_duty, is_over, is_uncompensated, owes_after, owes_forget, saga_path, topmost_cancelled}

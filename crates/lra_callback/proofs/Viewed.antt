@@ -2,15 +2,15 @@
 use Rattle.std.proofs.Common.{Bool, cond, ◌≡◌, ◌≤◌, ◌++◌, ◌∙◌, inl, inr, ℕ, List, [], ◌∷◌, refl, sym, ap, subst, Option, Some, None, filter_map, length, map}
 use Rattle.std.specs.List.{cons_option}
 use Rattle.std.specs.Option.{option_map_or}
-use Rattle.lra_states.specs.declared.outcome.Act.{Act}
-use Rattle.lra_states.specs.declared.outcome.Act.TheVariants.{Complete as CompleteAct, Compensate as CompensateAct}
+use Rattle.lra_id.specs.declared.outcome.Act.{Act}
+use Rattle.lra_id.specs.declared.outcome.Act.TheVariants.{Complete as CompleteAct, Compensate as CompensateAct}
 use Rattle.lra_facts.specs.declared.fact.Fact.{Fact}
 use Rattle.lra_facts.specs.Lists.{In}
 use Rattle.lra_forest.specs.declared.duties.Due.{Due}
 use Rattle.lra_forest.specs.declared.record.Participant.{Participant as ParticipantRecord}
 use Rattle.lra_forest.specs.Dues.{AreAll, IsDueAt}
 use Rattle.lra_forest.specs.Participants.{joined_as, parent_held}
-use Rattle.lra_states.specs.declared.status.LraStatus.{LraStatus}
+use Rattle.lra_id.specs.declared.status.LraStatus.{LraStatus}
 use Rattle.lra_history.specs.Growth.{IsSettled}
 use Rattle.lra_history.specs.Readings.{by_view}
 use Rattle.lra_history.specs.Views.{StandsFor, View}

@@ -1,6 +1,6 @@
 -- The words for the kinds of calls, and for what is heard of an answer.
 use Rattle.std.specs.Prelude.{ℕ, List, codes}
-use Rattle.lra_states.specs.declared.outcome.Outcome.TheVariants.{Busy, Done, Failed}
+use Rattle.lra_id.specs.declared.outcome.Outcome.TheVariants.{Busy, Done, Failed}
 use Rattle.lra_callback.specs.declared.answer.Heard.{Heard}
 use Rattle.lra_callback.specs.declared.answer.Heard.TheVariants.{Outcome, Forgot, Told, Again}
 use Rattle.lra_callback.specs.declared.answer.Kind.{Kind}

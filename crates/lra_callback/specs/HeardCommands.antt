@@ -1,9 +1,9 @@
 -- The command that enters what was heard.
 use Rattle.std.specs.Prelude.{ℕ, Option, Some, None}
 use Rattle.lra_id.specs.Ids.{Id}
-use Rattle.lra_states.specs.declared.outcome.Act.{Act}
-use Rattle.lra_history.specs.declared.command.Command.{Command}
-use Rattle.lra_history.specs.declared.command.Command.TheVariants.{Report, Forgot as ForgotAsked, Told as ToldAsked}
+use Rattle.lra_id.specs.declared.outcome.Act.{Act}
+use Rattle.lra_facts.specs.declared.command.Command.{Command}
+use Rattle.lra_facts.specs.declared.command.Command.TheVariants.{Report, Forgot as ForgotAsked, Told as ToldAsked}
 use Rattle.lra_callback.specs.declared.answer.Heard.{Heard}
 use Rattle.lra_callback.specs.declared.answer.Heard.TheVariants.{Outcome, Forgot, Told, Again}
 

@@ -4,6 +4,7 @@ use Rattle.http.specs.StatusCode.{IsStatusCode}
 use Rattle.lra_http.specs.declared.fault.Fault.{Fault}
 use Rattle.lra_http.specs.declared.fault.Fault.TheVariants.{NoMemory}
 use Rattle.lra_http.specs.ByteResponses.{Response}
+use Rattle.lra_http.specs.Bodies.{max_body_bytes}
 use Rattle.lra_http.specs.Faults.{Stops}
 use Rattle.lra_http.specs.Heads.{max_head_bytes}
 use Rattle.lra_http.specs.Responses.{IsMessage, Shows}
@@ -16,18 +17,14 @@ pub record Ends (R W : Type 0) : Type 0 where
   pub reader : R
   pub writer : W
 
--- the most bytes of an answer's body
-abbrev pub max_answer_bytes : ℕ
-max_answer_bytes = 65536
-
 -- the most reads of an answer, apart from the interrupted ones
 abbrev pub answer_reads : ℕ
-answer_reads = max_head_bytes + 1 + max_answer_bytes
+answer_reads = max_head_bytes + 1 + max_body_bytes
 
 -- the bytes are a whole response with this code and this body, and no byte more
 pub record HasAnswered (bytes : List ℕ) (code : ℕ) (body : List ℕ) : Type 0 where
   pub response : Response
-  pub whole : IsMessage max_answer_bytes bytes response
+  pub whole : IsMessage max_body_bytes bytes response
   pub code_is : code ≡ response.status
   pub body_is : body ≡ response.body
 
@@ -39,17 +36,13 @@ IsCodeOf old new Broken = Unit {0}
 -- what was given shows why there is no whole response, or a read failed
 abbrev pub IsUnanswered : (old new : GivenBytes) (before after : Calls) → Type 0
 IsUnanswered old new before after =
-    (fault : Fault) × (fault ≢ NoMemory) × Stops old new (Shows max_answer_bytes) fault
+    (fault : Fault) × (fault ≢ NoMemory) × Stops old new (Shows max_body_bytes) fault
     × OnReadFault (IsLost answer_reads 0 before after) (AllWell answer_reads 0 before after) fault
 
 -- what was given tells the answer, and so the reads came out
 abbrev pub IsTold : (old new : GivenBytes) (before after : Calls) → Answer → Type 0
 IsTold old new before after (Code code body) = IsCodeOf old new (Code code body) × AllWell answer_reads 0 before after
 IsTold old new before after Broken = IsUnanswered old new before after
-
--- all of the request was taken and passed on, and no write failed
-abbrev pub IsSent : (old new : TakenBytes) (before after : Calls) → List ℕ → Type 0
-IsSent old new before after text = Takes old new text × IsFlushed new × AllWell (length text + 1) 0 before after
 
 -- a write failed, before which a part of the request was taken
 abbrev pub IsUnsent : (old new : TakenBytes) (before after : Calls) → List ℕ → Type 0

@@ -1,10 +1,10 @@
 -- What participants are called for now, by a view.
 use Rattle.std.specs.Prelude.{◌++◌, ℕ, List, Option, Some, None, filter_map, if◌then◌else◌}
 use Rattle.std.specs.Option.{option_map_or}
-use Rattle.lra_states.specs.declared.outcome.Act.{Act}
-use Rattle.lra_states.specs.declared.outcome.Act.TheVariants.{Complete as CompleteAct, Compensate as CompensateAct}
+use Rattle.lra_id.specs.declared.outcome.Act.{Act}
+use Rattle.lra_id.specs.declared.outcome.Act.TheVariants.{Complete as CompleteAct, Compensate as CompensateAct}
 use Rattle.lra_id.specs.Ids.{Id}
-use Rattle.lra_states.specs.declared.status.LraStatus.{LraStatus}
+use Rattle.lra_id.specs.declared.status.LraStatus.{LraStatus}
 use Rattle.lra_forest.specs.declared.duties.Due.{Due}
 use Rattle.lra_forest.specs.declared.record.Participant.{Participant as ParticipantRecord}
 use Rattle.lra_history.specs.Readings.{by_view}

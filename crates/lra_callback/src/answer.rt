@@ -4,14 +4,13 @@ ghost use Rattle.lra_callback.specs.CallWords.{heard_name, kind_name};
 ghost use Rattle.lra_callback.specs.HeardCommands.{command_heard};
 ghost use Rattle.lra_callback.specs.Answers.{done_status, failed_status, heard_by_act, heard_by_after, heard_by_forget, heard_by_status, heard_of, unquoted, without_leading, without_trailing};
 
-use lra_history::Command;
+use lra_facts::Command;
 use lra_http::Bytes;
-use lra_id::LraId;
-use lra_states::{Act, MemberStatus, Outcome};
+use lra_id::{Act, LraId, MemberStatus, Outcome};
 use std::fmt;
 
-/// What a participant is called for: to complete, to compensate, for the status of one of these, to forget, or to hear that its
-/// LRA has ended.
+/// What a participant is called for: to complete, to compensate, for the status of one of these, to
+/// forget, or to hear that its LRA has ended.
 #[derive(Clone, Copy, Debug, PartialEq, Eq)]
 pub enum Kind {
     Complete,
@@ -53,7 +52,8 @@ pub enum Answer {
     Broken,
 }
 
-/// What is heard of an answer. Of one that counts for nothing the participant is to be called again.
+/// What is heard of an answer. Of one that counts for nothing the participant is to be called
+/// again.
 #[derive(Clone, Copy, Debug, PartialEq, Eq)]
 pub enum Heard {
     /// This outcome of the act.
@@ -81,8 +81,8 @@ impl Heard {
         }
     }
 
-    /// The command that enters it, where it was heard of a participant in a call for this act: a report of the act, a forgot or a told;
-    /// none where the participant is to be called again.
+    /// The command that enters it, where it was heard of a participant in a call for this act: a
+    /// report of the act, a forgot or a told; none where the participant is to be called again.
     pub fn command(self, id: LraId, member: u8, act: Act) -> Option<Command>
         ensures { result ≡ command_heard id member act self }
     {

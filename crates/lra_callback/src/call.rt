@@ -1,10 +1,10 @@
 // One call over a connection: a request is written, and its answer read.
 ghost use Rattle.std.specs.Prelude.{◌≡◌, ◌⊎◌, IfOk, OnErr};
-ghost use Rattle.lra_http.specs.Streams.{AllWell};
+ghost use Rattle.lra_http.specs.Streams.{AllWell, IsSent};
 ghost use Rattle.lra_http.specs.MessageTexts.{request_text};
 ghost use Rattle.lra_http.specs.declared.message.CallRequest.{CallRequest as TheRequest};
 ghost use Rattle.lra_callback.specs.declared.answer.Answer.{Answer as TheAnswer};
-ghost use Rattle.lra_callback.specs.OneCall.{IsBroken, IsOfStatus, IsSent, IsTold, IsUnsent, answer_reads};
+ghost use Rattle.lra_callback.specs.OneCall.{IsBroken, IsOfStatus, IsTold, IsUnsent, answer_reads};
 
 use crate::Answer;
 use lra_http::{CallRequest, Fault, MAX_BODY_BYTES, Sink, Source, read_response, write_request};
@@ -17,24 +17,26 @@ pub struct NoMemory;
 
 /// What participants are called with.
 pub trait Caller {
-    /// What holds of the caller before and after a request was answered so: each caller says what makes its answers true.
+    /// What holds of the caller before and after a request was answered so: each caller says what
+    /// makes its answers true.
     ghost answered: { (old new : Self) → TheRequest → TheAnswer → Type 0 };
 
     /// What holds of it before and after a call whose memory was refused.
     ghost unanswered: { (old new : Self) → TheRequest → Type 0 };
 
-    /// Makes one call. Where the request can't be brought to the participant, or no whole response comes of it, the answer
-    /// is `Broken`. Of that the trait promises what the caller's `answered` says, and no more. Errors: out of memory, of which
-    /// it promises what the caller's `unanswered` says.
+    /// Makes one call. Where the request can't be brought to the participant, or no whole response
+    /// comes of it, the answer is `Broken`. Of that the trait promises what the caller's `answered`
+    /// says, and no more. Errors: out of memory, of which it promises what the caller's
+    /// `unanswered` says.
     fn call(&mut self, alloc: Global, request: &CallRequest) -> Result<Answer, NoMemory>
         ensures answered { IfOk result (answered self.old self.new request.now) }
         ensures memory { OnErr result (unanswered self.old self.new request.now) }
         ensures status { IfOk result IsOfStatus };
 }
 
-/// A caller over one connection, for one call: its request says that the connection ends with the answer. Over a socket a
-/// buffered reader goes below, since a head is read one byte a call. Each clause would hold of a
-/// second call too.
+/// A caller over one connection, for one call: its request says that the connection ends with the
+/// answer. Over a socket a buffered reader goes below, since a head is read one byte a call. Each
+/// clause would hold of a second call too.
 #[derive(Drop)]
 pub struct NetCaller<R, W> {
     reader: R,
@@ -82,12 +84,13 @@ impl<R: Source, W: Sink> NetCaller<R, W> {
         (self.reader, self.writer)
     }
 
-    /// Writes a request, and reads its answer, with a body of at most 65,536 bytes. The answer is `Broken` where a write or a
-    /// read fails, or no whole response comes. Errors: out of memory.
+    /// Writes a request, and reads its answer, with a body of at most 65,536 bytes. The answer is
+    /// `Broken` where a write or a read fails, or no whole response comes. Errors: out of memory.
     pub fn ask(&mut self, alloc: Global, request: &CallRequest) -> Result<Answer, NoMemory>
-        // The answer is broken where a write failed, and then nothing was read. Else the whole request was written and passed
-        // on, and what was given since the call tells the answer: a code and a body are those of the whole response that was
-        // given, and no byte more; or what was given shows why no whole response came, or a read failed.
+        // The answer is broken where a write failed, and then nothing was read. Else the whole
+        // request was written and passed on, and what was given since the call tells the answer: a
+        // code and a body are those of the whole response that was given, and no byte more; or what
+        // was given shows why no whole response came, or a read failed.
         ensures told { IfOk result (λ answer. (IsBroken answer × IsUnsent (W.stream self.old.writer)
             (W.stream self.new.writer) (W.calls self.old.writer) (W.calls self.new.writer)
             (request_text request.now) × (self.new.reader ≡ self.old.reader))
@@ -95,7 +98,8 @@ impl<R: Source, W: Sink> NetCaller<R, W> {
             (W.calls self.old.writer) (W.calls self.new.writer) (request_text request.now)
             × IsTold (R.stream self.old.reader) (R.stream self.new.reader)
             (R.calls self.old.reader) (R.calls self.new.reader) answer)) }
-        // Where the memory is refused nothing was written or read, or the whole request was written; and no call failed.
+        // Where the memory is refused nothing was written or read, or the whole request was
+        // written; and no call failed.
         ensures memory { OnErr result ((self.new ≡ self.old)
             ⊎ (IsSent (W.stream self.old.writer) (W.stream self.new.writer)
             (W.calls self.old.writer) (W.calls self.new.writer) (request_text request.now)

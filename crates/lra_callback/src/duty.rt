@@ -13,18 +13,19 @@ ghost use Rattle.lra_callback.specs.ViewDuties.{act_by, duties_of, duty_by, show
 use crate::Kind;
 use lra_facts::{Link, Refusal};
 use lra_forest::{Due, Participant};
-use lra_id::{LraId, NodeId};
+use lra_id::{Act, LraId, LraStatus, NodeId, Outcome, Verdict};
 use lra_replica::Replica;
-use lra_states::{Act, LraStatus, Outcome, Verdict};
 use std::alloc::{AllocError, Global};
 use std::marker::Model;
 
-/// A participant that is to be called: what for, at which link, and the parent of its LRA, if it is nested.
+/// A participant that is to be called: what for, at which link, and the parent of its LRA, if it is
+/// nested.
 #[derive(Debug, PartialEq, Drop)]
 pub struct Duty {
     /// What the call is.
     pub kind: Kind,
-    /// The act that is to be done, is asked about, or was done; of a forget, and of the end, the one that the LRA wants.
+    /// The act that is to be done, is asked about, or was done; of a forget, and of the end, the
+    /// one that the LRA wants.
     pub act: Act,
     /// The LRA.
     pub id: LraId,
@@ -99,8 +100,8 @@ impl Clone for Duties {
     }
 }
 
-/// What a participant is called for: to do an act, to be released from remembering it, or to hear that its LRA has ended.
-/// The `Errand` of `lra_forest` is what is owed at a record.
+/// What a participant is called for: to do an act, to be released from remembering it, or to hear
+/// that its LRA has ended. The `Errand` of `lra_forest` is what is owed at a record.
 #[derive(Clone, Copy)]
 enum Errand {
     Call(Act),
@@ -229,9 +230,10 @@ fn add(
     Ok(())
 }
 
-/// The participants in LRAs of a home that are to be called now: first to complete, by LRA and member number; then to compensate,
-/// by the number of the topmost cancelled LRA; then those to be told that they may forget, and those to be told that
-/// their LRAs have ended, by LRA and member number. Errors: NoMemory.
+/// The participants in LRAs of a home that are to be called now: first to complete, by LRA and
+/// member number; then to compensate, by the number of the topmost cancelled LRA; then those to be
+/// told that they may forget, and those to be told that their LRAs have ended, by LRA and member
+/// number. Errors: NoMemory.
 pub fn pick(alloc: Global, replica: &Replica, me: NodeId) -> Result<Duties, Refusal>
     requires { me ≤ length replica.now.front }
     ensures next { IfOk result (λ duties. duties ≡ duties_of (view_of replica.now) me) }

@@ -8,8 +8,8 @@ use Rattle.url.specs.Parser.{parse_url, split_scheme}
 use Rattle.url.specs.Scheme.{scheme_len}
 use Rattle.lra_id.specs.Fronts.{count}
 use Rattle.std.proofs.lemmas.Bool.Decides.{nat_tests}
-use Rattle.lra_states.specs.declared.outcome.Outcome.{Outcome}
-use Rattle.lra_states.specs.declared.outcome.Outcome.TheVariants.{Busy, Done, Failed}
+use Rattle.lra_id.specs.declared.outcome.Outcome.{Outcome}
+use Rattle.lra_id.specs.declared.outcome.Outcome.TheVariants.{Busy, Done, Failed}
 use Rattle.lra_facts.specs.LinkTexts.{is_kept}
 use Rattle.lra_forest.specs.declared.record.Participant.{Participant as ParticipantRecord}
 use Rattle.lra_forest.specs.declared.record.Member.{Member}

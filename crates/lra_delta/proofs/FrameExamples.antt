@@ -1,7 +1,7 @@
 -- the worked frames compute
 use Rattle.std.proofs.Common.{◌≡◌, ℕ, List, [], ◌∷◌, ◌++◌, take, drop, Some, None, Ok, Err, refl}
 use Rattle.std.specs.Prelude.{slice_set}
-use Rattle.lra_states.specs.declared.outcome.Verdict.TheVariants.{Close}
+use Rattle.lra_id.specs.declared.outcome.Verdict.TheVariants.{Close}
 use Rattle.lra_delta.specs.declared.version.Version.TheVariants.{One}
 use Rattle.lra_delta.specs.declared.input.Stop.TheVariants.{Fault}
 use Rattle.lra_delta.specs.Frames.{Frame}

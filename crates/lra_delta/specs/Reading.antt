@@ -1,10 +1,10 @@
 -- the table of a frame's fields in order, each with its width and its rule
 use Rattle.std.specs.Prelude.{◌+◌, ◌-◌, ◌==◌, ℕ, zero, suc, List, [], ◌∷◌, Bool, Option, Some, None, Result, Ok, Err, false, true, is_none, is_some, length, nat_lt, slice_index, if◌then◌else◌, min}
 use Rattle.std.specs.Int.{w8, w16, w32, w64}
-use Rattle.lra_states.specs.declared.outcome.Verdict.{Verdict}
-use Rattle.lra_states.specs.declared.outcome.Verdict.TheVariants.{Close, Cancel}
-use Rattle.lra_states.specs.declared.outcome.Outcome.{Outcome}
-use Rattle.lra_states.specs.declared.outcome.Outcome.TheVariants.{Busy, Done, Failed}
+use Rattle.lra_id.specs.declared.outcome.Verdict.{Verdict}
+use Rattle.lra_id.specs.declared.outcome.Verdict.TheVariants.{Close, Cancel}
+use Rattle.lra_id.specs.declared.outcome.Outcome.{Outcome}
+use Rattle.lra_id.specs.declared.outcome.Outcome.TheVariants.{Busy, Done, Failed}
 use Rattle.lra_delta.specs.declared.input.Stop.{Stop}
 use Rattle.lra_forest.specs.declared.record.Place.{Place}
 use Rattle.lra_forest.specs.declared.record.Participant.{Participant as ParticipantRecord}

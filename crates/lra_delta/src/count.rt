@@ -7,7 +7,7 @@ use lra_http::Log;
 
 /// Counts the bytes that are put, and keeps none.
 #[derive(Drop)]
-pub struct Count {
+pub struct ByteCount {
     text: Log,
     total: u64,
     over: bool,
@@ -16,12 +16,12 @@ pub struct Count {
     ghost beyond: { over ≡ true → 2 ^ 64 ≤ length text },
 }
 
-impl Count {
+impl ByteCount {
     /// Nothing was put yet.
-    pub fn new() -> Count
-        ensures { ⟦<Count as Output>⟧.text result ≡ [] }
+    pub fn new() -> ByteCount
+        ensures { ⟦<ByteCount as Output>⟧.text result ≡ [] }
     {
-        Count {
+        ByteCount {
             text: Log::new(),
             total: 0,
             over: false,
@@ -30,21 +30,21 @@ impl Count {
 
     /// How many bytes were put, as a number of 64 bits.
     pub fn total(&self) -> u64
-        ensures { result ≡ length (⟦<Count as Output>⟧.text self.now) % 2 ^ 64 }
+        ensures { result ≡ length (⟦<ByteCount as Output>⟧.text self.now) % 2 ^ 64 }
     {
         self.total
     }
 
     /// How many bytes were put, or `None` where no number of 64 bits counts them.
     pub fn exact(&self) -> Option<u64>
-        ensures some { IfSome result (λ n. n ≡ length (⟦<Count as Output>⟧.text self.now)) }
-        ensures none { IfNone result (2 ^ 64 ≤ length (⟦<Count as Output>⟧.text self.now)) }
+        ensures some { IfSome result (λ n. n ≡ length (⟦<ByteCount as Output>⟧.text self.now)) }
+        ensures none { IfNone result (2 ^ 64 ≤ length (⟦<ByteCount as Output>⟧.text self.now)) }
     {
         if self.over { None } else { Some(self.total) }
     }
 }
 
-impl Output for Count {
+impl Output for ByteCount {
     ghost text = { λ s. s.text };
 
     ghost start = { λ _. no_sink };

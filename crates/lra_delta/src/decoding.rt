@@ -29,7 +29,8 @@ fn decoded(alloc: Global, bytes: &[u8]) -> Result<Delta, Refusal>
 }
 
 impl Delta {
-    /// What all of the bytes encode, in version 1 or 2. E16 at the place of the first field that isn't whole or breaks its rule.
+    /// What all of the bytes encode, in version 1 or 2. E16 at the place of the first field that
+    /// isn't whole or breaks its rule.
     pub fn decode(alloc: Global, bytes: &[u8]) -> Result<Delta, Refusal>
         // Which place it is.
         ensures exact { Decodes result (frame_in bytes.now) }

@@ -15,7 +15,7 @@ ghost use Rattle.lra_delta.specs.Typed.{IsTyped, IsTypedRecord};
 
 use crate::Delta;
 use crate::buffer::Buffer;
-use crate::count::Count;
+use crate::count::ByteCount;
 use crate::output::Output;
 use crate::record_encoding::{put_byte, put_front, put_numbers, put_record};
 use crate::version::Version;
@@ -143,7 +143,7 @@ pub(crate) fn put_body<O: Output>(out: &mut O, version: Version, delta: &Delta)
 fn body_length(version: Version, delta: &Delta) -> u64
     ensures { result ≡ length (body version delta.now) % 2 ^ 64 }
 {
-    let mut count = Count::new();
+    let mut count = ByteCount::new();
     put_body(&mut count, version, delta);
     count.total()
 }
@@ -170,8 +170,8 @@ pub fn put_frame<O: Output>(out: &mut O, version: Version, delta: &Delta)
     put_body(out, version, delta);
 }
 
-/// The bytes that encode what a node tells, in version 2. What keeps the rules that the frames of nodes of a history keep keeps those of a
-/// frame, so that its bytes are read as itself again.
+/// The bytes that encode what a node tells, in version 2. What keeps the rules that the frames of
+/// nodes of a history keep keeps those of a frame, so that its bytes are read as itself again.
 pub fn encode(alloc: Global, delta: &Delta) -> Result<Vec<u8>, AllocError>
     ensures text { IfOk result (λ bytes. bytes.items ≡ encoding delta.now) }
     ensures frame { IsOfGrammar delta.now → IsDelta delta.now }
@@ -223,8 +223,8 @@ fn needs_two(delta: &Delta) -> bool
     any_tells(delta.homes())
 }
 
-/// The bytes that encode what a node tells in version 1, for nodes that know no other. Errors: E23 where a record has a link for
-/// the end of its LRA, and only there; E17.
+/// The bytes that encode what a node tells in version 1, for nodes that know no other. Errors: E23
+/// where a record has a link for the end of its LRA, and only there; E17.
 pub fn encode_v1(alloc: Global, delta: &Delta) -> Result<Vec<u8>, Refusal>
     ensures text { IfOk result (λ bytes. bytes.items ≡ encoding_as One delta.now) }
     ensures refused { IfErr result (λ refusal. (refusal ≡ NoMemory) ⊎ (refusal ≡ NeedsVersion2)) }

@@ -45,8 +45,9 @@ pub fn a_set_has_a_view()
         IsCounted S front → (view : View) × (view.front ≡ front) × StandsFor S view }
 {}
 
-/// Where a base counts nothing that a closed set lacks, that set lacks nothing that the frame of another since the base leaves
-/// out: no purge of a home whose live list is left out, and no fact about an LRA whose record is.
+/// Where a base counts nothing that a closed set lacks, that set lacks nothing that the frame of
+/// another since the base leaves out: no purge of a home whose live list is left out, and no fact
+/// about an LRA whose record is.
 pub fn a_base_below_leaves_out_nothing()
     ensures purges { (h : History) (v w base : List ℕ) (home : ℕ) (f : Fact) (a : Id) →
         IsLawful h → IsClosed h v → IsClosed h w →
@@ -57,8 +58,9 @@ pub fn a_base_below_leaves_out_nothing()
         In f (facts h w) → is_about l f ≡ true → In f (facts h v) }
 {}
 
-/// A view of a closed set that takes the frame of another since a base below its front is the view of the sets' union, and
-/// there is such a view, with the shape. It is what comes of merging the other's view too.
+/// A view of a closed set that takes the frame of another since a base below its front is the view
+/// of the sets' union, and there is such a view, with the shape. It is what comes of merging the
+/// other's view too.
 pub fn a_taken_frame_is_the_union()
     ensures view { (h : History) (v w base : List ℕ) (a c : View) (frame : Frame) → IsLawful h →
         IsClosed h v → IsClosed h w → StandsFor (facts h v) a → IsFrame (facts h w) base frame →
@@ -80,15 +82,17 @@ pub fn frames_of_a_history_keep_the_rules()
         IsBelow base view.front → IsOfGrammar (frame_of view base) }
 {}
 
-/// A frame that keeps the rules is no longer than a frame can be, where no link is longer than links can be.
+/// A frame that keeps the rules is no longer than a frame can be, where no link is longer than
+/// links can be.
 #[tactic(auto, using(crate::proofs::FrameSizes::frame_most))]
 pub fn frames_are_not_too_long()
     ensures { (version : Version) (frame : Frame) →
         IsOfGrammar frame → length frame.front ≤ 8 → IsShort frame → frame_size version frame ≤ 67108855 }
 {}
 
-/// What keeps the rules that the frames of nodes of a history keep, and has the types of a delta, keeps the rules of a frame. So
-/// what a node of a lawful history tells has an encoding, which is read as itself again.
+/// What keeps the rules that the frames of nodes of a history keep, and has the types of a delta,
+/// keeps the rules of a frame. So what a node of a lawful history tells has an encoding, which is
+/// read as itself again.
 pub fn frames_of_a_history_have_an_encoding()
     ensures rules { (frame : Frame) → IsTyped frame → IsOfGrammar frame → IsDelta frame }
     ensures first { (frame : Frame) → IsTyped frame → IsOfGrammar frame →
@@ -99,8 +103,8 @@ pub fn frames_of_a_history_have_an_encoding()
         frame_in (encoding (frame_of view base)) ≡ Ok (frame_of view base) }
 {}
 
-/// What a node of a lawful history keeps of an LRA has an encoding of its own, under its front: it fits there, and what fits and
-/// has the types of a record keeps the rules.
+/// What a node of a lawful history keeps of an LRA has an encoding of its own, under its front: it
+/// fits there, and what fits and has the types of a record keeps the rules.
 pub fn records_of_a_history_have_an_encoding()
     ensures fit { (h : History) (w : List ℕ) (view : View) (home : ℕ) (kept : Record) →
         IsLawful h → IsClosed h w →
@@ -110,16 +114,16 @@ pub fn records_of_a_history_have_an_encoding()
         IsTypedRecord kept → KeepsRulesUnder front kept → IsRecordUnder front kept }
 {}
 
-/// A record that keeps the rules of version 1 under a front keeps those of version 2. So one that was read in version 1 is read back
-/// where it is written in version 2.
+/// A record that keeps the rules of version 1 under a front keeps those of version 2. So one that
+/// was read in version 1 is read back where it is written in version 2.
 #[tactic(auto, using(crate::proofs::FirstVersion::record_first))]
 pub fn a_record_of_version_1_keeps_the_rules_of_version_2()
     ensures { (front : List ℕ) (kept : Record) →
         IsRecordUnderAs One front kept → IsRecordUnder front kept }
 {}
 
-/// What keeps the rules of a frame of a version has one encoding of it, and no prefix of an encoding is another's, of whichever
-/// version. So it is of a record under a front.
+/// What keeps the rules of a frame of a version has one encoding of it, and no prefix of an
+/// encoding is another's, of whichever version. So it is of a record under a front.
 pub fn one_encoding()
     ensures frame { (v w : Version) (a b : Frame) (x y : List ℕ) → IsDeltaAs v a → IsDeltaAs w b →
         encoding_as v a ++ x ≡ encoding_as w b ++ y → (v ≡ w) × (a ≡ b) × (x ≡ y) }

@@ -30,7 +30,7 @@ mod writing;
 
 pub use buffer::Buffer;
 pub use bytes::Bytes;
-pub use count::Count;
+pub use count::ByteCount;
 pub use delta::Delta;
 pub use frame_encoding::{encode, encode_v1, put_frame};
 pub use input::{Input, Stop};

@@ -11,7 +11,7 @@ use crate::fields::byte;
 use crate::input::{Input, Stop};
 use crate::version::Version;
 use lra_facts::{Link, Links};
-use lra_states::Outcome;
+use lra_id::Outcome;
 
 /// What was heard of a participant, and what it was told.
 #[derive(Clone, Copy, Debug, PartialEq, Eq)]

@@ -57,8 +57,8 @@ fn alone(alloc: Global, bytes: &[u8], front: &Front, version: Version) -> Result
     }
 }
 
-/// The record that all of the bytes encode in a version, with base zero and no live list, under a front. E16 at the place of the first field
-/// that isn't whole or breaks its rule.
+/// The record that all of the bytes encode in a version, with base zero and no live list, under a
+/// front. E16 at the place of the first field that isn't whole or breaks its rule.
 pub fn decode_record(
     alloc: Global,
     bytes: &[u8],
@@ -78,7 +78,8 @@ pub fn decode_record(
     alone(alloc, bytes, front, version)
 }
 
-/// The bytes that encode a record, in version 2. Under a front where it fits they are read as itself again.
+/// The bytes that encode a record, in version 2. Under a front where it fits they are read as
+/// itself again.
 pub fn encode_record(alloc: Global, kept: &Record) -> Result<Vec<u8>, AllocError>
     ensures text { IfOk result (λ bytes. bytes.items ≡ record_text kept.now) }
     ensures rules { (front : List ℕ) →

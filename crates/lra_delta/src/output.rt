@@ -2,7 +2,8 @@
 ghost use Rattle.std.specs.Prelude.{◌≡◌, ◌++◌, ℕ, List};
 ghost use Rattle.lra_delta.specs.WrittenSoFar.{Start};
 
-/// What a frame is written to, field by field. One that may meet a fault keeps it, and goes on in `text` alone.
+/// What a frame is written to, field by field. One that may meet a fault keeps it, and goes on in
+/// `text` alone.
 pub trait Output {
     /// All that was put so far, also after a fault.
     ghost text: { Self → List ℕ };

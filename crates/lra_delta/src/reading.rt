@@ -15,12 +15,13 @@ use lra_http::Source;
 use std::alloc::Global;
 
 impl Delta {
-    /// A frame of exactly so many bytes, of version 1 or 2, read from a source number by number and text by text: over a socket a buffered reader
-    /// goes below. What is behind them is left unread. `interrupted` counts the interrupted calls of the message that they belong
-    /// to. E16 at the place of the first field that isn't whole within the frame or breaks its rule, of which no more was read than
-    /// tells so, and nothing behind it: of a link whose length breaks its rule that length alone,
-    /// and no field for which the stated length has no room. `Cut` or `ReadFault` where the source
-    /// ends or fails before that.
+    /// A frame of exactly so many bytes, of version 1 or 2, read from a source number by number and
+    /// text by text: over a socket a buffered reader goes below. What is behind them is left
+    /// unread. `interrupted` counts the interrupted calls of the message that they belong to. E16
+    /// at the place of the first field that isn't whole within the frame or breaks its rule, of
+    /// which no more was read than tells so, and nothing behind it: of a link whose length breaks
+    /// its rule that length alone, and no field for which the stated length has no room. `Cut` or
+    /// `ReadFault` where the source ends or fails before that.
     pub fn read<S: Source>(
         alloc: Global,
         reader: &mut S,
@@ -28,7 +29,8 @@ impl Delta {
         interrupted: &mut u16,
     ) -> Result<Delta, Stop>
         requires { interrupted.old < too_many_interrupted }
-        // What was given is the encoding of a frame that keeps the rules, in a version, and no byte more.
+        // What was given is the encoding of a frame that keeps the rules, in a version, and no byte
+        // more.
         ensures frame { IfOk result (λ delta. (version : Version)
             × IsDeltaAs version delta × (length (encoding_as version delta) ≡ bytes)
             × Gives (S.stream reader.old) (S.stream reader.new) (encoding_as version delta)) }

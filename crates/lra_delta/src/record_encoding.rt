@@ -10,8 +10,7 @@ use crate::output::Output;
 use crate::version::Version;
 use lra_facts::{Link, Links};
 use lra_forest::{Member, Members, Participant, Place, Record};
-use lra_id::Front;
-use lra_states::{Outcome, Verdict};
+use lra_id::{Front, Outcome, Verdict};
 
 /// A number of one byte.
 pub(crate) fn put_byte<O: Output>(out: &mut O, n: u8)

@@ -20,8 +20,7 @@ use crate::order::Last;
 use crate::version::Version;
 use lra_facts::{Link, Links};
 use lra_forest::{Member, Members, Participant, Place, Record, Told};
-use lra_id::{Front, NodeId};
-use lra_states::Verdict;
+use lra_id::{Front, NodeId, Verdict};
 use std::alloc::Global;
 
 #[tactic(auto, unfolding(crate::specs::Reading::place_at))]
@@ -150,7 +149,8 @@ fn links_of(
     }
 }
 
-/// What it takes is dropped. An early return that drops four links has an end for each that is given.
+/// What it takes is dropped. An early return that drops four links has an end for each that is
+/// given.
 fn let_go(
     complete: Option<Link>,
     compensate: Option<Link>,

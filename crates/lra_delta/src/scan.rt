@@ -82,7 +82,8 @@ fn homes_since(
     Ok(told)
 }
 
-/// What `Delta::since` answers, by the same contract, but made by a look at each record. Tests compare the two.
+/// What `Delta::since` answers, by the same contract, but made by a look at each record. Tests
+/// compare the two.
 pub fn since_by_scan(alloc: Global, replica: &Replica, base: &Front) -> Result<Delta, Refusal>
     requires { length base.now ≡ length replica.now.front }
     ensures frame { IfOk result (λ delta. (delta ≡ frame_of (view_of replica.now) base.now)

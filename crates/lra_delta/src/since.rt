@@ -19,21 +19,11 @@ ghost use Rattle.lra_delta.specs.Telling.{AreHomes, AreTold, homes_told, is_list
 
 use crate::Delta;
 use lra_facts::Refusal;
-use lra_forest::{Forest, Record, Records, Told};
+use lra_forest::{Forest, Record, Told};
 use lra_id::{Front, MAX_NODES, NodeId};
 use lra_index::Entry;
 use lra_replica::Replica;
 use std::alloc::{AllocError, Global};
-
-fn numbers_of(alloc: Global, records: Records<'_>) -> Result<Vec<u64>, AllocError>
-    ensures { IfOk result (λ numbers. numbers.items ≡ map (λ (r : Record). r.num) records.entry) }
-{
-    let mut numbers = Vec::new(alloc);
-    for record in records {
-        numbers.push(record.num)?;
-    }
-    Ok(numbers)
-}
 
 /// The numbers of all LRAs that are held at a home, where it purged after the base.
 pub(crate) fn live_since(
@@ -47,7 +37,7 @@ pub(crate) fn live_since(
         (map (λ (r : Record). r.num) home.now.records) else None)) }
 {
     if base.count(home.home()) < purges.count(home.home()) {
-        Ok(Some(numbers_of(alloc, home.records())?))
+        Ok(Some(home.numbers(alloc)?))
     } else {
         Ok(None)
     }
@@ -207,11 +197,12 @@ impl Delta {
         Delta::new(*base, front, purges, homes)
     }
 
-    /// What a replica tells another that has the facts which a base of as many nodes counts: its front and last purges, the
-    /// records that have a stamp beyond the base, and of each home that purged after the base the numbers of all LRAs that it
-    /// holds there. E15 with the replica's front where the base is not below that. It finds each node's stamps beyond the base
-    /// by halving, looks up the record of each such stamp, and copies it once. It looks at no other record, but that it goes
-    /// over those of a home whose numbers it tells.
+    /// What a replica tells another that has the facts which a base of as many nodes counts: its
+    /// front and last purges, the records that have a stamp beyond the base, and of each home that
+    /// purged after the base the numbers of all LRAs that it holds there. E15 with the replica's
+    /// front where the base is not below that. It finds each node's stamps beyond the base by
+    /// halving, looks up the record of each such stamp, and copies it once. It looks at no other
+    /// record, but that it goes over those of a home whose numbers it tells.
     pub fn since(alloc: Global, replica: &Replica, base: &Front) -> Result<Delta, Refusal>
         requires { length base.now ≡ length replica.now.front }
         ensures frame { IfOk result (λ delta. (delta ≡ frame_of (view_of replica.now) base.now)

@@ -4,7 +4,7 @@ ghost use Rattle.lra_delta.specs.Encoding.{body, encoding};
 ghost use Rattle.lra_delta.specs.declared.version.Version.TheVariants.{Two};
 
 use crate::Delta;
-use crate::count::Count;
+use crate::count::ByteCount;
 use crate::frame_encoding::put_body;
 use crate::version::Version;
 
@@ -13,13 +13,14 @@ fn body_size(delta: &Delta) -> Option<u64>
     ensures some { IfSome result (λ n. n ≡ length (body Two delta.now)) }
     ensures none { IfNone result (2 ^ 64 ≤ length (body Two delta.now)) }
 {
-    let mut count = Count::new();
+    let mut count = ByteCount::new();
     put_body(&mut count, Version::Two, delta);
     count.exact()
 }
 
 impl Delta {
-    /// How many bytes encode it in version 2, or `None` where no number of 64 bits counts them. It takes no memory.
+    /// How many bytes encode it in version 2, or `None` where no number of 64 bits counts them. It
+    /// takes no memory.
     pub fn length(&self) -> Option<u64>
         ensures some { IfSome result (λ n. n ≡ length (encoding self.now)) }
         ensures none { IfNone result (2 ^ 64 ≤ length (encoding self.now)) }

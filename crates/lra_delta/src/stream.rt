@@ -19,8 +19,9 @@ pub enum Progress {
     Failed,
 }
 
-/// What clauses read of a source: how it was at the start, and what was taken of it since. It stands outside of the
-/// stream, since a struct that owns a snapshot beside a `&mut` forgets what it leaves behind that.
+/// What clauses read of a source: how it was at the start, and what was taken of it since. It
+/// stands outside of the stream, since a struct that owns a snapshot beside a `&mut` forgets what
+/// it leaves behind that.
 #[derive(Drop)]
 pub struct Track<S> {
     start: Snapshot<S>,
@@ -45,7 +46,8 @@ fn bytes_fit(bytes: &[u8])
     ensures { (i : ℕ) → get_or bytes.now i 0 < 256 }
 {}
 
-/// A source that a frame is read from, of at most so many bytes. One that meets its end or a fault keeps that, and reads no more.
+/// A source that a frame is read from, of at most so many bytes. One that meets its end or a fault
+/// keeps that, and reads no more.
 #[derive(Drop)]
 pub struct Stream<'a, S: Source> {
     source: &'a mut S,

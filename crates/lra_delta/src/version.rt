@@ -2,8 +2,8 @@
 ghost use Rattle.std.specs.Prelude.{◌≡◌};
 ghost use Rattle.lra_delta.specs.Versions.{version_mark};
 
-/// A version of frames and of the records in them. Version 1 knows no link for the end of an LRA, and what it says means that
-/// there is none.
+/// A version of frames and of the records in them. Version 1 knows no link for the end of an LRA,
+/// and what it says means that there is none.
 #[derive(Clone, Copy, Debug, PartialEq, Eq)]
 pub enum Version {
     One,

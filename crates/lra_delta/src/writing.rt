@@ -14,8 +14,9 @@ use crate::version::Version;
 use lra_http::{Log, Sink, WriteFault, write_all};
 use std::snapshot::Snapshot;
 
-/// What clauses read of a sink: how it was at the start, and what was put since. It stands outside of `Writing`, since a struct
-/// that owns a snapshot beside a `&mut` forgets what it leaves behind that.
+/// What clauses read of a sink: how it was at the start, and what was put since. It stands outside
+/// of `Writing`, since a struct that owns a snapshot beside a `&mut` forgets what it leaves behind
+/// that.
 #[derive(Drop)]
 struct Sheet<W> {
     start: Snapshot<W>,
@@ -87,9 +88,9 @@ impl<'a, W: Sink> Output for Writing<'a, W> {
 }
 
 impl Delta {
-    /// Writes the bytes that encode it in version 2, number by number and text by text, or a prefix of them before a fault: over a socket a
-    /// buffered writer goes below. It takes no memory. `interrupted` counts the interrupted calls of the message that they
-    /// belong to.
+    /// Writes the bytes that encode it in version 2, number by number and text by text, or a prefix
+    /// of them before a fault: over a socket a buffered writer goes below. It takes no memory.
+    /// `interrupted` counts the interrupted calls of the message that they belong to.
     #[tactic(auto, using(crate::proofs::PartsPut::part_put))]
     pub fn write<W: Sink>(&self, writer: &mut W, interrupted: &mut u16) -> Result<(), WriteFault>
         requires { interrupted.old < too_many_interrupted }

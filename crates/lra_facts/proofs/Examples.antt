@@ -1,11 +1,11 @@
 -- the definitions, computed on small sets
 use Rattle.std.proofs.Common.{◌≡◌, ℕ, List, [], ◌∷◌, refl, Some, None, true, false}
 use Rattle.lra_id.specs.Ids.{Id}
-use Rattle.lra_states.specs.declared.status.LraStatus.TheVariants.{Closed, Cancelling, Cancelled}
-use Rattle.lra_states.specs.declared.status.MemberStatus.TheVariants.{Compensated, Compensating}
-use Rattle.lra_states.specs.declared.outcome.Verdict.TheVariants.{Close, Cancel}
-use Rattle.lra_states.specs.declared.outcome.Act.TheVariants.{Complete, Compensate}
-use Rattle.lra_states.specs.declared.outcome.Outcome.TheVariants.{Done, Failed}
+use Rattle.lra_id.specs.declared.status.LraStatus.TheVariants.{Closed, Cancelling, Cancelled}
+use Rattle.lra_id.specs.declared.status.MemberStatus.TheVariants.{Compensated, Compensating}
+use Rattle.lra_id.specs.declared.outcome.Verdict.TheVariants.{Close, Cancel}
+use Rattle.lra_id.specs.declared.outcome.Act.TheVariants.{Complete, Compensate}
+use Rattle.lra_id.specs.declared.outcome.Outcome.TheVariants.{Done, Failed}
 use Rattle.lra_facts.specs.declared.fact.Body.{Body}
 use Rattle.lra_facts.specs.declared.fact.Body.TheVariants.{Begin, Join, Decide, Report, Forgot, Told}
 use Rattle.lra_facts.specs.declared.fact.Fact.{Fact}

@@ -4,13 +4,13 @@ use mathlib.Core.Bool.{not}
 use Rattle.std.specs.List.{list_any}
 use Rattle.std.specs.Option.{option_map_or}
 use Rattle.lra_id.specs.Ids.{Id, same_id}
-use Rattle.lra_states.specs.States.{level, same_member_status}
-use Rattle.lra_states.specs.declared.status.MemberStatus.{MemberStatus}
-use Rattle.lra_states.specs.declared.status.MemberStatus.TheVariants.{Completed, FailedToComplete, FailedToCompensate}
-use Rattle.lra_states.specs.declared.outcome.Act.TheVariants.{Compensate}
-use Rattle.lra_states.specs.declared.outcome.Outcome.{Outcome}
-use Rattle.lra_states.specs.declared.outcome.Verdict.{Verdict}
-use Rattle.lra_states.specs.declared.outcome.Verdict.TheVariants.{Cancel}
+use Rattle.lra_id.specs.States.{level, same_member_status}
+use Rattle.lra_id.specs.declared.status.MemberStatus.{MemberStatus}
+use Rattle.lra_id.specs.declared.status.MemberStatus.TheVariants.{Completed, FailedToComplete, FailedToCompensate}
+use Rattle.lra_id.specs.declared.outcome.Act.TheVariants.{Compensate}
+use Rattle.lra_id.specs.declared.outcome.Outcome.{Outcome}
+use Rattle.lra_id.specs.declared.outcome.Verdict.{Verdict}
+use Rattle.lra_id.specs.declared.outcome.Verdict.TheVariants.{Cancel}
 use Rattle.lra_facts.specs.declared.fact.Body.{Body}
 use Rattle.lra_facts.specs.declared.fact.Body.TheVariants.{Join, Forgot, Told}
 use Rattle.lra_facts.specs.declared.fact.Fact.{Fact}

@@ -5,15 +5,15 @@ use mathlib.Core.Bool.{not}
 use Rattle.std.specs.List.{list_any}
 use Rattle.std.specs.Option.{option_map_or}
 use Rattle.lra_id.specs.Ids.{Id, IsFactNumber, same_id}
-use Rattle.lra_states.specs.States.{greater, level, same_act, same_verdict, is_final, same_member_status, completing, compensating, shown}
-use Rattle.lra_states.specs.declared.status.LraStatus.{LraStatus}
-use Rattle.lra_states.specs.declared.status.MemberStatus.{MemberStatus}
-use Rattle.lra_states.specs.declared.status.MemberStatus.TheVariants.{Active, Completed, FailedToComplete, Compensated, FailedToCompensate}
-use Rattle.lra_states.specs.declared.outcome.Act.{Act}
-use Rattle.lra_states.specs.declared.outcome.Act.TheVariants.{Complete, Compensate}
-use Rattle.lra_states.specs.declared.outcome.Outcome.{Outcome}
-use Rattle.lra_states.specs.declared.outcome.Verdict.{Verdict}
-use Rattle.lra_states.specs.declared.outcome.Verdict.TheVariants.{Close, Cancel}
+use Rattle.lra_id.specs.States.{greater, level, same_act, same_verdict, is_final, same_member_status, completing, compensating, shown}
+use Rattle.lra_id.specs.declared.status.LraStatus.{LraStatus}
+use Rattle.lra_id.specs.declared.status.MemberStatus.{MemberStatus}
+use Rattle.lra_id.specs.declared.status.MemberStatus.TheVariants.{Active, Completed, FailedToComplete, Compensated, FailedToCompensate}
+use Rattle.lra_id.specs.declared.outcome.Act.{Act}
+use Rattle.lra_id.specs.declared.outcome.Act.TheVariants.{Complete, Compensate}
+use Rattle.lra_id.specs.declared.outcome.Outcome.{Outcome}
+use Rattle.lra_id.specs.declared.outcome.Verdict.{Verdict}
+use Rattle.lra_id.specs.declared.outcome.Verdict.TheVariants.{Close, Cancel}
 use Rattle.lra_facts.specs.declared.fact.Body.{Body}
 use Rattle.lra_facts.specs.declared.fact.Body.TheVariants.{Begin, Join, Leave, Decide, Report, Purge}
 use Rattle.lra_facts.specs.declared.fact.Fact.{Fact}
@@ -89,6 +89,7 @@ chain_within zero S l = l ∷ []
 chain_within (suc steps) S l = l ∷ option_map_or (chain_within steps S) (parent_of S l) []
 
 -- l, its parent and so on to the root. A parent has a lesser number, so that many steps are enough
+-- (it recurs on the LRA's own number, which the law on chains hides)
 abbrev pub chain : List Fact → Id → List Id
 chain S l = chain_within l.num S l
 

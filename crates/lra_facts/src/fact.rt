@@ -1,12 +1,12 @@
 // What nodes enter in their lists.
 use crate::Links;
-use lra_id::{LraId, NodeId};
-use lra_states::{Act, Outcome, Verdict};
+use lra_id::{Act, LraId, NodeId, Outcome, Verdict};
 
 /// What a fact says.
 #[derive(Debug, Drop)]
 pub enum Body {
-    /// An LRA is begun, whose id is the fact's origin and number. The deadline is a moment in milliseconds, 0 for none.
+    /// An LRA is begun, whose id is the fact's origin and number. The deadline is a moment in
+    /// milliseconds, 0 for none.
     Begin {
         parent: Option<LraId>,
         deadline: u64,

@@ -1,11 +1,12 @@
-// Laws of the definitions, for every list of facts: each function does nothing, and its contract is the law.
+// Laws of the definitions, for every list of facts: each function does nothing, and its contract is
+// the law.
 ghost use Rattle.std.specs.Prelude.{◌≡◌, ◌++◌, ◌∷◌, [], ℕ, List, Some, true};
 ghost use Rattle.std.specs.List.{AllByRecursion};
 ghost use Rattle.std.specs.Option.{option_map_or};
 ghost use Rattle.lra_id.specs.Ids.{Id};
-ghost use Rattle.lra_states.specs.States.{greater};
-ghost use Rattle.lra_states.specs.declared.outcome.Act.{Act};
-ghost use Rattle.lra_states.specs.declared.outcome.Verdict.TheVariants.{Cancel};
+ghost use Rattle.lra_id.specs.States.{greater};
+ghost use Rattle.lra_id.specs.declared.outcome.Act.{Act};
+ghost use Rattle.lra_id.specs.declared.outcome.Verdict.TheVariants.{Cancel};
 ghost use Rattle.lra_facts.specs.declared.fact.Fact.{Fact};
 ghost use Rattle.lra_facts.specs.Lists.{In};
 ghost use Rattle.lra_facts.specs.Laws.{AreJoinedOnce, AreNumberedOnce, Falls, IsSameSet};

@@ -40,8 +40,8 @@ fn is_link(url: &Url) -> bool
 }
 
 impl Link {
-    /// Reads a link, and keeps the text that the URL is serialised to. That text is read as itself again. What is no link is
-    /// E1, and needs no memory where it has more than 127 bytes.
+    /// Reads a link, and keeps the text that the URL is serialised to. That text is read as itself
+    /// again. What is no link is E1, and needs no memory where it has more than 127 bytes.
     pub fn read(alloc: Global, text: &str) -> Result<Link, Refusal>
         ensures answer { Reads (kept_text text.now) result }
         ensures long { 127 < length text.now → result ≡ Err BadText }
@@ -54,6 +54,8 @@ impl Link {
             Ok(url) if is_link(&url) => Ok(Link {
                 text: String::from_str(alloc, url.as_str())?,
             }),
+            // An overflow counts as a lack of memory too. For a short text that is no link the
+            // contract allows E17, since the parser may need memory before it can tell.
             Err(ParseError::OutOfMemory | ParseError::Overflow) => Err(Refusal::NoMemory),
             _ => Err(Refusal::BadText),
         }

@@ -1,16 +1,17 @@
-//! Slow evaluators: what a list of facts says, read from every fact at each call. They take no memory.
+//! Slow evaluators: what a list of facts says, read from every fact at each call. They take no
+//! memory.
 ghost use Rattle.std.specs.Prelude.{◌≡◌, ◌↔◌, IsTrue, ◌+◌, ◌&&◌, is_some};
 ghost use mathlib.Core.Bool.{not};
 ghost use Rattle.std.specs.List.{list_any, AllByRecursion};
 ghost use Rattle.std.specs.Option.{option_copied};
 ghost use Rattle.lra_facts.specs.Sets.{IsNumbered, NamesEarlier, begins, begins_held, is_begun, parent_of, parent_named, links_of, joined_links, member_status, is_participant, demands, is_demanded, gives_number, numbers_given, depth, is_heard, chain, held_at, is_decided, is_decision, want, is_under, is_held, is_purged_root, is_purge, has_left, is_leave, heard, reported, status_by, joined_status, shows, some_shows, shows_now, is_open, status};
-ghost use Rattle.lra_states.specs.States.{same_member_status, shown};
+ghost use Rattle.lra_id.specs.States.{same_member_status, shown};
 
 use crate::{Body, Fact, Links};
-use lra_id::{LAST_NUMBER, LraId, NodeId};
-use lra_states::{Act, LraStatus, MemberStatus, Outcome, Verdict};
+use lra_id::{Act, LAST_NUMBER, LraId, LraStatus, MemberStatus, NodeId, Outcome, Verdict};
 
-/// Whether the evaluators may read a list: its facts have numbers, and a nested LRA is begun at its parent's home after it.
+/// Whether the evaluators may read a list: its facts have numbers, and a nested LRA is begun at its
+/// parent's home after it. It tests what callers don't know.
 pub fn are_in_order(facts: &[Fact]) -> bool
     ensures { IsTrue result ↔ (AllByRecursion NamesEarlier facts.now
         × AllByRecursion IsNumbered facts.now) }
@@ -108,7 +109,8 @@ fn decided_above(facts: &[Fact], verdict: Verdict, id: LraId) -> bool
     }
 }
 
-/// What an LRA wants: to be cancelled if it or an ancestor is, else to be closed if it or an ancestor is.
+/// What an LRA wants: to be cancelled if it or an ancestor is, else to be closed if it or an
+/// ancestor is.
 pub fn want_of(facts: &[Fact], id: LraId) -> Option<Verdict>
     requires { AllByRecursion NamesEarlier facts.now }
     ensures { result ≡ want facts.now id }
@@ -179,6 +181,7 @@ fn begins_held(facts: &[Fact], home: NodeId, fact: &Fact) -> bool
 }
 
 /// How many LRAs of a home are held.
+/// It also asks that numbers are in range.
 pub fn held_at(facts: &[Fact], home: NodeId) -> usize
     requires earlier { AllByRecursion NamesEarlier facts.now }
     requires numbered { AllByRecursion IsNumbered facts.now }

@@ -2,12 +2,12 @@
 ghost use Rattle.std.specs.Prelude.{◌≡◌, Some};
 ghost use Rattle.lra_facts.specs.RefusalTexts.{refusal_text};
 
-use lra_id::{Front, LraId, NodeId};
-use lra_states::LraStatus;
+use lra_id::{Front, LraId, LraStatus, NodeId};
 use std::alloc::AllocError;
 use std::fmt;
 
-/// Why a call was refused, in the order in which refusals are looked for. A refused call changes nothing.
+/// Why a call was refused, in the order in which refusals are looked for. A refused call changes
+/// nothing.
 #[derive(Clone, Copy, Debug, PartialEq, Eq)]
 pub enum Refusal {
     /// E1: a text, link, number or body breaks its grammar.

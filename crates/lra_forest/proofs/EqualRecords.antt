@@ -6,12 +6,12 @@ use Rattle.std.specs.Cmp.Lexicographic.{pointwise, pointwise_decides, bytes_deci
 use Rattle.std.specs.Str.{bytes_eq}
 use Rattle.std.proofs.lemmas.Bool.Decides.{Decides-eqb}
 use Rattle.lra_id.specs.contracts.front.FrontPartialEq.TheImpl as of_fronts
-use Rattle.lra_states.specs.declared.outcome.Outcome.{Outcome}
-use Rattle.lra_states.specs.declared.outcome.Outcome.TheVariants.{Busy, Done, Failed}
-use Rattle.lra_states.specs.declared.outcome.Verdict.{Verdict}
-use Rattle.lra_states.specs.declared.outcome.Verdict.TheVariants.{Close, Cancel}
-use Rattle.lra_states.specs.contracts.outcome.OutcomePartialEq.TheImpl as of_outcomes
-use Rattle.lra_states.specs.contracts.outcome.VerdictPartialEq.TheImpl as of_verdicts
+use Rattle.lra_id.specs.declared.outcome.Outcome.{Outcome}
+use Rattle.lra_id.specs.declared.outcome.Outcome.TheVariants.{Busy, Done, Failed}
+use Rattle.lra_id.specs.declared.outcome.Verdict.{Verdict}
+use Rattle.lra_id.specs.declared.outcome.Verdict.TheVariants.{Close, Cancel}
+use Rattle.lra_id.specs.contracts.outcome.OutcomePartialEq.TheImpl as of_outcomes
+use Rattle.lra_id.specs.contracts.outcome.VerdictPartialEq.TheImpl as of_verdicts
 use Rattle.lra_facts.specs.Links.{Links}
 use Rattle.lra_facts.specs.contracts.links.LinksPartialEq.TheImpl as of_links
 use Rattle.lra_forest.specs.declared.record.Place.{Place}

@@ -10,6 +10,7 @@ use Rattle.lra_forest.specs.Shape.{found_at}
 
 -- What is put of an LRA of which one record is held and another, or none, is to be kept: the one to be kept, where it isn't the one
 -- that is held. Nothing where it is, or where none is to be kept
+-- (a relation of the three: no definition tests equality, and the match closes with no answer)
 abbrev pub IsPut : (held kept put : Option Record) → Type 0
 IsPut held kept (Some r) = (kept ≡ Some r) × (held ≡ Some r → ⊥)
 IsPut held kept None = (kept ≡ None) ⊎ (kept ≡ held)

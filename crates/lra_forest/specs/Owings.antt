@@ -2,8 +2,8 @@
 use Rattle.std.specs.Prelude.{◌≡◌, IfSome, ◌+◌, ◌&&◌, ℕ, Bool, false, Option, Some, None, List, [], ◌∷◌, if◌then◌else◌, is_some}
 use mathlib.Core.Bool.{not}
 use Rattle.lra_id.specs.Ids.{Id, is_fact_number}
-use Rattle.lra_states.specs.declared.outcome.Verdict.{Verdict}
-use Rattle.lra_states.specs.declared.outcome.Verdict.TheVariants.{Close, Cancel}
+use Rattle.lra_id.specs.declared.outcome.Verdict.{Verdict}
+use Rattle.lra_id.specs.declared.outcome.Verdict.TheVariants.{Close, Cancel}
 use Rattle.lra_facts.specs.declared.fact.Fact.{Fact}
 use Rattle.lra_facts.specs.Duties.{has_to_forget, is_after_duty, is_at_end, is_forget_duty, is_over, is_pending}
 use Rattle.lra_facts.specs.Sets.{is_root, want}
@@ -44,6 +44,8 @@ abbrev pub forgetting_at : (ℕ → Option Record) → Record → Owing
 forgetting_at at r = Forgetting (want_at at r.num) (is_some r.parent)
 
 -- what they may owe of an errand
+-- (whether a root is ended is asked only where it matters, so clauses say that the same comes of
+-- it, `owed_by result .. ≡ owed_by (owing_at ..) ..`, and not that the value is the same)
 abbrev pub owing_at : Errand → (ℕ → Option Record) → Record → Owing
 owing_at Complete at r = completing_by (want_at at r.num)
 owing_at Forget at r = if is_over_at at r.num then forgetting_at at r else Nothing

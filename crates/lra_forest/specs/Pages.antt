@@ -21,6 +21,8 @@ empty_pages ((r ∷ rs) ∷ ps) = empty_pages ps
 
 -- What a page of so many records and those behind it weigh: of each what it has beyond 16 records, but of the last one with records
 -- all that it has
+-- (the length of the page before is carried along the recursion: so each length is a case for
+-- `omega`, and the room follows from two sums)
 abbrev pub weight_behind : ℕ → List (List Record) → ℕ
 weight_behind count [] = count
 weight_behind count ([] ∷ ps) = weight_behind count ps

@@ -5,7 +5,7 @@ use mathlib.Core.Bool.{not}
 use Rattle.std.specs.List.{range_with_len}
 use Rattle.std.specs.Option.{option_map_or}
 use Rattle.lra_id.specs.Ids.{is_fact_number}
-use Rattle.lra_states.specs.declared.outcome.Act.TheVariants.{Complete}
+use Rattle.lra_id.specs.declared.outcome.Act.TheVariants.{Complete}
 use Rattle.lra_facts.specs.Duties.{is_pending, wants_cancel}
 use Rattle.lra_facts.specs.Sets.{demands}
 use Rattle.lra_forest.specs.declared.duties.Due.{Due}
@@ -51,6 +51,7 @@ due_at home p = if is_fact_number p.number then Some (record { lra = record { ho
 
 -- below a record of the home whose LRA is the topmost cancelled one, the last participant whose compensation is pending: of its
 -- members from the greatest number down, and of those nested in them at most 7 levels down
+-- (for a view that stands for no set the code's own walk describes compensations)
 abbrev pub compensation_at : ℕ → (ℕ → Option Record) → Record → Option Due
 compensation_at home at r = if is_topmost_at at r then option_map_or (due_at home) (last_of (pending_within 7 at r.num) 1 r.members) None else None
 

@@ -5,7 +5,7 @@ use mathlib.Core.Bool.{not}
 use Rattle.std.specs.List.{list_any}
 use Rattle.lra_id.specs.Ids.{Id, is_fact_number}
 use Rattle.lra_id.specs.Fronts.{count, join_fronts}
-use Rattle.lra_states.specs.States.{greater}
+use Rattle.lra_id.specs.States.{greater}
 use Rattle.std.specs.Option.{option_map}
 use Rattle.lra_forest.specs.declared.record.Participant.{Participant as ParticipantRecord}
 use Rattle.lra_forest.specs.declared.record.Member.{Member}

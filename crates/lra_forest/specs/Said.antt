@@ -5,14 +5,14 @@ use mathlib.Core.Bool.{not}
 use Rattle.std.specs.List.{list_any}
 use Rattle.std.specs.Option.{option_map_or}
 use Rattle.lra_id.specs.Ids.{Id, is_fact_number}
-use Rattle.lra_states.specs.States.{level, same_member_status, same_verdict, shown}
-use Rattle.lra_states.specs.declared.outcome.Act.{Act}
-use Rattle.lra_states.specs.declared.outcome.Outcome.{Outcome}
-use Rattle.lra_states.specs.declared.outcome.Verdict.{Verdict}
-use Rattle.lra_states.specs.declared.outcome.Verdict.TheVariants.{Close, Cancel}
-use Rattle.lra_states.specs.declared.status.LraStatus.{LraStatus}
-use Rattle.lra_states.specs.declared.status.MemberStatus.{MemberStatus}
-use Rattle.lra_states.specs.declared.status.MemberStatus.TheVariants.{FailedToComplete, FailedToCompensate}
+use Rattle.lra_id.specs.States.{level, same_member_status, same_verdict, shown}
+use Rattle.lra_id.specs.declared.outcome.Act.{Act}
+use Rattle.lra_id.specs.declared.outcome.Outcome.{Outcome}
+use Rattle.lra_id.specs.declared.outcome.Verdict.{Verdict}
+use Rattle.lra_id.specs.declared.outcome.Verdict.TheVariants.{Close, Cancel}
+use Rattle.lra_id.specs.declared.status.LraStatus.{LraStatus}
+use Rattle.lra_id.specs.declared.status.MemberStatus.{MemberStatus}
+use Rattle.lra_id.specs.declared.status.MemberStatus.TheVariants.{FailedToComplete, FailedToCompensate}
 use Rattle.lra_facts.specs.Duties.{has_to_forget, wants_cancel}
 use Rattle.lra_facts.specs.Sets.{demands, is_open}
 use Rattle.lra_forest.specs.declared.duties.Due.{Due}

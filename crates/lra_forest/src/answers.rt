@@ -2,7 +2,7 @@
 ghost use Rattle.std.specs.Prelude.{◌≡◌, ◌↔◌, ℕ, List, Err, None, Some, find, is_some, length, nat_le, if◌then◌else◌};
 ghost use Rattle.std.specs.List.{AllByRecursion};
 ghost use Rattle.std.specs.Option.{option_copied};
-ghost use Rattle.lra_states.specs.States.{level};
+ghost use Rattle.lra_id.specs.States.{level};
 ghost use Rattle.lra_facts.specs.declared.fact.Fact.{Fact};
 ghost use Rattle.lra_facts.specs.declared.refusal.Refusal.TheVariants.{NotHeld};
 ghost use Rattle.lra_facts.specs.Sets.{IsNumbered, depth, is_demanded, is_heard, is_held, is_participant, numbers_given};
@@ -15,8 +15,7 @@ ghost use Rattle.lra_forest.specs.Standing.{IsNested, IsSeated, IsWhole, Stands,
 
 use crate::{Forest, MAX_DEPTH, Member, Participant, Record};
 use lra_facts::{Refusal, plain};
-use lra_id::LraId;
-use lra_states::{Act, Outcome};
+use lra_id::{Act, LraId, Outcome};
 
 /// The participant that a member is.
 pub fn participant_at(member: Option<&Member>) -> Option<&Participant>
@@ -83,8 +82,9 @@ impl Forest {
         None
     }
 
-    /// Of the LRAs of the home that want nothing and whose deadline has passed, the one with the least number. It looks at
-    /// each record once, and where a deadline has passed at those of the LRAs that it is nested in.
+    /// Of the LRAs of the home that want nothing and whose deadline has passed, the one with the
+    /// least number. It looks at each record once, and where a deadline has passed at those of the
+    /// LRAs that it is nested in.
     pub fn overdue(&self, now: u64) -> Option<LraId>
         ensures says { result ≡ first_overdue self.now.home
             (found_at self.now.home self.now.records) now self.now.records }
@@ -113,7 +113,8 @@ impl Forest {
         depth
     }
 
-    /// How deep an LRA is nested, where a root has depth 1. It looks up the record of each that it is nested in.
+    /// How deep an LRA is nested, where a root has depth 1. It looks up the record of each that it
+    /// is nested in.
     pub fn depth(&self, id: LraId) -> Result<u64, Refusal>
         ensures says { let at = found_at id.home self.now.records
             in result ≡ answered (is_some (at id.num)) (depth_at at id.num) }
@@ -143,8 +144,8 @@ impl Forest {
         Ok(record.members.len())
     }
 
-    /// Whether what an LRA wants demands an act of its participant with this member number. It looks up the records of the
-    /// LRA and of those that it is nested in.
+    /// Whether what an LRA wants demands an act of its participant with this member number. It
+    /// looks up the records of the LRA and of those that it is nested in.
     pub fn demands(&self, id: LraId, member: u8, act: Act) -> Result<bool, Refusal>
         ensures says { let at = found_at id.home self.now.records
             in result ≡ answered_of (is_some (at id.num))
@@ -160,10 +161,12 @@ impl Forest {
         let Some(participant) = participant_at(record.members.get(member)) else {
             return Err(Refusal::UnknownMember);
         };
-        Ok(plain::demands(self.wanted(id.num()), &participant.links, act))
+        let want = self.wanted_of(id.num(), record);
+        Ok(plain::demands(want, &participant.links, act))
     }
 
-    /// Whether this outcome of an act was heard of the participant of an LRA with this member number, or a greater one.
+    /// Whether this outcome of an act was heard of the participant of an LRA with this member
+    /// number, or a greater one.
     pub fn has_heard(
         &self,
         id: LraId,

@@ -1,4 +1,5 @@
-// What is due of the participants of a home: to compensate in saga order, to complete, to forget, and to hear of the end.
+// What is due of the participants of a home: to compensate in saga order, to complete, to forget,
+// and to hear of the end.
 ghost use Rattle.std.specs.Prelude.{◌≡◌, ◌↔◌, ◌++◌, ◌&&◌, ℕ, Bool, List, Err, None, Some, false, IfOk, OnOk, find, flat_map, is_none, is_some, slice_get};
 ghost use Rattle.std.specs.List.{AllByRecursion, list_any};
 ghost use Rattle.std.specs.Option.{option_map_or};
@@ -22,8 +23,7 @@ use crate::forest::MAX_DEPTH;
 use crate::seen::status_of;
 use crate::{Forest, Member, Members, Participant, Place, Record};
 use lra_facts::Refusal;
-use lra_id::LraId;
-use lra_states::{MemberStatus, Outcome, Verdict};
+use lra_id::{LraId, MemberStatus, Outcome, Verdict};
 use std::alloc::{AllocError, Global};
 
 /// A participant of which something is due, by its LRA and its member number.
@@ -33,7 +33,8 @@ pub struct Due {
     pub member: u8,
 }
 
-/// What a participant is called for without regard to the saga: to complete, to forget, or to hear that its LRA has ended.
+/// What a participant is called for without regard to the saga: to complete, to forget, or to hear
+/// that its LRA has ended. The `Errand` of `lra_callback` is what a call is for.
 #[derive(Clone, Copy)]
 enum Errand {
     Complete,
@@ -41,8 +42,8 @@ enum Errand {
     Tell,
 }
 
-/// What the participants of an LRA may owe: nothing, to complete, to forget, by what is wanted and whether it is nested, or to
-/// hear that it has ended.
+/// What the participants of an LRA may owe: nothing, to complete, to forget, by what is wanted and
+/// whether it is nested, or to hear that it has ended.
 #[derive(Clone, Copy)]
 enum Owing {
     Nothing,
@@ -52,6 +53,8 @@ enum Owing {
 }
 
 /// The root that was asked last whether it is ended, and whether it is.
+/// What is remembered between turns is a condition and an invariant over records, so it is no
+/// premise above.
 #[derive(Clone, Copy)]
 struct LastRoot {
     root: u64,
@@ -188,8 +191,8 @@ impl Forest {
         }
     }
 
-    /// The last participant that is still to compensate, of the members of an LRA and those nested in them to this depth.
-    /// It goes from the greatest member number down.
+    /// The last participant that is still to compensate, of the members of an LRA and those nested
+    /// in them to this depth. It goes from the greatest member number down.
     #[cycle(walk)]
     fn last_pending(&self, number: u64, members: &Members, levels: u8) -> Option<Place>
         ensures { result ≡ last_of
@@ -252,9 +255,10 @@ impl Forest {
         Ok(dues)
     }
 
-    /// The compensations that are due: under each LRA that is cancelled, and that is nested in no cancelled one, at most one,
-    /// by the number of that LRA. It looks up the records under these LRAs: each at most once. It goes on in a nested LRA only
-    /// from the parent that its record names, and so through forged records too at most once.
+    /// The compensations that are due: under each LRA that is cancelled, and that is nested in no
+    /// cancelled one, at most one, by the number of that LRA. It looks up the records under these
+    /// LRAs: each at most once. It goes on in a nested LRA only from the parent that its record
+    /// names, and so through forged records too at most once.
     pub fn next_compensations(&self, alloc: Global) -> Result<Vec<Due>, AllocError>
         ensures says { IfOk result (λ dues. dues.items ≡ due_to_compensate self.now.home
             (found_at self.now.home self.now.records) self.now.records) }
@@ -266,7 +270,9 @@ impl Forest {
         self.compensations(alloc)
     }
 
-    /// Whether the LRA with the second number is the one with the first, or nested in it, by its chain of parents.
+    /// Whether the LRA with the second number is the one with the first, or nested in it, by its
+    /// chain of parents. `root_of`, `depth_at` and `wanted` walk up likewise: of a closure one walk
+    /// would have to say what each says of itself. Not tried.
     pub(crate) fn is_under(&self, above: u64, num: u64) -> bool
         ensures { result ≡ is_under_at (found_at self.now.home self.now.records) above num }
     {
@@ -324,7 +330,8 @@ impl Forest {
         self.root_met(num)
     }
 
-    /// Whether the root of the LRA with this number is ended. It looks up the records of the root's whole tree.
+    /// Whether the root of the LRA with this number is ended. It looks up the records of the root's
+    /// whole tree.
     fn is_over(&self, num: u64) -> bool
         ensures { result ≡ is_over_at (found_at self.now.home self.now.records) num }
     {
@@ -379,8 +386,8 @@ impl Forest {
         Owing::Forgetting(self.wanted(kept.num), kept.parent.is_some())
     }
 
-    /// What the participants of the LRA of this record have to forget. Where none may have anything to forget, the root is
-    /// not asked whether it is ended.
+    /// What the participants of the LRA of this record have to forget. Where none may have anything
+    /// to forget, the root is not asked whether it is ended.
     fn forgetting_since(&self, lra: LraId, kept: &Record, last: &mut Option<LastRoot>) -> Owing
         requires { IsLastRoot (found_at self.now.home self.now.records) last.old }
         ensures owed { owed_by result lra 1 kept.now.members ≡ owed_by (owing_at Errand.Forget
@@ -397,8 +404,8 @@ impl Forest {
         owing
     }
 
-    /// What the participants of the LRA of this record have to hear. Where none is to hear anything, it is not asked whether
-    /// the LRA has ended.
+    /// What the participants of the LRA of this record have to hear. Where none is to hear
+    /// anything, it is not asked whether the LRA has ended.
     fn hearing(&self, lra: LraId, kept: &Record) -> Owing
         ensures { owed_by result lra 1 kept.now.members ≡ owed_by (owing_at Errand.Tell
             (found_at self.now.home self.now.records) kept.now) lra 1 kept.now.members }
@@ -449,7 +456,8 @@ impl Forest {
         Ok(dues)
     }
 
-    /// The participants that are to be called to complete, by the numbers of their LRAs and their member numbers.
+    /// The participants that are to be called to complete, by the numbers of their LRAs and their
+    /// member numbers.
     pub fn complete_duties(&self, alloc: Global) -> Result<Vec<Due>, AllocError>
         ensures says { IfOk result (λ dues. dues.items
             ≡ due_to_complete (found_at self.now.home self.now.records) self.now.records) }
@@ -461,7 +469,8 @@ impl Forest {
         self.duties(alloc, Errand::Complete)
     }
 
-    /// The participants that are to be told that they may forget, by the numbers of their LRAs and their member numbers.
+    /// The participants that are to be told that they may forget, by the numbers of their LRAs and
+    /// their member numbers.
     pub fn forget_duties(&self, alloc: Global) -> Result<Vec<Due>, AllocError>
         ensures says { IfOk result (λ dues. dues.items
             ≡ due_to_forget (found_at self.now.home self.now.records) self.now.records) }
@@ -473,7 +482,8 @@ impl Forest {
         self.duties(alloc, Errand::Forget)
     }
 
-    /// The participants that are to be told that their LRAs have ended, by the numbers of these and their member numbers.
+    /// The participants that are to be told that their LRAs have ended, by the numbers of these and
+    /// their member numbers.
     pub fn after_duties(&self, alloc: Global) -> Result<Vec<Due>, AllocError>
         ensures says { IfOk result (λ dues. dues.items
             ≡ due_to_hear (found_at self.now.home self.now.records) self.now.records) }
@@ -485,7 +495,8 @@ impl Forest {
         self.duties(alloc, Errand::Tell)
     }
 
-    /// Whether the participant of an LRA with this member number is to be told that the LRA has ended.
+    /// Whether the participant of an LRA with this member number is to be told that the LRA has
+    /// ended.
     pub fn is_to_hear(&self, id: LraId, member: u8) -> Result<bool, Refusal>
         ensures says { let at = found_at id.home self.now.records
             in result ≡ answered_of (is_some (at id.num))
@@ -576,8 +587,8 @@ impl Forest {
         first_owed(self.forgetting_since(lra, kept, last), lra, &kept.members)
     }
 
-    /// Of the participants of an LRA of this home and of what is nested in it, the least that is still to be told to forget.
-    /// The root is asked at most once whether it is ended.
+    /// Of the participants of an LRA of this home and of what is nested in it, the least that is
+    /// still to be told to forget. The root is asked at most once whether it is ended.
     pub fn least_forget_duty(&self, above: LraId) -> Option<Due>
         requires { above.home ≡ self.now.home }
         ensures { result
@@ -605,8 +616,8 @@ impl Forest {
         first_owed(Owing::Hearing, lra, &kept.members)
     }
 
-    /// Of the participants of an LRA of this home and of what is nested in it, the least that has a link for the end of its LRA
-    /// and was not told of it.
+    /// Of the participants of an LRA of this home and of what is nested in it, the least that has a
+    /// link for the end of its LRA and was not told of it.
     pub fn least_unheard(&self, above: LraId) -> Option<Due>
         requires { above.home ≡ self.now.home }
         ensures { result ≡ least_unheard_of

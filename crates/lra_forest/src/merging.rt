@@ -8,8 +8,7 @@ ghost use Rattle.lra_forest.specs.Shape.{found_at};
 
 use crate::{Forest, Member, Members, Participant, Record, Records};
 use lra_facts::Link;
-use lra_id::LraId;
-use lra_states::Outcome;
+use lra_id::{LraId, Outcome};
 use std::alloc::{AllocError, Global};
 
 /// What another node tells of a home.
@@ -21,8 +20,8 @@ pub struct Told {
     pub held: Option<Vec<u64>>,
 }
 
-/// What is to be changed in the records of a home: LRAs whose records are taken out, and records that are then put in their
-/// places. Each stands there once, in order of the numbers.
+/// What is to be changed in the records of a home: LRAs whose records are taken out, and records
+/// that are then put in their places. Each stands there once, in order of the numbers.
 #[derive(Debug, Drop)]
 pub struct Changes {
     pub removed: Vec<LraId>,
@@ -82,7 +81,8 @@ fn merged_member(kept: Member, other: Option<&Member>) -> Member
     }
 }
 
-/// Adds to members what another record heard of them, and drops what they have no link for. It takes no memory.
+/// Adds to members what another record heard of them, and drops what they have no link for. It
+/// takes no memory.
 fn merge_members(kept: &mut Members, other: &Members)
     ensures { kept.new ≡ merged_members kept.old other.now }
 {
@@ -99,8 +99,9 @@ fn home_stamp(kept: &Record) -> u64
     kept.stamps.count(kept.home)
 }
 
-/// Two records of one LRA, made into one. Members, links and the decision are those of the record that heard more of the
-/// home's own facts, and of these the own is copied, while the other's are moved.
+/// Two records of one LRA, made into one. Members, links and the decision are those of the record
+/// that heard more of the home's own facts, and of these the own is copied, while the other's are
+/// moved.
 pub(crate) fn merged(own: &Record, other: Record) -> Result<Record, AllocError>
     ensures { IfOk result (λ r. r ≡ merged_record own.now other) }
 {
@@ -136,7 +137,8 @@ impl Told {
         }
     }
 
-    /// The LRA of this record, if the other has no record of it and holds it no more. The other has this many of the home's facts.
+    /// The LRA of this record, if the other has no record of it and holds it no more. The other has
+    /// this many of the home's facts.
     fn gone(&self, told: u64, own: &Record) -> Option<LraId>
         ensures { result ≡ (if is_lost self.now.records.home told (held_numbers self.now.held)
             self.now.records.records own.now then Some (id_of own.now) else None) }
@@ -174,8 +176,9 @@ fn unless_there(next: Record, own: &Record) -> Option<Record>
 }
 
 impl Forest {
-    /// What is put of an LRA of which the other has this record: both records merged, or where it is missing here the other's,
-    /// unless the begin is counted here. Then it was purged here. Nothing where that is the record that is here.
+    /// What is put of an LRA of which the other has this record: both records merged, or where it
+    /// is missing here the other's, unless the begin is counted here. Then it was purged here.
+    /// Nothing where that is the record that is here.
     fn news(&self, mine: u64, heard: Record) -> Result<Option<Record>, AllocError>
         ensures { IfOk result (λ put. let own = found_at self.now.home self.now.records heard.num in
             IsPut own (brought (nat_le heard.num mine) own (Some heard)) put) }
@@ -227,13 +230,16 @@ impl Forest {
         Ok(records)
     }
 
-    /// What is to be changed in these records when another node's are taken. Mine is how many of the home's facts their node
-    /// has, told how many the other has. An LRA of which both have a record gets the two merged. One of which the other alone
-    /// has a record gets that, unless mine counts its begin: since then it was purged here. One of which these alone have a
-    /// record is taken out if the other tells all LRAs of the home that it holds and this is none of them, though told counts
-    /// its begin: since then it was purged there. Else it stays. A record that would be put as it is here is no change, and
-    /// each change stands there once. It looks up each record among the other's by halving, goes over the numbers that are told
-    /// for each one that the other lacks, and takes memory for what is to be changed and for one record that is merged.
+    /// What is to be changed in these records when another node's are taken. Mine is how many of
+    /// the home's facts their node has, told how many the other has. An LRA of which both have a
+    /// record gets the two merged. One of which the other alone has a record gets that, unless mine
+    /// counts its begin: since then it was purged here. One of which these alone have a record is
+    /// taken out if the other tells all LRAs of the home that it holds and this is none of them,
+    /// though told counts its begin: since then it was purged there. Else it stays. A record that
+    /// would be put as it is here is no change, and each change stands there once. It looks up each
+    /// record among the other's by halving, goes over the numbers that are told for each one that
+    /// the other lacks, and takes memory for what is to be changed and for one record that is
+    /// merged.
     pub fn taking(
         &self,
         alloc: Global,

@@ -17,9 +17,13 @@ use std::vec;
 /// The most pages of a home.
 const MAX_PAGES: usize = 1 << 32;
 
-/// Records in order of their numbers, on pages of at most 32. Behind them there are empty pages, each with its room: a record
-/// for which there is no room on its page takes one of those, and no memory. Since a full page is halved for it, each empty
-/// page is room for 16 records, less what stands beyond 16 on the pages by now.
+/// Records in order of their numbers, on pages of at most 32. Behind them there are empty pages,
+/// each with its room: a record for which there is no room on its page takes one of those, and no
+/// memory. Since a full page is halved for it, each empty page is room for 16 records, less what
+/// stands beyond 16 on the pages by now. So a put moves the records of one page. A page is a vector
+/// and no array, so that to insert one moves 24 bytes for each page after it. Two sparse pages
+/// aren't merged. Room is counted where it is needed, so that no put has to keep a count; that one
+/// empty page is kept no clause says.
 #[derive(Debug, Drop)]
 pub(crate) struct Pages {
     pages: Vec<Page>,
@@ -86,7 +90,8 @@ fn insert_page(pages: &mut Vec<Page>, at: usize, page: Page)
     let _ = pages.insert(at, page);
 }
 
-/// Moves half of the records of a full page to an empty page behind it, and says which of the two a number belongs on.
+/// Moves half of the records of a full page to an empty page behind it, and says which of the two a
+/// number belongs on.
 fn seat_on_half(pages: &mut Vec<Page>, at: usize, num: u64) -> usize
     requires last { AreEmptyLast pages.old.items }
     requires spare { 1 ≤ empty_pages pages.old.items }
@@ -110,8 +115,8 @@ fn seat_on_half(pages: &mut Vec<Page>, at: usize, num: u64) -> usize
     seat
 }
 
-/// The page on which there is room for one more record with a number that no record has. Where its page is full, half of the
-/// records there move to an empty page.
+/// The page on which there is room for one more record with a number that no record has. Where its
+/// page is full, half of the records there move to an empty page.
 fn seat(pages: &mut Vec<Page>, num: u64) -> usize
     requires order { IsAscending (records_in pages.old.items) }
     requires last { AreEmptyLast pages.old.items }

@@ -34,8 +34,8 @@ impl Forest {
         LraId::new(kept.home, kept.num).ok()
     }
 
-    /// An LRA of this home and all that is nested in it, by number. It looks at each of the home's records once, and climbs
-    /// from it.
+    /// An LRA of this home and all that is nested in it, by number. It looks at each of the home's
+    /// records once, and climbs from it.
     pub fn tree(&self, alloc: Global, above: LraId) -> Result<Vec<LraId>, AllocError>
         requires { above.home ≡ self.now.home }
         ensures { IfOk result (λ ids. ids.items

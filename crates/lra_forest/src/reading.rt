@@ -10,8 +10,7 @@ ghost use Rattle.lra_forest.specs.Gathering.{giver_at, least_above, lesser_numbe
 
 use crate::{MAX_MEMBERS, Member, Members, Participant, Place, Record};
 use lra_facts::{Body, Fact, plain};
-use lra_id::{Front, LraId, NodeId};
-use lra_states::{Act, Verdict};
+use lra_id::{Act, Front, LraId, NodeId, Verdict};
 use std::alloc::{AllocError, Global};
 
 fn deadline_given(fact: &Fact) -> u64

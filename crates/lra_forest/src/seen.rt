@@ -1,15 +1,15 @@
 // What is seen of participants.
 ghost use Rattle.std.specs.Prelude.{◌≡◌, ◌&&◌, is_some};
 ghost use mathlib.Core.Bool.{not};
-ghost use Rattle.lra_states.specs.States.{shown};
+ghost use Rattle.lra_id.specs.States.{shown};
 ghost use Rattle.lra_forest.specs.Statuses.{seen_by, seen_or, status_in};
 
 use crate::Participant;
 use lra_facts::plain;
-use lra_states::{LraStatus, MemberStatus, Verdict};
+use lra_id::{LraStatus, MemberStatus, Verdict};
 
-/// What is seen of some participants: whether one has something left to do, one failed to complete, and one failed to
-/// compensate.
+/// What is seen of some participants: whether one has something left to do, one failed to complete,
+/// and one failed to compensate.
 #[derive(Clone, Copy)]
 pub struct Seen {
     pub unsettled: bool,
@@ -63,7 +63,8 @@ impl Seen {
     }
 }
 
-/// The status of a participant, by what its LRA wants. One without a complete link is completed as soon as its LRA closes.
+/// The status of a participant, by what its LRA wants. One without a complete link is completed as
+/// soon as its LRA closes.
 pub fn status_of(want: Option<Verdict>, participant: &Participant) -> MemberStatus
     ensures { result ≡ status_in want participant.now }
 {

@@ -27,8 +27,8 @@ fn is_among(ids: &[LraId], kept: &Record) -> bool
 }
 
 impl Forest {
-    /// The record of the LRA with this number, if it is none of those that are removed. It is looked up by halving, and then
-    /// among those that are removed.
+    /// The record of the LRA with this number, if it is none of those that are removed. It is
+    /// looked up by halving, and then among those that are removed.
     fn kept_at(&self, removed: &[LraId], num: u64) -> Option<&Record>
         ensures { option_copied result
             ≡ found_at self.now.home (without removed.now self.now.records) num }
@@ -45,13 +45,14 @@ impl Forest {
         }
     }
 
-    /// The record of the LRA with this number once the records are changed: one of the changes, else one that stays.
+    /// The record of the LRA with this number once the records are changed: one of the changes,
+    /// else one that stays.
     fn changed_at<'a>(&'a self, changes: &'a Changes, num: u64) -> Option<&'a Record>
         requires { changes.now.records.home ≡ self.now.home }
         ensures { option_copied result
             ≡ found_at self.now.home (records_after changes.now self.now) num }
     {
-        // Both are in order.
+        // Calling `records` hands the prover that both are in order.
         let _ = self.records();
         let _ = changes.records.records();
         if let Some(record) = changes.records.numbered(num) {
@@ -60,7 +61,8 @@ impl Forest {
         self.kept_at(&changes.removed, num)
     }
 
-    /// Whether an LRA is no deeper than 8 once the records are changed: a root is met so soon on the way up.
+    /// Whether an LRA is no deeper than 8 once the records are changed: a root is met so soon on
+    /// the way up.
     fn is_shallow(&self, changes: &Changes, num: u64) -> bool
         requires { changes.now.records.home ≡ self.now.home }
         ensures { result ≡ is_shallow 8 self.now.home (records_after changes.now self.now) num }
@@ -78,8 +80,8 @@ impl Forest {
         false
     }
 
-    /// Whether the record of the parent is there once the records are changed, and has the LRA with this number as the
-    /// member at its place.
+    /// Whether the record of the parent is there once the records are changed, and has the LRA with
+    /// this number as the member at its place.
     fn is_nested_at(&self, changes: &Changes, num: u64, place: Place) -> bool
         requires { changes.now.records.home ≡ self.now.home }
         ensures { IsTrue result ↔ IsNestedAt self.now.home
@@ -106,6 +108,7 @@ impl Forest {
     }
 
     /// Whether the record of each LRA that is nested here is there once the records are changed.
+    /// That it names this one as its parent is asked from the child's side.
     fn has_nested(&self, changes: &Changes, members: &[Member]) -> bool
         requires { changes.now.records.home ≡ self.now.home }
         ensures { IsTrue result ↔
@@ -134,7 +137,8 @@ impl Forest {
             && kept.stamps.below(front)
     }
 
-    /// Whether the record of the LRA with this number has its place once the records are changed, if there is one.
+    /// Whether the record of the LRA with this number has its place once the records are changed,
+    /// if there is one.
     fn is_in_place_at(&self, changes: &Changes, front: &Front, num: u64) -> bool
         requires { changes.now.records.home ≡ self.now.home }
         ensures { IsTrue result ↔ IsInPlaceAt front.now self.now.home
@@ -163,7 +167,7 @@ impl Forest {
     fn count_kept(&self, removed: &[LraId]) -> usize
         ensures { result ≡ length (without removed.now self.now.records) }
     {
-        // So many there are at most.
+        // Calling `len` hands the prover how many there are at most.
         let _ = self.len();
         let mut count = 0;
         for record in self.records() {
@@ -178,7 +182,7 @@ impl Forest {
         ensures { result ≡ length (filter (λ r. is_none
             (found_at self.now.home (without removed.now self.now.records) r.num)) added.now.records) }
     {
-        // So many there are at most.
+        // Calling `len` hands the prover how many there are at most.
         let _ = added.len();
         let mut count = 0;
         for record in added.records() {
@@ -189,12 +193,13 @@ impl Forest {
         count
     }
 
-    /// Whether there are at most 256 once the records are changed: those that stay, and those that are added.
+    /// Whether there are at most 256 once the records are changed: those that stay, and those that
+    /// are added.
     fn is_few(&self, changes: &Changes) -> bool
         requires { changes.now.records.home ≡ self.now.home }
         ensures { IsTrue result ↔ length (records_after changes.now self.now) ≤ 256 }
     {
-        // Both are in order.
+        // Calling `records` hands the prover that both are in order.
         let _ = self.records();
         let _ = changes.records.records();
         let removed = changes.removed.as_slice();
@@ -205,10 +210,11 @@ impl Forest {
         self.count_added(removed, &changes.records) <= MAX_HELD - kept
     }
 
-    /// Whether these records have their shape once they are changed, under a front: they are at most 256, the parent that a
-    /// record names is there and has it as the member at its place, each nested LRA is there, none is deeper than 8, and no
-    /// stamp is beyond the front. The records stay as they are. For each record it looks up its parents and its nested LRAs:
-    /// by halving, and each time among those that are removed.
+    /// Whether these records have their shape once they are changed, under a front: they are at
+    /// most 256, the parent that a record names is there and has it as the member at its place,
+    /// each nested LRA is there, none is deeper than 8, and no stamp is beyond the front. The
+    /// records stay as they are. For each record it looks up its parents and its nested LRAs: by
+    /// halving, and each time among those that are removed.
     pub fn keeps_shape_with(&self, changes: &Changes, front: &Front) -> bool
         requires { changes.now.records.home ≡ self.now.home }
         ensures { IsTrue result ↔ AreInShape front.now self.now.home

@@ -6,13 +6,14 @@ ghost use Rattle.lra_callback.specs.declared.answer.Heard.TheVariants.{Again};
 ghost use Rattle.lra_heard.specs.Letters.{IsHeardIn, IsUnheardIn, came_of};
 
 use lra_callback::{Answer, Caller, Duty, Heard, hear, request_of};
-use lra_history::Command;
+use lra_facts::Command;
 use lra_turns::{Came, Due};
 use std::alloc::Global;
 use std::marker::Model;
 
-/// What was heard of a participant that was called for a duty. Only `call_for` makes one, and none is made of another. So each was heard
-/// once, and is entered once at most, for the participant that was called.
+/// What was heard of a participant that was called for a duty. Only `call_for` makes one, and none
+/// is made of another. So each was heard once, and is entered once at most, for the participant
+/// that was called.
 #[derive(Drop)]
 pub struct Letter {
     duty: Duty,
@@ -85,12 +86,14 @@ fn letter_of(duty: Duty, answer: &Answer) -> Result<Letter, Unheard>
     Ok(Letter { duty, heard })
 }
 
-/// Calls a participant for a duty, once: makes the request for it, and hears the answer. Errors: nothing is heard that counts, since the
-/// answer is none that does, or since no memory can be had, which counts as no whole answer.
+/// Calls a participant for a duty, once: makes the request for it, and hears the answer. Errors:
+/// nothing is heard that counts, since the answer is none that does, or since no memory can be had,
+/// which counts as no whole answer.
 pub fn call_for<C: Caller>(alloc: Global, caller: &mut C, due: Due) -> Result<Letter, Unheard>
     // The caller answered the request for this duty, and what is heard of that answer counts.
     ensures heard { IfOk result (IsHeardIn C.Caller caller.old caller.new due) }
-    // The answer counts for nothing, and is told; or no memory was there for the request, and nobody was called; or for the answer.
+    // The answer counts for nothing, and is told; or no memory was there for the request, and
+    // nobody was called; or for the answer.
     ensures unheard { IfErr result (λ unheard. (unheard.duty ≡ due)
         × IsUnheardIn C.Caller caller.old caller.new due unheard.came) }
 {

@@ -4,8 +4,9 @@ ghost use Rattle.lra_delta.specs.Frames.{Frame};
 ghost use Rattle.lra_delta.specs.declared.version.Version.{Version};
 ghost use Rattle.lra_delta.specs.Rules.{IsDeltaAs};
 ghost use Rattle.lra_delta.specs.Encoding.{encoding_as};
-ghost use Rattle.lra_peer.specs.PullAnswers.{IsAnswer, IsOfStreams, IsSent, IsUnsentBy, StopsPull, TellsDelta};
+ghost use Rattle.lra_peer.specs.PullAnswers.{IsAnswer, IsOfStreams, IsUnsentBy, StopsPull, TellsDelta};
 ghost use Rattle.lra_peer.specs.Texts.{pull_text};
+ghost use Rattle.lra_http.specs.Streams.{IsSent};
 
 use lra_delta::Delta;
 use lra_http::{Sink, Source};
@@ -14,8 +15,8 @@ use lra_peer::{PullError, pull};
 use std::alloc::Global;
 use std::marker::Model;
 
-/// What another node told in a pull: a whole frame. Only `ask_for` makes one, and none is made of another. So no frame is taken that didn't
-/// come, and each is taken once at most.
+/// What another node told in a pull: a whole frame. Only `ask_for` makes one, and none is made of
+/// another. So no frame is taken that didn't come, and each is taken once at most.
 #[derive(Drop)]
 pub struct Telling {
     delta: Delta,
@@ -45,15 +46,16 @@ impl Telling {
     }
 }
 
-/// Asks another node for what is lacked by one that has the facts which a front counts, as `lra_peer::pull`. Errors: as that.
+/// Asks another node for what is lacked by one that has the facts which a front counts, as
+/// `lra_peer::pull`. Errors: as that.
 pub fn ask_for<R: Source, W: Sink>(
     alloc: Global,
     reader: &mut R,
     writer: &mut W,
     front: &Front,
 ) -> Result<Telling, PullError>
-    // The whole request for this front was written and passed on. What was given since is one whole response with status 200, whose
-    // body encodes the frame, and no byte more. No call failed.
+    // The whole request for this front was written and passed on. What was given since is one whole
+    // response with status 200, whose body encodes the frame, and no byte more. No call failed.
     ensures message { IfOk result (λ telling. IsSent (W.stream writer.old)
         (W.stream writer.new) (W.calls writer.old) (W.calls writer.new) (pull_text front.now)
         × TellsDelta (R.stream reader.old)

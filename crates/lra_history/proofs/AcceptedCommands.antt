@@ -11,8 +11,8 @@ use Rattle.lra_facts.specs.Duties.{has_forgot, has_told, is_after_duty, is_forge
 use Rattle.lra_facts.specs.Refusals.{unknown, away, spent}
 use Rattle.lra_forest.specs.declared.duties.Due.{Due}
 use Rattle.lra_forest.specs.Dues.{least_forget, least_untold}
-use Rattle.lra_history.specs.declared.command.Command.{Command}
-use Rattle.lra_history.specs.declared.command.Command.TheVariants.{Begin as BeginAsked, Join as JoinAsked, Leave as LeaveAsked, Decide as DecideAsked, Report as ReportAsked, Forgot as ForgotAsked, Told as ToldAsked, Purge as PurgeAsked}
+use Rattle.lra_facts.specs.declared.command.Command.{Command}
+use Rattle.lra_facts.specs.declared.command.Command.TheVariants.{Begin as BeginAsked, Join as JoinAsked, Leave as LeaveAsked, Decide as DecideAsked, Report as ReportAsked, Forgot as ForgotAsked, Told as ToldAsked, Purge as PurgeAsked}
 use Rattle.lra_history.specs.Replies.{by_facts, gone_by, stranger_by, inactive_by, unasked_by, full_by, deep_by, crowded_by, early_by, Accepted, is_known, judge, judged, nested_by, refusal_of, running_by, unforgotten_by, unowed_by, untold_by}
 use Rattle.lra_history.proofs.Basics.{equal_from, less_by, open_first, passed}
 

@@ -19,7 +19,7 @@ use Rattle.lra_history.specs.Growth.{IsSettled}
 use Rattle.lra_history.specs.Histories.{Entry, History, IsClosed, IsLawful, IsLawfulEntry, Made, entries_of, facts, is_counted, made, made_by, made_from}
 use Rattle.lra_history.specs.Views.{IsCounted}
 use Rattle.lra_history.specs.Replies.{body_for, command_of, next_fact}
-use Rattle.lra_history.specs.declared.command.Command.{Command}
+use Rattle.lra_facts.specs.declared.command.Command.{Command}
 use Rattle.lra_history.proofs.AcceptedCommands.{lawful_gives}
 use Rattle.lra_history.proofs.SettledFacts.{IsEntered, MeetsSettled, begun_inside, body_gives, earlier_new, filter_agree, meets_new, join_gives, joined_as, named_new, settled_from, whole_from}
 use Rattle.lra_history.proofs.Basics.{in_left, in_right}

@@ -9,7 +9,7 @@ use Rattle.lra_history.specs.Growth.{IsMore}
 use Rattle.lra_history.specs.Changes.{raised}
 use Rattle.lra_history.specs.Views.{AreRecords, IsCounted, StandsFor, purge_number}
 use Rattle.lra_history.specs.Replies.{entered, next_fact}
-use Rattle.lra_history.specs.declared.command.Command.{Command}
+use Rattle.lra_facts.specs.declared.command.Command.{Command}
 use Rattle.lra_history.proofs.StaysSettled.{either_more, in_more, new_more}
 use Rattle.lra_history.proofs.Basics.{length_nodes, same_or_not}
 

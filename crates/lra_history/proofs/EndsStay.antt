@@ -2,8 +2,8 @@
 use mathlib.Core.Bool.{not}
 use Rattle.std.proofs.Common.{◌≡◌, ◌⊎◌, inl, inr, ◌≤◌, ◌&&◌, ◌||◌, ℕ, List, refl, sym, ap, subst, ◌∙◌, Bool, true, false, arith, Option, Some, None, is_none, is_some}
 use Rattle.lra_id.specs.Ids.{Id}
-use Rattle.lra_states.specs.declared.outcome.Verdict.{Verdict}
-use Rattle.lra_states.specs.declared.outcome.Verdict.TheVariants.{Close, Cancel}
+use Rattle.lra_id.specs.declared.outcome.Verdict.{Verdict}
+use Rattle.lra_id.specs.declared.outcome.Verdict.TheVariants.{Close, Cancel}
 use Rattle.lra_facts.specs.Duties.{is_at_end, is_root_decided, wants_cancel}
 use Rattle.lra_facts.specs.Lists.{In}
 use Rattle.lra_facts.specs.Sets.{chain, is_ended, is_open, is_root, some_shows, want}

@@ -2,10 +2,10 @@
 use Rattle.std.proofs.Common.{◌≡◌, inl, inr, ◌≤◌, ◌<◌, ◌+◌, ◌-◌, ◌==◌, ◌&&◌, ℕ, zero, suc, List, [], ◌∷◌, refl, sym, ap, subst, ◌∙◌, Bool, true, false, cond, arith, Option, Some, None, filter, map, length, slice_get, nat_lt, is_some}
 use Rattle.std.proofs.lemmas.Bool.Decides.{nat_tests}
 use Rattle.lra_id.specs.Ids.{Id}
-use Rattle.lra_states.specs.States.{greater}
-use Rattle.lra_states.specs.declared.outcome.Act.{Act}
-use Rattle.lra_states.specs.declared.outcome.Act.TheVariants.{Complete, Compensate}
-use Rattle.lra_states.specs.declared.outcome.Outcome.{Outcome}
+use Rattle.lra_id.specs.States.{greater}
+use Rattle.lra_id.specs.declared.outcome.Act.{Act}
+use Rattle.lra_id.specs.declared.outcome.Act.TheVariants.{Complete, Compensate}
+use Rattle.lra_id.specs.declared.outcome.Outcome.{Outcome}
 use Rattle.lra_facts.specs.declared.fact.Body.{Body}
 use Rattle.lra_facts.specs.declared.fact.Body.TheVariants.{Begin, Join, Leave, Decide, Report, Forgot, Told, Purge}
 use Rattle.lra_facts.specs.declared.fact.Fact.{Fact}
@@ -297,6 +297,7 @@ told_changes f S T more l m body =
     same k a = heard_kept f S T more l k a (rw body refl)
 
 -- a told of a member whose number was given
+-- (as `forgot_record`, but for the mark; one lemma for both was not tried)
 pub told_record : (f : Fact) (S T : List Fact) → IsMore f S T → IsSettled S → (nodes : ℕ) (l : Id) (m : ℕ) → f.body ≡ Told l m → 1 ≤ m → is_begun S l ≡ true → record_of nodes T l ≡ record_after f (record_of nodes S l)
 told_record f S T more settled nodes l m body some b =
     record_gained f S T more settled (λ p g. absurd (let wrong : gives_number p (Told l m) ≡ true = rw body at g in cc)) nodes l b (rw body (same_self l))

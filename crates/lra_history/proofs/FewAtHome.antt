@@ -12,7 +12,7 @@ use Rattle.lra_forest.proofs.Bools.{all_in, and_left, and_right}
 use Rattle.lra_forest.proofs.GiversOfNumbers.{filter_both}
 use Rattle.lra_history.specs.Histories.{History, IsClosed, IsLawful, Made, facts, is_counted, made}
 use Rattle.lra_history.specs.Replies.{IsLawfulBody}
-use Rattle.lra_history.specs.declared.command.Command.TheVariants.{Begin as BeginAsked}
+use Rattle.lra_facts.specs.declared.command.Command.TheVariants.{Begin as BeginAsked}
 use Rattle.lra_history.proofs.Decisions.{counted_entry}
 use Rattle.lra_history.proofs.SettledFacts.{filter_agree}
 use Rattle.lra_history.proofs.ClosedSets.{closed_counted, closed_settled, counted_le, facts_inside, in_facts, le_counted}

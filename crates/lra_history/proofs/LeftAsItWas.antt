@@ -5,10 +5,10 @@ use Rattle.std.specs.Prelude.{slice_set}
 use Rattle.std.specs.List.{list_any, AllByRecursion}
 use Rattle.std.specs.Option.{option_map_or}
 use Rattle.lra_id.specs.Ids.{Id, same_id}
-use Rattle.lra_states.specs.declared.outcome.Act.{Act}
-use Rattle.lra_states.specs.declared.outcome.Act.TheVariants.{Complete, Compensate}
-use Rattle.lra_states.specs.declared.outcome.Verdict.{Verdict}
-use Rattle.lra_states.specs.declared.outcome.Verdict.TheVariants.{Close, Cancel}
+use Rattle.lra_id.specs.declared.outcome.Act.{Act}
+use Rattle.lra_id.specs.declared.outcome.Act.TheVariants.{Complete, Compensate}
+use Rattle.lra_id.specs.declared.outcome.Verdict.{Verdict}
+use Rattle.lra_id.specs.declared.outcome.Verdict.TheVariants.{Close, Cancel}
 use Rattle.lra_facts.specs.declared.fact.Body.{Body}
 use Rattle.lra_facts.specs.declared.fact.Body.TheVariants.{Begin, Join, Leave, Decide, Report, Forgot, Told, Purge}
 use Rattle.lra_facts.specs.declared.fact.Fact.{Fact}

@@ -5,8 +5,8 @@ use Rattle.std.specs.List.{list_any, AllByRecursion}
 use Rattle.std.proofs.lemmas.Bool.Decides.{nat_tests}
 use Rattle.std.proofs.lemmas.List.{map-append}
 use Rattle.lra_id.specs.Ids.{Id}
-use Rattle.lra_states.specs.States.{greater}
-use Rattle.lra_states.specs.declared.outcome.Act.{Act}
+use Rattle.lra_id.specs.States.{greater}
+use Rattle.lra_id.specs.declared.outcome.Act.{Act}
 use Rattle.lra_facts.specs.declared.fact.Fact.{Fact}
 use Rattle.lra_facts.specs.Lists.{In, most}
 use Rattle.lra_facts.specs.Sets.{begins, parent_of, parent_named, heard, reported}

@@ -1,9 +1,9 @@
 -- merges of the views of two nodes, computed: one hears an outcome while the other goes on, and then purges
 use Rattle.std.proofs.Common.{Some, ◌≡◌, ℕ, List, [], ◌∷◌, refl, map, None}
 use Rattle.lra_id.specs.Ids.{Id}
-use Rattle.lra_states.specs.declared.outcome.Act.TheVariants.{Compensate}
-use Rattle.lra_states.specs.declared.outcome.Outcome.TheVariants.{Done}
-use Rattle.lra_states.specs.declared.outcome.Verdict.TheVariants.{Cancel}
+use Rattle.lra_id.specs.declared.outcome.Act.TheVariants.{Compensate}
+use Rattle.lra_id.specs.declared.outcome.Outcome.TheVariants.{Done}
+use Rattle.lra_id.specs.declared.outcome.Verdict.TheVariants.{Cancel}
 use Rattle.lra_facts.specs.declared.fact.Body.TheVariants.{Begin, Join, Decide, Report, Purge}
 use Rattle.lra_facts.specs.Links.{Links}
 use Rattle.lra_forest.specs.Records.{nodes_to, record_of}

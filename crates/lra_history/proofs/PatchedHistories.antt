@@ -3,7 +3,7 @@ use Rattle.std.proofs.Common.{◌≡◌, ◌≤◌, ◌+◌, ◌-◌, ℕ, zero,
 use Rattle.std.proofs.lemmas.List.{length-replicate}
 use Rattle.lra_facts.specs.declared.fact.Fact.{Fact}
 use Rattle.lra_facts.specs.Lists.{In}
-use Rattle.lra_history.specs.declared.command.Command.{Command}
+use Rattle.lra_facts.specs.declared.command.Command.{Command}
 use Rattle.lra_history.specs.Histories.{Entry, History, Made, facts, is_counted, made, made_from, with_entry}
 use Rattle.lra_history.specs.NodeViews.{IsCurrent, IsViewIn, entry_for}
 use Rattle.lra_history.specs.Changes.{AddsFact, Change, patched, raised}

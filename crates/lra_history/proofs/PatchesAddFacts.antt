@@ -5,9 +5,9 @@ use Rattle.std.proofs.lemmas.List.{get_or_past, length-map, length-set}
 use Rattle.std.specs.List.{list_any}
 use Rattle.lra_id.specs.Ids.{Id}
 use Rattle.lra_id.specs.Fronts.{count}
-use Rattle.lra_states.specs.declared.outcome.Act.{Act}
-use Rattle.lra_states.specs.declared.outcome.Outcome.{Outcome}
-use Rattle.lra_states.specs.declared.outcome.Verdict.{Verdict}
+use Rattle.lra_id.specs.declared.outcome.Act.{Act}
+use Rattle.lra_id.specs.declared.outcome.Outcome.{Outcome}
+use Rattle.lra_id.specs.declared.outcome.Verdict.{Verdict}
 use Rattle.lra_facts.specs.declared.fact.Fact.{Fact}
 use Rattle.lra_facts.specs.Links.{Links}
 use Rattle.lra_facts.specs.Lists.{In}
@@ -26,8 +26,8 @@ use Rattle.lra_history.specs.Growth.{IsMore, IsSettled, new_record, record_after
 use Rattle.lra_history.specs.Changes.{AddsFact, IsRemoval, one_change, purge_change, put_at_home, put_each, raised, remove_each, remove_at_home, two_changes}
 use Rattle.lra_history.specs.Replies.{Accepted, body_for, entered, judge, next_fact}
 use Rattle.lra_history.specs.Views.{AreRecords, StandsFor, View, is_purge_fact, purge_number, record_at, records_at}
-use Rattle.lra_history.specs.declared.command.Command.{Command}
-use Rattle.lra_history.specs.declared.command.Command.TheVariants.{Begin as BeginAsked, Join as JoinAsked, Leave as LeaveAsked, Decide as DecideAsked, Report as ReportAsked, Forgot as ForgotAsked, Told as ToldAsked, Purge as PurgeAsked}
+use Rattle.lra_facts.specs.declared.command.Command.{Command}
+use Rattle.lra_facts.specs.declared.command.Command.TheVariants.{Begin as BeginAsked, Join as JoinAsked, Leave as LeaveAsked, Decide as DecideAsked, Report as ReportAsked, Forgot as ForgotAsked, Told as ToldAsked, Purge as PurgeAsked}
 use Rattle.lra_history.proofs.AcceptedCommands.{lawful_gives}
 use Rattle.lra_history.proofs.CountedByFronts.{counted_with, more_entered}
 use Rattle.lra_history.proofs.SettledFacts.{body_gives, filter_agree, givers_length}

@@ -16,8 +16,8 @@ use Rattle.lra_forest.specs.Said.{ids_below, is_below}
 use Rattle.lra_forest.specs.Shape.{found_at}
 use Rattle.lra_forest.proofs.ParentsAndChains.{begins_at}
 use Rattle.lra_forest.proofs.OnlyWhatChanges.{ids_alone, some_same}
-use Rattle.lra_history.specs.declared.command.Command.{Command}
-use Rattle.lra_history.specs.declared.command.Command.TheVariants.{Begin, Join, Leave, Decide, Report, Forgot, Told, Purge}
+use Rattle.lra_facts.specs.declared.command.Command.{Command}
+use Rattle.lra_facts.specs.declared.command.Command.TheVariants.{Begin, Join, Leave, Decide, Report, Forgot, Told, Purge}
 use Rattle.lra_history.specs.Growth.{IsSettled, record_after, stamped}
 use Rattle.lra_history.specs.Next.{change_on, change_record, judge_on, next_fact_on, no_change}
 use Rattle.lra_history.specs.Changes.{fresh_record, HoldsOnlyChanges, ids_of, one_change, records_of, two_changes}

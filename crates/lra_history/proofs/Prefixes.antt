@@ -1,4 +1,6 @@
 -- lists of facts in order of their numbers, one of which is the first part of the other
+-- Sorted by number two lists with the same facts are equal, and of one whose further facts are all
+-- greater the other is a first part. That replaces each induction over a history's own list
 use Rattle.std.proofs.Common.{◌≡◌, ◌⊎◌, inl, inr, ◌<◌, List, [], ◌∷◌, ◌++◌, refl, sym, ap, ◌∙◌, arith}
 use Rattle.lra_facts.specs.declared.fact.Fact.{Fact}
 use Rattle.lra_facts.specs.Lists.{In, IsInside}

@@ -1,14 +1,14 @@
 -- ranks of statuses, by what is wanted and by tests
 use mathlib.Core.Bool.{not}
 use Rattle.std.proofs.Common.{◌≡◌, ◌⊎◌, inl, inr, ◌≤◌, ◌&&◌, ℕ, refl, Bool, true, false, cond, arith, Option, Some, None, is_some}
-use Rattle.lra_states.specs.States.{compensating, completing, level, rank, rank_of, same_member_status, shown}
-use Rattle.lra_states.specs.declared.status.LraStatus.{LraStatus}
-use Rattle.lra_states.specs.declared.status.LraStatus.TheVariants.{Active, Closing, Closed, FailedToClose, Cancelling, Cancelled, FailedToCancel}
-use Rattle.lra_states.specs.declared.status.MemberStatus.TheVariants.{Compensated, Completed, FailedToComplete, FailedToCompensate}
-use Rattle.lra_states.specs.declared.outcome.Outcome.{Outcome}
-use Rattle.lra_states.specs.declared.outcome.Outcome.TheVariants.{Busy, Done, Failed}
-use Rattle.lra_states.specs.declared.outcome.Verdict.{Verdict}
-use Rattle.lra_states.specs.declared.outcome.Verdict.TheVariants.{Close, Cancel}
+use Rattle.lra_id.specs.States.{compensating, completing, level, rank, rank_of, same_member_status, shown}
+use Rattle.lra_id.specs.declared.status.LraStatus.{LraStatus}
+use Rattle.lra_id.specs.declared.status.LraStatus.TheVariants.{Active, Closing, Closed, FailedToClose, Cancelling, Cancelled, FailedToCancel}
+use Rattle.lra_id.specs.declared.status.MemberStatus.TheVariants.{Compensated, Completed, FailedToComplete, FailedToCompensate}
+use Rattle.lra_id.specs.declared.outcome.Outcome.{Outcome}
+use Rattle.lra_id.specs.declared.outcome.Outcome.TheVariants.{Busy, Done, Failed}
+use Rattle.lra_id.specs.declared.outcome.Verdict.{Verdict}
+use Rattle.lra_id.specs.declared.outcome.Verdict.TheVariants.{Close, Cancel}
 use Rattle.lra_facts.specs.Links.{Links}
 use Rattle.lra_facts.specs.Sets.{is_open, status_by}
 

@@ -4,13 +4,13 @@ use Rattle.std.proofs.Common.{◌≡◌, ◌⊎◌, inl, inr, ◌≤◌, ℕ, Li
 use Rattle.std.specs.List.{list_any}
 use Rattle.lra_id.specs.Ids.{Id, same_id}
 use Rattle.lra_id.specs.Fronts.{IsBelow, count, is_covered}
-use Rattle.lra_states.specs.States.{level, rank, same_member_status}
-use Rattle.lra_states.specs.declared.status.MemberStatus.{MemberStatus}
-use Rattle.lra_states.specs.declared.status.MemberStatus.TheVariants.{FailedToComplete, FailedToCompensate}
-use Rattle.lra_states.specs.declared.outcome.Act.TheVariants.{Complete, Compensate}
-use Rattle.lra_states.specs.declared.outcome.Outcome.{Outcome}
-use Rattle.lra_states.specs.declared.outcome.Verdict.{Verdict}
-use Rattle.lra_states.specs.declared.outcome.Verdict.TheVariants.{Close, Cancel}
+use Rattle.lra_id.specs.States.{level, rank, same_member_status}
+use Rattle.lra_id.specs.declared.status.MemberStatus.{MemberStatus}
+use Rattle.lra_id.specs.declared.status.MemberStatus.TheVariants.{FailedToComplete, FailedToCompensate}
+use Rattle.lra_id.specs.declared.outcome.Act.TheVariants.{Complete, Compensate}
+use Rattle.lra_id.specs.declared.outcome.Outcome.{Outcome}
+use Rattle.lra_id.specs.declared.outcome.Verdict.{Verdict}
+use Rattle.lra_id.specs.declared.outcome.Verdict.TheVariants.{Close, Cancel}
 use Rattle.lra_facts.specs.declared.fact.Body.{Body}
 use Rattle.lra_facts.specs.declared.fact.Body.TheVariants.{Begin, Join, Leave, Decide, Report, Forgot, Told, Purge}
 use Rattle.lra_facts.specs.declared.fact.Fact.{Fact}

@@ -1,9 +1,9 @@
 -- the records of a home in a set with one more fact
 use Rattle.std.proofs.Common.{◌≡◌, ◌≤◌, ◌+◌, ℕ, List, refl, sym, ap, subst, ◌∙◌, Bool, true, false, cond, Option, Some, None, find}
 use Rattle.lra_id.specs.Ids.{Id, same_id}
-use Rattle.lra_states.specs.declared.outcome.Act.{Act}
-use Rattle.lra_states.specs.declared.outcome.Outcome.{Outcome}
-use Rattle.lra_states.specs.declared.outcome.Verdict.{Verdict}
+use Rattle.lra_id.specs.declared.outcome.Act.{Act}
+use Rattle.lra_id.specs.declared.outcome.Outcome.{Outcome}
+use Rattle.lra_id.specs.declared.outcome.Verdict.{Verdict}
 use Rattle.lra_facts.specs.declared.fact.Body.{Body}
 use Rattle.lra_facts.specs.declared.fact.Body.TheVariants.{Begin, Join, Leave, Decide, Report, Forgot, Told, Purge}
 use Rattle.lra_facts.specs.declared.fact.Fact.{Fact}

@@ -6,8 +6,8 @@ use Rattle.lra_facts.specs.declared.refusal.Refusal.{Refusal}
 use Rattle.lra_facts.specs.Sets.{is_held}
 use Rattle.lra_forest.specs.declared.record.Record.{Record}
 use Rattle.lra_forest.specs.Records.{record_of}
-use Rattle.lra_history.specs.declared.command.Command.{Command}
-use Rattle.lra_history.specs.declared.command.CommandReply.TheVariants.{Refused}
+use Rattle.lra_facts.specs.declared.command.Command.{Command}
+use Rattle.lra_facts.specs.declared.command.CommandReply.TheVariants.{Refused}
 use Rattle.lra_history.specs.Replies.{Denied, Judgement, Accepted, accepted, judge, reply_by, reply_of}
 use Rattle.lra_history.specs.Views.{StandsFor, View, record_at}
 use Rattle.lra_history.proofs.PatchesAddFacts.{held_home}

@@ -3,10 +3,10 @@ use Rattle.std.specs.Option.{option_map_or}
 use Rattle.std.proofs.Common.{◌≡◌, inl, inr, ◌||◌, ◌≤◌, ◌-◌, ℕ, List, [], ◌∷◌, refl, sym, ap, ◌∙◌, Bool, true, false, arith, Option, Some, None, Ok, find, is_none, is_some, length, nat_lt}
 use Rattle.std.proofs.lemmas.List.{get_or_past}
 use Rattle.lra_id.specs.Ids.{Id}
-use Rattle.lra_states.specs.declared.outcome.Act.{Act}
-use Rattle.lra_states.specs.declared.outcome.Outcome.{Outcome}
-use Rattle.lra_states.specs.declared.outcome.Verdict.{Verdict}
-use Rattle.lra_states.specs.declared.status.LraStatus.{LraStatus}
+use Rattle.lra_id.specs.declared.outcome.Act.{Act}
+use Rattle.lra_id.specs.declared.outcome.Outcome.{Outcome}
+use Rattle.lra_id.specs.declared.outcome.Verdict.{Verdict}
+use Rattle.lra_id.specs.declared.status.LraStatus.{LraStatus}
 use Rattle.lra_facts.specs.declared.fact.Fact.{Fact}
 use Rattle.lra_facts.specs.declared.refusal.Refusal.{Refusal}
 use Rattle.lra_facts.specs.declared.refusal.Refusal.TheVariants.{DepthFull, LrasFull, MembersFull, NotActive, NotDue, NotEnded, NotHeld, NotRoot, StillToForget, StillToTell, UnknownMember}
@@ -22,8 +22,8 @@ use Rattle.lra_forest.proofs.LeastDutyUnderARoot.{least_said, least_untold_said}
 use Rattle.lra_forest.proofs.RecordCounts.{held_count}
 use Rattle.lra_forest.proofs.MembersAndStamps.{find_in}
 use Rattle.lra_forest.proofs.RecordsSayTheSet.{demanded_said, depth_said, ended_said, heard_said, member_shown_said, numbers_said, participant_said, shown_said, want_said}
-use Rattle.lra_history.specs.declared.command.Command.{Command}
-use Rattle.lra_history.specs.declared.command.Command.TheVariants.{Begin, Join, Leave, Decide, Report, Forgot, Told, Purge}
+use Rattle.lra_facts.specs.declared.command.Command.{Command}
+use Rattle.lra_facts.specs.declared.command.Command.TheVariants.{Begin, Join, Leave, Decide, Report, Forgot, Told, Purge}
 use Rattle.lra_history.specs.Growth.{IsSettled}
 use Rattle.lra_history.specs.Next.{judge_on}
 use Rattle.lra_history.specs.Readings.{by_view}
@@ -258,6 +258,7 @@ forgot_passed u v node l m none =
     (passed (u.held l) NotHeld after_gone.0, passed (u.participant l m) UnknownMember after_stranger.0)
 
 -- and what a told does
+-- (as `forgot_passed`, but for the mark; one lemma for both was not tried)
 pub told_passed : (u : Reading) (v : List ℕ) (node : ℕ) (l : Id) (m : ℕ) → refusal_by u v node (Told l m) ≡ None → (u.held l ≡ true) × (u.participant l m ≡ true)
 told_passed u v node l m none =
     let after_unknown = open_first (unknown v l) _ none in

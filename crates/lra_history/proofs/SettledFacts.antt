@@ -22,12 +22,13 @@ use Rattle.lra_forest.proofs.NumberedMembers.{join_found, same_is, same_self}
 use Rattle.lra_history.specs.Growth.{IsSettled, names_member}
 use Rattle.lra_history.specs.Views.{IsCounted}
 use Rattle.lra_history.specs.Replies.{Accepted, body_for, judge, next_fact}
-use Rattle.lra_history.specs.declared.command.Command.{Command}
-use Rattle.lra_history.specs.declared.command.Command.TheVariants.{Begin as BeginAsked, Join as JoinAsked, Leave as LeaveAsked, Decide as DecideAsked, Report as ReportAsked, Forgot as ForgotAsked, Told as ToldAsked, Purge as PurgeAsked}
+use Rattle.lra_facts.specs.declared.command.Command.{Command}
+use Rattle.lra_facts.specs.declared.command.Command.TheVariants.{Begin as BeginAsked, Join as JoinAsked, Leave as LeaveAsked, Decide as DecideAsked, Report as ReportAsked, Forgot as ForgotAsked, Told as ToldAsked, Purge as PurgeAsked}
 use Rattle.lra_history.proofs.AcceptedCommands.{IsGiven, lawful_gives, number_left}
 use Rattle.lra_history.proofs.Basics.{held_begun}
 
 -- what is asked of each fact of a settled set
+-- (it carries both "one more lawful fact" and "each closed set")
 pub record MeetsSettled (T : List Fact) (f : Fact) : Type 0 where
   pub givers : (l : Id) → gives_number l f.body ≡ true → f.origin ≡ l.home
   pub numbers : (l : Id) (m : ℕ) (links : Links) → f.body ≡ Join l m links → m ≡ member_number T l f.num

@@ -13,7 +13,7 @@ use Rattle.lra_forest.proofs.Bools.{all_from, all_in}
 use Rattle.lra_history.specs.Growth.{IsMore, IsSettled}
 use Rattle.lra_history.specs.Views.{IsCounted}
 use Rattle.lra_history.specs.Replies.{Accepted, body_for, judge, next_fact}
-use Rattle.lra_history.specs.declared.command.Command.{Command}
+use Rattle.lra_facts.specs.declared.command.Command.{Command}
 use Rattle.lra_history.proofs.AcceptedCommands.{lawful_gives}
 use Rattle.lra_history.proofs.SettledFacts.{IsEntered, MeetsSettled, body_gives, begun_inside, chain_inside, earlier_new, filter_agree, meets_new, join_gives, named_new, number_within, settled_from, whole_from}
 

@@ -5,8 +5,8 @@ use Rattle.std.proofs.lemmas.List.{get_or_past}
 use Rattle.std.specs.Option.{option_map_or}
 use Rattle.lra_id.specs.Ids.{Id}
 use Rattle.lra_id.specs.Fronts.{count}
-use Rattle.lra_states.specs.declared.outcome.Verdict.{Verdict}
-use Rattle.lra_states.specs.declared.status.LraStatus.{LraStatus}
+use Rattle.lra_id.specs.declared.outcome.Verdict.{Verdict}
+use Rattle.lra_id.specs.declared.status.LraStatus.{LraStatus}
 use Rattle.lra_facts.specs.declared.fact.Fact.{Fact}
 use Rattle.lra_facts.specs.Links.{Links}
 use Rattle.lra_facts.specs.declared.refusal.Refusal.{Refusal}
@@ -20,9 +20,9 @@ use Rattle.lra_forest.specs.Said.{shown_at}
 use Rattle.lra_forest.specs.Shape.{found_at}
 use Rattle.lra_forest.proofs.MembersAndStamps.{find_in}
 use Rattle.lra_forest.proofs.RecordsSayTheSet.{shown_said}
-use Rattle.lra_history.specs.declared.command.Command.{Command}
-use Rattle.lra_history.specs.declared.command.Command.TheVariants.{Begin, Join, Leave, Decide, Report, Forgot, Told, Purge}
-use Rattle.lra_history.specs.declared.command.CommandReply.TheVariants.{Began, Decided, Joined}
+use Rattle.lra_facts.specs.declared.command.Command.{Command}
+use Rattle.lra_facts.specs.declared.command.Command.TheVariants.{Begin, Join, Leave, Decide, Report, Forgot, Told, Purge}
+use Rattle.lra_facts.specs.declared.command.CommandReply.TheVariants.{Began, Decided, Joined}
 use Rattle.lra_history.specs.Growth.{IsSettled, record_after}
 use Rattle.lra_history.specs.Next.{accepted_on, change_on, change_record, changed, judge_on, next_fact_on, next_view, no_change, reply_on, view_by}
 use Rattle.lra_history.specs.Changes.{AddsFact, fresh_record, Change, one_change, patched, two_changes}

@@ -12,7 +12,7 @@ use Rattle.lra_forest.specs.OnlyChanges.{AreOnlyChanges}
 use Rattle.lra_forest.specs.Places.{put_record}
 use Rattle.lra_forest.specs.declared.record.Place.{Place}
 use Rattle.lra_history.specs.Views.{View, record_at, records_at, StandsFor}
-use Rattle.lra_history.specs.declared.command.Command.{Command}
+use Rattle.lra_facts.specs.declared.command.Command.{Command}
 use Rattle.lra_history.specs.Growth.{IsMore, begun_record, stamped}
 use Rattle.lra_history.specs.Replies.{AlreadyKnown, Accepted, judge, next_fact}
 
@@ -43,6 +43,11 @@ remove_each (l ∷ ids) homes = remove_each ids (remove_at_home l homes)
 abbrev pub patched : Change → View → View
 patched change view =
     record { front = change.front; purges = change.purges; records = put_each change.records (remove_each change.removed view.records) }
+
+-- the same, if there is one
+abbrev pub with_patch : Option Change → View → View
+with_patch None view = view
+with_patch (Some change) view = patched change view
 
 -- what a patch removes and puts at a home
 abbrev pub ids_of : ℕ → List Id → List Id

@@ -2,17 +2,17 @@
 use Rattle.std.specs.Prelude.{◌+◌, ℕ, Some, None, [], ◌∷◌, Result, Ok, Err, Option}
 use Rattle.std.specs.Option.{option_map_or}
 use Rattle.lra_id.specs.Ids.{Id}
-use Rattle.lra_states.specs.declared.status.LraStatus.{LraStatus}
-use Rattle.lra_states.specs.declared.status.MemberStatus.{MemberStatus}
+use Rattle.lra_id.specs.declared.status.LraStatus.{LraStatus}
+use Rattle.lra_id.specs.declared.status.MemberStatus.{MemberStatus}
 use Rattle.lra_facts.specs.declared.fact.Fact.{Fact}
 use Rattle.lra_facts.specs.declared.refusal.Refusal.{Refusal}
 use Rattle.lra_facts.specs.declared.refusal.Refusal.TheVariants.{UnknownMember}
 use Rattle.lra_facts.specs.Refusals.{first, unknown}
 use Rattle.lra_forest.specs.declared.record.Record.{Record}
 use Rattle.lra_forest.specs.Said.{first_overdue, ids_below}
-use Rattle.lra_history.specs.declared.command.Command.{Command}
-use Rattle.lra_history.specs.declared.command.Command.TheVariants.{Begin, Join, Leave, Decide, Report, Forgot, Told, Purge}
-use Rattle.lra_history.specs.declared.command.CommandReply.{CommandReply}
+use Rattle.lra_facts.specs.declared.command.Command.{Command}
+use Rattle.lra_facts.specs.declared.command.Command.TheVariants.{Begin, Join, Leave, Decide, Report, Forgot, Told, Purge}
+use Rattle.lra_facts.specs.declared.command.CommandReply.{CommandReply}
 use Rattle.lra_history.specs.Growth.{record_after}
 use Rattle.lra_history.specs.Changes.{fresh_record, Change, one_change, patched, purge_change, two_changes}
 use Rattle.lra_history.specs.Readings.{at_home, by_view}

@@ -1,7 +1,7 @@
 -- A node's view in a history, and what the node enters next.
 use Rattle.std.specs.Prelude.{◌≡◌, ◌≤◌, ℕ, List, length}
 use Rattle.lra_id.specs.Fronts.{count}
-use Rattle.lra_history.specs.declared.command.Command.{Command}
+use Rattle.lra_facts.specs.declared.command.Command.{Command}
 use Rattle.lra_history.specs.Histories.{Entry, History, IsClosed, IsLawful, entries_of, facts}
 use Rattle.lra_history.specs.Replies.{body_for}
 use Rattle.lra_history.specs.Views.{View, StandsFor}

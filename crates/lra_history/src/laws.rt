@@ -8,7 +8,7 @@ ghost use Rattle.lra_id.specs.Ids.{Id};
 ghost use Rattle.lra_facts.specs.declared.fact.Body.TheVariants.{Purge};
 ghost use Rattle.lra_facts.specs.declared.fact.Fact.{Fact};
 ghost use Rattle.lra_facts.specs.Sets.{is_held, is_root, is_under};
-ghost use Rattle.lra_history.specs.declared.command.Command.{Command};
+ghost use Rattle.lra_facts.specs.declared.command.Command.{Command};
 ghost use Rattle.lra_history.specs.Growth.{IsMore, IsSettled};
 ghost use Rattle.lra_history.specs.Histories.{Entry, History, IsClosed, IsLawful, facts, with_entry};
 ghost use Rattle.lra_history.specs.NodeViews.{IsCurrent, IsViewIn, entry_for};
@@ -28,8 +28,8 @@ pub fn closed_sets_are_settled()
     ensures counted { (h : History) (v : List ℕ) → IsClosed h v → IsCounted (facts h v) v }
 {}
 
-/// What a node enters is one more fact of the set of its front, and of no set of a front that was closed before: such a front
-/// stays closed, and that of another node stays current.
+/// What a node enters is one more fact of the set of its front, and of no set of a front that was
+/// closed before: such a front stays closed, and that of another node stays current.
 pub fn an_entry_is_one_more_fact()
     ensures fact { (h : History) (node : ℕ) (v : List ℕ) (e : Entry) → IsCurrent h node v →
         IsMore (record { origin = node; num = count v node + 1; body = e.body })
@@ -49,9 +49,9 @@ pub fn no_entries_make_an_empty_view()
         IsViewIn (replicate nodes []) node (replicate nodes 0) (empty_view nodes) }
 {}
 
-/// A patch adds exactly its fact: where it is made for the view of a node in a lawful history, the history with the
-/// command's entry is lawful too, and the patched view is that of the node there. Its front is the node's front with one
-/// more of the node.
+/// A patch adds exactly its fact: where it is made for the view of a node in a lawful history, the
+/// history with the command's entry is lawful too, and the patched view is that of the node there.
+/// Its front is the node's front with one more of the node.
 pub fn a_patch_adds_exactly_its_fact()
     ensures view { (h : History)
         (node : ℕ) (v : List ℕ) (view : View) (c : Command) (change : Change) →
@@ -62,15 +62,16 @@ pub fn a_patch_adds_exactly_its_fact()
         AddsFact (facts h v) view node c (Some change) → change.front ≡ raised v node }
 {}
 
-/// The patch of a command holds only what changes, each once: what it puts isn't there as it is, and what it removes is.
+/// The patch of a command holds only what changes, each once: what it puts isn't there as it is,
+/// and what it removes is.
 pub fn a_patch_holds_only_changes()
     ensures { (S : List Fact) (view : View) (me : ℕ) (c : Command) →
         1 ≤ me → me ≤ length view.front → IsSettled S → StandsFor S view →
         judge_on view me c ≡ Accepted → HoldsOnlyChanges view (change_on view me c) }
 {}
 
-/// A purge removes a tree: with one more fact, which purges a root, just those LRAs are held that were held before and are
-/// not under that root.
+/// A purge removes a tree: with one more fact, which purges a root, just those LRAs are held that
+/// were held before and are not under that root.
 pub fn a_purge_removes_a_tree()
     ensures { (f : Fact) (S T : List Fact) (root l : Id) →
         IsMore f S T → IsSettled S → f.body ≡ Purge root →
@@ -84,8 +85,8 @@ pub fn a_set_has_one_view()
         length a.front ≡ length b.front → StandsFor S a → StandsFor S b → a ≡ b }
 {}
 
-/// Where a view stands for a settled set, its reply to a command is that of the set, and the next view stands for the set
-/// after it.
+/// Where a view stands for a settled set, its reply to a command is that of the set, and the next
+/// view stands for the set after it.
 pub fn a_view_replies_as_its_set()
     ensures { (S : List Fact) (view : View) (me : ℕ) (c : Command) →
         1 ≤ me → me ≤ length view.front →

@@ -99,6 +99,7 @@ walk P Q hp hq input (i ∷ xs) (j ∷ ys) m n p q (next, reads, interim, plain,
     walk P Q hp hq next xs ys m n p q here (subst (λ (t : List ℕ). Skips ys t n) same.1 there) (omega (arith, size, bytes)) (omega (arith, count, lines)) at to
 
 -- what stops behind skipped heads stops at one place
+-- (so "an input has one fault" is a line for each pair of causes)
 pub one_place : (P Q : Room → List ℕ → Type 0) → Halts P → Halts Q → (room : Room) (input : List ℕ) → Behind room P input → Behind room Q input → Both P Q
 one_place P Q hp hq room input a b =
     let ab = a.bytes in let bb = b.bytes in let al = a.lines in let bl = b.lines in

@@ -3,6 +3,10 @@ use Rattle.std.specs.Prelude.{ℕ, ◌<◌, List, length}
 use Rattle.lra_http.specs.declared.fault.Fault.{Fault}
 use Rattle.lra_http.specs.declared.fault.Fault.TheVariants.{Cut, ReadFault, WriteFault, HeadTooLong, BodyTooLong, BadHead, LengthNeeded, NotOffered, NoMemory}
 
+-- the most bytes that the body of a message may have, but for a frame's
+abbrev pub max_body_bytes : ℕ
+max_body_bytes = 65536
+
 abbrev pub RefusesBody : ℕ → List ℕ → Fault → Type 0
 RefusesBody size input Cut = length input < size
 RefusesBody size input ReadFault = Unit {0}

@@ -149,3 +149,7 @@ OnWriteFault P Q NotOffered = ⊥
 abbrev pub Writes : {A : Type 0} → (most : ℕ) → Calls → Calls → (Unchanged : Type 0) → Result A Fault → Type 0
 Writes most old new Unchanged result =
     MatchResult result (λ _. AllWell most 0 old new) (OnWriteFault (IsLost most 0 old new) Unchanged)
+
+-- all of the text was taken and passed on, and no write failed
+abbrev pub IsSent : (old new : TakenBytes) (before after : Calls) → List ℕ → Type 0
+IsSent old new before after text = Takes old new text × IsFlushed new × AllWell (length text + 1) 0 before after

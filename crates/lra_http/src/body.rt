@@ -10,8 +10,8 @@ use std::alloc::Global;
 /// The most bytes of a body, where the caller has no other limit.
 pub const MAX_BODY_BYTES: usize = 65_536;
 
-/// Reads at most as many bytes as fit, and none only at the end or where none fits. `interrupted` counts the interrupted
-/// calls of the message.
+/// Reads at most as many bytes as fit, and none only at the end or where none fits. `interrupted`
+/// counts the interrupted calls of the message.
 pub fn read_piece<S: Source>(
     source: &mut S,
     buffer: &mut [u8],

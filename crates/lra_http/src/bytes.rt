@@ -12,11 +12,13 @@ pub struct ReadFault;
 #[derive(Clone, Copy, Debug, PartialEq, Eq)]
 pub struct WriteFault;
 
-/// So many interrupted calls in one message are a fault: a message of 1,023 is still read or written.
+/// So many interrupted calls in one message are a fault: a message of 1,023 is still read or
+/// written.
 pub const TOO_MANY_INTERRUPTED: u16 = 1024;
 
-/// Writes all of the bytes, or a prefix of them before a fault. `interrupted` counts the interrupted calls of the
-/// message that the bytes belong to, and is handed on from one piece of it to the next.
+/// Writes all of the bytes, or a prefix of them before a fault. `interrupted` counts the
+/// interrupted calls of the message that the bytes belong to, and is handed on from one piece of it
+/// to the next.
 pub fn write_all<W: Sink>(
     sink: &mut W,
     bytes: &[u8],
@@ -67,8 +69,9 @@ pub fn flush<W: Sink>(sink: &mut W, interrupted: &mut u16) -> Result<(), WriteFa
     Err(WriteFault)
 }
 
-/// The next byte, or `None` at the end. It reads no byte more. `interrupted` counts the interrupted calls of the message
-/// that the byte belongs to, and is handed on from one byte of it to the next. A fault leaves the bytes as they were.
+/// The next byte, or `None` at the end. It reads no byte more. `interrupted` counts the interrupted
+/// calls of the message that the byte belongs to, and is handed on from one byte of it to the next.
+/// A fault leaves the bytes as they were.
 pub fn read_byte<R: Source>(source: &mut R, interrupted: &mut u16) -> Result<Option<u8>, ReadFault>
     requires { interrupted.old < too_many_interrupted }
     ensures some { IfOk result

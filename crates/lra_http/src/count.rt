@@ -4,7 +4,8 @@ ghost use Rattle.std.specs.Prelude.{◌≡◌, ◌+◌};
 use std::marker::Model;
 use std::snapshot::Snapshot;
 
-/// A count with no last value. It holds no number and takes one byte, however far it counts: only clauses read it.
+/// A count with no last value. It holds no number and takes one byte, however far it counts: only
+/// clauses read it.
 #[derive(Drop)]
 pub struct Count {
     before: Option<Snapshot<Count>>,

@@ -15,7 +15,8 @@ pub enum Fault {
     ReadFault,
     /// A write failed, or 1,024 were interrupted.
     WriteFault,
-    /// The head, or all heads of a response together, have more than 16,384 bytes or 64 field lines.
+    /// The head, or all heads of a response together, have more than 16,384 bytes or 64 field
+    /// lines.
     HeadTooLong,
     /// The stated length of the body is over the limit.
     BodyTooLong,

@@ -64,7 +64,8 @@ fn look_at_response(bytes: &[u8], headers: &mut [HeaderSpan], most: usize) -> St
     }
 }
 
-/// What these bytes of a head are, which may have `most` bytes and as many field lines as there are headers.
+/// What these bytes of a head are, which may have `most` bytes and as many field lines as there are
+/// headers.
 fn look(kind: Kind, bytes: &[u8], headers: &mut [HeaderSpan], most: usize) -> Step
     ensures { IsStep kind most (length headers.old) bytes.now result }
 {
@@ -81,9 +82,12 @@ fn is_spaced(spaced: bool, byte: u8) -> bool
     spaced || byte == b' '
 }
 
-/// Whether the parser is asked after this byte, the last of so many: at the end of a line once a space has come, at
-/// lengths that double, and past the limit. A head has a space behind the empty lines before it, so that a peer that sends
-/// line ends alone is looked at a few times and not after each.
+/// Whether the parser is asked after this byte, the last of so many: at the end of a line once a
+/// space has come, at lengths that double, and past the limit. A head has a space behind the empty
+/// lines before it, so that a peer that sends line ends alone is looked at a few times and not
+/// after each. To ask more rarely changes no clause: only more bytes are taken before `BadHead`.
+/// Who sends garbage without a line's end waits for the next such length, and a target that is no
+/// UTF-8 shows at the space behind it.
 fn is_due(spaced: bool, byte: u8, size: usize, most: usize) -> bool
     ensures { MayLack spaced byte size most result }
 {
@@ -106,8 +110,8 @@ fn fault_at_end(kind: Kind, bytes: &[u8], headers: &mut [HeaderSpan], most: usiz
     }
 }
 
-/// The bytes of the next head, which is of this kind, has at most `most` bytes and at most as many field lines as there
-/// are headers. The bytes behind it are left.
+/// The bytes of the next head, which is of this kind, has at most `most` bytes and at most as many
+/// field lines as there are headers. The bytes behind it are left.
 pub fn read_head<S: Source>(
     alloc: Global,
     source: &mut S,

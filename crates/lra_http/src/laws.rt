@@ -17,16 +17,17 @@ ghost use Rattle.lra_http.specs.declared.message.CallRequest.{CallRequest as The
 ghost use Rattle.lra_http.specs.declared.message.Request.{Request as TheRequest};
 ghost use Rattle.lra_http.specs.ByteResponses.{Response as TheResponse};
 
-/// An input of a request has one fault that lies in its bytes, save where more than 64 field lines came, or where what came
-/// of a target can no longer be a text: there the parser may tell either of two.
+/// An input of a request has one fault that lies in its bytes, save where more than 64 field lines
+/// came, or where what came of a target can no longer be a text: there the parser may tell either
+/// of two.
 pub fn a_request_has_one_fault()
     ensures { (limit : ℕ) (input : List ℕ) (a b : TheFault) →
         IsOfBytes a → IsOfBytes b → ¬ (Exceeds OfRequest max_head_lines input) →
         IsTextSoFar input → RefusesRequest limit input a → RefusesRequest limit input b → a ≡ b }
 {}
 
-/// An input of a response has one fault that lies in its bytes, save where more field lines came than heads may have: there
-/// the parser may tell either of two.
+/// An input of a response has one fault that lies in its bytes, save where more field lines came
+/// than heads may have: there the parser may tell either of two.
 pub fn a_response_has_one_fault()
     ensures { (limit : ℕ) (input : List ℕ) (a b : TheFault) →
         IsOfBytes a → IsOfBytes b → ¬ (Behind head_room IsCrowded input) →
@@ -40,7 +41,8 @@ pub fn a_cut_response_is_none()
         HasNoResponse head_room limit prefix }
 {}
 
-/// The text of a request with plain fields, which state the length of its body, is a whole request with its parts.
+/// The text of a request with plain fields, which state the length of its body, is a whole request
+/// with its parts.
 pub fn a_written_request_is_whole()
     ensures { (limit : ℕ) (r : TheCall) (rest : List ℕ) → IsSoundCall limit r →
         (h : RequestHead) × IsRequest limit (request_text r ++ rest) h r.body rest
@@ -48,14 +50,16 @@ pub fn a_written_request_is_whole()
         × (map name_and_value h.fields ≡ map field_bytes (host_field r.host ∷ r.fields)) }
 {}
 
-/// The text of a response with plain fields, which state the length of its body, is a whole response with its parts.
+/// The text of a response with plain fields, which state the length of its body, is a whole
+/// response with its parts.
 pub fn a_written_response_is_whole()
     ensures { (limit : ℕ) (r : TheResponse) (rest : List ℕ) → IsSound limit r
         → (h : ResponseHead) × IsResponse head_room limit (response_text r ++ rest) h r.body rest
         × (status_code h ≡ r.status) × (map name_and_value h.fields ≡ map field_bytes r.fields) }
 {}
 
-/// Where the bytes that are left are known, a request that is read stood at their start, and what was behind it is left.
+/// Where the bytes that are left are known, a request that is read stood at their start, and what
+/// was behind it is left.
 pub fn a_request_is_taken_off()
     ensures { (limit : ℕ) (old new : GivenBytes) (r : TheRequest) → GivesWhat old new
         (λ bytes. IsRequestRead limit bytes r) → IfSome old.left (λ input. (rest : List ℕ)
@@ -69,7 +73,8 @@ pub fn a_fault_is_of_the_request()
         IfSome old.left (λ input. RefusesRequest limit input fault) }
 {}
 
-/// Where they are known and begin with a whole request, it is read, unless a call fails or memory runs out.
+/// Where they are known and begin with a whole request, it is read, unless a call fails or memory
+/// runs out.
 pub fn a_whole_request_is_read()
     ensures { (limit : ℕ) (old new : GivenBytes) (fault : TheFault) →
         Stops old new (ShowsRequest limit) fault →

@@ -43,14 +43,15 @@ pub enum CallError {
 
 /// What bytes are read from, one call at a time.
 pub trait Source {
-    /// The bytes that it has given so far, whether its last call found the end, and the bytes that are left, where they are known.
+    /// The bytes that it has given so far, whether its last call found the end, and the bytes that
+    /// are left, where they are known.
     ghost stream: { Self → GivenBytes };
 
     /// How its calls came out so far.
     ghost calls: { Self → Calls };
 
-    /// Reads at most as many bytes as fit, and none only at the end or where none fits. A call that is interrupted or
-    /// fails gives none.
+    /// Reads at most as many bytes as fit, and none only at the end or where none fits. A call that
+    /// is interrupted or fails gives none.
     fn read_some(&mut self, buffer: &mut [u8]) -> Result<usize, CallError>
         ensures bound { IfOk result (λ n. n ≤ length buffer.new) }
         ensures bytes { CallGives (stream self.old) (stream self.new) result buffer.new }
@@ -60,21 +61,24 @@ pub trait Source {
 
 /// What bytes are written to, one call at a time.
 pub trait Sink {
-    /// The bytes that it has taken so far, those of them that it has passed on, and those that it holds, where they are known.
+    /// The bytes that it has taken so far, those of them that it has passed on, and those that it
+    /// holds, where they are known.
     ghost stream: { Self → TakenBytes };
 
     /// How its calls came out so far.
     ghost calls: { Self → Calls };
 
-    /// Writes some bytes from the start of `bytes`, at least one if there is any, and says how many. A call that takes
-    /// none of some bytes counts as failed. One that is interrupted or fails takes none.
+    /// Writes some bytes from the start of `bytes`, at least one if there is any, and says how
+    /// many. A call that takes none of some bytes counts as failed. One that is interrupted or
+    /// fails takes none.
     fn write_some(&mut self, bytes: &[u8]) -> Result<usize, CallError>
         ensures bound { IfOk result (λ n. n ≤ length bytes.now) }
         ensures some { IfOk result (λ n. n ≡ 0 → length bytes.now ≡ 0) }
         ensures bytes { CallTakes (stream self.old) (stream self.new) result bytes.now }
         ensures calls { OneMore (calls self.old) (calls self.new) result };
 
-    /// Passes on what it has taken so far. A call that is interrupted or fails may have passed on some of it.
+    /// Passes on what it has taken so far. A call that is interrupted or fails may have passed on
+    /// some of it.
     fn flush(&mut self) -> Result<(), CallError>
         ensures none { Takes (stream self.old) (stream self.new) [] }
         ensures all { OnOk result (IsFlushed (stream self.new)) }

@@ -4,7 +4,8 @@ ghost use Rattle.std.specs.Prelude.{◌≡◌, ◌++◌, [], ◌∷◌};
 use std::marker::Model;
 use std::snapshot::Snapshot;
 
-/// A list of bytes that clauses alone read. It holds none of them and takes one byte, however long it gets.
+/// A list of bytes that clauses alone read. It holds none of them and takes one byte, however long
+/// it gets.
 #[derive(Drop)]
 pub struct Log {
     before: Option<Snapshot<Log>>,

@@ -26,14 +26,14 @@ impl Bytes {
         Bytes { bytes }
     }
 
-    /// They as a slice.
+    /// These bytes as a slice.
     pub fn as_slice(&self) -> &[u8]
         ensures { result.now ≡ self.now }
     {
         &self.bytes
     }
 
-    /// They as a vector.
+    /// These bytes as a vector.
     pub fn into_vec(self) -> Vec<u8>
         ensures { result.items ≡ self }
     {
@@ -63,7 +63,7 @@ impl Text {
         Text { text }
     }
 
-    /// It as a text.
+    /// This text as a `str`.
     pub fn as_str(&self) -> &str
         ensures { result.now ≡ self.now }
     {
@@ -71,8 +71,8 @@ impl Text {
     }
 }
 
-/// A field: its name, and its value without the white space around it (RFC 9110, section 5). Neither is looked at when it is
-/// written: what comes from outside must have no line end.
+/// A field: its name, and its value without the white space around it (RFC 9110, section 5).
+/// Neither is looked at when it is written: what comes from outside must have no line end.
 #[derive(Debug, Drop)]
 pub struct Field {
     pub name: Bytes,

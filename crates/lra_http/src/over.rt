@@ -65,8 +65,8 @@ fn call_error(kind: ErrorKind) -> CallError
     }
 }
 
-/// What a write that took so many of the given bytes came to. One that takes none of some bytes would be made again for ever,
-/// so it failed.
+/// What a write that took so many of the given bytes came to. One that takes none of some bytes
+/// would be made again for ever, so it failed.
 fn taken(count: usize, given: usize) -> Result<usize, CallError>
     ensures { result ≡ (if (count == 0) && nat_lt 0 given then Err CallError.Failed else Ok count) }
 {

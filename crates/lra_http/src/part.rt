@@ -14,7 +14,8 @@ pub trait Part {
         ensures some { IfSome result (λ n. n ≡ length (text self.now)) }
         ensures none { IfNone result (2 ^ 64 ≤ length (text self.now)) };
 
-    /// Writes all of its bytes, or a prefix of them before a fault. `interrupted` counts the interrupted calls of the message.
+    /// Writes all of its bytes, or a prefix of them before a fault. `interrupted` counts the
+    /// interrupted calls of the message.
     fn write<W: Sink>(&self, sink: &mut W, interrupted: &mut u16) -> Result<(), WriteFault>
         requires { interrupted.old < too_many_interrupted }
         ensures ok { OnOk result (Takes (W.stream sink.old) (W.stream sink.new) (text self.now)) }

@@ -20,8 +20,8 @@ use httparse::spans::{EMPTY_HEADER_SPAN, HeaderSpan, RequestSpans, parse_request
 use std::alloc::Global;
 
 impl Request {
-    /// The value of its Host field: the host, and a port behind a colon where one is named. A request of version 1.0 may
-    /// have none.
+    /// The value of its Host field: the host, and a port behind a colon where one is named. A
+    /// request of version 1.0 may have none.
     pub fn host(&self) -> Option<&[u8]>
         ensures { option_map
             (λ v. v.now) result ≡ first_value (codes "host") (map field_bytes self.now.fields) }
@@ -64,9 +64,10 @@ fn text_of(alloc: Global, bytes: &[u8]) -> Result<Text, Fault>
     }
 }
 
-/// Reads the next request (RFC 9112): a head, and the body that its Content-Length states, of at most `limit` bytes, empty
-/// without one. What is behind it is left unread, for which the head is read one byte a call: over a socket a buffered reader
-/// goes below. Errors: each `Fault` but `WriteFault` and `LengthNeeded`.
+/// Reads the next request (RFC 9112): a head, and the body that its Content-Length states, of at
+/// most `limit` bytes, empty without one. What is behind it is left unread, for which the head is
+/// read one byte a call: over a socket a buffered reader goes below. Errors: each `Fault` but
+/// `WriteFault` and `LengthNeeded`.
 pub fn read_request<S: Source>(
     alloc: Global,
     source: &mut S,

@@ -43,7 +43,8 @@ fn is_interim_code(code: u16) -> bool
     100 <= code && code < 200
 }
 
-/// The final head of a response, behind the interim ones, which are skipped. What is behind it is left.
+/// The final head of a response, behind the interim ones, which are skipped. What is behind it is
+/// left.
 fn read_final_head<S: Source>(
     alloc: Global,
     source: &mut S,
@@ -78,6 +79,7 @@ fn read_final_head<S: Source>(
             interrupted,
         )?;
         let spans = parts_of(&head, &mut headers);
+        // One that goes past the room for heads was `HeadTooLong` before.
         if spans.code == 101 {
             return Err(Fault::BadHead);
         }
@@ -95,12 +97,13 @@ pub struct FinalHead {
     pub status: StatusCode,
     /// How many bytes the body has.
     pub size: usize,
-    /// How many calls of the message were interrupted so far, fewer than 1,024. The count is handed on to what reads the body.
+    /// How many calls of the message were interrupted so far, fewer than 1,024. The count is handed
+    /// on to what reads the body.
     pub interrupted: u16,
 }
 
-/// Reads the heads of the next response (RFC 9112): interim ones, which are skipped, and the final one. The body, of at most
-/// `limit` bytes, is left unread. Errors: each `Fault` but `WriteFault`.
+/// Reads the heads of the next response (RFC 9112): interim ones, which are skipped, and the final
+/// one. The body, of at most `limit` bytes, is left unread. Errors: each `Fault` but `WriteFault`.
 pub fn read_response_head<S: Source>(
     alloc: Global,
     source: &mut S,
@@ -132,9 +135,10 @@ pub fn read_response_head<S: Source>(
     })
 }
 
-/// Reads the next response (RFC 9112): interim heads, which are skipped, the final head, and the body that its Content-Length
-/// states, of at most `limit` bytes. What is behind it is left unread, for which heads are read one byte a call: over a socket
-/// a buffered reader goes below. Errors: each `Fault` but `WriteFault`.
+/// Reads the next response (RFC 9112): interim heads, which are skipped, the final head, and the
+/// body that its Content-Length states, of at most `limit` bytes. What is behind it is left unread,
+/// for which heads are read one byte a call: over a socket a buffered reader goes below. Errors:
+/// each `Fault` but `WriteFault`.
 pub fn read_response<S: Source>(
     alloc: Global,
     source: &mut S,

@@ -25,6 +25,7 @@ fn push_fields(text: &mut Vec<u8>, fields: &[Field]) -> Result<(), AllocError>
     Ok(())
 }
 
+/// The usual phrase of a code, as `http` has it. A code without one keeps the space before it.
 #[tactic(auto, unfolding(crate::specs::MessageTexts::phrase))]
 fn phrase_of(status: StatusCode) -> &'static str
     ensures { result.now ≡ phrase status }
@@ -96,8 +97,9 @@ fn write_parts<W: Sink, B: Part>(sink: &mut W, head: &[u8], body: &B) -> Result<
     flush(sink, &mut interrupted)
 }
 
-/// Writes a response: its text, or a prefix of it before a fault. The length of the body stands in the text
-/// only if it is among the fields. Errors: `WriteFault`, and `NoMemory` before anything is written.
+/// Writes a response: its text, or a prefix of it before a fault. The length of the body stands in
+/// the text only if it is among the fields. Errors: `WriteFault`, and `NoMemory` before anything is
+/// written.
 pub fn write_response<W: Sink, B: Part>(
     alloc: Global,
     sink: &mut W,
@@ -117,8 +119,9 @@ pub fn write_response<W: Sink, B: Part>(
     Ok(())
 }
 
-/// Writes a request: its text, or a prefix of it before a fault. The length of the body stands in the text
-/// only if it is among the fields. Errors: `WriteFault`, and `NoMemory` before anything is written.
+/// Writes a request: its text, or a prefix of it before a fault. The length of the body stands in
+/// the text only if it is among the fields. Errors: `WriteFault`, and `NoMemory` before anything is
+/// written.
 pub fn write_request<W: Sink>(
     alloc: Global,
     sink: &mut W,

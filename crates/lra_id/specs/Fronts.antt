@@ -5,6 +5,7 @@ use Rattle.std.specs.Fmt.{decimal}
 use Rattle.lra_id.specs.Ids.{Id}
 
 -- how many facts of a node the front counts: none, where there is no such node
+-- (of node 0, which no id has, it is node 1's count: a case for 0 would come up in about 80 proofs)
 abbrev pub count : List ℕ → ℕ → ℕ
 count v node = slice_index v (node - 1)
 

@@ -14,6 +14,7 @@ abbrev pub IsNodeNumber : ℕ → Type 0
 IsNodeNumber n = (1 ≤ n) × (n ≤ 8)
 
 -- the greatest number of a fact, 2 ^ 48 - 1
+-- (proofs reckon with 2 ^ 48: `IsFactNumber`)
 abbrev pub last_number : ℕ
 last_number = 281474976710655
 

@@ -1,3 +1,5 @@
 pub mod FrontParts
 pub mod Fronts
 pub mod Ids
+pub mod Names
+pub mod States

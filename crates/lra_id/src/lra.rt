@@ -7,7 +7,8 @@ use std::fmt;
 use std::marker::Model;
 use uuid::Uuid;
 
-/// An LRA, by its home node and the number of its begin there. Ids are ordered by home, and then by number.
+/// An LRA, by its home node and the number of its begin there. Ids are ordered by home, and then by
+/// number.
 #[derive(Clone, Copy, Debug, PartialEq, Eq)]
 pub struct LraId {
     home: NodeId,
@@ -27,7 +28,8 @@ impl Model for LraId {
 }
 
 impl LraId {
-    /// The LRA that this home began with its fact of this number, which is from 1 to 281,474,976,710,655.
+    /// The LRA that this home began with its fact of this number, which is from 1 to
+    /// 281,474,976,710,655.
     pub fn new(home: NodeId, num: u64) -> Result<LraId, BadText>
         ensures value { IfOk result (λ id. (id.home ≡ home) × (id.num ≡ num)) }
         ensures exact { MatchResult result (λ _. IsFactNumber num) (λ _. IsFactNumber num → ⊥) }
@@ -78,8 +80,10 @@ impl LraId {
         out
     }
 
-    /// Reads any of the four text forms of a UUID: hyphenated, simple, in braces, or after `urn:uuid:`. The digits may be
-    /// in either case, the prefix in lower case alone. A UUID of another layout is refused.
+    /// Reads any of the four text forms of a UUID: hyphenated, simple, in braces, or after
+    /// `urn:uuid:`. The digits may be in either case, the prefix in lower case alone. A UUID of
+    /// another layout is refused. `uuid` takes the prefix in any case, so the lower case is tested
+    /// here.
     pub fn from_text(text: &str) -> Result<LraId, BadText>
         ensures found { IfOk result (λ id. IsId id × IsTextOf text.now id) }
         ensures refused { IfErr result (λ _. (id : Id) → IsId id → IsTextOf text.now id → ⊥) }
@@ -88,6 +92,7 @@ impl LraId {
     }
 
     /// Reads what `from_text` reads, from bytes that need not be text.
+    /// A script's line need not be.
     pub fn from_ascii(text: &[u8]) -> Result<LraId, BadText>
         ensures found { IfOk result (λ id. IsId id × IsTextOf text.now id) }
         ensures refused { IfErr result (λ _. (id : Id) → IsId id → IsTextOf text.now id → ⊥) }
@@ -118,7 +123,8 @@ fn is_prefix_lower(text: &[u8]) -> bool
     text.len() != 45 || text.starts_with(b"urn:uuid:")
 }
 
-/// The id with these bytes. It lays out again what it read, so that no bit of another layout is passed over.
+/// The id with these bytes. It lays out again what it read, so that no bit of another layout is
+/// passed over.
 fn from_bytes(bytes: [u8; 16]) -> Result<LraId, BadText>
     ensures found { IfOk result (λ id. IsId id × (bytes ≡ layout id)) }
     ensures refused { IfErr result (λ _. (id : Id) → IsId id → bytes ≡ layout id → ⊥) }

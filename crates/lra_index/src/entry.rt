@@ -4,7 +4,8 @@ ghost use Rattle.lra_index.specs.Entries.{is_before, same_entry};
 
 use lra_id::NodeId;
 
-/// That the record of an LRA has this stamp of a node. Entries are in order of stamp, then home, then number.
+/// That the record of an LRA has this stamp of a node. Entries are in order of stamp, then home,
+/// then number.
 #[derive(Clone, Copy, Debug, PartialEq, Eq)]
 pub struct Entry {
     /// The number of the node's fact.

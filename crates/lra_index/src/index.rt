@@ -12,6 +12,7 @@ use std::alloc::{AllocError, Global};
 use std::marker::Model;
 
 /// For each node the stamps that the records of LRAs have of it, with their LRAs, in order.
+/// It has eight origins however many nodes there are, so no invariant bounds a record's stamps.
 #[derive(Debug, Drop)]
 pub struct Index {
     origins: Vec<Origin>,
@@ -109,8 +110,9 @@ impl Index {
         reserve_each(&mut self.origins, more)
     }
 
-    /// Takes out the entries of the stamps that the record of an LRA had, and enters those that it has now, at each node where
-    /// the two differ. There is room for one more entry of each, where stamps are entered. It takes no memory.
+    /// Takes out the entries of the stamps that the record of an LRA had, and enters those that it
+    /// has now, at each node where the two differ. There is room for one more entry of each, where
+    /// stamps are entered. It takes no memory.
     pub fn reindex(&mut self, home: NodeId, num: u64, was: Option<Front>, now: Option<Front>)
         requires { IsSome now → 1 ≤ self.old.spare }
         ensures nodes { length self.new.origins ≡ length self.old.origins }
@@ -135,7 +137,8 @@ impl Index {
         }
     }
 
-    /// The entries of a node with greater stamps, in order: none, where there is no such node. It finds the first by halving.
+    /// The entries of a node with greater stamps, in order: none, where there is no such node. It
+    /// finds the first by halving.
     pub fn beyond(&self, origin: NodeId, count: u64) -> &[Entry]
         ensures entries { result.now
             ≡ filter (λ e. nat_lt count e.stamp) (entries_at self.now.origins origin) }

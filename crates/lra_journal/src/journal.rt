@@ -27,8 +27,8 @@ use sqlite::{Alter, Connection, Error, ErrorCode};
 use std::alloc::Global;
 use std::marker::Model;
 
-/// The journal of a replica: a connection to its rows. Clauses alone read what the connection was when the journal was opened,
-/// and a count of what `sqlite` refused since, a lack of memory apart.
+/// The journal of a replica: a connection to its rows. Clauses alone read what the connection was
+/// when the journal was opened, and a count of what `sqlite` refused since, a lack of memory apart.
 #[derive(Drop)]
 pub struct Journal<S: Alter> {
     connection: Connection<S>,
@@ -53,11 +53,12 @@ impl<S: Alter> Model for Journal<S> {
 }
 
 impl<S: Alter> Journal<S> {
-    /// Opens the journal of a node of so many. A store without tables gets them, with the rows of a node that has no facts; else
-    /// the replica is read from the rows, and rows of version 1 are written anew in version 2, in one transaction. E16 at the place of the first row that breaks the format, of another node, count of
-    /// nodes or version too; E17, which leaves a new store as it was; E18 where a transaction is on or the rows can't be read.
-    /// Each refusal gives the connection back. Of E18 on a third table no clause speaks but `cause`
-    /// and `busy`.
+    /// Opens the journal of a node of so many. A store without tables gets them, with the rows of a
+    /// node that has no facts; else the replica is read from the rows, and rows of version 1 are
+    /// written anew in version 2, in one transaction. E16 at the place of the first row that breaks
+    /// the format, of another node, count of nodes or version too; E17, which leaves a new store as
+    /// it was; E18 where a transaction is on or the rows can't be read. Each refusal gives the
+    /// connection back. Of E18 on a third table no clause speaks but `cause` and `busy`.
     pub fn open(
         alloc: Global,
         mut connection: Connection<S>,
@@ -72,13 +73,15 @@ impl<S: Alter> Journal<S> {
         ensures made { IfOk result (λ r. HasCleanDisk (state S.Store r.0.connection) →
             IsNew (state S.Store connection) → (view_of r.1 ≡ empty_view nodes)
             × Stands me (state S.Store r.0.connection).now.trees (empty_view nodes)) }
-        // Of a journal's rows it is the replica that they stand for, in version 1 or 2, by the rules of that version. So none is
-        // made up that the rows of version 1 can't tell: nobody listens, and nobody was told.
+        // Of a journal's rows it is the replica that they stand for, in version 1 or 2, by the
+        // rules of that version. So none is made up that the rows of version 1 can't tell: nobody
+        // listens, and nobody was told.
         ensures reads { IfOk result (λ r. HasCleanDisk (state S.Store r.0.connection) →
             IsJournal (state S.Store connection) → (version : Version)
             × StandsAs version me (state S.Store connection).now.trees (view_of r.1)
             × KeepsRulesAs version (view_of r.1)) }
-        // The replica keeps the rules by which rows are read. So rows that break them aren't opened, where none stands twice.
+        // The replica keeps the rules by which rows are read. So rows that break them aren't
+        // opened, where none stands twice.
         ensures ruled { IfOk result (λ r. HasCleanDisk (state S.Store r.0.connection) →
             IsOwn (state S.Store connection) → KeepsRules (view_of r.1)) }
         // So much for a book: the journal keeps the replica's view, in version 2.
@@ -94,7 +97,8 @@ impl<S: Alter> Journal<S> {
         ensures unchanged { IfErr result (λ e. HasCleanDisk (state S.Store e.1) →
             IsOwn (state S.Store connection) → IsTrue (state S.Store e.1).is_open →
             (state S.Store e.1).now ≡ (state S.Store connection).now) }
-        // A connection whose transaction is on is refused, before all else, and comes back as it was.
+        // A connection whose transaction is on is refused, before all else, and comes back as it
+        // was.
         ensures busy { connection.in_transaction ≡ true →
             MatchResult result (λ _. ⊥) (λ e. (e.0 ≡ JournalFailed) × (e.1 ≡ connection)) }
         // Of a journal E18 else comes only where the disk failed, or where SQL refuses to write
@@ -107,8 +111,8 @@ impl<S: Alter> Journal<S> {
             ⊎ IsUnwritable me (state S.Store connection).now.trees) }
         ensures cause { IfErr result (λ e. (e.0 ≡ NoMemory)
             ⊎ ((e.0 ≡ JournalFailed) ⊎ ((k : ℕ) × (e.0 ≡ BadFrame k)))) }
-        // Of a journal of version 2 a stop leaves what it left before. Of one of version 1 it may also leave its rows in version 2,
-        // and of a new store the rows of a view of no facts.
+        // Of a journal of version 2 a stop leaves what it left before. Of one of version 1 it may
+        // also leave its rows in version 2, and of a new store the rows of a view of no facts.
         ensures crash { IfOk result
             (λ r. Survives (state S.Store connection) (state S.Store r.0.connection)
             (MayLeaveOpened (state S.Store connection) me nodes)) }
@@ -146,8 +150,9 @@ impl<S: Alter> Journal<S> {
         refusal
     }
 
-    /// Makes a patch's changes in the rows, in one transaction. E17 and E18 leave them as they were, or the connection is shut.
-    /// It costs a statement for each record of the patch and for each node.
+    /// Makes a patch's changes in the rows, in one transaction. E17 and E18 leave them as they
+    /// were, or the connection is shut. It costs a statement for each record of the patch and for
+    /// each node.
     pub fn store(&mut self, alloc: Global, patch: &Patch) -> Result<(), Refusal>
         ensures opened { self.new.opened ≡ self.old.opened }
         // What the rows then stand for.

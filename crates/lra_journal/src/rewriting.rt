@@ -112,7 +112,8 @@ fn put_rows<S: Alter>(
     put_front(tx, 0, u64::from(me.number()), VERSION)
 }
 
-/// The same. A connection that is shut is refused by the question before, so that nothing is said of one.
+/// The same. A connection that is shut is refused by the question before, so that nothing is said
+/// of one.
 fn put_anew<S: Alter>(
     alloc: Global,
     tx: &mut Transaction<'_, S>,
@@ -181,8 +182,8 @@ fn write_anew<S: Alter>(
     tx.commit()
 }
 
-/// Writes the rows of version 1 that stand for a replica anew in version 2, in one transaction. E17 and E18 leave them as they were,
-/// or the connection is shut.
+/// Writes the rows of version 1 that stand for a replica anew in version 2, in one transaction. E17
+/// and E18 leave them as they were, or the connection is shut.
 pub(crate) fn rewrite<S: Alter>(
     alloc: Global,
     connection: &mut Connection<S>,

@@ -70,7 +70,8 @@ fn nodes_of(word: &[u8]) -> Option<(u8, u8)>
     Some((first, last))
 }
 
-/// What the first of some words says behind a name, and the words behind it; nothing where it doesn't begin with the name.
+/// What the first of some words says behind a name, and the words behind it; nothing where it
+/// doesn't begin with the name.
 fn said_by<'a>(name: &str, words: &'a [String]) -> Option<(&'a str, &'a [String])>
     ensures { MatchOption result (IsNotSaid name.now (map string_bytes words.now))
         (λ parts. map string_bytes words.now ≡ (name.now ++ parts.0.now) ∷ map string_bytes parts.1.now) }
@@ -84,7 +85,8 @@ fn said_by<'a>(name: &str, words: &'a [String]) -> Option<(&'a str, &'a [String]
     Some((text, others))
 }
 
-/// Where to listen, if the first of some words says so behind a name, and the words behind that; nothing where it says it badly.
+/// Where to listen, if the first of some words says so behind a name, and the words behind that;
+/// nothing where it says it badly.
 fn listen_of<'a>(name: &str, words: &'a [String]) -> Option<(Option<SocketAddr>, &'a [String])>
     ensures one { (text : Option (List ℕ)) (listen : Option TheAddress) (others : List (List ℕ)) →
         IsListen text listen → IsNotSaid name.now others → map string_bytes words.now ≡ said name.now text ++ others →
@@ -101,8 +103,8 @@ fn listen_of<'a>(name: &str, words: &'a [String]) -> Option<(Option<SocketAddr>,
     }
 }
 
-/// How many milliseconds the first of some words says behind a name, if it begins with that, and the words behind it; nothing where it
-/// says it badly.
+/// How many milliseconds the first of some words says behind a name, if it begins with that, and
+/// the words behind it; nothing where it says it badly.
 fn time_of<'a>(name: &str, words: &'a [String]) -> Option<(Option<u64>, &'a [String])>
     ensures one { (time : Option ℕ) (others : List (List ℕ)) → IsTime time → IsNotSaid name.now others →
         map string_bytes words.now ≡ said name.now (option_map decimal time) ++ others →
@@ -271,8 +273,9 @@ fn peers_of(alloc: Global, words: &[String]) -> Result<Vec<Peer>, Unasked>
     Ok(peers)
 }
 
-/// The nodes that the words ask for: their numbers, the folder, where to listen, where to listen for operators and how long to keep what
-/// has ended, if that is said, and where all nodes are reached.
+/// The nodes that the words ask for: their numbers, the folder, where to listen, where to listen
+/// for operators and how long to keep what has ended, if that is said, and where all nodes are
+/// reached.
 pub fn asked_by(alloc: Global, words: &[String]) -> Result<Asked, Unasked>
     ensures asks { MatchResult result (λ asked. AskMembers (map string_bytes words.now) asked.members.first
         asked.members.last asked.members.listen asked.members.operate asked.members.keep.ended asked.members.keep.failed

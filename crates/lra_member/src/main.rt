@@ -23,8 +23,8 @@ const USAGE: &str =
 /// How long the last warnings have to be written at the end, in milliseconds.
 const LAST_LINES_MS: u64 = 500;
 
-/// Runs nodes until standard input ends, and gives the exit status of `serve_members`. Where the arguments ask for something else it
-/// ends with 2, and the usage.
+/// Runs nodes until standard input ends, and gives the exit status of `serve_members`. Where the
+/// arguments ask for something else it ends with 2, and the usage.
 fn main(rt: HostRuntime) -> ExitCode {
     let alloc = rt.alloc();
     let Ok(given) = env::args(&rt) else {
@@ -59,14 +59,14 @@ fn main(rt: HostRuntime) -> ExitCode {
     ExitCode::from(status)
 }
 
-/// Opens nothing, so that no connection gets the number of a standard stream that was closed before the start: what is written to
-/// standard error would go to a client.
+/// Opens nothing, so that no connection gets the number of a standard stream that was closed before
+/// the start: what is written to standard error would go to a client.
 fn hold(rt: &HostRuntime) -> Option<File> {
     File::open(rt, "/dev/null").ok()
 }
 
-/// Nothing is known of what a file held, and it is supposed that a torn write leaves each byte old or new. The kit's `Unknown` says the
-/// same, but can't be copied.
+/// Nothing is known of what a file held, and it is supposed that a torn write leaves each byte old
+/// or new. The kit's `Unknown` says the same, but can't be copied.
 #[derive(Clone, Copy, Drop)]
 struct UnknownFiles;
 

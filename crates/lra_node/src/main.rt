@@ -27,9 +27,10 @@ const LAST_PORT: u16 = 65_528;
 /// How long the last warnings have to be written at the end, in milliseconds.
 const LAST_LINES_MS: u64 = 500;
 
-/// Runs a server until standard input ends, or plays a script over standard input. Each gives its exit status, as `serve` and
-/// `play` say. Where the arguments ask for something else it ends with 2, and the usage. Std has no
-/// clause on arguments, so tests/serve.py shows that the folder is handed on.
+/// Runs a server until standard input ends, or plays a script over standard input. Each gives its
+/// exit status, as `serve` and `play` say. Where the arguments ask for something else it ends with
+/// 2, and the usage. Std has no clause on arguments, so tests/serve.py shows that the folder is
+/// handed on.
 fn main(rt: HostRuntime) -> ExitCode {
     let Ok(given) = env::args(&rt) else {
         return ExitCode::from(1);
@@ -65,14 +66,15 @@ fn played(rt: &HostRuntime, words: &[String]) -> Ended {
     play(rt, words, USAGE, &mut reader, &mut writer)
 }
 
-/// Opens nothing, so that no connection gets the number of a standard stream that was closed before the start: what is written to
-/// standard error would go to a client.
+/// Opens nothing, so that no connection gets the number of a standard stream that was closed before
+/// the start: what is written to standard error would go to a client.
 fn hold(rt: &HostRuntime) -> Option<File> {
     File::open(rt, "/dev/null").ok()
 }
 
-/// Nothing is known of what a file held, and it is supposed that a torn write leaves each byte old or new. The kit's `Unknown` says the
-/// same, but can't be copied. A start is a type, and one serves all files and openings.
+/// Nothing is known of what a file held, and it is supposed that a torn write leaves each byte old
+/// or new. The kit's `Unknown` says the same, but can't be copied. A start is a type, and one
+/// serves all files and openings.
 #[derive(Clone, Copy, Drop)]
 struct UnknownFiles;
 

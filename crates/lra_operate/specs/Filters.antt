@@ -3,9 +3,9 @@ use Rattle.std.specs.Prelude.{◌&&◌, ◌==◌, ◌||◌, ℕ, Bool, true, Lis
 use Rattle.std.specs.List.{before_first, after_first, position_or_len}
 use Rattle.std.specs.Str.{bytes_eq}
 use Rattle.lra_id.specs.Ids.{Id}
-use Rattle.lra_states.specs.declared.status.LraStatus.{LraStatus}
-use Rattle.lra_states.specs.declared.status.LraStatus.TheVariants as status
-use Rattle.lra_states.specs.contracts.status.LraStatusPartialEq.TheImpl as of_statuses
+use Rattle.lra_id.specs.declared.status.LraStatus.{LraStatus}
+use Rattle.lra_id.specs.declared.status.LraStatus.TheVariants as status
+use Rattle.lra_id.specs.contracts.status.LraStatusPartialEq.TheImpl as of_statuses
 use Rattle.lra_api.specs.Names.{id_of}
 use Rattle.lra_book.specs.declared.holdings.Summary.{Summary}
 use Rattle.lra_operate.specs.declared.filter.Filter.{Filter}

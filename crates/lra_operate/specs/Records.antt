@@ -2,18 +2,18 @@
 use Rattle.std.specs.Prelude.{◌+◌, ℕ, zero, suc, List, [], ◌++◌, codes, Option, Some, None, if◌then◌else◌, nat_eq, option_map, option_and_then, slice_get}
 use Rattle.std.specs.Fmt.{decimal}
 use Rattle.lra_id.specs.Ids.{Id, is_fact_number, text_of}
-use Rattle.lra_states.specs.Names.{lra_name, member_name, outcome_name, verdict_name}
-use Rattle.lra_states.specs.declared.outcome.Outcome.{Outcome}
-use Rattle.lra_states.specs.declared.outcome.Verdict.{Verdict}
-use Rattle.lra_states.specs.declared.status.MemberStatus.{MemberStatus}
+use Rattle.lra_id.specs.Names.{lra_name, member_name, outcome_name, verdict_name}
+use Rattle.lra_id.specs.declared.outcome.Outcome.{Outcome}
+use Rattle.lra_id.specs.declared.outcome.Verdict.{Verdict}
+use Rattle.lra_id.specs.declared.status.MemberStatus.{MemberStatus}
 use Rattle.lra_facts.specs.Links.{Links}
 use Rattle.lra_facts.specs.RefusalTexts.{refusal_text}
 use Rattle.lra_forest.specs.declared.record.Member.{Member}
 use Rattle.lra_forest.specs.declared.record.Member.TheVariants as member
 use Rattle.lra_forest.specs.declared.record.Participant.{Participant}
 use Rattle.lra_forest.specs.declared.record.Place.{Place}
-use Rattle.lra_history.specs.declared.command.CommandReply.{CommandReply}
-use Rattle.lra_history.specs.declared.command.CommandReply.TheVariants.{Refused}
+use Rattle.lra_facts.specs.declared.command.CommandReply.{CommandReply}
+use Rattle.lra_facts.specs.declared.command.CommandReply.TheVariants.{Refused}
 use Rattle.lra_book.specs.declared.holdings.Holding.{Holding}
 use Rattle.lra_operate.specs.Json.{id_or_null, key, name_or_null, named, number_or_null, opened, quoted, truth, word}
 

@@ -2,7 +2,7 @@
 use Rattle.std.specs.Prelude.{◌-◌, ℕ, Bool, true, false, List, [], ◌∷◌, ◌++◌, codes, length, Option, None, if◌then◌else◌, option_and_then, option_map, slice_get}
 use Rattle.std.specs.Fmt.{decimal}
 use Rattle.lra_id.specs.Ids.{Id, text_of}
-use Rattle.lra_states.specs.Names.{lra_name}
+use Rattle.lra_id.specs.Names.{lra_name}
 use Rattle.lra_book.specs.declared.holdings.Summary.{Summary}
 use Rattle.lra_book.specs.Holdings.{SurveyRows}
 use Rattle.lra_operate.specs.declared.filter.Filter.{Filter}

@@ -4,10 +4,10 @@ use Rattle.std.specs.Str.{bytes_eq}
 use Rattle.lra_id.specs.Ids.{Id}
 use Rattle.lra_http.specs.declared.message.Request.{Request}
 use Rattle.lra_api.specs.Names.{id_of, member_of}
-use Rattle.lra_api.specs.Paths.{id_part, member_part, part_of, path_of, place_of, query_of, rest_of}
+use Rattle.lra_api.specs.Paths.{id_part, member_part, part_of, path_of, endpoint_of, query_of, rest_of}
 use Rattle.lra_api.specs.Table.{verb_of}
-use Rattle.lra_api.specs.declared.table.Place.{Place}
-use Rattle.lra_api.specs.declared.table.Place.TheVariants as place
+use Rattle.lra_api.specs.declared.table.Endpoint.{Endpoint}
+use Rattle.lra_api.specs.declared.table.Endpoint.TheVariants as endpoint
 use Rattle.lra_api.specs.declared.table.Verb.{Verb}
 use Rattle.lra_api.specs.declared.table.Verb.TheVariants as verb
 use Rattle.lra_operate.specs.declared.filter.Filter.{Filter}
@@ -34,12 +34,12 @@ abbrev pub record_of : List ℕ → Wanted
 record_of path = record_by (id_of (id_part path))
 
 -- the record of an LRA, where the interface's path is one of an LRA
-abbrev pub by_place : Option Place → List ℕ → Wanted
-by_place (Some place.Lra) path = record_of path
-by_place _ path = Other
+abbrev pub by_endpoint : Option Endpoint → List ℕ → Wanted
+by_endpoint (Some endpoint.Lra) path = record_of path
+by_endpoint _ path = Other
 
 abbrev pub wanted_of_lra : List ℕ → Wanted
-wanted_of_lra path = by_place (place_of path) path
+wanted_of_lra path = by_endpoint (endpoint_of path) path
 
 abbrev pub wanted_by_get : (path : List ℕ) → (query : Option (List ℕ)) → Wanted
 wanted_by_get path query =

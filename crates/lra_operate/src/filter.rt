@@ -6,8 +6,7 @@ ghost use Rattle.lra_operate.specs.Filters as spec;
 
 use lra_api::id_of;
 use lra_book::Summary;
-use lra_id::LraId;
-use lra_states::LraStatus;
+use lra_id::{LraId, LraStatus};
 
 /// Which LRAs a list shows: of those beyond one, those with a status, and roots alone. It doesn't
 /// go by what a purge would answer, nor tells a list since when an LRA has ended: for each row the

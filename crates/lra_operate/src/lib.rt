@@ -1,4 +1,5 @@
-//! The operator's port of a node: what stands there beside the interface, and what each path answers.
+//! The operator's port of a node: what stands there beside the interface, and what each path
+//! answers.
 #![tactic(auto)]
 
 mod filter;

@@ -9,11 +9,9 @@ use crate::json::{
     push_key, push_opening, push_quoted, push_word,
 };
 use lra_book::Holding;
-use lra_facts::{Link, Links};
+use lra_facts::{CommandReply, Link, Links};
 use lra_forest::{MAX_MEMBERS, Member, Participant, Place};
-use lra_history::CommandReply;
-use lra_id::LraId;
-use lra_states::{MemberStatus, Outcome, Verdict};
+use lra_id::{LraId, MemberStatus, Outcome, Verdict};
 use std::alloc::{AllocError, Global};
 
 /// The LRA of this number at the home of another.

@@ -20,8 +20,7 @@ use lra_api::{
     serve_request,
 };
 use lra_book::{Call, Clerk, Reply};
-use lra_facts::Refusal;
-use lra_history::Command;
+use lra_facts::{Command, Refusal};
 use lra_http::{MAX_BODY_BYTES, Request, Sink, Source, read_request};
 use std::alloc::{AllocError, Global};
 
@@ -159,9 +158,10 @@ fn serve_wanted<W: Sink, C: Clerk, T: State>(
     }
 }
 
-/// Reads one request at an operator's port, and writes one answer. It makes the call that is wanted, once, or none: one of the operator's
-/// own paths shows the LRAs that are held, all that is held of one, or enters a word in the place of a participant; or tells what the
-/// node's threads know; and what the interface has is served as it serves it. Errors: as `lra_api::serve_one`.
+/// Reads one request at an operator's port, and writes one answer. It makes the call that is
+/// wanted, once, or none: one of the operator's own paths shows the LRAs that are held, all that is
+/// held of one, or enters a word in the place of a participant; or tells what the node's threads
+/// know; and what the interface has is served as it serves it. Errors: as `lra_api::serve_one`.
 pub fn serve_operator<R: Source, W: Sink, C: Clerk, T: State>(
     alloc: Global,
     paths: &Paths,

@@ -65,7 +65,8 @@ fn next_of(survey: &Survey) -> Option<LraId>
     }
 }
 
-/// The body that lists those of a survey that a filter shows, and beyond which LRA the next survey goes on.
+/// The body that lists those of a survey that a filter shows, and beyond which LRA the next survey
+/// goes on.
 #[tactic(auto, unfolding(crate::specs::Surveys::survey_body))]
 pub(crate) fn survey_body(
     alloc: Global,

@@ -6,7 +6,7 @@ ghost use Rattle.lra_operate.specs.Wanted.{forgot_of, is_of_member, last_word, l
 use crate::Filter;
 use crate::filter::filter_in;
 use lra_api::{
-    Paths, Place, Verb, id_of, id_part, member_of, member_part, part_of, path_of, query_of,
+    Endpoint, Paths, Verb, id_of, id_part, member_of, member_part, part_of, path_of, query_of,
     rest_of, verb_of,
 };
 use lra_http::Request;
@@ -69,8 +69,8 @@ fn record_of(path: &str) -> Wanted
 fn wanted_of_lra(paths: &Paths, path: &str) -> Wanted
     ensures { result ≡ wanted_of_lra path.now }
 {
-    match paths.place_of(path) {
-        Some(Place::Lra) => record_of(path),
+    match paths.endpoint_of(path) {
+        Some(Endpoint::Lra) => record_of(path),
         _ => Wanted::Other,
     }
 }
@@ -138,7 +138,8 @@ fn wanted_by_put(path: &str) -> Wanted
     }
 }
 
-/// What a request wants: one of the operator's own paths by its own method, else what the interface has.
+/// What a request wants: one of the operator's own paths by its own method, else what the interface
+/// has.
 pub fn wanted_by(paths: &Paths, request: &Request) -> Wanted
     ensures { result ≡ wanted request.now }
 {

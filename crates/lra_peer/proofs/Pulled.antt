@@ -14,7 +14,7 @@ use Rattle.lra_delta.proofs.FrameCodes.{frame_again}
 use Rattle.lra_delta.specs.Encoding.{encoding_as}
 use Rattle.lra_http.specs.Faults.{Stops}
 use Rattle.lra_http.specs.Responses.{HasFinal, IsHeadRead, IsResponse, Shows, ShowsNoHead, head_room, stated}
-use Rattle.lra_http.specs.Streams.{AllWell, Calls, GivenBytes, GivesWhat, IsFlushed, IsLost, OnReadFault, OnWriteFault, TakenBytes, Takes, TakesPart, Writes}
+use Rattle.lra_http.specs.Streams.{AllWell, Calls, GivenBytes, GivesWhat, IsFlushed, IsLost, IsSent, OnReadFault, OnWriteFault, TakenBytes, Takes, TakesPart, Writes}
 use Rattle.lra_http.specs.declared.fault.Fault.{Fault as HttpFault}
 use Rattle.lra_http.specs.declared.fault.Fault.TheVariants.{Cut, ReadFault, WriteFault, HeadTooLong, BodyTooLong, BadHead, LengthNeeded, NotOffered, NoMemory}
 use Rattle.lra_http.proofs.Calling.{fault_then, lost_then, well_none, well_then}
@@ -22,7 +22,7 @@ use Rattle.lra_http.proofs.Cuts.{final_more}
 use Rattle.lra_http.proofs.Known.{gives_more}
 use Rattle.lra_http.proofs.Left.{response_found}
 use Rattle.lra_http.proofs.Messages.{unique_final}
-use Rattle.lra_peer.specs.PullAnswers.{IsAnswer, IsBodyRead, IsFound, IsOfStreams, IsSent, IsUnsent, Reads, StopsPull, TellsDelta, error_of, max_frame_bytes, pull_reads, told_by}
+use Rattle.lra_peer.specs.PullAnswers.{IsAnswer, IsBodyRead, IsFound, IsOfStreams, IsUnsent, Reads, StopsPull, TellsDelta, error_of, max_frame_bytes, pull_reads, told_by}
 use Rattle.lra_peer.specs.declared.error.PullError.{PullError}
 use Rattle.lra_peer.specs.declared.error.PullError.TheVariants.{Fault}
 

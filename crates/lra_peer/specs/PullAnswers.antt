@@ -27,10 +27,6 @@ pull_reads = max_head_bytes + 1 + max_frame_bytes
 
 -- ---- the request
 
--- all of the text was taken and passed on, and no write failed
-abbrev pub IsSent : (old new : TakenBytes) (before after : Calls) → List ℕ → Type 0
-IsSent old new before after text = Takes old new text × IsFlushed new × AllWell (length text + 1) 0 before after
-
 -- Not all of the text was taken: a write failed, and nothing was read; or memory ran out before, and nothing was read or written.
 abbrev pub IsUnsent : (old new : TakenBytes) (before after : Calls) → List ℕ → (unread untouched : Type 0) → HttpFault → Type 0
 IsUnsent old new before after text unread untouched fault =

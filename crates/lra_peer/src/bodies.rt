@@ -20,7 +20,8 @@ fn push_counts(body: &mut Vec<u8>, counts: &[u64]) -> Result<(), AllocError>
     Ok(())
 }
 
-/// The body of a pull from a front: how many nodes there are in 1 byte, and the front's count of each in 8.
+/// The body of a pull from a front: how many nodes there are in 1 byte, and the front's count of
+/// each in 8.
 pub fn pull_body(alloc: Global, front: &Front) -> Result<Vec<u8>, AllocError>
     ensures { IfOk result (λ body. body.items ≡ pull_body front.now) }
 {
@@ -101,9 +102,9 @@ fn asked(nodes: usize, body: &[u8]) -> Result<Front, Refusal>
     front_in(nodes, counts)
 }
 
-/// The front that the body of a pull asks from, of a node that counts 1 to 8 nodes. It takes no memory. E16 at place 0 where
-/// the body counts another number of nodes, at 1 where the front isn't whole or has a count of more than 48 bits, and just
-/// past the front where bytes are left over.
+/// The front that the body of a pull asks from, of a node that counts 1 to 8 nodes. It takes no
+/// memory. E16 at place 0 where the body counts another number of nodes, at 1 where the front isn't
+/// whole or has a count of more than 48 bits, and just past the front where bytes are left over.
 pub fn front_of_pull(nodes: usize, body: &[u8]) -> Result<Front, Refusal>
     requires some { 1 ≤ nodes }
     requires few { nodes ≤ 8 }

@@ -8,11 +8,11 @@ use std::fmt;
 /// Why a pull gives no delta.
 #[derive(Clone, Copy, Debug, PartialEq, Eq)]
 pub enum PullError {
-    /// The request was not written, or no whole response was read: `NotOffered` also where its status is not 200, and
-    /// `NoMemory` also where memory ran out elsewhere in the call.
+    /// The request was not written, or no whole response was read: `NotOffered` also where its
+    /// status is not 200, and `NoMemory` also where memory ran out elsewhere in the call.
     Fault(Fault),
-    /// E16: the body of the response is no frame, whatever follows of it. The place of its first field that isn't whole within the
-    /// stated length or breaks its rule.
+    /// E16: the body of the response is no frame, whatever follows of it. The place of its first
+    /// field that isn't whole within the stated length or breaks its rule.
     BadFrame(u64),
 }
 

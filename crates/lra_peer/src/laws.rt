@@ -17,9 +17,10 @@ ghost use Rattle.lra_peer.specs.PullBodies.{IsAsked, asked, pull_body};
 ghost use Rattle.lra_peer.specs.Serving.{Serves};
 ghost use Rattle.lra_peer.specs.Texts.{pull_text};
 
-/// What a node takes by a pull from a node of the same history is the union of what both have: one that asks from a front which
-/// it has itself, and has the same nodes, may take what is served, and what comes of that stands for the union, with the shape.
-/// The front may be an earlier one of its own.
+/// What a node takes by a pull from a node of the same history is the union of what both have: one
+/// that asks from a front which it has itself, and has the same nodes, may take what is served, and
+/// what comes of that stands for the union, with the shape. The front may be an earlier one of its
+/// own.
 pub fn a_pull_is_the_union()
     ensures some { (h : History) (v w front : List ℕ) (own other : View) (frame : Frame) →
         IsLawful h → IsClosed h v → IsClosed h w → StandsFor (facts h v) own →
@@ -35,16 +36,16 @@ pub fn a_pull_is_the_union()
         IsTaken own frame taken → StandsFor (facts h (join_fronts v w)) taken }
 {}
 
-/// The text of a pull from a front of 1 to 8 nodes is one whole request, with the front as its body, for a reader whose limit is
-/// at least 65 bytes.
+/// The text of a pull from a front of 1 to 8 nodes is one whole request, with the front as its
+/// body, for a reader whose limit is at least 65 bytes.
 pub fn a_pull_is_a_whole_request()
     ensures { (limit : ℕ) (front rest : List ℕ) → 65 ≤ limit → length front ≤ 8 →
         (h : RequestHead) × IsRequest limit (pull_text front ++ rest) h (pull_body front) rest
         × (h.method ≡ codes "POST") × (h.target ≡ codes "/peer/pull") }
 {}
 
-/// The text of a response with status 200, whose body encodes a frame and whose fields are plain and state its length, is an
-/// answer from which a pull takes that frame.
+/// The text of a response with status 200, whose body encodes a frame and whose fields are plain
+/// and state its length, is an answer from which a pull takes that frame.
 pub fn a_written_frame_is_an_answer()
     ensures { (r : TheResponse) (frame : Frame) → IsSound max_frame_bytes r →
         r.status ≡ 200 → r.body ≡ encoding frame → IsAnswer (response_text r) 200 (encoding frame) }

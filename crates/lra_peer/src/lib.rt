@@ -1,4 +1,5 @@
-//! Pulls: a node asks another for what it lacks, over any reader and writer, and answers those who ask.
+//! Pulls: a node asks another for what it lacks, over any reader and writer, and answers those who
+//! ask.
 #![tactic(auto)]
 
 mod answer;

@@ -4,8 +4,9 @@ ghost use Rattle.lra_delta.specs.Frames.{Frame};
 ghost use Rattle.lra_delta.specs.declared.version.Version.{Version};
 ghost use Rattle.lra_delta.specs.Rules.{IsDeltaAs};
 ghost use Rattle.lra_delta.specs.Encoding.{encoding_as};
-ghost use Rattle.lra_peer.specs.PullAnswers.{IsAnswer, IsOfStreams, IsSent, IsUnsent, IsUnsentBy, StopsPull, TellsDelta};
+ghost use Rattle.lra_peer.specs.PullAnswers.{IsAnswer, IsOfStreams, IsUnsent, IsUnsentBy, StopsPull, TellsDelta};
 ghost use Rattle.lra_peer.specs.Texts.{pull_text};
+ghost use Rattle.lra_http.specs.Streams.{IsSent};
 
 use crate::PullError;
 use crate::answer::answered;
@@ -26,37 +27,39 @@ fn ask<W: Sink>(alloc: Global, writer: &mut W, front: &Front) -> Result<(), Faul
     write_request(alloc, writer, &request)
 }
 
-/// Asks another node for what is lacked by one that has the facts which a front counts: writes the request of a pull, and reads
-/// the delta out of one response with status 200, whose body has at most 67,108,864 bytes, field by field as it comes. What is
-/// behind the response is left unread, for which its head is read one byte a call: over a socket a buffered reader goes below. It
-/// asks once, and applies nothing: what comes is for `lra_delta::prepare`, which also looks whether it is of as many nodes. Errors:
-/// each `Fault`, with NotOffered for another status, whose body is left unread; and E16 with its place where the body is no frame,
-/// as soon as its first bad field has come, and nothing behind that field is read.
-/// It looks at no more than it must. It follows no redirect, and doesn't look at Content-Type,
-/// since a frame is told by its first bytes. The node that is asked refuses a front with too great
-/// counts.
+/// Asks another node for what is lacked by one that has the facts which a front counts: writes the
+/// request of a pull, and reads the delta out of one response with status 200, whose body has at
+/// most 67,108,864 bytes, field by field as it comes. What is behind the response is left unread,
+/// for which its head is read one byte a call: over a socket a buffered reader goes below. It asks
+/// once, and applies nothing: what comes is for `lra_delta::prepare`, which also looks whether it
+/// is of as many nodes. Errors: each `Fault`, with NotOffered for another status, whose body is
+/// left unread; and E16 with its place where the body is no frame, as soon as its first bad field
+/// has come, and nothing behind that field is read. It looks at no more than it must. It follows no
+/// redirect, and doesn't look at Content-Type, since a frame is told by its first bytes. The node
+/// that is asked refuses a front with too great counts.
 pub fn pull<R: Source, W: Sink>(
     alloc: Global,
     reader: &mut R,
     writer: &mut W,
     front: &Front,
 ) -> Result<Delta, PullError>
-    // The whole request was written and passed on. What was given since is one whole response with status 200, whose body encodes
-    // the delta, and no byte more. No call failed.
+    // The whole request was written and passed on. What was given since is one whole response with
+    // status 200, whose body encodes the delta, and no byte more. No call failed.
     ensures message { IfOk result (λ delta. IsSent (W.stream writer.old)
         (W.stream writer.new) (W.calls writer.old) (W.calls writer.new) (pull_text front.now)
         × TellsDelta (R.stream reader.old)
         (R.stream reader.new) (R.calls reader.old) (R.calls reader.new) delta) }
-    // Where each error comes: a prefix of the request was written, where a write failed, or nothing, where memory ran out before,
-    // and then nothing was read; or all of it was, and what was given tells why there is no delta, or a read failed.
+    // Where each error comes: a prefix of the request was written, where a write failed, or
+    // nothing, where memory ran out before, and then nothing was read; or all of it was, and what
+    // was given tells why there is no delta, or a read failed.
     ensures error { IfErr result (λ error. IsUnsentBy (W.stream writer.old)
         (W.stream writer.new) (W.calls writer.old) (W.calls writer.new) (pull_text front.now)
         (reader.new ≡ reader.old) ((writer.new ≡ writer.old) × (reader.new ≡ reader.old)) error
         ⊎ (IsSent (W.stream writer.old) (W.stream writer.new) (W.calls writer.old)
         (W.calls writer.new) (pull_text front.now) × StopsPull (R.stream reader.old)
         (R.stream reader.new) (R.calls reader.old) (R.calls reader.new) error)) }
-    // Where the bytes that are left are known, and a whole response with status 200 and a frame stands at their start, that frame
-    // is taken, unless a call fails or memory runs out.
+    // Where the bytes that are left are known, and a whole response with status 200 and a frame
+    // stands at their start, that frame is taken, unless a call fails or memory runs out.
     ensures found { IfSome (R.stream reader.old).left
         (λ input. (bytes rest : List ℕ) (version : Version) (frame : Frame) → input ≡ bytes ++ rest →
         IsDeltaAs version frame → IsAnswer bytes 200 (encoding_as version frame) →

@@ -33,10 +33,11 @@ fn since_both(alloc: Global, replica: &Replica, front: &Front) -> Result<Delta, 
     Delta::since(alloc, replica, &base)
 }
 
-/// What a node answers to the body of a pull: the frame since what both its front and the asker's count. So there is never a gap,
-/// and the asker lacks nothing of what the frame leaves out. E16 at the place of the body's first fault: at 0 where it counts
-/// another number of nodes, at 1 where its front isn't whole or has a count of more than 48 bits, and just past the front where
-/// bytes are left over. It looks at each record once, and copies those that are told.
+/// What a node answers to the body of a pull: the frame since what both its front and the asker's
+/// count. So there is never a gap, and the asker lacks nothing of what the frame leaves out. E16 at
+/// the place of the body's first fault: at 0 where it counts another number of nodes, at 1 where
+/// its front isn't whole or has a count of more than 48 bits, and just past the front where bytes
+/// are left over. It costs what `Delta::since` costs.
 pub fn serve_pull(alloc: Global, body: &[u8], replica: &Replica) -> Result<Delta, Refusal>
     // Which frame it is, or which place.
     ensures exact { Serves

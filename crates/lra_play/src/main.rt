@@ -1,4 +1,5 @@
-//! A small program that plays scripts, as `lra_node script N` does: it has no server in it, so it is built within a minute.
+//! A small program that plays scripts, as `lra_node script N` does: it has no server in it, so it
+//! is built within a minute.
 #![tactic(auto)]
 
 use lra_http::{OverRead, OverWrite};
@@ -8,7 +9,8 @@ use std::{env, io};
 
 const USAGE: &str = "usage: lra_play script N";
 
-/// Plays the script that the arguments ask for from standard input to standard output, and ends as `play` says.
+/// Plays the script that the arguments ask for from standard input to standard output, and ends as
+/// `play` says.
 fn main(rt: HostRuntime) -> ExitCode {
     let Ok(given) = env::args(&rt) else {
         return ExitCode::from(1);

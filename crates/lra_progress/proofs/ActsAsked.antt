@@ -4,14 +4,14 @@ use mathlib.Core.Bool.{not}
 use Rattle.std.specs.List.{list_any}
 use Rattle.std.specs.Option.{option_map_or}
 use Rattle.lra_id.specs.Ids.{Id}
-use Rattle.lra_states.specs.States.{completing, compensating}
-use Rattle.lra_states.specs.declared.status.MemberStatus.TheVariants.{Compensated, Completed}
-use Rattle.lra_states.specs.declared.outcome.Act.{Act}
-use Rattle.lra_states.specs.declared.outcome.Act.TheVariants.{Complete as CompleteAct, Compensate as CompensateAct}
-use Rattle.lra_states.specs.declared.outcome.Outcome.{Outcome}
-use Rattle.lra_states.specs.declared.outcome.Outcome.TheVariants.{Busy, Done, Failed}
-use Rattle.lra_states.specs.declared.outcome.Verdict.{Verdict}
-use Rattle.lra_states.specs.declared.outcome.Verdict.TheVariants.{Close, Cancel}
+use Rattle.lra_id.specs.States.{completing, compensating}
+use Rattle.lra_id.specs.declared.status.MemberStatus.TheVariants.{Compensated, Completed}
+use Rattle.lra_id.specs.declared.outcome.Act.{Act}
+use Rattle.lra_id.specs.declared.outcome.Act.TheVariants.{Complete as CompleteAct, Compensate as CompensateAct}
+use Rattle.lra_id.specs.declared.outcome.Outcome.{Outcome}
+use Rattle.lra_id.specs.declared.outcome.Outcome.TheVariants.{Busy, Done, Failed}
+use Rattle.lra_id.specs.declared.outcome.Verdict.{Verdict}
+use Rattle.lra_id.specs.declared.outcome.Verdict.TheVariants.{Close, Cancel}
 use Rattle.lra_facts.specs.declared.fact.Fact.{Fact}
 use Rattle.lra_facts.specs.Duties.{has_to_compensate, holds_back, is_compensation_due, is_pending, is_uncompensated, saga_path, topmost_cancelled}
 use Rattle.lra_facts.specs.Links.{Links}

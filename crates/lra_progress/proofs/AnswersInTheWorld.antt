@@ -1,7 +1,7 @@
 -- answers that a node of the world hears, until the tree is purged
 use Rattle.std.proofs.Common.{◌≡◌, ◌≤◌, ◌<◌, ◌+◌, ℕ, List, [], ◌∷◌, sym, ap, subst, ◌∙◌, true, arith, length, Some, is_none}
 use Rattle.lra_id.specs.Ids.{Id}
-use Rattle.lra_states.specs.declared.outcome.Verdict.{Verdict}
+use Rattle.lra_id.specs.declared.outcome.Verdict.{Verdict}
 use Rattle.lra_facts.specs.declared.fact.Fact.{Fact}
 use Rattle.lra_facts.specs.Sets.{is_root, want}
 use Rattle.lra_history.specs.Histories.{IsClosed, facts}

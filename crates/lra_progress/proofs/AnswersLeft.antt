@@ -3,9 +3,9 @@ use Rattle.std.proofs.Common.{◌≡◌, filter, inl, inr, ◌≤◌, ◌<◌, �
 use mathlib.Core.Bool.{not}
 use Rattle.std.specs.Option.{option_map_or}
 use Rattle.lra_id.specs.Ids.{Id}
-use Rattle.lra_states.specs.declared.outcome.Act.{Act}
-use Rattle.lra_states.specs.declared.outcome.Verdict.{Verdict}
-use Rattle.lra_states.specs.declared.outcome.Verdict.TheVariants.{Close, Cancel}
+use Rattle.lra_id.specs.declared.outcome.Act.{Act}
+use Rattle.lra_id.specs.declared.outcome.Verdict.{Verdict}
+use Rattle.lra_id.specs.declared.outcome.Verdict.TheVariants.{Close, Cancel}
 use Rattle.lra_facts.specs.declared.fact.Fact.{Fact}
 use Rattle.lra_facts.specs.Duties.{has_forgot, has_told, is_after_duty, is_at_end, is_forget_duty, is_forgot, is_over, is_pending, is_told_of, is_untold_by, owes_after, owes_forget}
 use Rattle.lra_facts.specs.Links.{Links}

@@ -3,9 +3,9 @@ use Rattle.std.proofs.Common.{◌≡◌, ◌⊎◌, inl, inr, ◌||◌, ◌≤�
 use mathlib.Core.Bool.{not}
 use Rattle.lra_id.specs.Ids.{Id, last_number, same_id}
 use Rattle.lra_id.specs.Fronts.{count, is_covered}
-use Rattle.lra_states.specs.declared.outcome.Act.{Act}
-use Rattle.lra_states.specs.declared.outcome.Outcome.TheVariants.{Done}
-use Rattle.lra_states.specs.declared.outcome.Verdict.{Verdict}
+use Rattle.lra_id.specs.declared.outcome.Act.{Act}
+use Rattle.lra_id.specs.declared.outcome.Outcome.TheVariants.{Done}
+use Rattle.lra_id.specs.declared.outcome.Verdict.{Verdict}
 use Rattle.lra_facts.specs.declared.fact.Fact.{Fact}
 use Rattle.lra_facts.specs.declared.refusal.Refusal.{Refusal}
 use Rattle.lra_facts.specs.Duties.{has_forgot, has_told, is_after_duty, is_forget_duty, is_forgot, is_told_of}
@@ -14,7 +14,7 @@ use Rattle.lra_facts.specs.Sets.{is_held, is_participant, is_root, want}
 use Rattle.lra_facts.proofs.Membership.{any_from}
 use Rattle.lra_forest.proofs.Bools.{and_left}
 use Rattle.lra_forest.proofs.NumberedMembers.{same_self}
-use Rattle.lra_history.specs.declared.command.Command.TheVariants.{Forgot, Purge, Report, Told}
+use Rattle.lra_facts.specs.declared.command.Command.TheVariants.{Forgot, Purge, Report, Told}
 use Rattle.lra_history.specs.Growth.{IsMore, IsSettled}
 use Rattle.lra_history.specs.NodeViews.{IsCurrent}
 use Rattle.lra_history.specs.Replies.{Accepted, body_for, judge, judged}

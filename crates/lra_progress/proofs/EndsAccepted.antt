@@ -3,14 +3,14 @@ use Rattle.std.proofs.Common.{◌≡◌, ◌≤◌, ◌<◌, ℕ, List, [], ◌�
 use Rattle.std.proofs.lemmas.Bool.Decides.{nat_tests}
 use Rattle.lra_id.specs.Ids.{Id, last_number}
 use Rattle.lra_id.specs.Fronts.{count, is_covered}
-use Rattle.lra_states.specs.States.{level}
-use Rattle.lra_states.specs.declared.outcome.Outcome.{Outcome}
+use Rattle.lra_id.specs.States.{level}
+use Rattle.lra_id.specs.declared.outcome.Outcome.{Outcome}
 use Rattle.lra_facts.specs.declared.fact.Fact.{Fact}
 use Rattle.lra_facts.specs.declared.refusal.Refusal.{Refusal}
 use Rattle.lra_facts.specs.Duties.{is_pending}
 use Rattle.lra_facts.specs.Refusals.{first, unless}
 use Rattle.lra_facts.specs.Sets.{heard, is_demanded, is_heard, is_held, is_participant}
-use Rattle.lra_history.specs.declared.command.Command.TheVariants.{Report}
+use Rattle.lra_facts.specs.declared.command.Command.TheVariants.{Report}
 use Rattle.lra_history.specs.Replies.{Accepted, judge, judged}
 use Rattle.lra_history.specs.Views.{IsCounted}
 use Rattle.lra_history.proofs.Basics.{held_begun}

@@ -2,7 +2,7 @@
 use Rattle.std.proofs.Common.{◌≡◌, ◌≤◌, ◌+◌, ◌-◌, ℕ, List, [], refl, sym, ap, subst, ◌∙◌, Bool, arith, get_or-set_same, length}
 use Rattle.lra_id.specs.Fronts.{count}
 use Rattle.lra_facts.specs.declared.fact.Fact.{Fact}
-use Rattle.lra_history.specs.declared.command.Command.{Command}
+use Rattle.lra_facts.specs.declared.command.Command.{Command}
 use Rattle.lra_history.specs.Changes.{raised}
 use Rattle.lra_history.specs.Growth.{IsMore}
 use Rattle.lra_history.specs.Histories.{Entry, History, facts, with_entry}

@@ -1,10 +1,10 @@
 -- what is waited for, computed on small sets
 use Rattle.std.proofs.Common.{◌≡◌, ℕ, List, [], ◌∷◌, refl, Some, None, true, false}
 use Rattle.lra_id.specs.Ids.{Id}
-use Rattle.lra_states.specs.declared.status.LraStatus.TheVariants.{Cancelling, Closed, Closing}
-use Rattle.lra_states.specs.declared.outcome.Verdict.TheVariants.{Close, Cancel}
-use Rattle.lra_states.specs.declared.outcome.Act.TheVariants.{Complete, Compensate}
-use Rattle.lra_states.specs.declared.outcome.Outcome.TheVariants.{Busy, Done, Failed}
+use Rattle.lra_id.specs.declared.status.LraStatus.TheVariants.{Cancelling, Closed, Closing}
+use Rattle.lra_id.specs.declared.outcome.Verdict.TheVariants.{Close, Cancel}
+use Rattle.lra_id.specs.declared.outcome.Act.TheVariants.{Complete, Compensate}
+use Rattle.lra_id.specs.declared.outcome.Outcome.TheVariants.{Busy, Done, Failed}
 use Rattle.lra_facts.specs.declared.fact.Body.{Body}
 use Rattle.lra_facts.specs.declared.fact.Body.TheVariants.{Begin, Join, Decide, Report, Forgot}
 use Rattle.lra_facts.specs.declared.fact.Fact.{Fact}

@@ -6,13 +6,13 @@ use Rattle.std.specs.List.{list_any}
 use Rattle.std.specs.Option.{option_map_or}
 use Rattle.lra_id.specs.Ids.{Id, last_number, same_id}
 use Rattle.lra_id.specs.Fronts.{count}
-use Rattle.lra_states.specs.States.{level, same_act}
-use Rattle.lra_states.specs.declared.outcome.Act.{Act}
-use Rattle.lra_states.specs.declared.outcome.Act.TheVariants.{Complete, Compensate}
-use Rattle.lra_states.specs.declared.outcome.Outcome.{Outcome}
-use Rattle.lra_states.specs.declared.outcome.Outcome.TheVariants.{Done}
-use Rattle.lra_states.specs.declared.outcome.Verdict.{Verdict}
-use Rattle.lra_states.specs.declared.outcome.Verdict.TheVariants.{Close, Cancel}
+use Rattle.lra_id.specs.States.{level, same_act}
+use Rattle.lra_id.specs.declared.outcome.Act.{Act}
+use Rattle.lra_id.specs.declared.outcome.Act.TheVariants.{Complete, Compensate}
+use Rattle.lra_id.specs.declared.outcome.Outcome.{Outcome}
+use Rattle.lra_id.specs.declared.outcome.Outcome.TheVariants.{Done}
+use Rattle.lra_id.specs.declared.outcome.Verdict.{Verdict}
+use Rattle.lra_id.specs.declared.outcome.Verdict.TheVariants.{Close, Cancel}
 use Rattle.lra_facts.specs.declared.fact.Body.TheVariants.{Report as ReportMade}
 use Rattle.lra_facts.specs.declared.fact.Fact.{Fact}
 use Rattle.lra_facts.specs.Duties.{is_pending, last_that, topmost_cancelled}
@@ -23,7 +23,7 @@ use Rattle.lra_facts.proofs.Membership.{any_agree, most_bounds}
 use Rattle.lra_forest.proofs.CompensationUnderAnLra.{held_above}
 use Rattle.lra_forest.proofs.NumberedMembers.{same_self}
 use Rattle.lra_forest.proofs.SagaOrder.{top_is}
-use Rattle.lra_history.specs.declared.command.Command.TheVariants.{Report}
+use Rattle.lra_facts.specs.declared.command.Command.TheVariants.{Report}
 use Rattle.lra_history.specs.Growth.{IsMore, IsSettled}
 use Rattle.lra_history.specs.Histories.{facts}
 use Rattle.lra_history.specs.NodeViews.{IsCurrent}

@@ -18,7 +18,7 @@ use Rattle.lra_forest.proofs.Bools.{and_left, and_right}
 use Rattle.lra_forest.proofs.CompensationUnderAnLra.{held_below}
 use Rattle.lra_forest.proofs.LeastDutyUnderARoot.{IsDueBeneath, TellsOf, least_first, told_is}
 use Rattle.lra_forest.proofs.Paths.{under_home}
-use Rattle.lra_history.specs.declared.command.Command.TheVariants.{Purge}
+use Rattle.lra_facts.specs.declared.command.Command.TheVariants.{Purge}
 use Rattle.lra_history.specs.Growth.{IsSettled}
 use Rattle.lra_history.specs.Replies.{Accepted, judge, judged}
 use Rattle.lra_history.specs.Views.{IsCounted}

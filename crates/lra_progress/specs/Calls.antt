@@ -3,8 +3,8 @@ use mathlib.Core.Bool.{not}
 use Rattle.std.specs.Prelude.{◌≡◌, ◌⊎◌, ◌+◌, ◌&&◌, ℕ, Bool, true, false, Some, List, filter, is_some, length}
 use Rattle.std.specs.Option.{option_map_or}
 use Rattle.lra_id.specs.Ids.{Id}
-use Rattle.lra_states.specs.declared.status.LraStatus.TheVariants.{Cancelling, Closing}
-use Rattle.lra_states.specs.declared.outcome.Act.{Act}
+use Rattle.lra_id.specs.declared.status.LraStatus.TheVariants.{Cancelling, Closing}
+use Rattle.lra_id.specs.declared.outcome.Act.{Act}
 use Rattle.lra_facts.specs.declared.fact.Body.{Body}
 use Rattle.lra_facts.specs.declared.fact.Body.TheVariants.{Join}
 use Rattle.lra_facts.specs.declared.fact.Fact.{Fact}

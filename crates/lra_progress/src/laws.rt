@@ -1,17 +1,17 @@
-//! Laws of progress: each function does nothing, and its contract is the law. None speaks of time, and none supposes that anything
-//! is fair.
+//! Laws of progress: each function does nothing, and its contract is the law. None speaks of time,
+//! and none supposes that anything is fair.
 ghost use Rattle.std.specs.Prelude.{◌≡◌, ◌⊎◌, ◌≤◌, ◌<◌, ◌+◌, ◌↔◌, ℕ, List, Some, false, is_some, length, replicate, true};
 ghost use Rattle.std.specs.List.{list_any};
 ghost use Rattle.lra_id.specs.Fronts.{IsBelow, count};
 ghost use Rattle.lra_id.specs.Ids.{Id, last_number};
-ghost use Rattle.lra_states.specs.declared.outcome.Outcome.{Outcome as TheOutcome};
-ghost use Rattle.lra_states.specs.declared.outcome.Verdict.{Verdict as TheVerdict};
-ghost use Rattle.lra_states.specs.declared.outcome.Verdict.TheVariants.{Close};
+ghost use Rattle.lra_id.specs.declared.outcome.Outcome.{Outcome as TheOutcome};
+ghost use Rattle.lra_id.specs.declared.outcome.Verdict.{Verdict as TheVerdict};
+ghost use Rattle.lra_id.specs.declared.outcome.Verdict.TheVariants.{Close};
 ghost use Rattle.lra_facts.specs.declared.fact.Fact.{Fact};
 ghost use Rattle.lra_facts.specs.Duties.{is_pending};
 ghost use Rattle.lra_facts.specs.Lists.{In};
 ghost use Rattle.lra_facts.specs.Sets.{is_ended, is_held, is_root, want};
-ghost use Rattle.lra_history.specs.declared.command.Command.TheVariants.{Purge, Report};
+ghost use Rattle.lra_facts.specs.declared.command.Command.TheVariants.{Purge, Report};
 ghost use Rattle.lra_history.specs.Growth.{IsSettled};
 ghost use Rattle.lra_history.specs.Histories.{History, IsClosed, IsLawful, facts};
 ghost use Rattle.lra_history.specs.Replies.{Accepted, judge};
@@ -31,11 +31,12 @@ ghost use Rattle.lra_progress.specs.Calls.{HearsAnEnd, IsActUnder, IsCallUnder, 
 ghost use Rattle.lra_progress.specs.Ends.{CanEnd, CanPurge, GetAnswered, GoOn, last_state};
 ghost use Rattle.lra_progress.specs.Rounds.{HearsOf, IsRound, all_counted, may_enter};
 
-/// Nothing is stuck. Where an LRA shows Closing or Cancelling, a participant is to be called now, to complete or to compensate. It
-/// is one of this LRA or of one nested in it; or, where an LRA above it is cancelled, one under the topmost of these. That is so of
-/// every set that a node may hold, and at each node in each state of the world. The home's list of calls has that call: by the
-/// clause `next` of `lra_callback::pick` that list is `duties_of` of the replica's view. And the participant is one that
-/// `complete_duties` or `next_compensations` lists for that view.
+/// Nothing is stuck. Where an LRA shows Closing or Cancelling, a participant is to be called now,
+/// to complete or to compensate. It is one of this LRA or of one nested in it; or, where an LRA
+/// above it is cancelled, one under the topmost of these. That is so of every set that a node may
+/// hold, and at each node in each state of the world. The home's list of calls has that call: by
+/// the clause `next` of `lra_callback::pick` that list is `duties_of` of the replica's view. And
+/// the participant is one that `complete_duties` or `next_compensations` lists for that view.
 pub fn nothing_is_stuck()
     ensures set { (S : List Fact) (l : Id) → IsSettled S → IsUnderWay S l →
         (call : Duty) × IsActUnder S (saga_of S l) call }
@@ -50,8 +51,8 @@ pub fn nothing_is_stuck()
         In (due_of call) (completions_of view home) ⊎ In (due_of call) (compensations_of view home) }
 {}
 
-/// An LRA waits for participants under itself alone, if it is a root or is to close. Wherever it waits: where that LRA has ended,
-/// it has ended too.
+/// An LRA waits for participants under itself alone, if it is a root or is to close. Wherever it
+/// waits: where that LRA has ended, it has ended too.
 pub fn an_lra_ends_with_its_saga()
     ensures root { (S : List Fact) (l : Id) →
         IsSettled S → is_root S l ≡ true → saga_of S l ≡ l }
@@ -61,8 +62,8 @@ pub fn an_lra_ends_with_its_saga()
         IsSettled S → is_ended S (saga_of S l) ≡ true → is_ended S l ≡ true }
 {}
 
-/// The answer is taken. The end of such a call, done or failed, is accepted as a report at every node that holds the set, unless
-/// the node has given its last number.
+/// The answer is taken. The end of such a call, done or failed, is accepted as a report at every
+/// node that holds the set, unless the node has given its last number.
 pub fn an_end_is_accepted()
     ensures { (S : List Fact) (v : List ℕ) (node : ℕ)
         (l : Id) (call : Duty) (outcome : TheOutcome) →
@@ -71,8 +72,9 @@ pub fn an_end_is_accepted()
         judge S v node (Report call.id call.member call.act outcome) ≡ Accepted }
 {}
 
-/// Open participants only get fewer. While an LRA wants the same, there are never more participants under it that are not final,
-/// whatever else is entered. Each end that is heard of a call under it leaves fewer, and it has ended just where there are none.
+/// Open participants only get fewer. While an LRA wants the same, there are never more participants
+/// under it that are not final, whatever else is entered. Each end that is heard of a call under it
+/// leaves fewer, and it has ended just where there are none.
 pub fn open_participants_only_get_fewer()
     ensures stays { (h : History) (v w : List ℕ) (l : Id) (verdict : TheVerdict) →
         IsLawful h → IsClosed h v → IsClosed h w → IsBelow v w →
@@ -86,8 +88,9 @@ pub fn open_participants_only_get_fewer()
         (is_ended S l ≡ true) ↔ (open_under S l ≡ 0) }
 {}
 
-/// So at a node of the world, whatever comes there and elsewhere. While an LRA wants the same at the node, at most as many ends are
-/// heard of calls under it as participants are open there. After that many it has ended.
+/// So at a node of the world, whatever comes there and elsewhere. While an LRA wants the same at
+/// the node, at most as many ends are heard of calls under it as participants are open there. After
+/// that many it has ended.
 pub fn after_so_many_ends_it_has_ended()
     ensures stays { (s t : State) (events : List Event) (replies : List Reply)
         (node : ℕ) (l : Id) (verdict : TheVerdict) →
@@ -103,9 +106,9 @@ pub fn after_so_many_ends_it_has_ended()
         is_ended (set_of (last_state s ts) node) l ≡ true }
 {}
 
-/// What is under way can be ended. From each state of the world answers alone lead to where the LRA has ended, each to a call that
-/// is due then, entered at one node that holds it. There are at most as many as participants are open where it waits, and the node
-/// needs so many numbers.
+/// What is under way can be ended. From each state of the world answers alone lead to where the LRA
+/// has ended, each to a call that is due then, entered at one node that holds it. There are at most
+/// as many as participants are open where it waits, and the node needs so many numbers.
 pub fn what_is_under_way_can_be_ended()
     ensures { (s : State) (node : ℕ) (l : Id) →
         IsWorld s → IsNode s node → IsUnderWay (set_of s node) l →
@@ -115,8 +118,9 @@ pub fn what_is_under_way_can_be_ended()
         (open_under (set_of s node) (saga_of (set_of s node) l)) }
 {}
 
-/// A decided tree goes on until it is purged: somebody in it is to be called, or its root can be purged, unless the home has given
-/// its last number. In what has ended nobody is called to complete or to compensate.
+/// A decided tree goes on until it is purged: somebody in it is to be called, or its root can be
+/// purged, unless the home has given its last number. In what has ended nobody is called to
+/// complete or to compensate.
 pub fn a_tree_goes_on_until_it_is_purged()
     ensures on { (S : List Fact) (v : List ℕ) (root : Id) → IsSettled S → IsCounted S v →
         is_held S root ≡ true → is_root S root ≡ true → is_some (want S root) ≡ true →
@@ -127,9 +131,10 @@ pub fn a_tree_goes_on_until_it_is_purged()
         IsSettled S → is_ended S l ≡ true → IsActUnder S l call → ⊥ }
 {}
 
-/// A decided tree waits for so many answers at most. Whatever happens at a node and elsewhere, no event adds to the answers that are
-/// left in the tree, and each answer to a call in it leaves fewer. Where none is left, nobody in it is to be called. So after that
-/// many at the latest the root can be purged, if it was not.
+/// A decided tree waits for so many answers at most. Whatever happens at a node and elsewhere, no
+/// event adds to the answers that are left in the tree, and each answer to a call in it leaves
+/// fewer. Where none is left, nobody in it is to be called. So after that many at the latest the
+/// root can be purged, if it was not.
 pub fn a_decided_tree_waits_for_so_many_answers()
     ensures stays { (s t : State) (events : List Event) (replies : List Reply)
         (node : ℕ) (root : Id) (verdict : TheVerdict) →
@@ -145,8 +150,9 @@ pub fn a_decided_tree_waits_for_so_many_answers()
         IsSettled S → answers_left S l ≡ 0 → IsCallUnder S l call → ⊥ }
 {}
 
-/// A decided tree can be purged. From each state of the world answers alone lead to where the root's home accepts the purge, each to
-/// a call that is due then, entered at that home. There are at most as many as are left, and the home needs so many numbers.
+/// A decided tree can be purged. From each state of the world answers alone lead to where the
+/// root's home accepts the purge, each to a call that is due then, entered at that home. There are
+/// at most as many as are left, and the home needs so many numbers.
 pub fn a_decided_tree_can_be_purged()
     ensures { (s : State) (root : Id) (verdict : TheVerdict) → IsWorld s → IsNode s root.home →
         is_held (set_of s root.home) root ≡ true → is_root (set_of s root.home) root ≡ true →
@@ -155,17 +161,18 @@ pub fn a_decided_tree_can_be_purged()
         CanPurge s root.home root (answers_left (set_of s root.home) root) }
 {}
 
-/// A frame brings all that its sender had. Whatever happens meanwhile, a node that takes a frame which another sends in these events
-/// counts at the end all that the other counted at the start.
+/// A frame brings all that its sender had. Whatever happens meanwhile, a node that takes a frame
+/// which another sends in these events counts at the end all that the other counted at the start.
 pub fn a_frame_brings_what_its_sender_had()
     ensures { (s t : State) (events : List Event) (replies : List Reply) (from to : ℕ) →
         IsWorld s → Runs s events replies t → IsNode s from → IsNode s to →
         HearsOf from to events replies → IsBelow (front_of s from) (front_of t to) }
 {}
 
-/// One round makes all alike. Nothing is entered in these events, and in them each node sends a frame to each other, which takes it.
-/// Frames may be cut, repeated and taken in any order besides. Then each node counts at the end all that was ever entered. So all
-/// have one view, and show the same of every LRA and of every participant.
+/// One round makes all alike. Nothing is entered in these events, and in them each node sends a
+/// frame to each other, which takes it. Frames may be cut, repeated and taken in any order besides.
+/// Then each node counts at the end all that was ever entered. So all have one view, and show the
+/// same of every LRA and of every participant.
 pub fn one_round_makes_all_alike()
     ensures all { (s t : State) (events : List Event) (replies : List Reply) (node : ℕ) →
         IsWorld s → Runs s events replies t → t.history ≡ s.history → IsRound s events replies →
@@ -175,13 +182,15 @@ pub fn one_round_makes_all_alike()
         IsNode s one → IsNode s other → Agree t one other }
 {}
 
-/// Where no command and no tick comes, nothing is entered: frames and restarts leave the history as it was.
+/// Where no command and no tick comes, nothing is entered: frames and restarts leave the history as
+/// it was.
 pub fn frames_enter_nothing()
     ensures { (s t : State) (events : List Event) (replies : List Reply) →
         Runs s events replies t → list_any may_enter events ≡ false → t.history ≡ s.history }
 {}
 
-/// Nothing refuses such a round: a frame since nothing is sent whenever it is asked for, and taken wherever it comes whole.
+/// Nothing refuses such a round: a frame since nothing is sent whenever it is asked for, and taken
+/// wherever it comes whole.
 pub fn a_frame_since_nothing_is_taken()
     ensures sent { (s t : State) (node : ℕ) (reply : Reply) → IsWorld s → IsNode s node →
         Steps s (Send node (replicate (nodes_of s) 0) Two) reply t →

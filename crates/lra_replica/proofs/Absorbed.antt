@@ -120,6 +120,8 @@ put_each_at (r ∷ rs) homes home low all =
     by false e rest = rest ∙ ap (put_all (records_of home rs)) (put_there r homes home all.0.0 all.0.1 low false e)
 
 -- a home of the patched view has what the patch changes there
+-- (a patch is a flat list over all homes, of which the elements of a home act there: after two
+-- inductions all is said of one home, without bounds on it)
 pub patched_at : (change : Change) (a : View) (home : ℕ) → 1 ≤ home → AllByRecursion (λ l. (1 ≤ l.home) × (l.home ≤ length a.records)) change.removed → AllByRecursion (λ r. (1 ≤ r.home) × (r.home ≤ length a.records)) change.records
     → records_at (patched change a).records home ≡ after_at change a home
 patched_at change a home low ids records =
@@ -428,6 +430,7 @@ module _ (a : View) (telling : Telling) (kept : ReplicaState) (patch old : Chang
       }
 
   -- where it has not its shape, no view has it that takes what is told
+  -- (by uniqueness at one home, so no merge need be made up)
   pub next_broken : (c : View) (reach : ℕ) → reach ≡ count telling.front told.records.home → ((after : List Record) → AreTakenAt (view_of kept) told reach after → AreInShape patch.front told.records.home after → ⊥)
       → IsAbsorbed a telling c → c.front ≡ old.front → HasShape c → ⊥
   next_broken c reach far none absorbed front shape =

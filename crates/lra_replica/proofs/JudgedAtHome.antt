@@ -7,8 +7,8 @@ use Rattle.lra_facts.specs.declared.refusal.Refusal.{Refusal}
 use Rattle.lra_facts.specs.declared.refusal.Refusal.TheVariants.{NotHeld, NotHome, UnknownLra}
 use Rattle.lra_facts.specs.Refusals.{first, spent, unless, unknown}
 use Rattle.lra_forest.specs.declared.record.Record.{Record}
-use Rattle.lra_history.specs.declared.command.Command.{Command}
-use Rattle.lra_history.specs.declared.command.Command.TheVariants.{Begin, Join, Leave, Decide, Report, Forgot, Told, Purge}
+use Rattle.lra_facts.specs.declared.command.Command.{Command}
+use Rattle.lra_facts.specs.declared.command.Command.TheVariants.{Begin, Join, Leave, Decide, Report, Forgot, Told, Purge}
 use Rattle.lra_history.specs.Next.{judge_on}
 use Rattle.lra_history.specs.Readings.{by_view}
 use Rattle.lra_history.specs.Replies.{Denied, crowded_by, deep_by, full_by, gone_by, inactive_by, judge_by, judged}

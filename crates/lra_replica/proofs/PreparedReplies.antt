@@ -3,11 +3,11 @@ use Rattle.std.proofs.Common.{◌≡◌, ◌⊎◌, inl, inr, ◌≤◌, ◌<◌
 use Rattle.std.specs.Option.{option_map_or}
 use Rattle.lra_id.specs.Ids.{Id}
 use Rattle.lra_id.specs.Fronts.{count}
-use Rattle.lra_states.specs.declared.outcome.Act.{Act}
-use Rattle.lra_states.specs.declared.outcome.Outcome.{Outcome}
-use Rattle.lra_states.specs.declared.outcome.Verdict.{Verdict}
-use Rattle.lra_states.specs.declared.status.LraStatus.{LraStatus}
-use Rattle.lra_states.specs.declared.status.MemberStatus.{MemberStatus}
+use Rattle.lra_id.specs.declared.outcome.Act.{Act}
+use Rattle.lra_id.specs.declared.outcome.Outcome.{Outcome}
+use Rattle.lra_id.specs.declared.outcome.Verdict.{Verdict}
+use Rattle.lra_id.specs.declared.status.LraStatus.{LraStatus}
+use Rattle.lra_id.specs.declared.status.MemberStatus.{MemberStatus}
 use Rattle.lra_facts.specs.declared.fact.Fact.{Fact}
 use Rattle.lra_facts.specs.Links.{Links}
 use Rattle.lra_facts.specs.declared.refusal.Refusal.{Refusal}
@@ -23,10 +23,10 @@ use Rattle.lra_forest.specs.Participants.{participant_at}
 use Rattle.lra_forest.specs.Places.{put_record}
 use Rattle.lra_forest.specs.Said.{members_at, shown_at}
 use Rattle.lra_forest.specs.Shape.{found_at}
-use Rattle.lra_history.specs.declared.command.Command.{Command}
-use Rattle.lra_history.specs.declared.command.Command.TheVariants.{Begin, Join, Leave, Decide, Report, Forgot, Told, Purge}
-use Rattle.lra_history.specs.declared.command.CommandReply.{CommandReply}
-use Rattle.lra_history.specs.declared.command.CommandReply.TheVariants.{Began, Decided, Joined, Left, Reported}
+use Rattle.lra_facts.specs.declared.command.Command.{Command}
+use Rattle.lra_facts.specs.declared.command.Command.TheVariants.{Begin, Join, Leave, Decide, Report, Forgot, Told, Purge}
+use Rattle.lra_facts.specs.declared.command.CommandReply.{CommandReply}
+use Rattle.lra_facts.specs.declared.command.CommandReply.TheVariants.{Began, Decided, Joined, Left, Reported}
 use Rattle.lra_history.specs.Growth.{IsSettled, member_changed, forgetting, hearing, joined, leaving, record_after, reporting}
 use Rattle.lra_history.specs.Next.{accepted_on, change_on, change_record, changed, judge_on, next_fact_on, member_shown_on, no_change, shown_on}
 use Rattle.lra_history.specs.Changes.{fresh_record, with_stamp, Change, one_change, patched, two_changes}
@@ -190,6 +190,7 @@ told_some view me l m taken =
     let none = accepted_open (refusal_by t view.front me (Told l m)) (t.told l m) (spent view.front me) taken in
     some_number (at_home view l.home) l.num m (told_passed t view.front me l m none).1
 
+-- (two functions of one shape are one over an enum, so one lemma by cases serves both)
 pub notice_next : (notice : Notice) (view : View) (me : ℕ) (l : Id) (m : ℕ) (reply : CommandReply) (copy : Record) (members : List Member) (change : Change) → reply ≡ reply_to notice → IsReadyNext view me (command_for notice l m) l (Ok copy)
     → (1 ≤ m → members ≡ member_changed (noted notice) (m - 1) copy.members) → change ≡ one_change view me (record copy { members = members })
     → IsNext view me (command_for notice l m) (Ok (record { reply = reply; patch = Some change }))

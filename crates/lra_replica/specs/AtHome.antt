@@ -8,8 +8,8 @@ use Rattle.lra_facts.specs.declared.refusal.Refusal.TheVariants.{NotHeld, Unknow
 use Rattle.lra_forest.specs.declared.record.Record.{Record}
 use Rattle.lra_forest.specs.Said.{depth_at, is_demanded_at, is_ended_at, is_heard_at, is_owed_at, is_root_at, is_forgot_at, is_to_hear_at, is_told_at, least_owed_of, least_unheard_of, member_shown_at, members_at, participant_of, shown_at, want_at}
 use Rattle.lra_forest.specs.Shape.{found_at}
-use Rattle.lra_history.specs.declared.command.Command.{Command}
-use Rattle.lra_history.specs.declared.command.Command.TheVariants.{Begin, Join, Leave, Decide, Report, Forgot, Told, Purge}
+use Rattle.lra_facts.specs.declared.command.Command.{Command}
+use Rattle.lra_facts.specs.declared.command.Command.TheVariants.{Begin, Join, Leave, Decide, Report, Forgot, Told, Purge}
 use Rattle.lra_history.specs.Replies.{Reading}
 
 -- the LRA that a command names: that in which another is begun, none where a root is

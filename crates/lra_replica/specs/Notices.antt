@@ -5,10 +5,10 @@ use Rattle.lra_facts.specs.declared.refusal.Refusal.{Refusal}
 use Rattle.lra_facts.specs.declared.refusal.Refusal.TheVariants.{NotDue}
 use Rattle.lra_facts.specs.Refusals.{first, spent, unknown, unless}
 use Rattle.lra_forest.specs.declared.record.Member.{Member}
-use Rattle.lra_history.specs.declared.command.Command.{Command}
-use Rattle.lra_history.specs.declared.command.Command.TheVariants.{Forgot, Told}
-use Rattle.lra_history.specs.declared.command.CommandReply.{CommandReply}
-use Rattle.lra_history.specs.declared.command.CommandReply.TheVariants.{Forgotten, Told as ToldReply}
+use Rattle.lra_facts.specs.declared.command.Command.{Command}
+use Rattle.lra_facts.specs.declared.command.Command.TheVariants.{Forgot, Told}
+use Rattle.lra_facts.specs.declared.command.CommandReply.{CommandReply}
+use Rattle.lra_facts.specs.declared.command.CommandReply.TheVariants.{Forgotten, Told as ToldReply}
 use Rattle.lra_history.specs.Growth.{forgetting, hearing}
 use Rattle.lra_history.specs.Readings.{by_view}
 use Rattle.lra_history.specs.Replies.{Judgement, Reading, gone_by, judged, stranger_by}

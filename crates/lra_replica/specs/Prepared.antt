@@ -6,12 +6,12 @@ use Rattle.lra_facts.specs.declared.fact.Fact.{Fact}
 use Rattle.lra_facts.specs.declared.refusal.Refusal.{Refusal}
 use Rattle.lra_facts.specs.declared.refusal.Refusal.TheVariants.{NoMemory}
 use Rattle.lra_forest.specs.declared.record.Record.{Record}
-use Rattle.lra_history.specs.declared.command.Command.{Command}
-use Rattle.lra_history.specs.declared.command.CommandReply.TheVariants.{Refused, Known}
+use Rattle.lra_facts.specs.declared.command.Command.{Command}
+use Rattle.lra_facts.specs.declared.command.CommandReply.TheVariants.{Refused, Known}
 use Rattle.lra_history.specs.Replies.{Judgement, Denied, AlreadyKnown, Accepted, judge, reply_of}
 use Rattle.lra_history.specs.Views.{View, record_at}
 use Rattle.lra_history.specs.Changes.{Change, with_stamp, AddsFact}
-use Rattle.lra_history.specs.declared.command.CommandReply.{CommandReply}
+use Rattle.lra_facts.specs.declared.command.CommandReply.{CommandReply}
 use Rattle.lra_history.specs.Next.{change_on, judge_on, accepted_on}
 use Rattle.lra_replica.specs.declared.patch.Prepared.{Prepared}
 use Rattle.lra_replica.specs.Replicas.{Fits, ReplicaState}

@@ -26,6 +26,8 @@ fn stamps_at(home: &Forest, num: u64) -> Option<Front>
 }
 
 /// Puts a record in its place at its home, and answers with the stamps of the one that it replaces.
+/// It is over the homes alone: so the invariant that ties them to the index is one record for its
+/// caller.
 fn put_among(homes: &mut Vec<Forest>, added: Record) -> Option<Front>
     requires numbered { AreHomesFrom 1 homes.old.items }
     requires ordered { AllByRecursion (λ h. AreOf h.home h.records) homes.old.items }
@@ -73,9 +75,10 @@ fn remove_among(homes: &mut Vec<Forest>, id: LraId) -> Option<Front>
 }
 
 impl Replica {
-    /// Makes a patch's changes. The patch was prepared on the present view, and the room that was made for it is there: so
-    /// this takes no memory and always succeeds. It costs an insertion for each record, and one in the index for each of its
-    /// stamps that changes. Then it gives back the room that is left of each home, but for one page: 16 records at most.
+    /// Makes a patch's changes. The patch was prepared on the present view, and the room that was
+    /// made for it is there: so this takes no memory and always succeeds. It costs an insertion for
+    /// each record, and one in the index for each of its stamps that changes. Then it gives back
+    /// the room that is left of each home, but for one page: 16 records at most.
     pub fn apply(&mut self, patch: Patch)
         requires { Fits patch self.old }
         ensures view { view_of self.new ≡ patched patch (view_of self.old) }

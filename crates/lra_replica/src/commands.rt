@@ -1,4 +1,5 @@
-// The eight commands: each is judged at the home of the LRA that it names, and one that is accepted becomes a patch that adds its fact.
+// The eight commands: each is judged at the home of the LRA that it names, and one that is accepted
+// becomes a patch that adds its fact.
 ghost use Rattle.std.specs.Prelude.{◌≡◌, ◌≤◌, ◌<◌, Ok, IfOk, false, length};
 ghost use Rattle.std.specs.Option.{option_map_or};
 ghost use Rattle.lra_id.specs.Ids.{last_number};
@@ -22,8 +23,7 @@ mod report;
 
 use crate::commands::judging::judge;
 use crate::{Prepared, Replica};
-use lra_facts::Refusal;
-use lra_history::{Command, CommandReply};
+use lra_facts::{Command, CommandReply, Refusal};
 use lra_id::{Front, LraId, NodeId};
 use std::alloc::{AllocError, Global};
 
@@ -64,7 +64,8 @@ fn lost(front: &Front, command: &Command) -> Refusal
 }
 
 impl Replica {
-    /// What the node makes of a command: whether it is known already, and is accepted otherwise; or why it is refused.
+    /// What the node makes of a command: whether it is known already, and is accepted otherwise; or
+    /// why it is refused.
     fn judge(&self, me: NodeId, command: &Command) -> Result<bool, Refusal>
         requires { me ≤ length self.now.front }
         ensures judged { judge_on (view_of self.now) me command.now ≡ judged_as result }
@@ -114,12 +115,7 @@ impl Replica {
     }
 
     /// What a command comes to: a refusal, that it is known already, or its patch.
-    fn outcome(
-        &mut self,
-        alloc: Global,
-        me: NodeId,
-        command: Command,
-    ) -> Result<Prepared, Refusal>
+    fn outcome(&mut self, alloc: Global, me: NodeId, command: Command) -> Result<Prepared, Refusal>
         requires { me ≤ length self.old.front }
         ensures view { view_of self.new ≡ view_of self.old }
         ensures room { HasRoom result self.new }
@@ -142,8 +138,8 @@ impl Replica {
         }
     }
 
-    /// Prepares what a command asks of a node. `begin`, `join` and the others, which do it for one command each, say what that
-    /// costs and its errors.
+    /// Prepares what a command asks of a node. `begin`, `join` and the others, which do it for one
+    /// command each, say what that costs and its errors.
     pub fn prepare(
         &mut self,
         alloc: Global,

@@ -6,7 +6,8 @@ use crate::Replica;
 use std::alloc::AllocError;
 
 impl Replica {
-    /// Whether another holds the same: the front, the last purges and each home's records. It looks at each record once.
+    /// Whether another holds the same: the front, the last purges and each home's records. It looks
+    /// at each record once.
     pub fn same(&self, other: &Replica) -> bool
         ensures { IsTrue result ↔ (view_of self.now ≡ view_of other.now) }
     {

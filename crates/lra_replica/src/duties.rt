@@ -15,7 +15,8 @@ use lra_id::{LraId, NodeId};
 use std::alloc::{AllocError, Global};
 
 impl Replica {
-    /// The compensations that are due in LRAs of a home: at most one under each topmost cancelled LRA, by its number.
+    /// The compensations that are due in LRAs of a home: at most one under each topmost cancelled
+    /// LRA, by its number.
     pub fn next_compensations(&self, alloc: Global, me: NodeId) -> Result<Vec<Due>, AllocError>
         requires { me ≤ length self.now.front }
         ensures says { IfOk result (λ dues. dues.items ≡ compensations_of (view_of self.now) me) }
@@ -28,7 +29,8 @@ impl Replica {
         }
     }
 
-    /// The participants in LRAs of a home that are to be called to complete, by LRA and member number.
+    /// The participants in LRAs of a home that are to be called to complete, by LRA and member
+    /// number.
     pub fn complete_duties(&self, alloc: Global, me: NodeId) -> Result<Vec<Due>, AllocError>
         requires { me ≤ length self.now.front }
         ensures says { IfOk result (λ dues. dues.items ≡ completions_of (view_of self.now) me) }
@@ -41,7 +43,8 @@ impl Replica {
         }
     }
 
-    /// The participants in LRAs of a home that are to be told that they may forget, by LRA and member number.
+    /// The participants in LRAs of a home that are to be told that they may forget, by LRA and
+    /// member number.
     pub fn forget_duties(&self, alloc: Global, me: NodeId) -> Result<Vec<Due>, AllocError>
         requires { me ≤ length self.now.front }
         ensures says { IfOk result (λ dues. dues.items ≡ forgets_of (view_of self.now) me) }
@@ -54,7 +57,8 @@ impl Replica {
         }
     }
 
-    /// The participants in LRAs of a home that are to be told that these have ended, by LRA and member number.
+    /// The participants in LRAs of a home that are to be told that these have ended, by LRA and
+    /// member number.
     pub fn after_duties(&self, alloc: Global, me: NodeId) -> Result<Vec<Due>, AllocError>
         requires { me ≤ length self.now.front }
         ensures says { IfOk result (λ dues. dues.items ≡ hearings_of (view_of self.now) me) }

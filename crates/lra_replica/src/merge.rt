@@ -48,8 +48,8 @@ fn add_changes(patch: &mut Patch, changes: Changes) -> Result<(), AllocError>
 }
 
 impl Replica {
-    /// What is to be changed at one home, under a front, when what another node tells of it is taken. Reach is how many of the
-    /// home's facts the other has.
+    /// What is to be changed at one home, under a front, when what another node tells of it is
+    /// taken. Reach is how many of the home's facts the other has.
     fn changes_at(
         &self,
         alloc: Global,
@@ -148,12 +148,14 @@ impl Replica {
         Ok(())
     }
 
-    /// Prepares to take what another replica of as many nodes tells, and makes room for it. Of an LRA of which both have a
-    /// record, the two are merged. One that the other alone has is taken, unless the own front counts its begin, since then it
-    /// was purged here. One that is held here alone is removed where the other tells all that it holds at that home and its
-    /// front counts the begin, since then it was purged there. The greater of each node's counts and last purges are kept. E16
-    /// at place 0 where the view would lose its shape. The patch has only what changes, each once: a record that is kept as
-    /// it was isn't put again. It costs what `Forest::taking` and `keeps_shape_with` cost at each home.
+    /// Prepares to take what another replica of as many nodes tells, and makes room for it. Of an
+    /// LRA of which both have a record, the two are merged. One that the other alone has is taken,
+    /// unless the own front counts its begin, since then it was purged here. One that is held here
+    /// alone is removed where the other tells all that it holds at that home and its front counts
+    /// the begin, since then it was purged there. The greater of each node's counts and last purges
+    /// are kept. E16 at place 0 where the view would lose its shape. The patch has only what
+    /// changes, each once: a record that is kept as it was isn't put again. It costs what
+    /// `Forest::taking` and `keeps_shape_with` cost at each home.
     pub fn absorb(&mut self, alloc: Global, taken: Taken) -> Result<Patch, Refusal>
         requires { length self.old.front ≡ length taken.front }
         ensures view { view_of self.new ≡ view_of self.old }
@@ -180,9 +182,10 @@ impl Replica {
         Ok(patch)
     }
 
-    /// Merges another replica of as many nodes into this one, by the rules of `absorb`. E16 at place 0 where the merged
-    /// records would break the shape; replicas of one history never do. On any refusal nothing changes. It costs a copy of
-    /// the other, and what `absorb` costs.
+    /// Merges another replica of as many nodes into this one, by the rules of `absorb`. E16 at
+    /// place 0 where the merged records would break the shape; replicas of one history never do. On
+    /// any refusal nothing changes. It costs a copy of the other, and what `absorb` costs. The
+    /// other is copied so that `absorb` moves new records.
     pub fn merge(&mut self, alloc: Global, other: &Replica) -> Result<(), Refusal>
         requires { length self.old.front ≡ length other.now.front }
         ensures merged { OnOk result (view_of self.new

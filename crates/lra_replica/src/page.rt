@@ -13,8 +13,7 @@ ghost use Rattle.lra_history.specs.Views.{OfItsSet};
 use crate::Replica;
 use lra_facts::Refusal;
 use lra_forest::Records;
-use lra_id::{LraId, NodeId};
-use lra_states::LraStatus;
+use lra_id::{LraId, LraStatus, NodeId};
 use std::alloc::{AllocError, Global};
 use std::marker::Model;
 
@@ -99,7 +98,7 @@ impl Replica {
         ensures few { result ≤ 8 }
         ensures state { IsReplicaState self.now }
     {
-        // It tells what holds of every replica's state.
+        // Calling `homes` hands the prover what holds of every replica's state.
         let _ = self.homes();
         self.front().nodes()
     }
@@ -159,9 +158,10 @@ impl Replica {
         Ok(Page { rows, more })
     }
 
-    /// The next 64 LRAs that are held beyond this one, or the first of all, in order of their homes and numbers, each with
-    /// what it shows. Only memory can be wanting. For each row it finds the LRA by halving its home's records, after a look
-    /// at each home between, and what it shows costs as much as `status`.
+    /// The next 64 LRAs that are held beyond this one, or the first of all, in order of their homes
+    /// and numbers, each with what it shows. Only memory can be wanting. For each row it finds the
+    /// LRA by halving its home's records, after a look at each home between, and what it shows
+    /// costs as much as `status`. An LRA whose number no fact can have is left out.
     pub fn page(&self, alloc: Global, after: Option<LraId>) -> Result<Page, Refusal>
         ensures page { IfOk result (λ page. IsPage (by_view (view_of self.now)) after page) }
         ensures settled { OfItsSet (view_of self.now)

@@ -1,13 +1,14 @@
 // What is to be changed in a replica.
 ghost use Rattle.std.specs.Prelude.{◌≡◌};
 
+use lra_facts::CommandReply;
 use lra_forest::Record;
-use lra_history::CommandReply;
 use lra_id::{Front, LraId};
 use std::marker::Model;
 
-/// What is to be changed in a replica: whole records to put in their places, LRAs to remove, and the front and the last
-/// purges from then on. It is made for one view of a replica, which has room for it.
+/// What is to be changed in a replica: whole records to put in their places, LRAs to remove, and
+/// the front and the last purges from then on. It is made for one view of a replica, which has room
+/// for it.
 #[derive(Debug, Drop)]
 pub struct Patch {
     pub(crate) records: Vec<Record>,

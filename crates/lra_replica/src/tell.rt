@@ -1,17 +1,16 @@
 // What one node tells another.
-ghost use Rattle.std.specs.Prelude.{◌≡◌, IfOk, map};
-ghost use Rattle.lra_forest.specs.declared.record.Record.{Record};
+ghost use Rattle.std.specs.Prelude.{◌≡◌, IfOk};
 ghost use Rattle.lra_history.specs.Merging.{IsTelling, TellsAll};
 ghost use Rattle.lra_replica.specs.Replicas.{view_of};
 
 use crate::Replica;
-use lra_forest::{Records, Told};
+use lra_forest::Told;
 use lra_id::Front;
 use std::alloc::{AllocError, Global};
 use std::marker::Model;
 
-/// What another node tells: its front and last purges, and of each home some records and, where it tells them, the numbers of
-/// all LRAs that it holds there.
+/// What another node tells: its front and last purges, and of each home some records and, where it
+/// tells them, the numbers of all LRAs that it holds there.
 #[derive(Debug, Drop)]
 pub struct Taken {
     pub(crate) front: Front,
@@ -31,7 +30,8 @@ impl Model for Taken {
 }
 
 impl Taken {
-    /// What a node tells that has this front and these last purges, and tells this of each home, one for each node.
+    /// What a node tells that has this front and these last purges, and tells this of each home,
+    /// one for each node.
     pub fn new(front: Front, purges: Front, homes: Vec<Told>) -> Taken
         requires { IsTelling (record { front = front; purges = purges; homes = homes.items }) }
         ensures { result ≡ record { front = front; purges = purges; homes = homes.items } }
@@ -44,16 +44,6 @@ impl Taken {
     }
 }
 
-fn numbers_of(alloc: Global, records: Records<'_>) -> Result<Vec<u64>, AllocError>
-    ensures { IfOk result (λ numbers. numbers.items ≡ map (λ (r : Record). r.num) records.entry) }
-{
-    let mut numbers = Vec::new(alloc);
-    for record in records {
-        numbers.push(record.num)?;
-    }
-    Ok(numbers)
-}
-
 impl Replica {
     /// All that it has, as it is told to another.
     pub fn tell_all(&self, alloc: Global) -> Result<Taken, AllocError>
@@ -62,7 +52,7 @@ impl Replica {
         let mut homes = Vec::new(alloc);
         for home in &self.homes {
             homes.push(Told {
-                held: Some(numbers_of(alloc, home.records())?),
+                held: Some(home.numbers(alloc)?),
                 records: home.clone()?,
             })?;
         }

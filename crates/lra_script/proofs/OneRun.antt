@@ -5,8 +5,8 @@ use Rattle.std.proofs.lemmas.Bool.Decides.{nat_tests}
 use Rattle.std.proofs.lemmas.List.{length-replicate}
 use Rattle.lra_id.specs.Ids.{Id}
 use Rattle.lra_facts.specs.declared.refusal.Refusal.{Refusal}
-use Rattle.lra_history.specs.declared.command.Command.{Command}
-use Rattle.lra_states.specs.declared.outcome.Act.{Act}
+use Rattle.lra_facts.specs.declared.command.Command.{Command}
+use Rattle.lra_id.specs.declared.outcome.Act.{Act}
 use Rattle.lra_callback.specs.declared.answer.Answer.{Answer}
 use Rattle.lra_callback.specs.declared.answer.Kind.{Kind}
 use Rattle.lra_callback.specs.Answers.{heard_of}

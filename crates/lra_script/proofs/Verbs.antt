@@ -1,7 +1,7 @@
 -- Each ask begins with the name of a verb.
 use Rattle.std.proofs.Common.{◌≡◌, refl}
-use Rattle.lra_states.specs.declared.outcome.Verdict.TheVariants as verdict
-use Rattle.lra_history.specs.declared.command.Command.TheVariants as command
+use Rattle.lra_id.specs.declared.outcome.Verdict.TheVariants as verdict
+use Rattle.lra_facts.specs.declared.command.Command.TheVariants as command
 use Rattle.lra_script.specs.declared.asking.Ask.{Ask}
 use Rattle.lra_script.specs.declared.asking.Ask.TheVariants as ask
 use Rattle.lra_script.specs.declared.words.Verb.{Verb}

@@ -2,12 +2,12 @@
 use Rattle.std.specs.Prelude.{◌≡◌, ◌≤◌, ◌<◌, ◌^◌, ℕ, List, [], ◌∷◌, All, codes, length, map, Option, Some, None, IfSome}
 use Rattle.std.specs.Fmt.{decimal}
 use Rattle.lra_id.specs.Ids.{Id, IsId, IsTextOf, id_text}
-use Rattle.lra_states.specs.Names.{verdict_name, act_name, outcome_name}
+use Rattle.lra_id.specs.Names.{verdict_name, act_name, outcome_name}
 use Rattle.lra_callback.specs.CallWords.{kind_name}
 use Rattle.lra_script.specs.declared.asking.Ask.{Ask}
 use Rattle.lra_script.specs.declared.asking.Ask.TheVariants.{Enter, Tick, Send, SendOld, Deliver, Restart, Show, Member, Duties, Hear, Front, Same, Text, Read}
-use Rattle.lra_history.specs.declared.command.Command.{Command}
-use Rattle.lra_history.specs.declared.command.Command.TheVariants.{Begin, Join, Leave, Decide, Report, Forgot, Told, Purge}
+use Rattle.lra_facts.specs.declared.command.Command.{Command}
+use Rattle.lra_facts.specs.declared.command.Command.TheVariants.{Begin, Join, Leave, Decide, Report, Forgot, Told, Purge}
 use Rattle.lra_script.specs.CallLines.{IsAnswerInRange, GivesAnswer}
 use Rattle.lra_script.specs.Joins.{GivesLinks}
 use Rattle.lra_script.specs.LineParts.{words_of}

@@ -3,17 +3,17 @@ use Rattle.std.specs.Prelude.{◌≡◌, ℕ, ◌<◌, ◌≤◌, ◌⊎◌, Lis
 use Rattle.std.specs.Fmt.{decimal}
 use Rattle.lra_id.specs.Fronts.{front_text}
 use Rattle.lra_id.specs.Ids.{Id, id_text, text_of}
-use Rattle.lra_states.specs.Names.{lra_name, member_name}
-use Rattle.lra_states.specs.declared.status.LraStatus.{LraStatus}
-use Rattle.lra_states.specs.declared.outcome.Act.{Act}
-use Rattle.lra_states.specs.declared.status.MemberStatus.{MemberStatus}
+use Rattle.lra_id.specs.Names.{lra_name, member_name}
+use Rattle.lra_id.specs.declared.status.LraStatus.{LraStatus}
+use Rattle.lra_id.specs.declared.outcome.Act.{Act}
+use Rattle.lra_id.specs.declared.status.MemberStatus.{MemberStatus}
 use Rattle.lra_facts.specs.RefusalTexts.{refusal_text}
 use Rattle.lra_facts.specs.declared.refusal.Refusal.{Refusal}
 use Rattle.lra_facts.specs.declared.refusal.Refusal.TheVariants.{BadText, NoMemory}
 use Rattle.lra_forest.specs.Dues.{AreAll}
-use Rattle.lra_history.specs.declared.command.Command.{Command}
-use Rattle.lra_history.specs.declared.command.CommandReply.{CommandReply}
-use Rattle.lra_history.specs.declared.command.CommandReply.TheVariants.{Began, Joined, Left, Decided, Reported, Known, Forgotten, Told, Purged, Refused as NotEntered}
+use Rattle.lra_facts.specs.declared.command.Command.{Command}
+use Rattle.lra_facts.specs.declared.command.CommandReply.{CommandReply}
+use Rattle.lra_facts.specs.declared.command.CommandReply.TheVariants.{Began, Joined, Left, Decided, Reported, Known, Forgotten, Told, Purged, Refused as NotEntered}
 use Rattle.lra_world.specs.declared.event.Event.{Event}
 use Rattle.lra_delta.specs.declared.version.Version.TheVariants.{One, Two}
 use Rattle.lra_world.specs.declared.event.Event.TheVariants.{Act as ActEvent, Deliver as DeliverEvent, Restart as RestartEvent, Send as SendEvent, Tick as TickEvent}

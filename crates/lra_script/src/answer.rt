@@ -14,13 +14,13 @@ use crate::line::MAX_LINE_BYTES;
 use crate::showing::{held, id_line, show, show_front, show_member, show_same, text_line};
 use crate::telling::{Room, refusal_line, tell};
 use lra_delta::Version;
-use lra_facts::Refusal;
-use lra_history::CommandReply;
+use lra_facts::{CommandReply, Refusal};
 use lra_id::NodeId;
 use lra_world::{Event, World};
 use std::alloc::{AllocError, Global};
 
-/// What a line prints, and what it does to the world of so many nodes. Running out of memory is no event.
+/// What a line prints, and what it does to the world of so many nodes. Running out of memory is no
+/// event.
 pub fn answer(
     alloc: Global,
     world: &mut World,
@@ -104,7 +104,8 @@ fn happen(alloc: Global, world: &mut World, event: Event) -> Result<String, Allo
         IfOk result (λ text. HasHappened s event (string_bytes text) world.new) }
     ensures err { (s : State) → IsWorldOf s world.old → OnErr result (IsWorldOf s world.new) }
 {
-    // Without a value of this type here the toolchain's borrow checker can't build its plan for a `Reply`.
+    // Without a value of this type here the toolchain's borrow checker can't build its plan for a
+    // `Reply`.
     let _ = CommandReply::Refused(Refusal::NoMemory);
     let room = Room::new(alloc)?;
     match world.step(alloc, event) {

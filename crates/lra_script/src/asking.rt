@@ -15,9 +15,8 @@ use crate::words::{Verb, Words};
 use answers::hear_of;
 use joins::join_of;
 use lra_callback::{Answer, Kind};
-use lra_history::Command;
-use lra_id::{Front, LraId, NodeId};
-use lra_states::Verdict;
+use lra_facts::Command;
+use lra_id::{Front, LraId, NodeId, Verdict};
 use lras::{begin_of, decide_of, purge_of, read_of, show_of, text_of};
 use members::{forgot_of, leave_of, member_of, report_of, told_of};
 use nodes::{deliver_of, duties_of, front_of, restart_of, same_of, send_of, send_old_of, tick_of};
@@ -26,8 +25,9 @@ use std::alloc::{AllocError, Global};
 /// What a line asks.
 #[derive(Debug, Drop)]
 pub enum Ask {
-    /// `begin NODE DEADLINE`, `begin NODE DEADLINE PARENT`, `join NODE ID WORD=LINK ..`, `leave NODE ID M`, `close NODE ID`, `cancel NODE ID`,
-    /// `report NODE ID M ACT OUTCOME`, `forgot NODE ID M`, `told NODE ID M`, `purge NODE ID`: a node is asked to enter something.
+    /// `begin NODE DEADLINE`, `begin NODE DEADLINE PARENT`, `join NODE ID WORD=LINK ..`, `leave
+    /// NODE ID M`, `close NODE ID`, `cancel NODE ID`, `report NODE ID M ACT OUTCOME`, `forgot NODE
+    /// ID M`, `told NODE ID M`, `purge NODE ID`: a node is asked to enter something.
     Enter {
         node: NodeId,
         command: Command,
@@ -48,7 +48,8 @@ pub enum Ask {
         node: NodeId,
         base: Front,
     },
-    /// `deliver K NODE`, `deliver K NODE BYTES`: a frame that was sent comes to a node, or the first so many bytes of it.
+    /// `deliver K NODE`, `deliver K NODE BYTES`: a frame that was sent comes to a node, or the
+    /// first so many bytes of it.
     Deliver {
         frame: u64,
         node: NodeId,
@@ -73,7 +74,8 @@ pub enum Ask {
     Duties {
         node: NodeId,
     },
-    /// `answer NODE ID M KIND CODE`, `answer NODE ID M KIND CODE BODY`: a node is told what a participant answered to a call.
+    /// `answer NODE ID M KIND CODE`, `answer NODE ID M KIND CODE BODY`: a node is told what a
+    /// participant answered to a call.
     Hear {
         node: NodeId,
         id: LraId,
@@ -96,7 +98,8 @@ pub enum Ask {
     Read(LraId),
 }
 
-/// What a line asks of a world of so many nodes. Only the links of a join and the body of an answer take memory.
+/// What a line asks of a world of so many nodes. Only the links of a join and the body of an answer
+/// take memory.
 pub fn ask_of(alloc: Global, line: &[u8], nodes: u8) -> Result<Option<Ask>, AllocError>
     requires { nodes ≤ 8 }
     ensures { IfOk result (λ found.

@@ -17,11 +17,9 @@ ghost use Rattle.lra_script.specs.NodeHoldings.{Holds};
 use crate::showing::held;
 use crate::telling::{Room, refusal_line, tell};
 use lra_callback::{Answer, Duty, Heard, Kind, act_wanted, hear, pick};
-use lra_facts::Refusal;
-use lra_history::{Command, CommandReply};
-use lra_id::{LraId, NodeId};
+use lra_facts::{Command, CommandReply, Refusal};
+use lra_id::{Act, LraId, LraStatus, NodeId};
 use lra_replica::Replica;
-use lra_states::{Act, LraStatus};
 use lra_world::{Event, Reply, World};
 use std::alloc::{AllocError, Global};
 
@@ -69,9 +67,10 @@ fn push_further(alloc: Global, text: &mut String, duties: &[Duty]) -> Result<(),
     Ok(())
 }
 
-/// Has a node hear what a participant answered to a call of this kind: what was heard is entered, or the participant is to be
-/// called again. The answer is heard before the LRA is looked at, so a 503 about an unknown LRA is
-/// `Again`. Only of a status the LRA is looked at first, since its act is the LRA's.
+/// Has a node hear what a participant answered to a call of this kind: what was heard is entered,
+/// or the participant is to be called again. The answer is heard before the LRA is looked at, so a
+/// 503 about an unknown LRA is `Again`. Only of a status the LRA is looked at first, since its act
+/// is the LRA's.
 pub fn hear_answer(
     alloc: Global,
     world: &mut World,
@@ -99,8 +98,9 @@ pub fn hear_answer(
     }
 }
 
-/// The act that an answer to a call of this kind is heard for: of a status the one that the LRA's want demands, or why
-/// there is none. What is heard of a forget, or of the end, is the same for either.
+/// The act that an answer to a call of this kind is heard for: of a status the one that the LRA's
+/// want demands, or why there is none. What is heard of a forget, or of the end, is the same for
+/// either.
 fn act_asked(replica: &Replica, kind: Kind, id: LraId, member: u8) -> Result<Act, Refusal>
     ensures { (S : List Fact) (front : List ℕ) →
         Holds S front replica.now → result ≡ act_asked S front kind id member }
@@ -146,7 +146,8 @@ fn enter_heard(
         IfOk result (λ _. IsWorldOf (after_heard s node command) world.new) }
     ensures err { (s : State) → IsWorldOf s world.old → OnErr result (IsWorldOf s world.new) }
 {
-    // Without a value of this type here the toolchain's borrow checker can't build its plan for a `Reply`.
+    // Without a value of this type here the toolchain's borrow checker can't build its plan for a
+    // `Reply`.
     let _ = CommandReply::Refused(Refusal::NoMemory);
     let room = Room::new(alloc)?;
     let Some(command) = command else {

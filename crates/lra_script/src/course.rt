@@ -15,7 +15,8 @@ use std::alloc::Global;
 /// Why a script stopped before its input's end.
 #[derive(Clone, Copy, Debug, PartialEq, Eq)]
 pub enum ScriptFault {
-    /// A read failed, 1,024 were interrupted within a line, or 18,446,744,073,709,551,615 were made.
+    /// A read failed, 1,024 were interrupted within a line, or 18,446,744,073,709,551,615 were
+    /// made.
     Read,
     /// A write failed, or 1,024 were interrupted within a line.
     Write,
@@ -23,8 +24,8 @@ pub enum ScriptFault {
     NoMemory,
 }
 
-/// Runs the commands that are read, one a line, over a world of 1 to 8 nodes that has no facts yet, and writes what each
-/// prints. It ends with its input, or at a fault.
+/// Runs the commands that are read, one a line, over a world of 1 to 8 nodes that has no facts yet,
+/// and writes what each prints. It ends with its input, or at a fault.
 pub fn script<R: Source, W: Sink>(
     alloc: Global,
     reader: &mut R,
@@ -34,14 +35,14 @@ pub fn script<R: Source, W: Sink>(
     requires some { 1 ≤ nodes }
     requires few { nodes ≤ 8 }
 
-    // What was written and passed on is the text of what was given, to its end. The states that its lines lead through are those
-    // of one run of the world, and the headline holds from each to each later one. No call failed, and of interrupted ones there
-    // were fewer than 1,024 a line.
+    // What was written and passed on is the text of what was given, to its end. The states that its
+    // lines lead through are those of one run of the world, and the headline holds from each to
+    // each later one. No call failed, and of interrupted ones there were fewer than 1,024 a line.
     ensures text { OnOk result (HasRun nodes
         (R.stream reader.old) (R.stream reader.new) (W.stream writer.old) (W.stream writer.new)
         (R.calls reader.old) (R.calls reader.new) (W.calls writer.old) (W.calls writer.new)) }
-    // After a fault what was written is a prefix of such a text, whatever follows what was given. After a read fault every line
-    // that was given whole is answered whole.
+    // After a fault what was written is a prefix of such a text, whatever follows what was given.
+    // After a read fault every line that was given whole is answered whole.
     ensures part { OnErr result (WritesPart nodes
         (R.stream reader.old) (R.stream reader.new) (W.stream writer.old) (W.stream writer.new)) }
     ensures whole { result ≡ Err ScriptFault.Read → AnswersWhole nodes

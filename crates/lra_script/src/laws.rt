@@ -14,8 +14,8 @@ pub fn a_line_spells_one_ask()
         nodes ≤ 8 → Spells nodes line a → Spells nodes line b → a ≡ b }
 {}
 
-/// A script has one text but for lack of memory: two texts of the same lines from the same state, in neither of which a line
-/// met it, are equal, and so are the states that they lead through.
+/// A script has one text but for lack of memory: two texts of the same lines from the same state,
+/// in neither of which a line met it, are equal, and so are the states that they lead through.
 pub fn a_script_has_one_text()
     ensures one { (nodes : ℕ) (s : State) (lines : List (List ℕ)) (a b : List ℕ)
         (states others : List State) → nodes ≤ 8 → TextInRoom nodes s lines a states →
@@ -25,16 +25,16 @@ pub fn a_script_has_one_text()
         TextInRoom nodes s lines a states → ScriptText nodes s lines a states }
 {}
 
-/// Whatever the lines of a script are, the states that they lead through are those of one run of the world: a line is an event
-/// of it, or none.
+/// Whatever the lines of a script are, the states that they lead through are those of one run of
+/// the world: a line is an event of it, or none.
 pub fn a_script_is_one_run()
     ensures { (nodes : ℕ) (s : State) (lines : List (List ℕ)) (out : List ℕ) (states : List State) →
         IsWorld s → nodes_of s ≡ nodes →
         ScriptText nodes s lines out states → AreOneRun (s ∷ states) }
 {}
 
-/// Where the bytes that were left are known, a script that ended has written the text of all of them, and one that broke off a
-/// prefix of it.
+/// Where the bytes that were left are known, a script that ended has written the text of all of
+/// them, and one that broke off a prefix of it.
 pub fn a_script_is_of_its_input()
     ensures text { (nodes : ℕ) (old new : GivenBytes)
         (before after : TakenBytes) (reads_before reads writes_before writes : Calls) →

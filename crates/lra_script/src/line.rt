@@ -10,9 +10,10 @@ pub const MAX_LINE_BYTES: usize = 4096;
 /// One byte more than a line may have is kept, so that a longer line shows.
 pub const KEPT_OF_LINE: usize = 4097;
 
-/// Reads the next line, of which the first 4,097 bytes are kept in room that is there, and answers whether a line feed
-/// ended it. Otherwise the input did. The line is one message: 1,024 interrupted reads in it are a fault. So is a read
-/// that finds none of `reads_left`, from which each byte and the end take one.
+/// Reads the next line, of which the first 4,097 bytes are kept in room that is there, and answers
+/// whether a line feed ended it. Otherwise the input did. The line is one message: 1,024
+/// interrupted reads in it are a fault. So is a read that finds none of `reads_left`, from which
+/// each byte and the end take one.
 pub fn read_line<R: Source>(
     reader: &mut R,
     line: &mut Vec<u8>,

@@ -41,8 +41,8 @@ pub fn arguments(alloc: Global, given: Args) -> Result<Vec<String>, AllocError>
     given.skip(1).collect(alloc)
 }
 
-/// Plays the script that the words of a command line ask for, from a reader to a writer. Where they ask for none, nothing is read or
-/// written.
+/// Plays the script that the words of a command line ask for, from a reader to a writer. Where they
+/// ask for none, nothing is read or written.
 pub fn run<R: Source, W: Sink>(
     alloc: Global,
     words: &[String],
@@ -63,8 +63,8 @@ pub fn run<R: Source, W: Sink>(
     }
 }
 
-/// The same for a program, which hands over its standard input and output. Where the words ask for no script the usage goes to standard
-/// error.
+/// The same for a program, which hands over its standard input and output. Where the words ask for
+/// no script the usage goes to standard error.
 pub fn play<R: Source, W: Sink>(
     rt: &HostRuntime,
     words: &[String],

@@ -5,8 +5,7 @@ ghost use Rattle.lra_id.specs.Ids.{id_text};
 ghost use Rattle.lra_script.specs.Scripts.{IsNothing, IsRefusal, began_text, event_line, printed, refused, reply_line};
 
 use itoa::Buffer;
-use lra_facts::Refusal;
-use lra_history::CommandReply;
+use lra_facts::{CommandReply, Refusal};
 use lra_id::LraId;
 use lra_world::Reply;
 use std::alloc::{AllocError, Global};

@@ -55,7 +55,8 @@ impl<'a> Words<'a> {
         Words { rest: self.rest }
     }
 
-    /// The rest of the line behind the space that follows the words that were read; nothing, where all were read.
+    /// The rest of the line behind the space that follows the words that were read; nothing, where
+    /// all were read.
     pub fn rest(&self) -> &'a [u8]
         ensures { IsRestOf self.now result.now }
     {

@@ -2,8 +2,8 @@
 use Rattle.std.specs.Prelude.{◌≡◌, ◌⊎◌, ⊤, ℕ, List, Option, Some, None, Result, Ok, Err}
 use Rattle.lra_facts.specs.declared.refusal.Refusal.{Refusal}
 use Rattle.lra_facts.specs.declared.refusal.Refusal.TheVariants.{NoMemory}
-use Rattle.lra_history.specs.declared.command.Command.{Command}
-use Rattle.lra_history.specs.declared.command.Command.TheVariants as command
+use Rattle.lra_facts.specs.declared.command.Command.{Command}
+use Rattle.lra_facts.specs.declared.command.Command.TheVariants as command
 use Rattle.lra_callback.specs.HeardCommands.{command_heard}
 use Rattle.lra_book.specs.declared.calls.Call.{Call}
 use Rattle.lra_book.specs.declared.calls.Call.TheVariants as call

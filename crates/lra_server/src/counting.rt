@@ -1,9 +1,8 @@
 // How the calls of a node's desk are counted.
 
 use lra_book::{Call, Reply};
-use lra_facts::Refusal;
-use lra_history::{Command, CommandReply};
-use lra_states::Verdict;
+use lra_facts::{Command, CommandReply, Refusal};
+use lra_id::Verdict;
 use lra_threads::Asked;
 
 /// What a command asks for.

@@ -1,13 +1,12 @@
 // Purges of roots that have ended, one call at a time.
 ghost use Rattle.std.specs.Prelude.{Option};
-ghost use Rattle.lra_history.specs.declared.command.Command.TheVariants.{Purge};
+ghost use Rattle.lra_facts.specs.declared.command.Command.TheVariants.{Purge};
 ghost use Rattle.lra_book.specs.declared.calls.Call.TheVariants.{Command as Enter, Page as AskPage};
 ghost use Rattle.lra_threads.specs.declared.sweep.Chore.{Chore as TheChore};
 ghost use Rattle.lra_server.specs.Entering.{DoesChore, DoesChoreIf, IsMade};
 
 use lra_book::{Call, Clerk, Reply};
-use lra_facts::Refusal;
-use lra_history::{Command, CommandReply};
+use lra_facts::{Command, CommandReply, Refusal};
 use lra_id::LraId;
 use lra_threads::{Chore, Node, Purged, unix_millis};
 use std::alloc::Global;

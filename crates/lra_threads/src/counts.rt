@@ -3,7 +3,7 @@
 use crate::signal::StopReason;
 use crate::sweep::Purged;
 use lra_callback::{Heard, Kind};
-use lra_states::Outcome;
+use lra_id::Outcome;
 use std::sync::{Mutex, Wait};
 use std::time::Duration;
 

@@ -6,8 +6,7 @@ use crate::plaints::{Plaint, Sought, drop_sought, forget_found, in_vain, note_so
 use crate::task::{KINDS, Task, Turn};
 use lra_callback::{Duties, Duty, Heard, Kind};
 use lra_heard::{Letter, Telling, Unheard};
-use lra_id::Front;
-use lra_states::{Act, Outcome};
+use lra_id::{Act, Front, Outcome};
 use lra_turns::{Called, Calls, Due, Pace, Plight};
 use std::alloc::{AllocError, Global};
 use std::collections::VecDeque;

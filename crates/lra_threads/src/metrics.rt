@@ -4,7 +4,7 @@ use crate::clock::now;
 use crate::counts::{CALL_NAMES, HEARD, KINDS, Numbers, PULLS, REFUSALS, RUNS, SWEPT};
 use crate::node::Node;
 use crate::sweep::PLACES;
-use lra_states::LraStatus;
+use lra_id::LraStatus;
 use std::alloc::{AllocError, Global};
 use std::sync::Wait;
 use std::time::{Clock, Duration};

@@ -2,8 +2,7 @@
 // begins anew.
 
 use crate::clock::now;
-use lra_id::{LAST_NUMBER, LraId, NodeId};
-use lra_states::LraStatus;
+use lra_id::{LAST_NUMBER, LraId, LraStatus, NodeId};
 use std::alloc::Global;
 use std::sync::atomic::{AtomicBool, AtomicU64, Ordering};
 use std::sync::{Mutex, Wait};

@@ -1,11 +1,11 @@
 -- What happens at another node leaves what a node holds.
 use Rattle.std.proofs.Common.{◌≡◌, inl, inr, ◌≤◌, ◌-◌, ℕ, List, refl, sym, ap, subst, ◌∙◌, Bool, true, false, arith, get_or, get_or-set_other, slice_set}
 use Rattle.lra_id.specs.Ids.{Id}
-use Rattle.lra_states.specs.declared.outcome.Verdict.TheVariants.{Cancel}
+use Rattle.lra_id.specs.declared.outcome.Verdict.TheVariants.{Cancel}
 use Rattle.std.specs.Prelude.{Option, Some, None, []}
 use Rattle.lra_facts.specs.declared.fact.Fact.{Fact}
-use Rattle.lra_history.specs.declared.command.Command.{Command}
-use Rattle.lra_history.specs.declared.command.Command.TheVariants.{Decide}
+use Rattle.lra_facts.specs.declared.command.Command.{Command}
+use Rattle.lra_facts.specs.declared.command.Command.TheVariants.{Decide}
 use Rattle.lra_history.specs.Histories.{IsClosed, facts}
 use Rattle.lra_history.specs.Replies.{Judgement, Denied, AlreadyKnown, Accepted, judge}
 use Rattle.lra_history.specs.Views.{StandsFor, View}

@@ -4,17 +4,17 @@ use Rattle.std.specs.Prelude.{drop, nat_lt}
 use Rattle.lra_id.specs.Fronts.{IsBelow, join_fronts, meet_fronts}
 use Rattle.lra_id.specs.Ids.{Id}
 use Rattle.lra_id.proofs.Pairs.{meet_below}
-use Rattle.lra_states.specs.declared.outcome.Verdict.TheVariants.{Cancel}
+use Rattle.lra_id.specs.declared.outcome.Verdict.TheVariants.{Cancel}
 use Rattle.lra_facts.specs.declared.refusal.Refusal.{Refusal}
 use Rattle.lra_facts.specs.declared.refusal.Refusal.TheVariants.{BadFrame}
 use Rattle.lra_facts.specs.Sets.{IsNumbered}
 use Rattle.lra_forest.specs.Overdue.{IsLeastOverdue}
 use Rattle.lra_forest.proofs.Bools.{all_from}
 use Rattle.lra_forest.proofs.Overdue.{overdue_said}
-use Rattle.lra_history.specs.declared.command.Command.{Command}
-use Rattle.lra_history.specs.declared.command.Command.TheVariants.{Decide}
-use Rattle.lra_history.specs.declared.command.CommandReply.{CommandReply}
-use Rattle.lra_history.specs.declared.command.CommandReply.TheVariants.{Began, Joined, Left, Decided, Reported, Known, Forgotten, Told, Purged, Refused as NotEntered}
+use Rattle.lra_facts.specs.declared.command.Command.{Command}
+use Rattle.lra_facts.specs.declared.command.Command.TheVariants.{Decide}
+use Rattle.lra_facts.specs.declared.command.CommandReply.{CommandReply}
+use Rattle.lra_facts.specs.declared.command.CommandReply.TheVariants.{Began, Joined, Left, Decided, Reported, Known, Forgotten, Told, Purged, Refused as NotEntered}
 use Rattle.lra_history.specs.Histories.{IsClosed, facts}
 use Rattle.lra_history.specs.Next.{next_view, overdue_on, reply_on}
 use Rattle.lra_history.specs.Views.{StandsFor, View, records_at}

@@ -2,11 +2,11 @@
 use Rattle.std.proofs.Common.{◌≡◌, [], ◌∷◌, refl, None}
 use Rattle.std.specs.Prelude.{List, length}
 use Rattle.lra_id.specs.Ids.{Id}
-use Rattle.lra_states.specs.declared.outcome.Verdict.TheVariants.{Close}
-use Rattle.lra_states.specs.declared.status.LraStatus.TheVariants.{Closed}
+use Rattle.lra_id.specs.declared.outcome.Verdict.TheVariants.{Close}
+use Rattle.lra_id.specs.declared.status.LraStatus.TheVariants.{Closed}
 use Rattle.lra_facts.specs.declared.refusal.Refusal.TheVariants.{NotHeld}
-use Rattle.lra_history.specs.declared.command.Command.TheVariants.{Begin, Decide}
-use Rattle.lra_history.specs.declared.command.CommandReply.TheVariants.{Began, Refused as NotEntered}
+use Rattle.lra_facts.specs.declared.command.Command.TheVariants.{Begin, Decide}
+use Rattle.lra_facts.specs.declared.command.CommandReply.TheVariants.{Began, Refused as NotEntered}
 use Rattle.lra_delta.specs.Frames.{Frame}
 use Rattle.lra_delta.specs.Encoding.{encoding_as}
 use Rattle.lra_delta.specs.declared.version.Version.TheVariants.{One, Two}

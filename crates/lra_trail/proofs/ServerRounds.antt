@@ -7,9 +7,9 @@ use Rattle.lra_id.specs.Ids.{Id}
 use Rattle.lra_facts.specs.declared.refusal.Refusal.{Refusal}
 use Rattle.lra_facts.specs.Lists.{In}
 use Rattle.lra_forest.specs.declared.record.Record.{Record}
-use Rattle.lra_states.specs.declared.outcome.Verdict.TheVariants.{Cancel}
-use Rattle.lra_history.specs.declared.command.Command.{Command}
-use Rattle.lra_history.specs.declared.command.Command.TheVariants.{Begin, Decide, Forgot, Join, Leave, Purge, Report, Told}
+use Rattle.lra_id.specs.declared.outcome.Verdict.TheVariants.{Cancel}
+use Rattle.lra_facts.specs.declared.command.Command.{Command}
+use Rattle.lra_facts.specs.declared.command.Command.TheVariants.{Begin, Decide, Forgot, Join, Leave, Purge, Report, Told}
 use Rattle.lra_history.specs.Changes.{fresh_record, one_change, two_changes}
 use Rattle.lra_history.specs.Growth.{record_after}
 use Rattle.lra_history.specs.Next.{change_nested, change_on, change_record, changed, judge_on, next_fact_on, next_view, no_change, overdue_on, view_by}

@@ -1,7 +1,7 @@
 -- A server at each node of the world: nothing happens but their calls.
 use Rattle.std.specs.Prelude.{◌≡◌, ◌⊎◌, ◌==◌, ℕ, List, [], ◌∷◌, if◌then◌else◌}
 use Rattle.lra_id.specs.Ids.{Id}
-use Rattle.lra_states.specs.declared.status.LraStatus.TheVariants.{Cancelled, Closed, FailedToCancel, FailedToClose}
+use Rattle.lra_id.specs.declared.status.LraStatus.TheVariants.{Cancelled, Closed, FailedToCancel, FailedToClose}
 use Rattle.lra_history.specs.Views.{View}
 use Rattle.lra_world.specs.declared.event.Event.{Event}
 use Rattle.lra_world.specs.declared.event.Reply.{Reply}

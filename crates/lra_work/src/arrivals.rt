@@ -2,8 +2,8 @@
 
 use lra_http::{Sink, Source};
 
-/// A connection: where its request is read, where its answer is written, and the moment at which it is served, in milliseconds
-/// since 1970.
+/// A connection: where its request is read, where its answer is written, and the moment at which it
+/// is served, in milliseconds since 1970.
 #[derive(Drop)]
 pub struct Connection<S, W> {
     pub reader: S,

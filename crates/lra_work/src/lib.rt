@@ -1,4 +1,5 @@
-//! What a worker of the server does: it serves connection after connection, over any connections, any clerk and any gate.
+//! What a worker of the server does: it serves connection after connection, over any connections,
+//! any clerk and any gate.
 #![tactic(auto)]
 
 mod arrivals;

@@ -50,8 +50,9 @@ fn serve<S: Source + Drop, W: Sink + Drop, C: Clerk>(
     ending_of(serve_one(alloc, paths, &mut reader, &mut writer, clerk, now))
 }
 
-/// Serves each connection that `next` gives, in order, up to none or to the first refusal that ends the run, E18 to E21. It gives
-/// the clerk back, and that refusal. The gate is asked before and after each of the clerk's calls.
+/// Serves each connection that `next` gives, in order, up to none or to the first refusal that ends
+/// the run, E18 to E21. It gives the clerk back, and that refusal. The gate is asked before and
+/// after each of the clerk's calls.
 pub fn work<A: Arrivals, C: Clerk + Drop, G: Gate, R: Wait>(
     rt: &R,
     alloc: Global,

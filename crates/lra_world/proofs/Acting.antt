@@ -3,15 +3,15 @@ use Rattle.std.proofs.Common.{◌≡◌, inl, inr, ℕ, List, Option, None, Some
 use Rattle.lra_facts.specs.declared.fact.Fact.{Fact}
 use Rattle.lra_facts.specs.declared.refusal.Refusal.{Refusal}
 use Rattle.lra_facts.specs.declared.refusal.Refusal.TheVariants.{NoMemory}
-use Rattle.lra_history.specs.declared.command.Command.{Command}
-use Rattle.lra_history.specs.declared.command.Command.TheVariants.{Begin, Join, Leave, Decide, Report, Forgot, Told, Purge}
-use Rattle.lra_history.specs.declared.command.CommandReply.TheVariants.{Refused}
+use Rattle.lra_facts.specs.declared.command.Command.{Command}
+use Rattle.lra_facts.specs.declared.command.Command.TheVariants.{Begin, Join, Leave, Decide, Report, Forgot, Told, Purge}
+use Rattle.lra_facts.specs.declared.command.CommandReply.TheVariants.{Refused}
 use Rattle.lra_replica.specs.declared.patch.Prepared.{Prepared}
-use Rattle.lra_history.specs.Changes.{AddsFact, Change}
+use Rattle.lra_history.specs.Changes.{AddsFact, Change, with_patch}
 use Rattle.lra_replica.specs.Prepared.{IsPrepared}
 use Rattle.lra_history.specs.Replies.{Judgement, Denied, AlreadyKnown, Accepted, accepted, judge, reply_by, reply_of}
 use Rattle.lra_history.specs.Views.{StandsFor, View}
-use Rattle.lra_world.specs.Machines.{Becomes, IsActed, with_patch}
+use Rattle.lra_world.specs.Machines.{Becomes, IsActed}
 
 -- with the patch, if there is one, the view becomes what the command asks
 becomes : (S : List Fact) (old new : View) (me : ℕ) (c : Command) (patch : Option Change) → AddsFact S old me c patch → new ≡ with_patch patch old → Becomes (judge S old.front me c) S old me c new

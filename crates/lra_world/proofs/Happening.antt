@@ -6,10 +6,10 @@ use Rattle.lra_id.specs.Ids.{Id}
 use Rattle.std.proofs.lemmas.List.{length-append}
 use Rattle.lra_id.specs.Fronts.{IsBelow}
 use Rattle.lra_facts.specs.declared.fact.Fact.{Fact}
-use Rattle.lra_history.specs.declared.command.Command.{Command}
-use Rattle.lra_history.specs.declared.command.Command.TheVariants.{Decide}
-use Rattle.lra_history.specs.declared.command.CommandReply.{CommandReply}
-use Rattle.lra_states.specs.declared.outcome.Verdict.TheVariants.{Cancel}
+use Rattle.lra_facts.specs.declared.command.Command.{Command}
+use Rattle.lra_facts.specs.declared.command.Command.TheVariants.{Decide}
+use Rattle.lra_facts.specs.declared.command.CommandReply.{CommandReply}
+use Rattle.lra_id.specs.declared.outcome.Verdict.TheVariants.{Cancel}
 use Rattle.lra_forest.specs.Overdue.{IsLeastOverdue}
 use Rattle.lra_history.specs.Growth.{IsSettled}
 use Rattle.lra_history.proofs.ClosedSets.{closed_settled}

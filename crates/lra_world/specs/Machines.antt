@@ -5,8 +5,8 @@ use Rattle.lra_id.specs.Fronts.{IsBelow, join_fronts}
 use Rattle.lra_id.specs.Ids.{Id}
 use Rattle.lra_facts.specs.declared.fact.Fact.{Fact}
 use Rattle.lra_facts.specs.declared.refusal.Refusal.TheVariants.{BadFrame, BadText, Gap}
-use Rattle.lra_history.specs.declared.command.Command.{Command}
-use Rattle.lra_history.specs.declared.command.CommandReply.{CommandReply}
+use Rattle.lra_facts.specs.declared.command.Command.{Command}
+use Rattle.lra_facts.specs.declared.command.CommandReply.{CommandReply}
 use Rattle.lra_history.specs.Growth.{IsMore}
 use Rattle.lra_history.specs.Histories.{History, IsClosed, IsLawful, facts}
 use Rattle.lra_history.specs.Changes.{Change, patched, raised}
@@ -54,11 +54,6 @@ pub record IsChanged (old new : Machine) (node : ℕ) (So : ReplicaState → Rep
   pub so : So was now
 
 -- Commands
-
--- the view after a patch, if there is one
-abbrev pub with_patch : Option Change → View → View
-with_patch None view = view
-with_patch (Some change) view = patched change view
 
 -- only a command that is accepted changes a view: then it stands for the set with the command's fact
 abbrev pub Becomes : Judgement → List Fact → View → ℕ → Command → View → Type 0

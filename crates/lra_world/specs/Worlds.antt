@@ -3,15 +3,15 @@
 use Rattle.std.specs.Prelude.{◌≡◌, ◌⊎◌, ◌≤◌, ◌<◌, ◌+◌, ◌-◌, ◌==◌, ◌&&◌, ℕ, Bool, true, false, Option, Some, None, List, [], ◌∷◌, ◌++◌, Err, get_or, if◌then◌else◌, length, nat_le, replicate, slice_get, slice_set, take}
 use Rattle.lra_id.specs.Fronts.{IsBelow, join_fronts}
 use Rattle.lra_id.specs.Ids.{Id}
-use Rattle.lra_states.specs.declared.outcome.Verdict.TheVariants.{Cancel}
+use Rattle.lra_id.specs.declared.outcome.Verdict.TheVariants.{Cancel}
 use Rattle.lra_facts.specs.declared.fact.Fact.{Fact}
 use Rattle.lra_facts.specs.declared.refusal.Refusal.TheVariants.{BadFrame, BadText, Gap, NeedsVersion2}
 use Rattle.lra_facts.specs.Lists.{In}
 use Rattle.lra_forest.specs.Overdue.{IsLeastOverdue}
-use Rattle.lra_history.specs.declared.command.Command.{Command}
-use Rattle.lra_history.specs.declared.command.Command.TheVariants.{Decide}
-use Rattle.lra_history.specs.declared.command.CommandReply.{CommandReply}
-use Rattle.lra_history.specs.declared.command.CommandReply.TheVariants.{Refused as NotEntered}
+use Rattle.lra_facts.specs.declared.command.Command.{Command}
+use Rattle.lra_facts.specs.declared.command.Command.TheVariants.{Decide}
+use Rattle.lra_facts.specs.declared.command.CommandReply.{CommandReply}
+use Rattle.lra_facts.specs.declared.command.CommandReply.TheVariants.{Refused as NotEntered}
 use Rattle.lra_history.specs.Histories.{History, IsClosed, IsLawful, facts, with_entry}
 use Rattle.lra_history.specs.NodeViews.{IsCurrent, entry_for}
 use Rattle.lra_history.specs.Changes.{raised}

@@ -1,7 +1,6 @@
 // What may happen in a world, and what is replied to it.
 use lra_delta::Version;
-use lra_facts::Refusal;
-use lra_history::{Command, CommandReply};
+use lra_facts::{Command, CommandReply, Refusal};
 use lra_id::{Front, LraId, NodeId};
 use std::alloc::AllocError;
 
@@ -19,7 +18,8 @@ pub enum Event {
         base: Front,
         version: Version,
     },
-    /// The first so many bytes of a frame that was sent come to a node. Frames are numbered from 1 as they are sent.
+    /// The first so many bytes of a frame that was sent come to a node. Frames are numbered from 1
+    /// as they are sent.
     Deliver {
         frame: usize,
         node: NodeId,
@@ -89,7 +89,8 @@ pub enum Reply {
     Refused(Refusal),
 }
 
-/// A run stopped at an event, since memory was wanting: the events before it were replied so, and it has not happened.
+/// A run stopped at an event, since memory was wanting: the events before it were replied so, and
+/// it has not happened.
 #[derive(Debug, Drop)]
 pub struct Stopped {
     /// The replies to the events before it.

@@ -3,6 +3,7 @@ ghost use Rattle.std.specs.Prelude.{◌≡◌, ◌⊎◌, ◌≤◌, ℕ, List, 
 ghost use Rattle.lra_history.specs.Histories.{History, IsClosed, IsLawful, facts};
 ghost use Rattle.lra_replica.specs.Replicas.{Fits, view_of};
 ghost use Rattle.lra_history.specs.Views.{OfItsSet, StandsFor};
+ghost use Rattle.lra_history.specs.Changes.{with_patch};
 ghost use Rattle.lra_id.specs.Fronts.{IsBelow};
 ghost use Rattle.lra_facts.specs.declared.refusal.Refusal.TheVariants.{Gap, NeedsVersion2, NoMemory};
 ghost use Rattle.lra_delta.specs.Frames.{frame_of};
@@ -10,13 +11,12 @@ ghost use Rattle.lra_delta.specs.Grammar.{IsOfGrammar};
 ghost use Rattle.lra_delta.specs.Rules.{IsDeltaAs};
 ghost use Rattle.lra_delta.specs.Encoding.{encoding_as};
 ghost use Rattle.lra_world.specs.Worlds.{IsViewOf, needs_later};
-ghost use Rattle.lra_world.specs.Machines.{IsActed, TakesBytes, TakesFrame, with_patch};
+ghost use Rattle.lra_world.specs.Machines.{IsActed, TakesBytes, TakesFrame};
 ghost use Rattle.lra_world.specs.declared.event.Reply.TheVariants.{Restarted};
 
 use crate::Reply;
 use lra_delta::{Delta, Version, encode, encode_v1, prepare};
-use lra_facts::Refusal;
-use lra_history::{Command, CommandReply};
+use lra_facts::{Command, CommandReply, Refusal};
 use lra_id::{Front, NodeId};
 use lra_replica::{Prepared, Replica};
 use std::alloc::{AllocError, Global};
@@ -119,8 +119,8 @@ fn encoded(alloc: Global, told: &Delta, version: Version) -> Result<Vec<u8>, Ref
     }
 }
 
-/// The bytes of what a node tells another that has the facts of a base. E15 where the node doesn't count the base, and then E23
-/// where the version can't tell it.
+/// The bytes of what a node tells another that has the facts of a base. E15 where the node doesn't
+/// count the base, and then E23 where the version can't tell it.
 pub fn bytes_since(
     alloc: Global,
     replica: &Replica,
@@ -143,8 +143,8 @@ pub fn bytes_since(
     encoded(alloc, &told, version)
 }
 
-/// A node starts again from the bytes of its own frame since the front of zeros, which has all that it holds.
-/// Should these be refused, which in a lawful history they aren't, it stays as it is.
+/// A node starts again from the bytes of its own frame since the front of zeros, which has all that
+/// it holds. Should these be refused, which in a lawful history they aren't, it stays as it is.
 pub fn restart(alloc: Global, replica: &mut Replica) -> Result<Reply, AllocError>
     ensures nodes { length replica.new.front ≡ length replica.old.front }
     ensures same { (h : History) (v : List ℕ) → IsLawful h →

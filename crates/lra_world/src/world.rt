@@ -18,11 +18,9 @@ ghost use Rattle.lra_facts.specs.declared.refusal.Refusal.TheVariants.{BadText, 
 use crate::node::{act, bytes_since, restart, take_bytes};
 use crate::{Event, Reply, Stopped};
 use lra_delta::Version;
-use lra_facts::Refusal;
-use lra_history::{Command, CommandReply};
-use lra_id::{Front, LraId, NodeId};
+use lra_facts::{Command, CommandReply, Refusal};
+use lra_id::{Front, LraId, LraStatus, MemberStatus, NodeId, Verdict};
 use lra_replica::Replica;
-use lra_states::{LraStatus, MemberStatus, Verdict};
 use std::alloc::{AllocError, Global};
 use std::marker::Model;
 
@@ -93,7 +91,8 @@ impl World {
         &self.replicas[place]
     }
 
-    /// What a node shows of an LRA. E2 where the node's front doesn't count the id, E3 where it does and the LRA is not held.
+    /// What a node shows of an LRA. E2 where the node's front doesn't count the id, E3 where it
+    /// does and the LRA is not held.
     pub fn status(&self, node: NodeId, id: LraId) -> Result<LraStatus, Refusal>
         requires { node ≤ length self.now.replicas }
         ensures { (s : State) → IsWorldOf s self.now → result ≡ shown_at s node id }
@@ -102,7 +101,8 @@ impl World {
         self.replica(node).status(id)
     }
 
-    /// What a node shows of a participant of an LRA. The same, and E5 where the LRA has no such participant.
+    /// What a node shows of a participant of an LRA. The same, and E5 where the LRA has no such
+    /// participant.
     pub fn member(&self, node: NodeId, id: LraId, member: u8) -> Result<MemberStatus, Refusal>
         requires { node ≤ length self.now.replicas }
         ensures { (s : State) → IsWorldOf s self.now → result ≡ member_at s node id member }
@@ -265,9 +265,9 @@ impl World {
         }
     }
 
-    /// Many events happen, one after another. Running out of memory stops the run at an event that has not happened, and gives the
-    /// replies to those before it. Each event is copied, since `step` takes a command's links for
-    /// its own.
+    /// Many events happen, one after another. Running out of memory stops the run at an event that
+    /// has not happened, and gives the replies to those before it. Each event is copied, since
+    /// `step` takes a command's links for its own.
     pub fn run(&mut self, alloc: Global, events: &[Event]) -> Result<Vec<Reply>, Stopped>
         ensures headline { (s : State) → IsWorldOf s self.old →
             IfOk result (λ replies. LeadsTo s events.now replies.items self.new) }
@@ -283,8 +283,8 @@ impl World {
         Ok(replies)
     }
 
-    /// One event happens, and its reply is put at the end, in room that was made before. Running out of memory puts nothing, and the
-    /// event has not happened.
+    /// One event happens, and its reply is put at the end, in room that was made before. Running
+    /// out of memory puts nothing, and the event has not happened.
     fn step_on(
         &mut self,
         alloc: Global,
@@ -297,7 +297,8 @@ impl World {
         ensures err { (s : State) → IsWorldOf s self.old →
             OnErr result (IsWorldOf s self.new × (replies.new.items ≡ replies.old.items)) }
     {
-        // Without a value of this type here the toolchain's borrow checker can't build its plan for a `Reply`.
+        // Without a value of this type here the toolchain's borrow checker can't build its plan for
+        // a `Reply`.
         let _ = CommandReply::Refused(Refusal::NoMemory);
         let event = event.clone()?;
         replies.reserve(1)?;
@@ -417,8 +418,8 @@ fn expired(id: LraId, reply: CommandReply) -> Reply
     }
 }
 
-/// Puts an item at the end, where there is room for it. It is generic, since of a `Reply` the toolchain's borrow checker can't
-/// build this.
+/// Puts an item at the end, where there is room for it. It is generic, since of a `Reply` the
+/// toolchain's borrow checker can't build this.
 fn keep<T: Drop>(items: &mut Vec<T>, item: Result<T, AllocError>) -> Result<(), AllocError>
     requires { length items.old.items < vec_capacity items.old }
     ensures ok { IfOk item (λ one. IsOk result × (items.new.items ≡ items.old.items ++ one ∷ [])) }

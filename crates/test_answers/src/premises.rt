@@ -1,10 +1,10 @@
-// One proved call of each public function with a premise that no program meets: so the premise can be met.
+// One proved call of each public function with a premise that no program meets: so the premise can
+// be met.
 use lra_delta::laws::since_by_scan;
 use lra_facts::{Body, Fact, Links, plain};
 use lra_forest::Forest;
-use lra_id::{LraId, NodeId};
+use lra_id::{Act, LraId, LraStatus, MemberStatus, NodeId, Verdict};
 use lra_replica::Replica;
-use lra_states::{Act, LraStatus, MemberStatus, Verdict};
 use std::alloc::Global;
 use std::test::Fail;
 

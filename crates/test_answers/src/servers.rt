@@ -1,8 +1,9 @@
-// Answers of participants as servers write them, by their public documents: to a call to complete, with an empty body if they can.
+// Answers of participants as servers write them, by their public documents: to a call to complete,
+// with an empty body if they can.
 use http::Method;
 use lra_callback::{Answer, Heard, Kind, NetCaller, hear};
 use lra_http::{Bytes, CallRequest, Fields, OverRead, OverWrite, Text};
-use lra_states::{Act, Outcome};
+use lra_id::{Act, Outcome};
 use std::alloc::Global;
 use std::test::Fail;
 

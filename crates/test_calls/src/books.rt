@@ -9,8 +9,9 @@ use sqlite_disk::{Files, Fuse, Memory};
 use std::alloc::Global;
 use std::test::Fail;
 
-/// The book of node 1 of 2 over a connection. It is opened here alone, since a function is proved sooner without the long
-/// clauses of that call; so is each other long call made in a function of its own.
+/// The book of node 1 of 2 over a connection. It is opened here alone, since a function is proved
+/// sooner without the long clauses of that call; so is each other long call made in a function of
+/// its own.
 fn open<S: Alter + Drop>(
     alloc: Global,
     connection: Connection<S>,

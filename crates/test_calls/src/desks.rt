@@ -34,8 +34,8 @@ fn closed<S: Alter + Drop>(book: Book<S>) -> Connection<S>
     book.close()
 }
 
-/// Makes two calls at a desk of one worker, and closes it. Where the journal was opened on a store of its own, the connection that
-/// comes back is a journal still, if it is open.
+/// Makes two calls at a desk of one worker, and closes it. Where the journal was opened on a store
+/// of its own, the connection that comes back is a journal still, if it is open.
 fn by_one<J: Run, S: Alter + Drop, R: Wait>(
     rt: &R,
     alloc: Global,

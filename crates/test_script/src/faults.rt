@@ -4,7 +4,8 @@ use lra_script::{ScriptFault, script};
 use std::io;
 use std::io::{Read, Write};
 
-/// Gives its bytes one at a time, each line after so many interruptions, fails once where it is cut, and then goes on.
+/// Gives its bytes one at a time, each line after so many interruptions, fails once where it is
+/// cut, and then goes on.
 #[derive(Drop)]
 struct Halting<'a> {
     bytes: &'a [u8],
@@ -152,7 +153,8 @@ impl Write for Stalling {
     }
 }
 
-// What each line prints is passed on before the next line is read, and behind a failure no call is made.
+// What each line prints is passed on before the next line is read, and behind a failure no call is
+// made.
 #[test]
 fn a_writer_that_passes_nothing_on(rt: HostRuntime) {
     let outputs: [&[u8]; 3] = [

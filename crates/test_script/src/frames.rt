@@ -2,7 +2,8 @@
 use crate::scripts::plays;
 use std::test::Fail;
 
-/// Two nodes hear different answers of one participant, and agree on the failure once each has the other's frame.
+/// Two nodes hear different answers of one participant, and agree on the failure once each has the
+/// other's frame.
 const FAILURE_AND_SUCCESS: [(&str, &str); 17] = [
     ("begin 1 0", "began 1.1"),
     (
@@ -26,7 +27,8 @@ const FAILURE_AND_SUCCESS: [(&str, &str); 17] = [
     ("front 1", "front 4 1"),
 ];
 
-/// A child that closed is shown cancelled where its parent's cancelling is known. A restart changes nothing.
+/// A child that closed is shown cancelled where its parent's cancelling is known. A restart changes
+/// nothing.
 const A_CLOSED_CHILD_OF_A_CANCELLED_PARENT: [(&str, &str); 17] = [
     ("begin 1 0", "began 1.1"),
     ("begin 1 0 1.1", "began 1.2 member 1"),
@@ -64,7 +66,8 @@ const FRAMES_COME_AGAIN_AND_LATE: [(&str, &str); 10] = [
     ("front 2", "front 2 0"),
 ];
 
-/// A frame since a base that its taker doesn't count is a gap, and so is a base that its sender doesn't count.
+/// A frame since a base that its taker doesn't count is a gap, and so is a base that its sender
+/// doesn't count.
 const A_GAP: [(&str, &str); 12] = [
     ("begin 1 0", "began 1.1"),
     ("begin 1 0", "began 1.2"),

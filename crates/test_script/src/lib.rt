@@ -1,4 +1,5 @@
-//! Tests of scripts by the public calls of `lra_script`. They stand here since a crate is proved twice where it has tests.
+//! Tests of scripts by the public calls of `lra_script`. They stand here since a crate is proved
+//! twice where it has tests.
 #![tactic(auto)]
 
 #[cfg(test)]

@@ -64,8 +64,8 @@ fn thirty_two_participants_compensate_one_after_another(rt: HostRuntime) -> Resu
     Ok(())
 }
 
-/// Begins eight LRAs, each nested in the last, the first as 1.1 and the others with odd numbers. Each has a participant on
-/// both sides of the one that is nested in it.
+/// Begins eight LRAs, each nested in the last, the first as 1.1 and the others with odd numbers.
+/// Each has a participant on both sides of the one that is nested in it.
 fn push_eight(alloc: Global, play: &mut Play) -> Result<(), AllocError> {
     play.line("begin 1 0", "began 1.1")?;
     play.join(alloc, 1, 1)?;

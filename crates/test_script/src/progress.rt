@@ -2,8 +2,9 @@
 use crate::scripts::plays;
 use std::test::Fail;
 
-/// A child was cancelled, its parent closes, and a listener waits. When the parent is closed, three participants are not final, one
-/// gave a link to forget, and one is to hear of the end. So five answers lead to the purge, each to a call that the list names.
+/// A child was cancelled, its parent closes, and a listener waits. When the parent is closed, three
+/// participants are not final, one gave a link to forget, and one is to hear of the end. So five
+/// answers lead to the purge, each to a call that the list names.
 const A_TREE_IS_ENDED_BY_ITS_DUTIES_ALONE: [(&str, &str); 28] = [
     ("begin 1 0", "began 1.1"),
     (
@@ -41,8 +42,9 @@ const A_TREE_IS_ENDED_BY_ITS_DUTIES_ALONE: [(&str, &str); 28] = [
     ("show 1 1.3", "refused E3 NotHeld"),
 ];
 
-/// Three nodes go different ways. Then each sends a frame since nothing to each other: one frame is cut at first, one comes twice,
-/// an old one comes late, and node 3 sends its own when it has node 2's.
+/// Three nodes go different ways. Then each sends a frame since nothing to each other: one frame is
+/// cut at first, one comes twice, an old one comes late, and node 3 sends its own when it has node
+/// 2's.
 const ONE_ROUND_AFTER_THREE_WAYS: [(&str, &str); 36] = [
     ("begin 1 0", "began 1.1"),
     (

@@ -1,4 +1,5 @@
-// A participant that takes connections and never answers, in more LRAs than a node has threads that call, beside one that answers.
+// A participant that takes connections and never answers, in more LRAs than a node has threads that
+// call, beside one that answers.
 
 use crate::loopback::{address, is_done, needs, take_part};
 use std::alloc::Global;
@@ -14,7 +15,8 @@ const ANSWERING: u16 = 18_479;
 /// How many LRAs the one that never answers is in. The other is in the last.
 const LRAS: u64 = 7;
 
-/// How long the one that answers may wait for its call, in milliseconds. Each call of the other takes 10,000.
+/// How long the one that answers may wait for its call, in milliseconds. Each call of the other
+/// takes 10,000.
 const MAX_WAIT: u64 = 5_000;
 
 const BEGIN: &str = "POST /lra HTTP/1.1\r\nHost: p\r\nContent-Length: 0\r\n\r\n";
@@ -40,8 +42,8 @@ fn joins_and_closes<R: Net<Stream = TcpStream>>(
     Ok(is_done(rt, node, join.as_str())? && is_done(rt, node, close.as_str())?)
 }
 
-/// Begins LRAs at node 1, whose next fact has this number, and closes them: all but the last wait for the participant that never
-/// answers. The other is called none the less.
+/// Begins LRAs at node 1, whose next fact has this number, and closes them: all but the last wait
+/// for the participant that never answers. The other is called none the less.
 pub(crate) fn visit<R: Net<Listener = TcpListener, Stream = TcpStream> + Clock>(
     rt: &R,
     alloc: Global,

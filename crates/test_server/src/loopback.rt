@@ -1,4 +1,5 @@
-// What tests of running nodes need: journals in memory, an input that ends when it is told, and requests over sockets.
+// What tests of running nodes need: journals in memory, an input that ends when it is told, and
+// requests over sockets.
 
 use lra_server::{Stores, Unopened};
 use sqlite::{Connection, MemStore};
@@ -96,7 +97,8 @@ pub(crate) fn answers<R: Net<Stream = TcpStream>>(
     hears(&mut stream, wanted.as_bytes())
 }
 
-/// Sends a request to a port, and says whether it is answered with one of the codes that tell of success.
+/// Sends a request to a port, and says whether it is answered with one of the codes that tell of
+/// success.
 pub(crate) fn is_done<R: Net<Stream = TcpStream>>(
     rt: &R,
     port: u16,
@@ -141,8 +143,8 @@ pub(crate) fn stopped<R: Net<Stream = TcpStream>>(
     Ok(stream)
 }
 
-/// Takes one connection as a participant does, reads its request's head, and answers that the act is done. It says whether one
-/// came.
+/// Takes one connection as a participant does, reads its request's head, and answers that the act
+/// is done. It says whether one came.
 pub(crate) fn take_part<R: Clock>(rt: &R, listener: &TcpListener) -> Result<bool, Fail> {
     listener.set_nonblocking(true)?;
     for _turn in 0..MAX_TURNS {

@@ -55,8 +55,8 @@ const ACTIVE: &str =
 const GONE: &str =
     "HTTP/1.1 410 Gone\r\nContent-Type: application/json\r\nContent-Length: 24\r\nConnection: close\r\n\r\n{\"refused\":\"E3 NotHeld\"}";
 
-/// Begins an LRA at node 1, has a participant join, closes it, and waits until node 2 shows it closed; while four connections say
-/// nothing and two have sent half a request.
+/// Begins an LRA at node 1, has a participant join, closes it, and waits until node 2 shows it
+/// closed; while four connections say nothing and two have sent half a request.
 fn visit<R: Net<Listener = TcpListener, Stream = TcpStream> + Clock>(rt: &R) -> Result<(), Fail> {
     let participant = TcpListener::bind(rt, address(PARTICIPANT))?;
     needs(comes_to(rt, PORT, BEGIN, BEGUN)?, "no LRA was begun")?;
@@ -125,7 +125,8 @@ fn two_nodes_on_loopback(rt: HostRuntime) -> Result<(), Fail> {
     Ok(())
 }
 
-/// Begins an LRA at node 1 of a group, which node 2 shows, and closes it; then it is purged by itself at both.
+/// Begins an LRA at node 1 of a group, which node 2 shows, and closes it; then it is purged by
+/// itself at both.
 fn visit_group<R: Net<Listener = TcpListener, Stream = TcpStream> + Clock>(
     rt: &R,
 ) -> Result<(), Fail> {

@@ -4,8 +4,7 @@ ghost use Rattle.std.specs.Prelude.{◌≡◌, [], ⊤, Some, false};
 use lra_api::Paths;
 use lra_book::{Book, Desk, DeskClerk, DeskPass, Reply, Run};
 use lra_http::{OverRead, OverWrite};
-use lra_id::NodeId;
-use lra_states::LraStatus;
+use lra_id::{LraStatus, NodeId};
 use lra_work::{Arrivals, Connection, Gate, work};
 use sqlite::{Alter, Connection as Database};
 use std::alloc::Global;
@@ -44,8 +43,8 @@ impl Arrivals for Given {
     }
 }
 
-/// Holds each worker before a call until two have come there, 10,000 turns at most. It counts those who come before a call, those who
-/// come behind one, and those who waited in vain.
+/// Holds each worker before a call until two have come there, 10,000 turns at most. It counts those
+/// who come before a call, those who come behind one, and those who waited in vain.
 #[derive(Drop)]
 struct Meeting<'a, C: Clock> {
     clock: &'a C,

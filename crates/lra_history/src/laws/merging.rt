@@ -1,9 +1,10 @@
-// Laws of merges. Each view is that of a closed set of one lawful history, and one is a part of another where its set is.
+// Laws of merges. Each view is that of a closed set of one lawful history, and one is a part of
+// another where its set is.
 ghost use Rattle.std.specs.Prelude.{◌≡◌, ◌≤◌, ◌&&◌, ℕ, List, false, length, true};
 ghost use Rattle.lra_id.specs.Fronts.{is_covered, join_fronts};
 ghost use Rattle.lra_id.specs.Ids.{Id};
-ghost use Rattle.lra_states.specs.States.{greater};
-ghost use Rattle.lra_states.specs.declared.outcome.Act.{Act as TheAct};
+ghost use Rattle.lra_id.specs.States.{greater};
+ghost use Rattle.lra_id.specs.declared.outcome.Act.{Act as TheAct};
 ghost use Rattle.lra_facts.specs.declared.fact.Fact.{Fact};
 ghost use Rattle.lra_facts.specs.Lists.{In};
 ghost use Rattle.lra_facts.specs.Sets.{heard, is_held};
@@ -29,8 +30,9 @@ pub fn telling_all_is_merging()
         TellsAll telling b → IsMerged a b c → IsAbsorbed a telling c }
 {}
 
-/// The merge of the views of two closed sets is the view of the sets' union, and that is closed too. A node's front that is
-/// merged with another stays the node's: it counts all that the node entered.
+/// The merge of the views of two closed sets is the view of the sets' union, and that is closed
+/// too. A node's front that is merged with another stays the node's: it counts all that the node
+/// entered.
 pub fn a_merge_is_the_union()
     ensures view { (h : History) (v w : List ℕ) (a b c : View) →
         IsLawful h → IsClosed h v → IsClosed h w → StandsFor (facts h v) a →
@@ -41,8 +43,9 @@ pub fn a_merge_is_the_union()
         IsCurrent h node (join_fronts v w) }
 {}
 
-/// Whether an LRA is held in the union of two closed sets: where both count its begin, it is if both hold it, so what one purged
-/// stays away; where only one counts it, it is if that one holds it.
+/// Whether an LRA is held in the union of two closed sets: where both count its begin, it is if
+/// both hold it, so what one purged stays away; where only one counts it, it is if that one holds
+/// it.
 pub fn an_lra_is_held_in_the_union()
     ensures both { (h : History) (v w : List ℕ) → IsLawful h →
         IsClosed h v → IsClosed h w → (l : Id) → is_covered v l ≡ true → is_covered w l ≡ true →
@@ -52,8 +55,8 @@ pub fn an_lra_is_held_in_the_union()
         is_covered w l ≡ false → is_held (facts h (join_fronts v w)) l ≡ is_held (facts h v) l }
 {}
 
-/// Of two closed sets the one with the greater home stamp of an LRA has all that the home entered about it, so a merge may take
-/// the home's part of one record whole.
+/// Of two closed sets the one with the greater home stamp of an LRA has all that the home entered
+/// about it, so a merge may take the home's part of one record whole.
 pub fn the_greater_home_stamp_has_the_homes_facts()
     ensures { (h : History) (v w : List ℕ) → IsLawful h → IsClosed h v → IsClosed h w →
         (l : Id) (f : Fact) → stamp (facts h w) l l.home ≤ stamp (facts h v) l l.home →

@@ -2,16 +2,16 @@
 ghost use Rattle.std.specs.Prelude.{◌≡◌, ◌≤◌, ℕ, List, Some, true};
 ghost use Rattle.lra_id.specs.Fronts.{IsBelow, is_covered};
 ghost use Rattle.lra_id.specs.Ids.{Id};
-ghost use Rattle.lra_states.specs.declared.outcome.Verdict.{Verdict};
-ghost use Rattle.lra_states.specs.declared.outcome.Verdict.TheVariants.{Cancel, Close};
+ghost use Rattle.lra_id.specs.declared.outcome.Verdict.{Verdict};
+ghost use Rattle.lra_id.specs.declared.outcome.Verdict.TheVariants.{Cancel, Close};
 ghost use Rattle.lra_facts.specs.Duties.{is_at_end};
 ghost use Rattle.lra_facts.specs.Sets.{is_root, want};
 ghost use Rattle.lra_history.specs.Histories.{History, IsClosed, IsLawful, Made, facts};
 ghost use Rattle.lra_history.specs.Rising.{IsCancelledAbove, IsDecision, IsShownCancelled, IsShownClosed, rank_in};
 
-/// What an LRA shows never falls in rank as more facts are known: in two closed sets of a lawful history, where the front of
-/// the first is below that of the second and covers the LRA. The last rank is that of an LRA that is not held, so what is
-/// purged does not come back.
+/// What an LRA shows never falls in rank as more facts are known: in two closed sets of a lawful
+/// history, where the front of the first is below that of the second and covers the LRA. The last
+/// rank is that of an LRA that is not held, so what is purged does not come back.
 pub fn statuses_only_rise()
     ensures { (h : History) (v w : List ℕ) (l : Id) → IsLawful h → IsClosed h v → IsClosed h w →
         IsBelow v w → is_covered v l ≡ true → rank_in (facts h v) l ≤ rank_in (facts h w) l }
@@ -25,9 +25,10 @@ pub fn one_decision_each()
         IsDecision h l verdict e → e.fact.origin ≡ l.home }
 {}
 
-/// No verdict is split: where an LRA is shown Closed or FailedToClose in one closed set of a lawful history and Cancelled or
-/// FailedToCancel in another, an LRA in which it is nested was cancelled. The same of what it wants. So a root never wants
-/// both, and no node shows it closed where another shows it cancelled.
+/// No verdict is split: where an LRA is shown Closed or FailedToClose in one closed set of a lawful
+/// history and Cancelled or FailedToCancel in another, an LRA in which it is nested was cancelled.
+/// The same of what it wants. So a root never wants both, and no node shows it closed where another
+/// shows it cancelled.
 pub fn no_split_verdict()
     ensures shown { (h : History) (v w : List ℕ) (l : Id) →
         IsLawful h → IsClosed h v → IsClosed h w →
@@ -43,9 +44,10 @@ pub fn no_split_verdict()
         IsShownClosed (facts h v) l → IsShownCancelled (facts h w) l → ⊥ }
 {}
 
-/// What a listener hears is decided for good: where an LRA is at its end in a closed set of a lawful history, so that its
-/// listeners are to be told, it is so in each closed set with more facts, and wants the same there. So a worse report alone may
-/// still turn Closed into FailedToClose, or Cancelled into FailedToCancel.
+/// What a listener hears is decided for good: where an LRA is at its end in a closed set of a
+/// lawful history, so that its listeners are to be told, it is so in each closed set with more
+/// facts, and wants the same there. So a worse report alone may still turn Closed into
+/// FailedToClose, or Cancelled into FailedToCancel.
 pub fn what_is_at_its_end_stays_there()
     ensures wants { (h : History) (v w : List ℕ) (l : Id) →
         IsLawful h → IsClosed h v → IsClosed h w → IsBelow v w →

@@ -5,9 +5,10 @@ ghost use Rattle.lra_history.specs.Merging.{IsMerged};
 ghost use Rattle.lra_history.specs.ViewShape.{HasShape};
 ghost use Rattle.lra_history.specs.Views.{StandsFor, View};
 
-/// The view of a closed set of a lawful history has the shape, and so has the merge of two such views: no home has more than
-/// 256 records; the view has the parent that a record names, with it as a member there, and each LRA that is nested in it;
-/// no record is deeper than 8; and no stamp and no purge is beyond the front.
+/// The view of a closed set of a lawful history has the shape, and so has the merge of two such
+/// views: no home has more than 256 records; the view has the parent that a record names, with it
+/// as a member there, and each LRA that is nested in it; no record is deeper than 8; and no stamp
+/// and no purge is beyond the front.
 pub fn views_of_a_history_have_the_shape()
     ensures view { (h : History) (v : List ℕ) (view : View) →
         IsLawful h → IsClosed h v → StandsFor (facts h v) view → HasShape view }

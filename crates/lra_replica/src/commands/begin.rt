@@ -2,7 +2,7 @@
 ghost use Rattle.std.specs.Prelude.{◌≡◌, ◌≤◌, ◌<◌, ◌+◌, None, Some, Ok, IfOk, length};
 ghost use Rattle.lra_id.specs.Ids.{last_number};
 ghost use Rattle.lra_id.specs.Fronts.{count};
-ghost use Rattle.lra_history.specs.declared.command.Command.TheVariants.{Begin};
+ghost use Rattle.lra_facts.specs.declared.command.Command.TheVariants.{Begin};
 ghost use Rattle.lra_history.specs.Changes.{fresh_record};
 ghost use Rattle.lra_history.specs.Next.{judge_on};
 ghost use Rattle.lra_history.specs.Replies.{Accepted};
@@ -12,9 +12,8 @@ ghost use Rattle.lra_replica.specs.Replicas.{KeepsRoom, view_of};
 
 use crate::commands::fact::stamp;
 use crate::{Prepared, Replica};
-use lra_facts::Refusal;
+use lra_facts::{Command, CommandReply, Refusal};
 use lra_forest::{Member, Members, Place, Record};
-use lra_history::{Command, CommandReply};
 use lra_id::{Front, LraId, NodeId};
 use std::alloc::{AllocError, Global};
 
@@ -112,9 +111,10 @@ impl Replica {
         })
     }
 
-    /// Prepares the begin of an LRA, top-level or in a parent, with a deadline in milliseconds, 0 for none. A root costs one
-    /// insertion, a nested LRA a copy of its parent's record and a look at those that the parent is nested in. Errors, the
-    /// first that holds: of a root E13, E14; of a nested LRA E2, E3, E4, E6, E11, E12, E13, E14; and E17.
+    /// Prepares the begin of an LRA, top-level or in a parent, with a deadline in milliseconds, 0
+    /// for none. A root costs one insertion, a nested LRA a copy of its parent's record and a look
+    /// at those that the parent is nested in. Errors, the first that holds: of a root E13, E14; of
+    /// a nested LRA E2, E3, E4, E6, E11, E12, E13, E14; and E17.
     pub fn begin(
         &mut self,
         alloc: Global,

@@ -6,7 +6,7 @@ ghost use Rattle.lra_forest.specs.Forests.{id_of};
 ghost use Rattle.lra_forest.specs.Places.{put_record};
 ghost use Rattle.lra_forest.specs.Said.{shown_at};
 ghost use Rattle.lra_forest.specs.Shape.{found_at};
-ghost use Rattle.lra_history.specs.declared.command.Command.TheVariants.{Decide};
+ghost use Rattle.lra_facts.specs.declared.command.Command.TheVariants.{Decide};
 ghost use Rattle.lra_history.specs.Next.{judge_on};
 ghost use Rattle.lra_history.specs.Replies.{Accepted};
 ghost use Rattle.lra_history.specs.Views.{OfItsSet, record_at, records_at};
@@ -14,11 +14,9 @@ ghost use Rattle.lra_replica.specs.Prepared.{HasRoom, IsNext, IsPrepared};
 ghost use Rattle.lra_replica.specs.Replicas.{KeepsRoom, view_of};
 
 use crate::{Prepared, Replica};
-use lra_facts::Refusal;
+use lra_facts::{Command, CommandReply, Refusal};
 use lra_forest::Record;
-use lra_history::{Command, CommandReply};
-use lra_id::{LraId, NodeId};
-use lra_states::{LraStatus, Verdict};
+use lra_id::{LraId, LraStatus, NodeId, Verdict};
 use std::alloc::{AllocError, Global};
 
 impl Replica {
@@ -65,8 +63,9 @@ impl Replica {
         })
     }
 
-    /// Prepares a decision: an LRA is closed or cancelled. It costs a copy of the LRA's record, and a look at those that it
-    /// is nested in and at those that are nested in it. Errors, the first that holds: E2, E3, E4, E6, E14, E17.
+    /// Prepares a decision: an LRA is closed or cancelled. It costs a copy of the LRA's record, and
+    /// a look at those that it is nested in and at those that are nested in it. Errors, the first
+    /// that holds: E2, E3, E4, E6, E14, E17. Only the copy and the patch take memory.
     pub fn decide(
         &mut self,
         alloc: Global,

@@ -2,7 +2,7 @@
 ghost use Rattle.std.specs.Prelude.{◌≡◌, ◌≤◌, ◌<◌, Ok, IfOk, length};
 ghost use Rattle.lra_id.specs.Ids.{last_number};
 ghost use Rattle.lra_id.specs.Fronts.{count};
-ghost use Rattle.lra_history.specs.declared.command.Command.TheVariants.{Join};
+ghost use Rattle.lra_facts.specs.declared.command.Command.TheVariants.{Join};
 ghost use Rattle.lra_history.specs.Next.{judge_on};
 ghost use Rattle.lra_history.specs.Replies.{Accepted};
 ghost use Rattle.lra_history.specs.Views.{OfItsSet};
@@ -10,9 +10,8 @@ ghost use Rattle.lra_replica.specs.Prepared.{HasRoom, IsNext, IsPrepared};
 ghost use Rattle.lra_replica.specs.Replicas.{KeepsRoom, view_of};
 
 use crate::{Prepared, Replica};
-use lra_facts::{Links, Refusal};
+use lra_facts::{Command, CommandReply, Links, Refusal};
 use lra_forest::{Member, Participant};
-use lra_history::{Command, CommandReply};
 use lra_id::{LraId, NodeId};
 use std::alloc::{AllocError, Global};
 
@@ -50,8 +49,9 @@ impl Replica {
         })
     }
 
-    /// Prepares a join: a participant with these links joins the LRA under its next member number. It costs a copy of the
-    /// LRA's record and a look at those that it is nested in. Errors, the first that holds: E2, E3, E4, E6, E11, E14, E17.
+    /// Prepares a join: a participant with these links joins the LRA under its next member number.
+    /// It costs a copy of the LRA's record and a look at those that it is nested in. Errors, the
+    /// first that holds: E2, E3, E4, E6, E11, E14, E17.
     pub fn join(
         &mut self,
         alloc: Global,

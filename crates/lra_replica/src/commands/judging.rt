@@ -1,5 +1,6 @@
-// What a node makes of a command, by the records of the home of the LRA that the command names: its first refusal, that it is known
-// already, or that it is accepted.
+// What a node makes of a command, by the records of the home of the LRA that the command names: its
+// first refusal, that it is known already, or that it is accepted. The questions answer what the
+// definitions do, an optional refusal; with `?` each would need a second form.
 ghost use Rattle.std.specs.Prelude.{◌≡◌, ◌<◌, [], ◌∷◌, None, Some, Ok, false, true};
 ghost use Rattle.lra_id.specs.Fronts.{count};
 ghost use Rattle.lra_id.specs.Ids.{last_number};
@@ -9,11 +10,9 @@ ghost use Rattle.lra_history.specs.Replies.{crowded_by, deep_by, early_by, full_
 ghost use Rattle.lra_replica.specs.AtHome.{IsOfHome, by_home};
 ghost use Rattle.lra_replica.specs.Prepared.{judged_as};
 
-use lra_facts::Refusal;
+use lra_facts::{Command, Refusal};
 use lra_forest::{Forest, MAX_DEPTH, MAX_HELD, MAX_MEMBERS};
-use lra_history::Command;
-use lra_id::{Front, LAST_NUMBER, LraId, NodeId};
-use lra_states::Act;
+use lra_id::{Act, Front, LAST_NUMBER, LraId, NodeId};
 
 /// The refusal to show an LRA, where none of its id is held.
 fn refusal_to_show(home: &Forest, front: &Front, id: LraId) -> Option<Refusal>
@@ -373,7 +372,8 @@ fn refusal_to_number(front: &Front, me: NodeId) -> Option<Refusal>
     None
 }
 
-/// What a node makes of a command: whether it is known already, and is accepted otherwise; or why it is refused.
+/// What a node makes of a command: whether it is known already, and is accepted otherwise; or why
+/// it is refused.
 pub(crate) fn judge(
     home: &Forest,
     front: &Front,

@@ -2,7 +2,7 @@
 ghost use Rattle.std.specs.Prelude.{◌≡◌, ◌≤◌, ◌<◌, ◌-◌, Ok, IfOk, length};
 ghost use Rattle.lra_id.specs.Ids.{last_number};
 ghost use Rattle.lra_id.specs.Fronts.{count};
-ghost use Rattle.lra_history.specs.declared.command.Command.TheVariants.{Leave};
+ghost use Rattle.lra_facts.specs.declared.command.Command.TheVariants.{Leave};
 ghost use Rattle.lra_history.specs.Growth.{leaving, member_changed};
 ghost use Rattle.lra_history.specs.Next.{judge_on};
 ghost use Rattle.lra_history.specs.Replies.{Accepted};
@@ -11,9 +11,8 @@ ghost use Rattle.lra_replica.specs.Prepared.{HasRoom, IsNext, IsPrepared};
 ghost use Rattle.lra_replica.specs.Replicas.{KeepsRoom, view_of};
 
 use crate::{Prepared, Replica};
-use lra_facts::Refusal;
+use lra_facts::{Command, CommandReply, Refusal};
 use lra_forest::{Member, Members};
-use lra_history::{Command, CommandReply};
 use lra_id::{LraId, NodeId};
 use std::alloc::{AllocError, Global};
 
@@ -62,8 +61,8 @@ impl Replica {
         })
     }
 
-    /// Prepares a leave of a participant. It costs what `join` costs. Errors, the first that holds: E2, E3, E4, E5, E6, E14,
-    /// E17.
+    /// Prepares a leave of a participant. It costs what `join` costs. Errors, the first that holds:
+    /// E2, E3, E4, E5, E6, E14, E17.
     pub fn leave(
         &mut self,
         alloc: Global,

@@ -2,7 +2,7 @@
 ghost use Rattle.std.specs.Prelude.{◌≡◌, ◌≤◌, ◌<◌, ◌-◌, Ok, IfOk, OnOk, length};
 ghost use Rattle.lra_id.specs.Ids.{last_number};
 ghost use Rattle.lra_id.specs.Fronts.{count};
-ghost use Rattle.lra_history.specs.declared.command.Command.TheVariants.{Forgot, Told};
+ghost use Rattle.lra_facts.specs.declared.command.Command.TheVariants.{Forgot, Told};
 ghost use Rattle.lra_history.specs.Growth.{forgetting, hearing, member_changed};
 ghost use Rattle.lra_history.specs.Next.{judge_on};
 ghost use Rattle.lra_history.specs.Replies.{Accepted};
@@ -12,13 +12,13 @@ ghost use Rattle.lra_replica.specs.Replicas.{KeepsRoom, view_of};
 ghost use Rattle.lra_replica.specs.Notices.{command_for, noted, reply_to};
 
 use crate::{Prepared, Replica};
-use lra_facts::Refusal;
+use lra_facts::{Command, CommandReply, Refusal};
 use lra_forest::{Member, Members, Participant};
-use lra_history::{Command, CommandReply};
 use lra_id::{LraId, NodeId};
 use std::alloc::{AllocError, Global};
 
-/// What a participant is told without an outcome: a call brings it, and any node enters that it came.
+/// What a participant is told without an outcome: a call brings it, and any node enters that it
+/// came.
 #[derive(Clone, Copy)]
 enum Notice {
     /// It may forget its LRA.
@@ -160,9 +160,11 @@ impl Replica {
         self.accept_notice(alloc, me, id, member, Notice::OfTheEnd)
     }
 
-    /// Prepares that a participant was told to forget, which any node may enter. Where it was told already, it is known, and
-    /// there is no patch. It costs a copy of the LRA's record and a look at those of its root's tree. Errors, the
-    /// first that holds: E2, E3, E5, E7; where it isn't known E14, E17.
+    /// Prepares that a participant was told to forget, which any node may enter. Where it was told
+    /// already, it is known, and there is no patch. It costs a copy of the LRA's record and a look
+    /// at those of its root's tree. Errors, the first that holds: E2, E3, E5, E7; where it isn't
+    /// known E14, E17. One function over `Notice` does this and `told`; each has clauses of its
+    /// own, as callers cite one.
     pub fn forgot(
         &mut self,
         alloc: Global,
@@ -181,8 +183,8 @@ impl Replica {
         self.prepare(alloc, me, Command::Forgot { id, member })
     }
 
-    /// Prepares that a participant was told that its LRA has ended, which any node may enter. When it is known, its cost and
-    /// its errors are as for `forgot`.
+    /// Prepares that a participant was told that its LRA has ended, which any node may enter. When
+    /// it is known, its cost and its errors are as for `forgot`.
     pub fn told(
         &mut self,
         alloc: Global,

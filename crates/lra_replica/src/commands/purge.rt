@@ -3,7 +3,7 @@ ghost use Rattle.std.specs.Prelude.{◌≡◌, ◌≤◌, ◌<◌, Ok, IfOk, len
 ghost use Rattle.lra_id.specs.Ids.{last_number};
 ghost use Rattle.lra_id.specs.Fronts.{count};
 ghost use Rattle.lra_forest.specs.Said.{ids_below};
-ghost use Rattle.lra_history.specs.declared.command.Command.TheVariants.{Purge};
+ghost use Rattle.lra_facts.specs.declared.command.Command.TheVariants.{Purge};
 ghost use Rattle.lra_history.specs.Changes.{purge_change};
 ghost use Rattle.lra_history.specs.Readings.{at_home};
 ghost use Rattle.lra_history.specs.Next.{judge_on};
@@ -13,8 +13,7 @@ ghost use Rattle.lra_replica.specs.Prepared.{HasRoom, IsNext, IsPrepared};
 ghost use Rattle.lra_replica.specs.Replicas.{Fits, KeepsRoom, view_of};
 
 use crate::{Patch, Prepared, Replica};
-use lra_facts::Refusal;
-use lra_history::{Command, CommandReply};
+use lra_facts::{Command, CommandReply, Refusal};
 use lra_id::{LraId, NodeId};
 use std::alloc::{AllocError, Global};
 
@@ -72,8 +71,9 @@ impl Replica {
         })
     }
 
-    /// Prepares a purge: a root that is ended is removed, with all that is nested in it. It costs a look at each of the home's
-    /// records. Errors, the first that holds: E2, E3, E4, E9, E8, E10, E24, E14, E17.
+    /// Prepares a purge: a root that is ended is removed, with all that is nested in it. It costs a
+    /// look at each of the home's records. Errors, the first that holds: E2, E3, E4, E9, E8, E10,
+    /// E24, E14, E17.
     pub fn purge(&mut self, alloc: Global, me: NodeId, root: LraId) -> Result<Prepared, Refusal>
         requires { me ≤ length self.old.front }
         ensures view { view_of self.new ≡ view_of self.old }

@@ -2,7 +2,7 @@
 ghost use Rattle.std.specs.Prelude.{◌≡◌, ◌≤◌, ◌<◌, ◌-◌, Ok, IfOk, OnOk, length};
 ghost use Rattle.lra_id.specs.Ids.{last_number};
 ghost use Rattle.lra_id.specs.Fronts.{count};
-ghost use Rattle.lra_history.specs.declared.command.Command.TheVariants.{Report};
+ghost use Rattle.lra_facts.specs.declared.command.Command.TheVariants.{Report};
 ghost use Rattle.lra_history.specs.Growth.{member_changed, reporting};
 ghost use Rattle.lra_history.specs.Next.{judge_on};
 ghost use Rattle.lra_history.specs.Replies.{Accepted};
@@ -11,11 +11,9 @@ ghost use Rattle.lra_replica.specs.Prepared.{HasRoom, IsNext, IsPrepared};
 ghost use Rattle.lra_replica.specs.Replicas.{KeepsRoom, view_of};
 
 use crate::{Prepared, Replica};
-use lra_facts::Refusal;
+use lra_facts::{Command, CommandReply, Refusal};
 use lra_forest::{Member, Members, Participant};
-use lra_history::{Command, CommandReply};
-use lra_id::{LraId, NodeId};
-use lra_states::{Act, Outcome};
+use lra_id::{Act, LraId, NodeId, Outcome};
 use std::alloc::{AllocError, Global};
 
 fn reported(participant: Participant, act: Act, outcome: Outcome) -> Participant
@@ -85,9 +83,10 @@ impl Replica {
         })
     }
 
-    /// Prepares a report of an outcome of an act of a participant, which any node may enter. Where this outcome or a greater
-    /// one was heard, it is known, and there is no patch. It costs a copy of the LRA's record and a look at those that it is
-    /// nested in. Errors, the first that holds: E2, E3, E5, E7; where it isn't known E14, E17.
+    /// Prepares a report of an outcome of an act of a participant, which any node may enter. Where
+    /// this outcome or a greater one was heard, it is known, and there is no patch. It costs a copy
+    /// of the LRA's record and a look at those that it is nested in. Errors, the first that holds:
+    /// E2, E3, E5, E7; where it isn't known E14, E17.
     pub fn report(
         &mut self,
         alloc: Global,

@@ -10,8 +10,7 @@ ghost use Rattle.lra_script.specs.Joins.{GivesLinks, IsTextUnder, are_link_words
 use super::lras::next_node_and_id;
 use crate::asking::Ask;
 use crate::words::Words;
-use lra_facts::{Links, Refusal};
-use lra_history::Command;
+use lra_facts::{Command, Links, Refusal};
 use std::alloc::{AllocError, Global};
 use std::str;
 

@@ -2,14 +2,13 @@
 ghost use Rattle.std.specs.Prelude.{◌≡◌, ◌≤◌, ℕ, List, [], ◌∷◌, codes, Option, IfSome, MatchOption};
 ghost use Rattle.std.specs.Fmt.{decimal};
 ghost use Rattle.lra_id.specs.Ids.{Id, IsId, id_text};
-ghost use Rattle.lra_states.specs.Names.{verdict_name};
+ghost use Rattle.lra_id.specs.Names.{verdict_name};
 ghost use Rattle.lra_script.specs.Asks.{IsNodeOf, ReadsArguments, parent_words};
 
 use crate::asking::Ask;
 use crate::words::{Words, id_of, node_of, number_of};
-use lra_history::Command;
-use lra_id::{LraId, NodeId};
-use lra_states::Verdict;
+use lra_facts::Command;
+use lra_id::{LraId, NodeId, Verdict};
 
 pub fn begin_of(mut words: Words<'_>, nodes: u8) -> Option<Ask>
     requires { nodes ≤ 8 }

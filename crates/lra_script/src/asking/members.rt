@@ -2,17 +2,16 @@
 ghost use Rattle.std.specs.Prelude.{◌≡◌, ◌≤◌, ℕ, List, [], ◌∷◌, codes, MatchOption};
 ghost use Rattle.std.specs.Fmt.{decimal};
 ghost use Rattle.lra_id.specs.Ids.{Id, IsId, id_text};
-ghost use Rattle.lra_states.specs.declared.outcome.Act.{Act};
-ghost use Rattle.lra_states.specs.declared.outcome.Outcome.{Outcome};
-ghost use Rattle.lra_states.specs.Names.{act_name, outcome_name};
+ghost use Rattle.lra_id.specs.declared.outcome.Act.{Act};
+ghost use Rattle.lra_id.specs.declared.outcome.Outcome.{Outcome};
+ghost use Rattle.lra_id.specs.Names.{act_name, outcome_name};
 ghost use Rattle.lra_script.specs.Asks.{IsMemberNumber, IsNodeOf, ReadsArguments};
 
 use super::lras::next_node_and_id;
 use crate::asking::Ask;
 use crate::words::{Words, member_number_of};
-use lra_history::Command;
-use lra_id::{LraId, NodeId};
-use lra_states::{Act, Outcome};
+use lra_facts::Command;
+use lra_id::{Act, LraId, NodeId, Outcome};
 
 pub fn leave_of(words: Words<'_>, nodes: u8) -> Option<Ask>
     requires { nodes ≤ 8 }

@@ -8,9 +8,10 @@ ghost use Rattle.lra_progress.specs.Rounds.{all_counted, may_enter};
 ghost use Rattle.lra_trail.specs.ServerRounds.{IsServerRound};
 ghost use Rattle.lra_trail.specs.Servers.{AreTrails, Turn, events_in};
 
-/// One round makes all servers alike. Each node of the world is a server. Nothing is entered in these turns, as where no command is
-/// accepted and no LRA expires, and in them each node gives each other a frame, which takes it. Then each node counts at the end all
-/// that was ever entered. So all hold one view.
+/// One round makes all servers alike. Each node of the world is a server. Nothing is entered in
+/// these turns, as where no command is accepted and no LRA expires, and in them each node gives
+/// each other a frame, which takes it. Then each node counts at the end all that was ever entered.
+/// So all hold one view.
 pub fn one_round_makes_all_servers_alike()
     ensures all { (s t : State) (views ends : ℕ → View) (turns : List Turn) (node : ℕ) →
         AreTrails s views turns t ends → t.history ≡ s.history → IsServerRound s turns →

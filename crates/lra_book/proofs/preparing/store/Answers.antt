@@ -1,10 +1,9 @@
 use Rattle.std.proofs.Common.{Option, subst, sym}
 use Rattle.std.specs.Prelude.{IfSome, IsTrue, OnOk}
-use Rattle.lra_history.specs.Changes.{Change}
+use Rattle.lra_history.specs.Changes.{Change, with_patch}
 use Rattle.lra_journal.specs.Keeping.{Keeps}
 use Rattle.sqlite.specs.Held.{state}
 use Rattle.lra_journal.specs.Stands.{IsPatchOf, Stands}
-use Rattle.lra_book.specs.Next.{with_patch}
 use Rattle.lra_book.proofs.Stops.{survives_more, survives_same}
 use Rattle.lra_book.proofs.preparing.store.Goals as goal
 

@@ -1,6 +1,7 @@
 use Rattle.std.proofs.Common.{◌≡◌, ◌⊎◌, ◌<◌, IsTrue, ◌∙◌, ◌++◌, ◌∷◌, [], None, ap, arith, length, rules, subst, sym}
 use Rattle.std.specs.Option.{option_map}
 use Rattle.lra_history.specs.Views.{View}
+use Rattle.lra_history.specs.Changes.{with_patch}
 use Rattle.lra_replica.specs.Replicas.{view_of}
 use Rattle.sqlite.specs.Held.{state}
 use Rattle.sqlite.specs.State.{Survives}
@@ -9,7 +10,7 @@ use Rattle.lra_journal.specs.Stands.{Stands}
 use Rattle.lra_journal.proofs.Stored.{leaves}
 use Rattle.lra_book.specs.declared.calls.Entry.{Entry}
 use Rattle.lra_book.specs.Books.{BookState, MayCommit, refusal_at_once}
-use Rattle.lra_book.specs.Next.{IsNext, with_patch}
+use Rattle.lra_book.specs.Next.{IsNext}
 use Rattle.lra_book.specs.Trails.{entry}
 use Rattle.lra_book.proofs.KeptBooks.{changed_by, has_room, not_stored, with_entry}
 use Rattle.lra_book.proofs.LostBelow.{at_once_lost}

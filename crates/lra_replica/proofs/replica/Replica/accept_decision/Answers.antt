@@ -1,7 +1,7 @@
 use Rattle.std.proofs.Common.{◌≡◌, ◌∙◌, Ok, Result, ap, sym}
-use Rattle.lra_states.specs.declared.status.LraStatus.{LraStatus}
+use Rattle.lra_id.specs.declared.status.LraStatus.{LraStatus}
 use Rattle.lra_facts.specs.declared.refusal.Refusal.{Refusal}
-use Rattle.lra_history.specs.declared.command.Command.TheVariants.{Decide}
+use Rattle.lra_facts.specs.declared.command.Command.TheVariants.{Decide}
 use Rattle.lra_history.specs.Changes.{one_change}
 use Rattle.lra_history.specs.Views.{View}
 use Rattle.lra_replica.specs.Prepared.{IsReadyNext}

@@ -1,6 +1,6 @@
 use Rattle.std.proofs.Common.{◌≡◌, ◌∙◌, Bool, true, Ok, Err, Result, ap, sym}
 use Rattle.lra_id.specs.Ids.{is_fact_number}
-use Rattle.lra_states.specs.declared.status.LraStatus.{LraStatus}
+use Rattle.lra_id.specs.declared.status.LraStatus.{LraStatus}
 use Rattle.lra_facts.specs.declared.refusal.Refusal.{Refusal}
 use Rattle.lra_forest.specs.Standing.{answered}
 use Rattle.lra_forest.proofs.Bools.{and_right}

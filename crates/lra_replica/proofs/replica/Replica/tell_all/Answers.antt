@@ -11,7 +11,7 @@ loop-home-preserved c =
     c.loop-home-test.true c.home-item.is c.in_ok-push.ensures.items (
       c.in_ok-clone.ensures.cases.0,
       c.in_ok-clone.ensures.cases.1,
-      ap Some (c.in_ok-numbers_of.ensures ∙ ap (λ (rs : List Record). map (λ (r : Record). r.num) rs) c.records.ensures.records),
+      ap Some c.in_ok-numbers.ensures,
       c.records.ensures.order,
     )
     c.loop-home.invariant

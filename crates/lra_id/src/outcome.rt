@@ -1,15 +1,16 @@
 // What a participant is asked, what is heard of it, and how an LRA is decided.
 ghost use Rattle.std.specs.Prelude.{◌≡◌, ◌≢◌, Some, IfErr, IfOk, nat_le};
-ghost use Rattle.lra_states.specs.declared.outcome.Act.{Act};
-ghost use Rattle.lra_states.specs.declared.outcome.Outcome.{Outcome};
-ghost use Rattle.lra_states.specs.declared.outcome.Verdict.{Verdict};
-ghost use Rattle.lra_states.specs.Names.{act_name, outcome_name, verdict_name};
-ghost use Rattle.lra_states.specs.States.{greater, level};
+ghost use Rattle.lra_id.specs.declared.outcome.Act.{Act};
+ghost use Rattle.lra_id.specs.declared.outcome.Outcome.{Outcome};
+ghost use Rattle.lra_id.specs.declared.outcome.Verdict.{Verdict};
+ghost use Rattle.lra_id.specs.Names.{act_name, outcome_name, verdict_name};
+ghost use Rattle.lra_id.specs.States.{greater, level};
 
-use lra_id::BadText;
+use crate::BadText;
 use std::fmt;
 
-/// What a participant is asked to do: to complete where its LRA closes, to compensate where it is cancelled.
+/// What a participant is asked to do: to complete where its LRA closes, to compensate where it is
+/// cancelled.
 #[derive(Clone, Copy, Debug, PartialEq, Eq)]
 pub enum Act {
     Complete,
@@ -48,7 +49,8 @@ impl fmt::Display for Act {
     }
 }
 
-/// What was heard of an act. Of several outcomes the greatest is shown: Busy is less than Done, and Done than Failed.
+/// What was heard of an act. Of several outcomes the greatest is shown: Busy is less than Done, and
+/// Done than Failed.
 #[derive(Clone, Copy, Debug, PartialEq, Eq, PartialOrd, Ord)]
 pub enum Outcome {
     Busy,

@@ -1,11 +1,11 @@
 // What LRAs and participants show, by the names of MicroProfile LRA 2.0.
 ghost use Rattle.std.specs.Prelude.{◌≡◌, ◌≢◌, Some, IfErr, IfOk};
-ghost use Rattle.lra_states.specs.declared.status.LraStatus.{LraStatus};
-ghost use Rattle.lra_states.specs.declared.status.MemberStatus.{MemberStatus};
-ghost use Rattle.lra_states.specs.Names.{lra_name, member_name};
-ghost use Rattle.lra_states.specs.States.{rank};
+ghost use Rattle.lra_id.specs.declared.status.LraStatus.{LraStatus};
+ghost use Rattle.lra_id.specs.declared.status.MemberStatus.{MemberStatus};
+ghost use Rattle.lra_id.specs.Names.{lra_name, member_name};
+ghost use Rattle.lra_id.specs.States.{rank};
 
-use lra_id::BadText;
+use crate::BadText;
 use std::fmt;
 
 /// What an LRA shows (MicroProfile LRA 2.0, `LRAStatus`).
@@ -21,7 +21,8 @@ pub enum LraStatus {
 }
 
 impl LraStatus {
-    /// Its place in the order in which an LRA's statuses follow each other, from 0 for Active to 6 for FailedToCancel.
+    /// Its place in the order in which an LRA's statuses follow each other, from 0 for Active to 6
+    /// for FailedToCancel.
     pub fn rank(self) -> u8
         ensures { result ≡ rank self }
     {

@@ -1,7 +1,6 @@
 // What a node is asked to enter, and what it replies.
-use lra_facts::{Links, Refusal};
-use lra_id::LraId;
-use lra_states::{Act, LraStatus, Outcome, Verdict};
+use crate::{Links, Refusal};
+use lra_id::{Act, LraId, LraStatus, Outcome, Verdict};
 use std::alloc::AllocError;
 
 /// What a node is asked to enter.

@@ -1,15 +1,15 @@
 -- The names of statuses, as MicroProfile LRA 2.0 has them, and the words for acts, outcomes and verdicts.
 use Rattle.std.specs.Prelude.{ℕ, List, codes}
-use Rattle.lra_states.specs.declared.status.LraStatus.{LraStatus}
-use Rattle.lra_states.specs.declared.status.LraStatus.TheVariants as lra
-use Rattle.lra_states.specs.declared.status.MemberStatus.{MemberStatus}
-use Rattle.lra_states.specs.declared.status.MemberStatus.TheVariants as member
-use Rattle.lra_states.specs.declared.outcome.Act.{Act}
-use Rattle.lra_states.specs.declared.outcome.Act.TheVariants.{Complete, Compensate}
-use Rattle.lra_states.specs.declared.outcome.Outcome.{Outcome}
-use Rattle.lra_states.specs.declared.outcome.Outcome.TheVariants.{Busy, Done, Failed}
-use Rattle.lra_states.specs.declared.outcome.Verdict.{Verdict}
-use Rattle.lra_states.specs.declared.outcome.Verdict.TheVariants.{Close, Cancel}
+use Rattle.lra_id.specs.declared.status.LraStatus.{LraStatus}
+use Rattle.lra_id.specs.declared.status.LraStatus.TheVariants as lra
+use Rattle.lra_id.specs.declared.status.MemberStatus.{MemberStatus}
+use Rattle.lra_id.specs.declared.status.MemberStatus.TheVariants as member
+use Rattle.lra_id.specs.declared.outcome.Act.{Act}
+use Rattle.lra_id.specs.declared.outcome.Act.TheVariants.{Complete, Compensate}
+use Rattle.lra_id.specs.declared.outcome.Outcome.{Outcome}
+use Rattle.lra_id.specs.declared.outcome.Outcome.TheVariants.{Busy, Done, Failed}
+use Rattle.lra_id.specs.declared.outcome.Verdict.{Verdict}
+use Rattle.lra_id.specs.declared.outcome.Verdict.TheVariants.{Close, Cancel}
 
 abbrev pub lra_name : LraStatus → List ℕ
 lra_name lra.Active = codes "Active"
