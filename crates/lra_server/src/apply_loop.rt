@@ -132,8 +132,8 @@ fn body_of_all(alloc: Global, nodes: u8) -> Result<PullBody, AllocError> {
     Ok(PullBody::new(bytes))
 }
 
-/// Asks as one that has all facts: so nothing is told but how many this node has. After that the others are asked, and hear of it
-/// (`Node::hear_front`).
+/// Asks as one that has all facts: so nothing is told but how many this node has. After that the
+/// others are asked, and hear of it (`Node::hear_front`).
 fn count<R: Wait + Clock, C: Clerk>(
     rt: &R,
     alloc: Global,
@@ -246,7 +246,8 @@ fn rest<R: Wait + Clock + Net<Listener = TcpListener, Stream = TcpStream>>(
     }
 }
 
-/// Enters what the threads that call and pull hear, looks for deadlines, sweeps, and makes the calls that operators want, until the run is over. It gives the clerk back.
+/// Enters what the threads that call and pull hear, looks for deadlines, sweeps, and makes the
+/// calls that operators want, until the run is over. It gives the clerk back.
 pub fn enter_all<
     R: Wait + Clock + Net<Listener = TcpListener, Stream = TcpStream>,
     C: Clerk + Drop,

@@ -2,14 +2,15 @@
 
 use std::time::Duration;
 
-/// How long nothing of the node's own is entered after a failure of its journal. It doubles each time.
+/// How long nothing of the node's own is entered after a failure of its journal. It doubles each
+/// time.
 const FIRST_PAUSE_MS: u64 = 100;
 
 /// How long at most.
 const LAST_PAUSE_MS: u64 = 1_600;
 
-/// How long it waits before it opens its journal again, or begins a run for which no thread could be had. It doubles with each try that
-/// fails.
+/// How long it waits before it opens its journal again, or begins a run for which no thread could
+/// be had. It doubles with each try that fails.
 const FIRST_REST_MS: u64 = 100;
 
 /// How long at most.
@@ -37,7 +38,8 @@ impl Backoff {
         }
     }
 
-    /// How long to hold back what the node would enter by itself. The next time it is twice as long.
+    /// How long to hold back what the node would enter by itself. The next time it is twice as
+    /// long.
     pub fn next_pause(&mut self) -> Duration {
         let pause_ms = self.pause_ms;
         self.pause_ms = pause_ms.saturating_mul(2).min(LAST_PAUSE_MS);

@@ -19,7 +19,8 @@ const WHOLE_REQUEST_MS: u64 = 50;
 /// How long its answer may take.
 const ANSWER_MS: u64 = 10_000;
 
-/// How long is waited for a connection where no run is on, before it is looked whether the program is to end.
+/// How long is waited for a connection where no run is on, before it is looked whether the program
+/// is to end.
 const LOOK_MS: u64 = 50;
 
 /// How long a worker rests where nothing comes of all that wait.
@@ -54,7 +55,8 @@ impl<'a, R: Wait + Clock> Connections<'a, R> {
         }
     }
 
-    /// From this node's queue, where no run is on, until this moment or until the program is to end.
+    /// From this node's queue, where no run is on, until this moment or until the program is to
+    /// end.
     pub fn between_runs(
         rt: &'a R,
         alloc: Global,
@@ -106,7 +108,8 @@ impl<'a, R: Wait + Clock> Connections<'a, R> {
         }
     }
 
-    // A reader and a writer over a socket, on which a request may take so long to be read. It is kept, to be closed when it is served.
+    // A reader and a writer over a socket, on which a request may take so long to be read. It is
+    // kept, to be closed when it is served.
     fn buffer(&mut self, stream: TcpStream, reading_ms: u64) -> io::Result<Buffered<'a, R>> {
         let times = Times {
             reading: Duration::from_millis(reading_ms),
@@ -123,7 +126,8 @@ impl<'a, R: Wait + Clock> Connections<'a, R> {
         })
     }
 
-    // A connection that was served, as it waits for its end: to be sent the rest of its answer, or to be read on.
+    // A connection that was served, as it waits for its end: to be sent the rest of its answer, or
+    // to be read on.
     fn waiting(&self, socket: SharedSocket) -> io::Result<PendingConnection> {
         let (stream, kept) = socket.into_parts();
         if kept.is_empty() {

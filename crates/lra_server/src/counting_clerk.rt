@@ -13,18 +13,20 @@ use std::alloc::Global;
 use std::sync::Wait;
 use std::time::Clock;
 
-/// How many facts of a frame, or duties of a list, count as one call more. The trail keeps each frame and list, so a run with long
-/// ones ends early.
+/// How many facts of a frame, or duties of a list, count as one call more. The trail keeps each
+/// frame and list, so a run with long ones ends early.
 const SHARE: u64 = 64;
 
 /// How many members of a record count so.
 const MEMBERS: u64 = 8;
 
-/// How many calls more a frame counts as at most: of the facts that it could tell, many may be purged.
+/// How many calls more a frame counts as at most: of the facts that it could tell, many may be
+/// purged.
 const MAX_SHARES: u64 = 320;
 
-/// A clerk whose calls are counted, and after whose calls is noted what other threads are to go on with. They are told by the thread
-/// that makes the calls, once the answer is written (`Node::pass_on`), and so is the end of the run (`Node::end_if_spent`).
+/// A clerk whose calls are counted, and after whose calls is noted what other threads are to go on
+/// with. They are told by the thread that makes the calls, once the answer is written
+/// (`Node::pass_on`), and so is the end of the run (`Node::end_if_spent`).
 #[derive(Drop)]
 pub struct CountingClerk<'n, R, C: Clerk> {
     rt: &'n R,
@@ -37,7 +39,8 @@ pub struct CountingClerk<'n, R, C: Clerk> {
 }
 
 impl<'n, R, C: Clerk> CountingClerk<'n, R, C> {
-    /// Of the thread that enters what others hear. It holds nothing back: while the journal is spared it has nothing to enter.
+    /// Of the thread that enters what others hear. It holds nothing back: while the journal is
+    /// spared it has nothing to enter.
     pub fn new(rt: &'n R, node: &'n Node, clerk: C) -> CountingClerk<'n, R, C> {
         CountingClerk {
             rt,
@@ -48,7 +51,8 @@ impl<'n, R, C: Clerk> CountingClerk<'n, R, C> {
         }
     }
 
-    /// Of a worker. While the journal is spared after a failure it refuses commands (E19), and asks the clerk all else.
+    /// Of a worker. While the journal is spared after a failure it refuses commands (E19), and asks
+    /// the clerk all else.
     pub fn of_worker(rt: &'n R, node: &'n Node, clerk: C) -> CountingClerk<'n, R, C> {
         CountingClerk {
             rt,
@@ -91,7 +95,8 @@ fn stirs(reply: &Reply) -> bool {
     )
 }
 
-/// Whether a call reports a completion: it makes nobody else due, save when the last one has completed.
+/// Whether a call reports a completion: it makes nobody else due, save when the last one has
+/// completed.
 fn is_completion(call: &Call) -> bool {
     matches!(
         call,
@@ -161,7 +166,8 @@ fn freed_by(call: &Call) -> Option<LraId> {
     }
 }
 
-/// Notes what a reply says of the home: that an LRA was begun, couldn't be begun, was purged, or may have ended.
+/// Notes what a reply says of the home: that an LRA was begun, couldn't be begun, was purged, or
+/// may have ended.
 fn note_home(node: &Node, reply: &Reply) {
     match reply {
         Reply::Command(CommandReply::Began(_, _)) => node.sweep.note_begun(),
@@ -175,7 +181,8 @@ fn note_home(node: &Node, reply: &Reply) {
     }
 }
 
-/// How many facts one has that pulls, where that is to be heard: the other nodes are in processes of their own.
+/// How many facts one has that pulls, where that is to be heard: the other nodes are in processes
+/// of their own.
 fn front_of(node: &Node, call: &Call) -> Option<Front> {
     let Call::Pull(body) = call else {
         return None;
@@ -195,7 +202,8 @@ fn is_stored(reply: &Reply) -> bool {
     }
 }
 
-/// Whether a fact of the node's own was stored before this reply, and not one that another node told.
+/// Whether a fact of the node's own was stored before this reply, and not one that another node
+/// told.
 fn is_own_fact(reply: &Reply) -> bool {
     is_stored(reply) && !matches!(reply, Reply::Took)
 }

@@ -36,8 +36,9 @@ struct Counter {
     done: Option<Done>,
 }
 
-/// Where one thread, which serves operators, asks for calls, and the one that enters makes them. Nothing is waited for at the desk: a
-/// call that isn't made in time is taken back, or its reply is dropped.
+/// Where one thread, which serves operators, asks for calls, and the one that enters makes them.
+/// Nothing is waited for at the desk: a call that isn't made in time is taken back, or its reply is
+/// dropped.
 #[derive(Drop)]
 pub struct Errands {
     counter: Mutex<Counter>,
@@ -89,8 +90,8 @@ impl Errands {
         counter.take()
     }
 
-    /// What came of the call that was wanted last: E19 where it wasn't made in time, and where the node's journal is closed meanwhile, or
-    /// the program is to end.
+    /// What came of the call that was wanted last: E19 where it wasn't made in time, and where the
+    /// node's journal is closed meanwhile, or the program is to end.
     pub(crate) fn wait<R: Wait + Clock>(&self, rt: &R, node: &Node) -> Result<Reply, Refusal> {
         for _slice in 0..SLICES {
             if let Some(outcome) = self.wait_a_slice(rt) {

@@ -1,4 +1,5 @@
-//! The server: nodes that answer HTTP, call participants and pull from one another, each over its own journal.
+//! The server: nodes that answer HTTP, call participants and pull from one another, each over its
+//! own journal.
 #![tactic(auto)]
 
 mod apply_loop;

@@ -95,7 +95,8 @@ fn warn_of_journal<R: Clock, L: Log>(
     }
 }
 
-/// Closes the connections that have waited longest for a worker, so that a journal and its log find a file each.
+/// Closes the connections that have waited longest for a worker, so that a journal and its log find
+/// a file each.
 fn close_some<R: Wait>(rt: &R, node: &Node) {
     for _turn in 0..FILES {
         node.queue.close_first(rt);
@@ -128,8 +129,9 @@ fn refuse_for<R: Wait + Clock + Net<Listener = TcpListener, Stream = TcpStream>>
     }
 }
 
-/// The book of a node whose journal was closed, opened again once that can be done; none where the program is to end before. Meanwhile
-/// each request is refused. Each time it is longer before it tries again.
+/// The book of a node whose journal was closed, opened again once that can be done; none where the
+/// program is to end before. Meanwhile each request is refused. Each time it is longer before it
+/// tries again.
 fn reopened<R, L: Log, S: Stores>(
     rt: &R,
     log: &L,
@@ -170,7 +172,8 @@ where
     unreachable!()
 }
 
-/// Whether the next run is on the same book, by why the last is over: it had no fault, or no thread or no memory could be had for it.
+/// Whether the next run is on the same book, by why the last is over: it had no fault, or no thread
+/// or no memory could be had for it.
 fn goes_on(reason: Option<StopReason>) -> bool {
     match reason {
         Some(
@@ -181,7 +184,8 @@ fn goes_on(reason: Option<StopReason>) -> bool {
     }
 }
 
-/// Rests where a run had no threads, and else notes that it had them. It says whether the node can go on: at the start it can't without.
+/// Rests where a run had no threads, and else notes that it had them. It says whether the node can
+/// go on: at the start it can't without.
 fn rest_if_starved<R: Wait + Clock>(
     rt: &R,
     node: &Node,
@@ -199,8 +203,9 @@ fn rest_if_starved<R: Wait + Clock>(
     false
 }
 
-/// The book that the next run is on, by why the last is over: the same, or, where the journal failed or the desk was lost, one whose
-/// journal is opened again; none where the program is to end.
+/// The book that the next run is on, by why the last is over: the same, or, where the journal
+/// failed or the desk was lost, one whose journal is opened again; none where the program is to
+/// end.
 fn next_book<R, L: Log, S: Stores>(
     rt: &R,
     log: &L,
@@ -286,7 +291,8 @@ fn begun_in_time<R: Wait + Clock, S: Alter + Drop>(
     unreachable!()
 }
 
-/// The next run, begun, or none where the program is to end. The last run's book is none where there was no memory for a desk.
+/// The next run, begun, or none where the program is to end. The last run's book is none where
+/// there was no memory for a desk.
 fn next_run<R, L: Log, S: Stores>(
     rt: &R,
     log: &L,
@@ -319,7 +325,8 @@ where
     Ok(begun_in_time(rt, alloc, node, Shut { book }))
 }
 
-/// A table of paths and an empty counter for errands, once there is memory for it; none where the program is to end before.
+/// A table of paths and an empty counter for errands, once there is memory for it; none where the
+/// program is to end before.
 fn shared_of<R: Wait + Clock>(rt: &R, alloc: Global, node: &Node) -> Option<Shared> {
     for _ in rt.forever() {
         if let Ok(paths) = Paths::new(alloc) {
@@ -413,8 +420,8 @@ fn help<R: Wait + Clock + Net<Listener = TcpListener, Stream = TcpStream>, L: Lo
     }
 }
 
-/// How many places of threads that outlive the runs a node has: one that watches, those that call, one that accepts, and those that
-/// pull.
+/// How many places of threads that outlive the runs a node has: one that watches, those that call,
+/// one that accepts, and those that pull.
 fn places_of(node: &Node) -> usize {
     let pulling = if node.site.is_apart() {
         usize::from(node.nodes)
@@ -470,7 +477,8 @@ pub fn runtime_of<R: Net<Listener = TcpListener, Stream = TcpStream>, S: Alter +
     Ok(NodeRuntime { begun, listeners })
 }
 
-/// Starts a thread for a role. It says whether one could be had.
+/// Starts a thread for a role. It says whether one could be had. (As in `run`, each start is a
+/// function of its own.)
 fn start_helper<'s, E, R, L>(
     scope: &Scope<'s, E>,
     rt: &'s R,
@@ -540,7 +548,8 @@ where
     }
 }
 
-/// Runs a node: its runs, with the threads that accept, call and pull beside them, until the program is to end.
+/// Runs a node: its runs, with the threads that accept, call and pull beside them, until the
+/// program is to end.
 pub fn run_node<R, L, S: Stores + Sync>(
     rt: &R,
     log: &L,

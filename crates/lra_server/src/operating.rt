@@ -1,4 +1,5 @@
-// The thread that serves a node's operators. It outlives the runs of its node, and waits for no desk.
+// The thread that serves a node's operators. It outlives the runs of its node, and waits for no
+// desk.
 
 use crate::errands::Errands;
 use crate::known::Known;

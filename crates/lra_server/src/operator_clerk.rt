@@ -14,7 +14,8 @@ use std::str;
 use std::sync::Wait;
 use std::time::Clock;
 
-/// Has calls made by the thread that enters. Where the journal is closed it refuses them at once (E19), and while it is spared commands.
+/// Has calls made by the thread that enters. Where the journal is closed it refuses them at once
+/// (E19), and while it is spared commands.
 #[derive(Drop)]
 pub struct OperatorClerk<'n, R, L> {
     rt: &'n R,

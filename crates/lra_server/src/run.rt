@@ -77,7 +77,8 @@ fn run_apply_loop<
     clerk.into_clerk().into_pass()
 }
 
-/// Starts the thread that enters, or ends the run and gives the pass back.
+/// Starts the thread that enters, or ends the run and gives the pass back. Each start is a function
+/// of its own, or the prover's search ends at a limit (docs/PROVING.md, "spawn-requires-send").
 fn start_apply_loop<'s, E, J: Run + Send + Sync + 's, S: Alter + Send + Drop + 's, R>(
     scope: &Scope<'s, E>,
     rt: &'s R,
@@ -181,7 +182,8 @@ fn room_for<T: Drop, P: Drop>(alloc: Global) -> Option<(Vec<T>, Vec<P>)> {
     Some((threads, back))
 }
 
-/// The threads of one run: they begin, serve until the run is over, and are joined. It gives all passes back.
+/// The threads of one run: they begin, serve until the run is over, and are joined. It gives all
+/// passes back.
 fn run_threads<J: Run + Send + Sync, S: Alter + Send + Drop, R>(
     rt: &R,
     alloc: Global,
@@ -220,7 +222,8 @@ where
     })
 }
 
-/// One run of a book. It gives the book back, or nothing where the desk couldn't be opened or closed.
+/// One run of a book. It gives the book back, or nothing where the desk couldn't be opened or
+/// closed.
 fn run<J: Run + Send + Sync, S: Alter + Send + Drop, R, L>(
     rt: &R,
     log: &L,
@@ -255,7 +258,8 @@ where
     Some(book)
 }
 
-/// One run of a book, under a name of its own: the ledger is the blank's, and the opening the book's.
+/// One run of a book, under a name of its own: the ledger is the blank's, and the opening the
+/// book's.
 pub fn named_run<S: Alter + Send + Drop, R, L>(
     rt: &R,
     log: &L,

@@ -171,7 +171,8 @@ pub struct Members {
     pub last: u8,
     /// Where all nodes of the group are reached, in order.
     pub peers: Vec<Peer>,
-    /// Where each listens, if that is said; else on the loopback interface, at the port where it is reached.
+    /// Where each listens, if that is said; else on the loopback interface, at the port where it is
+    /// reached.
     pub listen: Option<SocketAddr>,
     /// Where the first of them listens for operators, if that is said; each other at the next port.
     pub operate: Option<SocketAddr>,
@@ -319,7 +320,8 @@ fn begin<R: Net<Listener = TcpListener, Stream = TcpStream>, S: Stores>(
     runtimes_of(rt, alloc, nodes, begun)
 }
 
-/// Has a thread read the input, which tells its end. Where that can't be had, the run of this node can't be started.
+/// Has a thread read the input, which tells its end. Where that can't be had, the run of this node
+/// can't be started.
 fn watch<R: Threads, H: Wait + Send + Drop + 'static, I: Read + Send + Drop + 'static>(
     rt: &R,
     alloc: Global,
@@ -376,9 +378,10 @@ where
     u8::from(shutdown.has_failed(rt))
 }
 
-/// Runs so many nodes, 1 to 8, whose journals lie in these stores; node I listens at the port + I - 1 of the loopback interface.
-/// It ends with 0 when the input ends, and with 1 at the first journal that can't be opened, run that can't be started, or port
-/// that can't be bound, which it tells on standard error.
+/// Runs so many nodes, 1 to 8, whose journals lie in these stores; node I listens at the port + I -
+/// 1 of the loopback interface. It ends with 0 when the input ends, and with 1 at the first journal
+/// that can't be opened, run that can't be started, or port that can't be bound, which it tells on
+/// standard error.
 pub fn serve<R, L, H, S, I>(
     rt: &R,
     log: &L,
@@ -404,8 +407,8 @@ where
     serve_these(rt, log, host, alloc, 1, &all, stores, input)
 }
 
-/// Runs some nodes of a group, 1 to 8, whose journals lie in these stores. They pull from the others where those are reached. It ends as
-/// `serve` does.
+/// Runs some nodes of a group, 1 to 8, whose journals lie in these stores. They pull from the
+/// others where those are reached. It ends as `serve` does.
 pub fn serve_members<R, L, H, S, I>(
     rt: &R,
     log: &L,

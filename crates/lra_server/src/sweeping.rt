@@ -100,7 +100,8 @@ fn attend<R: Wait + Clock, C: Clerk>(
     }
 }
 
-/// Does what is to be done next to sweep the node's home, if there is something, and nothing has to wait for the journal.
+/// Does what is to be done next to sweep the node's home, if there is something, and nothing has to
+/// wait for the journal.
 pub fn sweep<R: Wait + Clock, C: Clerk>(
     rt: &R,
     alloc: Global,

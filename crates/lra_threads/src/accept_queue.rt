@@ -20,7 +20,8 @@ const MAX_UNSEEN: usize = 1_024;
 /// How many workers read a long request as it comes at most.
 const MAX_READING: u64 = 2;
 
-/// How many bytes of answers wait at most to be given on: two frames of full homes with the longest links.
+/// How many bytes of answers wait at most to be given on: two frames of full homes with the longest
+/// links.
 const MAX_KEPT: usize = 64 << 20;
 
 // What lies under the lock.
@@ -38,8 +39,8 @@ struct Waiting {
     ended: bool,
 }
 
-/// Connections that wait for a worker, first come first served. It outlives the runs of its node: what waits when a run ends is
-/// served in the next.
+/// Connections that wait for a worker, first come first served. It outlives the runs of its node:
+/// what waits when a run ends is served in the next.
 #[derive(Drop)]
 pub struct AcceptQueue {
     waiting: Mutex<Waiting>,
@@ -125,7 +126,8 @@ impl AcceptQueue {
         kept.saturating_add(bytes as u64) <= MAX_KEPT as u64
     }
 
-    // Puts a connection last. It says how many wait, and whether the worker that looks takes this one.
+    // Puts a connection last. It says how many wait, and whether the worker that looks takes this
+    // one.
     fn push<R: Wait>(&self, rt: &R, pending: PendingConnection) -> (usize, bool) {
         let mut waiting = self.waiting.lock(rt);
         waiting.push(pending);
@@ -151,14 +153,15 @@ impl AcceptQueue {
         self.waiting.lock(rt).unseen >= MAX_UNSEEN
     }
 
-    /// Puts a connection last of which nothing comes, and says how many wait. Whoever puts it back looks at it again, so nobody is
-    /// woken. One for which there is no memory is closed.
+    /// Puts a connection last of which nothing comes, and says how many wait. Whoever puts it back
+    /// looks at it again, so nobody is woken. One for which there is no memory is closed.
     pub fn put_back<R: Wait>(&self, rt: &R, pending: PendingConnection) -> usize {
         let (count, _is_seen) = self.push(rt, pending);
         count
     }
 
-    /// Wakes a worker that sleeps, if connections wait: the one that looked at them has something else to do now.
+    /// Wakes a worker that sleeps, if connections wait: the one that looked at them has something
+    /// else to do now.
     pub fn hand_on<R: Wait>(&self, rt: &R) {
         let is_wanted = self.wants_another(rt);
         if is_wanted {
@@ -201,7 +204,8 @@ impl AcceptQueue {
         }
     }
 
-    // Begins to look, unless something waits already or somebody else looks. It says whether it did.
+    // Begins to look, unless something waits already or somebody else looks. It says whether it
+    // did.
     fn begin_watching<R: Wait>(&self, rt: &R) -> bool {
         let mut waiting = self.waiting.lock(rt);
         if waiting.watched || waiting.ended || !waiting.pending.is_empty() {

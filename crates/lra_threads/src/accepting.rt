@@ -1,4 +1,5 @@
-// The thread that takes connections. It outlives the runs of its node, so that none is lost while one run follows another.
+// The thread that takes connections. It outlives the runs of its node, so that none is lost while
+// one run follows another.
 
 use crate::node::Node;
 use crate::pending_connection::PendingConnection;
@@ -35,8 +36,8 @@ fn wait_for_room<R: Wait + Clock>(rt: &R, node: &Node) {
     }
 }
 
-/// Takes connections and puts them on the queue, until the program is to end. Where no file is left for a connection, the one that has
-/// waited longest is closed.
+/// Takes connections and puts them on the queue, until the program is to end. Where no file is left
+/// for a connection, the one that has waited longest is closed.
 pub fn accept<R: Wait + Clock>(rt: &R, node: &Node, listener: &TcpListener) {
     for stream in listener.incoming() {
         match stream {

@@ -1,4 +1,5 @@
-// The thread that pulls from the other nodes of its process in turn. It outlives the runs of its node.
+// The thread that pulls from the other nodes of its process in turn. It outlives the runs of its
+// node.
 
 use crate::buffered_socket::{BufferedSocket, Times};
 use crate::clock::now;
@@ -119,8 +120,9 @@ fn next_teller(node: &Node, other: u8, told: &Counts, seen: &Counts) -> u8 {
     next_other(node, other)
 }
 
-/// Pulls from the other nodes, until the program is to end: from one that told that it has something new at once, if there was a pause
-/// after the last pull; and from each in turn, about twice a second while that brings anything, every five seconds at rest.
+/// Pulls from the other nodes, until the program is to end: from one that told that it has
+/// something new at once, if there was a pause after the last pull; and from each in turn, about
+/// twice a second while that brings anything, every five seconds at rest.
 pub fn pull_in_turn<R: Wait + Clock + Net<Listener = TcpListener, Stream = TcpStream>>(
     rt: &R,
     alloc: Global,

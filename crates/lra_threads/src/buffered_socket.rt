@@ -12,7 +12,8 @@ use std::rc::Rc;
 use std::sync::Wait;
 use std::time::{Clock, Duration};
 
-/// How many bytes are read or written at once: a frame of many fields makes no more calls of the system than that.
+/// How many bytes are read or written at once: a frame of many fields makes no more calls of the
+/// system than that.
 const BUFFER: usize = 8192;
 
 /// A buffered reader over a socket.
@@ -28,7 +29,8 @@ pub struct Times {
     pub writing: Duration,
 }
 
-/// A reader and a writer over one socket. They are made together, so that no reader of one socket is beside the writer of another.
+/// A reader and a writer over one socket. They are made together, so that no reader of one socket
+/// is beside the writer of another.
 #[derive(Drop)]
 pub struct BufferedSocket<'a, R: Wait + Clock> {
     reader: SocketReader<'a, R>,

@@ -107,7 +107,8 @@ fn warn_of<L: Log>(log: &L, node: &Node, plight: &Plight) {
     }
 }
 
-/// Calls participants, one after another, until the program is to end. It warns of those that are called in vain for a minute.
+/// Calls participants, one after another, until the program is to end. It warns of those that are
+/// called in vain for a minute.
 pub fn call_out<R: Wait + Clock + Net<Listener = TcpListener, Stream = TcpStream>, L: Log>(
     rt: &R,
     log: &L,

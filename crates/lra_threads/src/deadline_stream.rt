@@ -10,7 +10,8 @@ use std::rc::Rc;
 use std::sync::Wait;
 use std::time::{Clock, Duration};
 
-/// How long one call of the system may wait for a connection. A read of one that is served waits less (`PendingConnection`).
+/// How long one call of the system may wait for a connection. A read of one that is served waits
+/// less (`PendingConnection`).
 pub const SLICE_MS: u64 = 20;
 
 /// How many bytes an empty socket takes at once, at the least.
@@ -25,13 +26,15 @@ const MAX_TURNS: u32 = 10_000;
 /// What cuts the time of a connection short.
 #[derive(Clone, Copy)]
 pub enum Cutoff<'a> {
-    /// The end of the run. What its client hasn't taken of its answer by then goes to this queue, if there is room, and is sent on.
+    /// The end of the run. What its client hasn't taken of its answer by then goes to this queue,
+    /// if there is room, and is sent on.
     RunEnd(&'a AcceptQueue),
     /// The end of the program.
     ProgramEnd,
 }
 
-/// A connection whose reads, or writes, of one message end: with `TimedOut` where the message takes too long.
+/// A connection whose reads, or writes, of one message end: with `TimedOut` where the message takes
+/// too long.
 #[derive(Drop)]
 pub struct DeadlineStream<'a, R: Wait + Clock> {
     rt: &'a R,
@@ -85,7 +88,8 @@ impl<'a, R: Wait + Clock> DeadlineStream<'a, R> {
         }
     }
 
-    // Whether so many bytes of the answer are kept for later: some are already, or a next run waits for this one, and there is room.
+    // Whether so many bytes of the answer are kept for later: some are already, or a next run waits
+    // for this one, and there is room.
     fn is_to_keep(&self, count: usize) -> bool {
         match self.cutoff {
             Cutoff::RunEnd(queue) => {

@@ -1,4 +1,5 @@
-// The threads that pull from nodes in processes of their own, one from each. They outlive the runs of their node.
+// The threads that pull from nodes in processes of their own, one from each. They outlive the runs
+// of their node.
 
 use crate::asking::pull_over;
 use crate::clock::now;
@@ -156,8 +157,8 @@ fn pull_once<R: Wait + Clock + Net<Listener = TcpListener, Stream = TcpStream>>(
     }
 }
 
-/// Counts a pull, and warns of what it shows of another node: that nothing can be had of it, that it answers again, and that a journal is older than
-/// what its node told before.
+/// Counts a pull, and warns of what it shows of another node: that nothing can be had of it, that
+/// it answers again, and that a journal is older than what its node told before.
 fn warn_of<R: Wait + Clock, L: Log>(
     rt: &R,
     log: &L,
@@ -202,8 +203,9 @@ fn round_after(pulled: Pulled, round_ms: u64) -> u64 {
     }
 }
 
-/// Pulls from another node, until the program is to end: at once where it is known to have something new, or is to hear that this one
-/// has, if there was a pause after the last pull; else twice a second while that brings anything, and every five seconds at rest.
+/// Pulls from another node, until the program is to end: at once where it is known to have
+/// something new, or is to hear that this one has, if there was a pause after the last pull; else
+/// twice a second while that brings anything, and every five seconds at rest.
 pub fn follow<R: Wait + Clock + Net<Listener = TcpListener, Stream = TcpStream>, L: Log>(
     rt: &R,
     log: &L,

@@ -1,4 +1,5 @@
-//! The threads of a node that know no journal: its queue of connections, its calls to participants, and its pulls.
+//! The threads of a node that know no journal: its queue of connections, its calls to participants,
+//! and its pulls.
 #![tactic(auto)]
 
 mod accept_queue;

@@ -1,5 +1,5 @@
-// What the threads that call and pull hand to the thread that enters, and what it hands to them. It outlives the runs of a node,
-// so a participant that is slow to answer holds up no run.
+// What the threads that call and pull hand to the thread that enters, and what it hands to them. It
+// outlives the runs of a node, so a participant that is slow to answer holds up no run.
 
 ghost use Rattle.std.specs.Prelude.{◌≤◌};
 
@@ -26,13 +26,14 @@ pub struct Mailbox {
     came: Condvar,
     /// Wakes those who call.
     due: Condvar,
-    /// Wakes who waits for what was told to be taken, for the node to be counted or open, or for the program's end.
+    /// Wakes who waits for what was told to be taken, for the node to be counted or open, or for
+    /// the program's end.
     changed: Condvar,
 }
 
 impl Mailbox {
-    /// With nothing in it. Of the node's own front nothing is known yet. Where the others are in processes of their own it is asked
-    /// first, and then they are, before commands are entered.
+    /// With nothing in it. Of the node's own front nothing is known yet. Where the others are in
+    /// processes of their own it is asked first, and then they are, before commands are entered.
     pub fn new(alloc: Global, nodes: u8, are_apart: bool) -> Mailbox
         requires { (1 ≤ nodes) × (nodes ≤ 8) }
     {
@@ -57,13 +58,15 @@ impl Mailbox {
         }
     }
 
-    /// Has nothing entered for so long: the journal failed, and questions are to be answered meanwhile.
+    /// Has nothing entered for so long: the journal failed, and questions are to be answered
+    /// meanwhile.
     pub fn hold<R: Wait + Clock>(&self, rt: &R, time: Duration) {
         let until = now(rt).saturating_add(time);
         self.state.lock(rt).hold_until(until);
     }
 
-    /// Has the thread that enters look whether the run is over, also where it is only about to wait.
+    /// Has the thread that enters look whether the run is over, also where it is only about to
+    /// wait.
     pub fn wake<R: Wait>(&self, rt: &R) {
         self.state.lock(rt).hurry();
         self.came.notify_all();
@@ -95,7 +98,8 @@ impl Mailbox {
         self.came.notify_all();
     }
 
-    /// Waits until it is known how many facts the node has, or until the program is to end. It says whether it is to end.
+    /// Waits until it is known how many facts the node has, or until the program is to end. It says
+    /// whether it is to end.
     pub(crate) fn wait_for_count<R: Wait>(&self, rt: &R) -> bool {
         let state = self.changed.wait_while(
             rt,
@@ -105,7 +109,8 @@ impl Mailbox {
         state.has_ended()
     }
 
-    /// Whether nothing of the node's own is to be entered now: the journal failed, or the other nodes aren't heard yet.
+    /// Whether nothing of the node's own is to be entered now: the journal failed, or the other
+    /// nodes aren't heard yet.
     pub fn is_held<R: Wait + Clock>(&self, rt: &R) -> bool {
         let moment = now(rt);
         let state = self.state.lock(rt);
@@ -143,7 +148,8 @@ impl Mailbox {
         self.state.lock(rt).plaints(alloc, moment)
     }
 
-    /// Tells that another node was asked for the first time since the start; what it told is handed over, if it did.
+    /// Tells that another node was asked for the first time since the start; what it told is handed
+    /// over, if it did.
     pub(crate) fn note_asked<R: Wait>(&self, rt: &R) {
         let mut state = self.state.lock(rt);
         state.note_asked();
@@ -166,7 +172,8 @@ impl Mailbox {
         self.state.lock(rt).front()
     }
 
-    /// What the thread that enters does next. It waits for a quarter of a second at most, and not where it has something else to do.
+    /// What the thread that enters does next. It waits for a quarter of a second at most, and not
+    /// where it has something else to do.
     pub fn next<R: Wait + Clock>(&self, rt: &R, is_busy: bool) -> Task {
         let moment = now(rt);
         let mut state = self.state.lock(rt);
@@ -199,7 +206,8 @@ impl Mailbox {
         }
     }
 
-    /// A participant that is to be called. It waits for one whose host may be called, and gives none once the program is to end.
+    /// A participant that is to be called. It waits for one whose host may be called, and gives
+    /// none once the program is to end.
     pub(crate) fn next_duty<R: Wait>(&self, rt: &R) -> Option<Due> {
         let mut state = self.due.wait_while(rt, self.state.lock(rt), |state| {
             !state.may_call() && !state.has_ended()
@@ -207,8 +215,9 @@ impl Mailbox {
         state.take_due()
     }
 
-    /// Tells what came of a call that began at this moment: what was heard, or why the participant is called again. Its host may be
-    /// called once more then, by another thread too. It gives what is to be told of calls in vain.
+    /// Tells what came of a call that began at this moment: what was heard, or why the participant
+    /// is called again. Its host may be called once more then, by another thread too. It gives what
+    /// is to be told of calls in vain.
     pub(crate) fn tell<R: Wait + Clock>(
         &self,
         rt: &R,
@@ -235,7 +244,8 @@ impl Mailbox {
         self.state.lock(rt).put_letter(letter);
     }
 
-    /// Tells that what was heard is entered. A participant that is busy is called again after a pause.
+    /// Tells that what was heard is entered. A participant that is busy is called again after a
+    /// pause.
     pub fn note_entered<R: Wait + Clock>(&self, rt: &R, letter: &Letter) {
         let moment = now(rt);
         self.state.lock(rt).note_entered(letter, moment);
@@ -251,8 +261,8 @@ impl Mailbox {
         is_put
     }
 
-    /// Hands over what another node told, once nothing else waits. It says whether it did: not where nothing of it is new by then, nor
-    /// where the program is to end.
+    /// Hands over what another node told, once nothing else waits. It says whether it did: not
+    /// where nothing of it is new by then, nor where the program is to end.
     pub(crate) fn hand_over<R: Wait>(&self, rt: &R, telling: Telling) -> bool {
         let mut state = self.changed.wait_while(rt, self.state.lock(rt), |state| {
             state.has_telling() && !state.has_ended()

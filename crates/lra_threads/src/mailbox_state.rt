@@ -1,4 +1,5 @@
-// What lies under the lock of a `Mailbox`. It knows no thread and no clock: each moment is handed in.
+// What lies under the lock of a `Mailbox`. It knows no thread and no clock: each moment is handed
+// in.
 
 ghost use Rattle.std.specs.Prelude.{◌≤◌};
 
@@ -83,8 +84,8 @@ pub(crate) struct MailboxState {
 }
 
 impl MailboxState {
-    /// With nothing in it. Of the node's own front nothing is known yet. Where the others are in processes of their own it is asked
-    /// first, and then they are, before commands are entered.
+    /// With nothing in it. Of the node's own front nothing is known yet. Where the others are in
+    /// processes of their own it is asked first, and then they are, before commands are entered.
     pub(crate) fn new(alloc: Global, nodes: u8, are_apart: bool) -> MailboxState
         requires { (1 ≤ nodes) × (nodes ≤ 8) }
     {
@@ -113,8 +114,8 @@ impl MailboxState {
         }
     }
 
-    /// Schedules a new look at who is to be called: now; or, after what makes nobody else due, at the next tick while others wait. A
-    /// list of all that is due may be long.
+    /// Schedules a new look at who is to be called: now; or, after what makes nobody else due, at
+    /// the next tick while others wait. A list of all that is due may be long.
     pub(crate) fn stir(&mut self, makes_none_due: bool) {
         if makes_none_due && self.calls.is_any_due() {
             self.later = true;
@@ -143,7 +144,8 @@ impl MailboxState {
         self.open
     }
 
-    /// Has the next look for a task come to none, so that the thread that enters looks whether the run is over.
+    /// Has the next look for a task come to none, so that the thread that enters looks whether the
+    /// run is over.
     pub(crate) fn hurry(&mut self) {
         self.hurried = true;
     }
@@ -215,7 +217,8 @@ impl MailboxState {
         plaints_of(&self.sought, &self.calls, alloc, now)
     }
 
-    /// Whether the thread that enters has something to do. Before commands are entered it takes what others told, and no more.
+    /// Whether the thread that enters has something to do. Before commands are entered it takes
+    /// what others told, and no more.
     fn has_task(&self, now: Duration) -> bool {
         self.held_until <= now
             && (self.is_to_count(now)
@@ -224,8 +227,8 @@ impl MailboxState {
                     && (self.ticks_at <= now || !self.letters.is_empty() || self.stirred)))
     }
 
-    /// Has commands entered from here on, if all others were asked and what they told is taken, or the time for that is over. It says
-    /// whether that begins now.
+    /// Has commands entered from here on, if all others were asked and what they told is taken, or
+    /// the time for that is over. It says whether that begins now.
     pub(crate) fn open_if_due(&mut self, now: Duration) -> bool {
         if self.open {
             return false;
@@ -244,8 +247,8 @@ impl MailboxState {
         self.calls.resume(now)
     }
 
-    /// How long the thread that enters has nothing to do, if that is so at this moment. It is not where it is in a hurry, or is busy with
-    /// something else.
+    /// How long the thread that enters has nothing to do, if that is so at this moment. It is not
+    /// where it is in a hurry, or is busy with something else.
     pub(crate) fn idle_time(&self, now: Duration, is_busy: bool) -> Option<Duration> {
         let is_busy = is_busy && self.open && self.held_until <= now;
         if self.has_task(now) || self.hurried || is_busy {
@@ -254,7 +257,8 @@ impl MailboxState {
         Some(self.rests_until().saturating_sub(now))
     }
 
-    /// What the thread that enters does now: it looks whether the run is over if it is in a hurry, or has nothing to do.
+    /// What the thread that enters does now: it looks whether the run is over if it is in a hurry,
+    /// or has nothing to do.
     pub(crate) fn next_task(&mut self, now: Duration) -> Task {
         if self.hurried || !self.has_task(now) {
             self.hurried = false;
@@ -310,7 +314,8 @@ impl MailboxState {
         Some(Task::Ask)
     }
 
-    /// What the thread that enters does now. The kinds take turns, so that none waits for ever for others where each call takes long.
+    /// What the thread that enters does now. The kinds take turns, so that none waits for ever for
+    /// others where each call takes long.
     fn take_task(&mut self, now: Duration) -> Task {
         for _kind in 0..KINDS {
             self.turn = self.turn.next();
@@ -328,7 +333,8 @@ impl MailboxState {
         Task::Rest
     }
 
-    /// Whether it is to be asked at a tick who is to be called: that was put off, or it is long since.
+    /// Whether it is to be asked at a tick who is to be called: that was put off, or it is long
+    /// since.
     fn is_to_ask_again(&self, now: Duration) -> bool {
         let since = now.saturating_sub(self.asked_at);
         self.later || (!self.calls.is_empty() && since >= Duration::from_millis(ASK_MS))
@@ -353,7 +359,8 @@ impl MailboxState {
         self.calls.resumes_by(until.max(self.held_until))
     }
 
-    /// Puts those who are to be called. One for whom there is no memory is asked for at the next tick.
+    /// Puts those who are to be called. One for whom there is no memory is asked for at the next
+    /// tick.
     pub(crate) fn put_duties(&mut self, duties: Duties, now: Duration) {
         if !self.calls.put_all(duties.into_vec(), now) {
             self.later = true;
@@ -373,7 +380,8 @@ impl MailboxState {
         self.calls.take()
     }
 
-    /// Puts a letter last. One for which there is no memory is lost, and the participant is called again.
+    /// Puts a letter last. One for which there is no memory is lost, and the participant is called
+    /// again.
     pub(crate) fn put_letter(&mut self, letter: Letter) {
         if let Err(refused) = self.letters.push_back(letter) {
             self.calls.forget(Called::of(refused.value.duty()));
@@ -381,8 +389,8 @@ impl MailboxState {
         }
     }
 
-    /// Puts what came of a call that took so long. A participant that is to be called again pauses first. It gives what is to be told of
-    /// calls in vain.
+    /// Puts what came of a call that took so long. A participant that is to be called again pauses
+    /// first. It gives what is to be told of calls in vain.
     pub(crate) fn hear(
         &mut self,
         time: Duration,
@@ -406,7 +414,8 @@ impl MailboxState {
         }
     }
 
-    /// Notes that what was heard is entered. A participant that is busy is called again after a pause.
+    /// Notes that what was heard is entered. A participant that is busy is called again after a
+    /// pause.
     pub(crate) fn note_entered(&mut self, letter: &Letter, now: Duration) {
         let who = Called::of(letter.duty());
         match letter.heard() {
@@ -430,8 +439,8 @@ impl MailboxState {
         true
     }
 
-    /// Puts what another node told, for which commands are held back at a start. It says whether it did: not where nothing of it is new,
-    /// nor where the program is to end.
+    /// Puts what another node told, for which commands are held back at a start. It says whether it
+    /// did: not where nothing of it is new, nor where the program is to end.
     pub(crate) fn put_awaited(&mut self, telling: Telling) -> bool {
         let told = telling.front();
         if self.ended || told.nodes() != self.front.nodes() || told.below(&self.front) {

@@ -55,8 +55,9 @@ pub struct Node {
 }
 
 impl Node {
-    /// One of so many nodes, at this site. It keeps roots that have ended so long. Its runs are as long as the tally says. It hears news
-    /// in one place, and tells it in those where the nodes of its process do.
+    /// One of so many nodes, at this site. It keeps roots that have ended so long. Its runs are as
+    /// long as the tally says. It hears news in one place, and tells it in those where the nodes of
+    /// its process do.
     pub fn new(
         alloc: Global,
         number: u8,
@@ -116,8 +117,8 @@ impl Node {
         self.is_shut.load(Ordering::SeqCst)
     }
 
-    /// Why it enters no commands now, if it doesn't: `journal` where the journal failed, `behind` where the other nodes aren't heard yet,
-    /// `ending` where the program is to end.
+    /// Why it enters no commands now, if it doesn't: `journal` where the journal failed, `behind`
+    /// where the other nodes aren't heard yet, `ending` where the program is to end.
     pub fn unready<R: Wait + Clock>(&self, rt: &R) -> Option<&'static str> {
         if self.signal.has_ended(rt) {
             return Some("ending");
@@ -147,8 +148,8 @@ impl Node {
         self.has_news.store(true, Ordering::SeqCst);
     }
 
-    /// Wakes those who are to go on with what the calls so far came to: who enters, and the other nodes. That is done after the
-    /// answer, so that no client waits for it.
+    /// Wakes those who are to go on with what the calls so far came to: who enters, and the other
+    /// nodes. That is done after the answer, so that no client waits for it.
     pub fn pass_on<R: Wait>(&self, rt: &R) {
         self.mailbox.pass_on(rt);
         if self.has_news.swap(false, Ordering::SeqCst) {
@@ -161,8 +162,9 @@ impl Node {
         }
     }
 
-    /// Hears how many facts of each node one has that asks this one. Where that is more of another node's than this one has, that node is
-    /// asked. So who asks tells thereby that it has something new.
+    /// Hears how many facts of each node one has that asks this one. Where that is more of another
+    /// node's than this one has, that node is asked. So who asks tells thereby that it has
+    /// something new.
     pub fn hear_front<R: Wait>(&self, rt: &R, front: &Front) {
         let known = self.mailbox.front(rt);
         let mut number = 0u8;
@@ -174,8 +176,8 @@ impl Node {
         }
     }
 
-    /// Ends the run for this cause: sets the signal, and has the threads of the run look at it; at the program's end the accepting
-    /// thread, too.
+    /// Ends the run for this cause: sets the signal, and has the threads of the run look at it; at
+    /// the program's end the accepting thread, too.
     pub fn end_run<R: Wait + Clock + Net<Listener = TcpListener, Stream = TcpStream>>(
         &self,
         rt: &R,
@@ -204,9 +206,10 @@ impl Node {
         }
     }
 
-    // Connects once to a port of the node's own, so that the thread that accepts there looks at the signal. Where the port's queue is full the try
-    // ends with its time: that thread has others to take then, and looks after each. Where no socket can be had it tries again: that
-    // thread, too, gets none then, and looks each time.
+    // Connects once to a port of the node's own, so that the thread that accepts there looks at the
+    // signal. Where the port's queue is full the try ends with its time: that thread has others to
+    // take then, and looks after each. Where no socket can be had it tries again: that thread, too,
+    // gets none then, and looks each time.
     fn knock<R: Wait + Clock + Net<Listener = TcpListener, Stream = TcpStream>>(
         &self,
         rt: &R,

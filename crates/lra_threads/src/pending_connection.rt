@@ -80,7 +80,8 @@ pub struct PendingConnection {
 /// What a look at a connection finds.
 #[derive(Drop)]
 pub enum Readiness {
-    /// A whole request is there, or what a worker is to refuse: it may serve it, and has nothing to wait for.
+    /// A whole request is there, or what a worker is to refuse: it may serve it, and has nothing to
+    /// wait for.
     Whole(TcpStream),
     /// A long request has begun: a worker may read it as it comes.
     Long(TcpStream),
@@ -128,8 +129,8 @@ impl PendingConnection {
         self.stage.kept()
     }
 
-    /// A connection that has its answer. What its client still sends is read on for a moment, so that the answer reaches it; none
-    /// where the client is gone already.
+    /// A connection that has its answer. What its client still sends is read on for a moment, so
+    /// that the answer reaches it; none where the client is gone already.
     pub fn closing<R: Clock>(rt: &R, stream: TcpStream) -> io::Result<PendingConnection> {
         stream.shutdown(Shutdown::Write)?;
         stream.set_nonblocking(true)?;
@@ -179,7 +180,8 @@ impl PendingConnection {
         self.keep_or_drop(rt)
     }
 
-    // Waits for the rest of a request. The time for that goes from here; when it is over, the connection is closed.
+    // Waits for the rest of a request. The time for that goes from here; when it is over, the
+    // connection is closed.
     fn await_rest<R: Clock>(mut self, rt: &R) -> Readiness {
         let Ok(now) = rt.monotonic() else {
             return Readiness::Closed;
@@ -210,7 +212,8 @@ impl PendingConnection {
         }
     }
 
-    // Hands the connection over if so much of its request is enough. A long one waits until a worker may read on.
+    // Hands the connection over if so much of its request is enough. A long one waits until a
+    // worker may read on.
     fn hand_over<R: Clock>(self, rt: &R, extent: Extent, reads_on: bool) -> Readiness {
         let is_long = extent == Extent::Long;
         if extent == Extent::Part || (is_long && !reads_on) {
@@ -283,8 +286,8 @@ impl PendingConnection {
         }
     }
 
-    /// Looks at what has come, or sends on. The first look waits a little for something, and others for nothing. A long request is
-    /// there for a worker where one may read on.
+    /// Looks at what has come, or sends on. The first look waits a little for something, and others
+    /// for nothing. A long request is there for a worker where one may read on.
     pub fn look<R: Clock>(self, rt: &R, reads_on: bool) -> Readiness {
         match self.stage {
             Stage::Accepted => self.first_look(rt, reads_on),

@@ -63,15 +63,16 @@ impl SharedSocket {
         self.is_dry.set(count < room);
     }
 
-    /// Notes what is written. An answer of the codes 200 to 299 is one to a request that was read to its end.
+    /// Notes what is written. An answer of the codes 200 to 299 is one to a request that was read
+    /// to its end.
     pub(crate) fn note_written(&self, bytes: &[u8]) {
         if bytes.starts_with(b"HTTP/1.1 2") {
             self.is_heard.set(true);
         }
     }
 
-    /// Whether nothing is left of the request that its client could still send. Then the system doesn't reset the connection when it
-    /// is closed, and the client gets the answer whole.
+    /// Whether nothing is left of the request that its client could still send. Then the system
+    /// doesn't reset the connection when it is closed, and the client gets the answer whole.
     pub fn is_done(&self) -> bool {
         self.is_dry.get() && self.is_heard.get()
     }

@@ -12,7 +12,8 @@ pub enum End {
     Failed,
 }
 
-/// Where the end of the program is told. The thread that reads the input shares it, and may outlive all others.
+/// Where the end of the program is told. The thread that reads the input shares it, and may outlive
+/// all others.
 #[derive(Drop)]
 pub struct Shutdown {
     end: Mutex<Option<End>>,

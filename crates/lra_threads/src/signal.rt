@@ -52,7 +52,8 @@ impl Signal {
         }
     }
 
-    /// Ends the run, if nobody did before, and says whether it was so. Of several causes the weightiest stands, whatever their order.
+    /// Ends the run, if nobody did before, and says whether it was so. Of several causes the
+    /// weightiest stands, whatever their order.
     pub fn end<R: Wait>(&self, rt: &R, why: StopReason) -> bool {
         let mut reason = self.reason.lock(rt);
         let Some(was) = *reason else {

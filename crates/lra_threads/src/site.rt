@@ -35,7 +35,8 @@ fn peer_at(peers: &[Peer], number: u8) -> Option<&Peer> {
     peers.get(usize::from(number.saturating_sub(1)))
 }
 
-/// Where a node listens that is reached at this port: on the loopback interface there, unless something else is said.
+/// Where a node listens that is reached at this port: on the loopback interface there, unless
+/// something else is said.
 fn listens_at(said: Option<SocketAddr>, port: u16) -> SocketAddr
     ensures { IfNone said (socket_ip result ≡ IpAddr.V4 Ipv4Addr.LOCALHOST) }
 {
@@ -55,7 +56,8 @@ fn connect<R: Wait + Clock + Net<Stream = TcpStream>>(
     connect_to_one(rt, signal, (host, peer.port).to_socket_addrs(rt)?, time)
 }
 
-/// Where one is reached from its own machine that listens here: one that listens on every interface, on the loopback interface.
+/// Where one is reached from its own machine that listens here: one that listens on every
+/// interface, on the loopback interface.
 fn door_of(address: SocketAddr) -> SocketAddr {
     let port = address.port();
     match address.ip() {
@@ -79,7 +81,8 @@ pub struct Site {
 }
 
 impl Site {
-    /// Of one of the nodes of a process, of which the first listens at this port of the loopback interface.
+    /// Of one of the nodes of a process, of which the first listens at this port of the loopback
+    /// interface.
     pub fn here(first_port: u16, number: u8) -> Site
         ensures ip { socket_ip result.listen ≡ IpAddr.V4 Ipv4Addr.LOCALHOST }
         ensures port { socket_port result.listen ≡ min (first_port + (number - 1)) (2 ^ 16 - 1) }
@@ -91,8 +94,9 @@ impl Site {
         }
     }
 
-    /// Of a node that reaches the others at these addresses, in order, as it is reached itself. Where it isn't said where it listens, it
-    /// does so on the loopback interface, at its own port there. It listens for operators where that is said.
+    /// Of a node that reaches the others at these addresses, in order, as it is reached itself.
+    /// Where it isn't said where it listens, it does so on the loopback interface, at its own port
+    /// there. It listens for operators where that is said.
     pub fn apart(
         said: Option<SocketAddr>,
         operate: Option<SocketAddr>,

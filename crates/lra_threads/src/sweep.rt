@@ -1,5 +1,5 @@
-// Which roots of a node's home have ended, and are to be purged; and how full the home is. It outlives the runs of the node; a start
-// begins anew.
+// Which roots of a node's home have ended, and are to be purged; and how full the home is. It
+// outlives the runs of the node; a start begins anew.
 
 use crate::clock::now;
 use lra_id::{LAST_NUMBER, LraId, LraStatus, NodeId};
@@ -32,7 +32,8 @@ pub(crate) const PLACES: u64 = 256;
 /// How many of them are taken before that is to be told: three quarters.
 const MANY: u64 = 192;
 
-/// How long roots are kept from when they were first seen to have ended, in milliseconds; for ever, if nothing is said.
+/// How long roots are kept from when they were first seen to have ended, in milliseconds; for ever,
+/// if nothing is said.
 #[derive(Clone, Copy)]
 pub struct Keep {
     /// Those that are closed or cancelled.
@@ -128,8 +129,8 @@ pub enum Purged {
     Later,
 }
 
-/// Has roots purged a while after they were first seen to have ended, or never; and knows how full the home is, where that is to be
-/// known.
+/// Has roots purged a while after they were first seen to have ended, or never; and knows how full
+/// the home is, where that is to be known.
 #[derive(Drop)]
 pub struct Sweep {
     number: u8,
@@ -206,7 +207,8 @@ impl Swept {
         self.showing = [0; 7];
     }
 
-    /// Ends a look. What it hasn't found is forgotten. It says whether there is to be another, since there was no room for one.
+    /// Ends a look. What it hasn't found is forgotten. It says whether there is to be another,
+    /// since there was no room for one.
     fn end(&mut self) -> bool {
         self.looks = false;
         self.taken = self.counted;
@@ -251,7 +253,8 @@ impl Swept {
 }
 
 impl Sweep {
-    /// Of a node, which keeps its roots so long; and knows how full the home is, or doesn't, and what its LRAs show, or doesn't.
+    /// Of a node, which keeps its roots so long; and knows how full the home is, or doesn't, and
+    /// what its LRAs show, or doesn't.
     pub fn new(alloc: Global, number: u8, keep: Keep, counts: bool, is_watched: bool) -> Sweep {
         Sweep {
             number,
@@ -311,8 +314,9 @@ impl Sweep {
         self.is_full.store(true, Ordering::SeqCst);
     }
 
-    /// Whether the home is to be looked through, once that may be done: some may have ended, or so many were begun that their count is
-    /// to be known; or, once in a while, something else may have changed that is to be known.
+    /// Whether the home is to be looked through, once that may be done: some may have ended, or so
+    /// many were begun that their count is to be known; or, once in a while, something else may
+    /// have changed that is to be known.
     fn is_to_look(&self, swept: &Swept, now: Duration) -> bool {
         let begun = self.begun.load(Ordering::SeqCst);
         let may_have_ended = self.is_stirred.load(Ordering::SeqCst);
@@ -334,7 +338,8 @@ impl Sweep {
             || (swept.looks_at <= now && self.is_to_look(&swept, now))
     }
 
-    /// The next chore, if there is one: a look that has begun is ended first, and then what is due is purged.
+    /// The next chore, if there is one: a look that has begun is ended first, and then what is due
+    /// is purged.
     pub fn next<R: Wait + Clock>(&self, rt: &R) -> Option<Chore> {
         if !self.counts && !self.purges() {
             return None;
@@ -413,7 +418,8 @@ impl Sweep {
         }
     }
 
-    /// Tells that a participant of an LRA was told what it was to be told: roots that waited for that are tried at once.
+    /// Tells that a participant of an LRA was told what it was to be told: roots that waited for
+    /// that are tried at once.
     pub fn free<R: Wait>(&self, rt: &R, id: LraId) {
         let mut swept = self.swept.lock(rt);
         for ended in swept.ended.iter_mut() {

@@ -1,4 +1,5 @@
-// The thread that warns of a home that fills up, and of connections that were closed. It outlives the runs of its node.
+// The thread that warns of a home that fills up, and of connections that were closed. It outlives
+// the runs of its node.
 
 use crate::clock::now;
 use crate::node::Node;
@@ -51,7 +52,8 @@ impl Warned {
         }
     }
 
-    /// Notes how full the home is. It says whether that is to be told now: a level is reached that wasn't told since the home was well.
+    /// Notes how full the home is. It says whether that is to be told now: a level is reached that
+    /// wasn't told since the home was well.
     fn note_fill(&mut self, fill: &Fill, now: Duration) -> bool {
         let level = level_of(fill);
         if level == 0 && now.saturating_sub(self.since) >= Duration::from_millis(QUIET_MS) {
@@ -90,7 +92,8 @@ impl Closed {
         }
     }
 
-    /// Adds so many. It gives how many are to be told now: those since the last time, once a minute at most.
+    /// Adds so many. It gives how many are to be told now: those since the last time, once a minute
+    /// at most.
     fn add(&mut self, count: u64, now: Duration) -> Option<u64> {
         self.count = self.count.saturating_add(count);
         let is_quiet = match self.since {
@@ -107,9 +110,10 @@ impl Closed {
     }
 }
 
-/// Warns when three quarters and nine tenths of the home's places are taken, and when an LRA couldn't be begun, until the program is to
-/// end. It tells each once, and again once there was room and a minute is over. It warns of connections that were closed since no file
-/// was left, once a minute at most.
+/// Warns when three quarters and nine tenths of the home's places are taken, and when an LRA
+/// couldn't be begun, until the program is to end. It tells each once, and again once there was
+/// room and a minute is over. It warns of connections that were closed since no file was left, once
+/// a minute at most.
 pub fn watch<R: Wait + Clock, L: Log>(rt: &R, log: &L, node: &Node) {
     let (mut warned, mut closed) = (Warned::new(), Closed::new());
     for _ in rt.forever() {
