@@ -20,7 +20,7 @@ const MAX_UNSEEN: usize = 1_024;
 /// How many workers read a long request as it comes at most.
 const MAX_READING: u64 = 2;
 
-/// How many bytes of answers wait at most to be given on: two frames of full homes with the longest
+/// How many bytes of answers wait at most to be sent on: two frames of full homes with the longest
 /// links.
 const MAX_KEPT: usize = 64 << 20;
 
