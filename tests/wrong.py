@@ -1,5 +1,6 @@
 """Has the prover refuse wrong bodies, many in one check: `python3 tests/wrong.py NAME..`, each NAME a crate, or `--all`
-for every crate.
+for every crate, as `.ci/run` does behind the gate. Crates are tried side by side, `--jobs N` of them: without it as
+many as there are processors, and 4 GB of memory free for each.
 
 A wrong body is a file tests/wrong/NAME/WHAT.edit of the form that must-fail/ has: a line 'file: src/x.rt', and pairs of
 lines 'old: TEXT' and 'new: TEXT', each TEXT one line that stands exactly once in the file. A line 'fn: PATH' names the
@@ -17,6 +18,7 @@ proves those functions and what they call, over the libraries below the crate th
 A line a body, and last 'N refused, M not'; it ends with 0 if each is refused. Where crates/NAME/out/incremental has
 what `rt check` kept, a check begins with that; WHOLE=1 has it begin with nothing. SAID=FILE appends what the prover
 said to FILE-NAME."""
+import concurrent.futures
 import os
 import re
 import shutil
@@ -237,35 +239,55 @@ def verdict(edit: Edit, found: Goals) -> Verdict:
 
 def of_crate(kit: str, name: str, libraries: Crates, edits: list[Edit]) -> list[str]:
     """Tries a crate's edits and prints a line of each: the names of those that are not refused."""
-    began, spent, missed = time.time(), sum(os.times()[2:4]), []
+    began, missed = time.time(), []
     with tempfile.TemporaryDirectory(prefix="wrong-kept-") as kept:
         for edit, (is_refused, why) in Prover(kit, name, libraries, kept).each_tried(edits):
             print(f"{name}/{edit.name}: {'refused' if is_refused else 'NOT REFUSED'}: {why}", flush=True)
             missed += [] if is_refused else [f"{name}/{edit.name}"]
-    cost = sum(os.times()[2:4]) - spent
-    print(f"{name}: {len(edits)} wrong bodies, {time.time() - began:.0f} seconds, {cost:.0f} of a processor",
-          flush=True)
+    print(f"{name}: {len(edits)} wrong bodies, {time.time() - began:.0f} seconds", flush=True)
     return missed
 
 
+def most_jobs() -> int:
+    """How many crates are tried side by side: a check wants up to 4 GB."""
+    free = repo.found(r"MemAvailable:\s+(\d+)", repo.read("/proc/meminfo"))[1]
+    return max(1, min(os.cpu_count() or 1, int(free) // 4_000_000))
+
+
+def jobs_of(words: list[str]) -> tuple[int, list[str]]:
+    """How many crates are tried side by side, and the other words."""
+    if "--jobs" not in words:
+        return most_jobs(), words
+    at = words.index("--jobs")
+    if not words[at + 1 : at + 2] or not words[at + 1].isdigit() or words[at + 1] == "0":
+        sys.exit("--jobs wants a number")
+    return int(words[at + 1]), words[:at] + words[at + 2 :]
+
+
 def main() -> int:
-    words, libraries = sys.argv[1:], repo.crates()
+    jobs, words = jobs_of(sys.argv[1:])
+    libraries = repo.crates()
     flags = {word for word in words if word.startswith("--")}
     names = [word for word in words if word not in flags]
     strange = [*(flags - {"--all", "--must-fail"}), *(set(names) - set(libraries))]
     if strange or not names and "--all" not in flags:
         unknown = f"; not known: {' '.join(strange)}" if strange else ""
-        sys.exit(f"usage: python3 tests/wrong.py [--must-fail] --all | NAME..{unknown}")
-    kit, count = repo.kit(), 0
-    missed: list[str] = []
+        sys.exit(f"usage: python3 tests/wrong.py [--must-fail] [--jobs N] --all | NAME..{unknown}")
+    kit, began, spent = repo.kit(), time.time(), sum(os.times()[2:4])
+    edits: dict[str, list[Edit]] = {}
     for name in libraries:
         folder = f"crates/{name}/must-fail" if "--must-fail" in flags else f"tests/wrong/{name}"
         if not (names and name not in names) and os.path.isdir(f"{TOP}/{folder}"):
-            edits = [Edit(path, f"crates/{name}") for path in repo.files(f"{folder}/*.edit")]
-            missed += of_crate(kit, name, libraries, edits)
-            count += len(edits)
+            edits[name] = [Edit(path, f"crates/{name}") for path in repo.files(f"{folder}/*.edit")]
         elif name in names:
             print(f"{name}: there are none")
+    # (the highest first: they take longest)
+    with concurrent.futures.ThreadPoolExecutor(jobs) as pool:
+        tried = [pool.submit(of_crate, kit, name, libraries, its) for name, its in reversed(edits.items())]
+        missed = [name for one in tried for name in one.result()]
+    count = sum(map(len, edits.values()))
+    cost = sum(os.times()[2:4]) - spent
+    print(f"{time.time() - began:.0f} seconds, {cost / 60:.1f} minutes of a processor")
     print(f"{count - len(missed)} refused, {len(missed)} not{': ' + ' '.join(missed) if missed else ''}")
     return 1 if missed else 0
 
