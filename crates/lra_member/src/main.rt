@@ -21,7 +21,7 @@ const USAGE: &str =
     "usage: lra_member I|I-J DIR [listen=IP:PORT] [operate=IP:PORT] [keep=MS] [keep-failed=MS] HOST:PORT..";
 
 /// How long the last warnings have to be written at the end, in milliseconds.
-const LAST_LINES: u64 = 500;
+const LAST_LINES_MS: u64 = 500;
 
 /// Runs nodes until standard input ends, and gives the exit status of `serve_members`. Where the
 /// arguments ask for something else it ends with 2, and the usage.
@@ -55,7 +55,7 @@ fn main(rt: HostRuntime) -> ExitCode {
     let folder = Folder::new(rt, folder, UnknownFiles);
     let input = rt.reader();
     let status = serve_members(&rt, &logged, rt, alloc, members, &folder, input);
-    lines.wait(&rt, Duration::from_millis(LAST_LINES));
+    lines.wait(&rt, Duration::from_millis(LAST_LINES_MS));
     ExitCode::from(status)
 }
 

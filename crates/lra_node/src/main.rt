@@ -25,7 +25,7 @@ const FIRST_PORT: u16 = 1_024;
 const LAST_PORT: u16 = 65_528;
 
 /// How long the last warnings have to be written at the end, in milliseconds.
-const LAST_LINES: u64 = 500;
+const LAST_LINES_MS: u64 = 500;
 
 /// Runs a server until standard input ends, or plays a script over standard input. Each gives its
 /// exit status, as `serve` and `play` say. Where the arguments ask for something else it ends with
@@ -55,7 +55,7 @@ fn main(rt: HostRuntime) -> ExitCode {
     let logged = Logged::new(&rt, Level::Info, to_lines);
     let folder = folder_of(rt, words);
     let status = serve(&rt, &logged, rt, alloc, nodes, port, &folder, input);
-    lines.wait(&rt, Duration::from_millis(LAST_LINES));
+    lines.wait(&rt, Duration::from_millis(LAST_LINES_MS));
     ExitCode::from(status)
 }
 

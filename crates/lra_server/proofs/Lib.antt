@@ -1,2 +1,2 @@
 mod Outcomes
-mod Windows
+mod Receipts

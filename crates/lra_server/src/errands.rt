@@ -6,8 +6,8 @@ use lra_threads::Node;
 use std::sync::{Condvar, CondvarTimeouts, Mutex, Wait};
 use std::time::{Clock, Duration};
 
-/// How long is waited for a call to be made at once, in milliseconds.
-const SLICE: u64 = 100;
+/// How long is waited for a call to be made at once.
+const SLICE_MS: u64 = 100;
 
 /// How often that is waited: five seconds in all.
 const SLICES: u32 = 50;
@@ -36,8 +36,9 @@ struct Counter {
     done: Option<Done>,
 }
 
-/// Where one thread, which serves operators, asks for calls, and the one that enters makes them. Nothing is waited for at the desk: a
-/// call that isn't made in time is taken back, or its reply is dropped.
+/// Where one thread, which serves operators, asks for calls, and the one that enters makes them.
+/// Nothing is waited for at the desk: a call that isn't made in time is taken back, or its reply is
+/// dropped.
 #[derive(Drop)]
 pub struct Errands {
     counter: Mutex<Counter>,
@@ -79,7 +80,7 @@ impl Errands {
 
     // What came of the call that was wanted last, if it is made within a slice.
     fn wait_a_slice<R: Wait + Clock>(&self, rt: &R) -> Option<Result<Reply, Refusal>> {
-        let time = Duration::from_millis(SLICE);
+        let time = Duration::from_millis(SLICE_MS);
         let (mut counter, _) = self.made.wait_timeout_while(
             rt,
             self.counter.lock(rt),
@@ -89,8 +90,8 @@ impl Errands {
         counter.take()
     }
 
-    /// What came of the call that was wanted last: E19 where it wasn't made in time, and where the node's journal is closed meanwhile, or
-    /// the program is to end.
+    /// What came of the call that was wanted last: E19 where it wasn't made in time, and where the
+    /// node's journal is closed meanwhile, or the program is to end.
     pub(crate) fn wait<R: Wait + Clock>(&self, rt: &R, node: &Node) -> Result<Reply, Refusal> {
         for _slice in 0..SLICES {
             if let Some(outcome) = self.wait_a_slice(rt) {

@@ -1,24 +1,25 @@
-//! The server: nodes that answer HTTP, call participants and pull from one another, each over its own journal.
+//! The server: nodes that answer HTTP, call participants and pull from one another, each over its
+//! own journal.
 #![tactic(auto)]
 
+mod apply_loop;
+mod backoff;
 mod begun;
 mod closed;
+mod connections;
 mod counting;
-mod crew;
+mod counting_clerk;
 mod errands;
-mod hall;
 mod known;
-mod life;
+mod node_runtime;
 mod opening;
 mod operating;
+mod operator_clerk;
 mod refusals;
-mod scribe;
-mod seat;
+mod run;
 mod server;
-mod setbacks;
+mod shared;
 mod sweeping;
-mod taken;
-mod window;
 
 pub use opening::{Folder, Stores, Unopened};
 pub use server::{Members, serve, serve_members};

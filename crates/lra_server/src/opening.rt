@@ -17,7 +17,8 @@ pub enum Unopened {
     NoMemory,
     /// It is no database, or one of other tables; or the disk failed as it was read.
     NoJournal,
-    /// It isn't this node's journal: behind so many rows comes one that breaks the format, or that another node wrote.
+    /// It isn't this node's journal: behind so many rows comes one that breaks the format, or that
+    /// another node wrote.
     Broken(u64),
 }
 
@@ -58,7 +59,8 @@ pub trait Stores {
     fn open(&self, number: u8) -> Result<Connection<Self::Store>, Unopened>;
 }
 
-/// A folder in which node I has its journal in the file `node-I.db`. The program says what it supposes of the files as they are opened.
+/// A folder in which node I has its journal in the file `node-I.db`. The program says what it
+/// supposes of the files as they are opened.
 #[derive(Drop)]
 pub struct Folder<T: Start + Send + Copy> {
     host: HostRuntime,

@@ -1,27 +1,27 @@
-// The thread that serves a node's operators. It outlives the runs of its node, and waits for no desk.
+// The thread that serves a node's operators. It outlives the runs of its node, and waits for no
+// desk.
 
 use crate::errands::Errands;
 use crate::known::Known;
-use crate::taken::moment;
-use crate::window::Window;
+use crate::operator_clerk::OperatorClerk;
 use log::Log;
 use lra_api::Paths;
 use lra_operate::serve_operator;
-use lra_threads::{Haste, Node, SLICE, Times, line_over};
+use lra_threads::{BufferedSocket, Cutoff, Node, SLICE_MS, Times, unix_millis};
 use std::alloc::Global;
 use std::net::{TcpListener, TcpStream};
 use std::sync::Wait;
 use std::thread;
 use std::time::{Clock, Duration};
 
-/// How long a request may take, in milliseconds. One is served after another.
-const REQUEST: u64 = 1_000;
+/// How long a request may take. One is served after another.
+const REQUEST_MS: u64 = 1_000;
 
-/// How long its answer may take, in milliseconds.
-const ANSWER: u64 = 5_000;
+/// How long its answer may take.
+const ANSWER_MS: u64 = 5_000;
 
-/// How long it waits where no connection can be had, in milliseconds.
-const PAUSE: u64 = 10;
+/// How long it waits where no connection can be had.
+const PAUSE_MS: u64 = 10;
 
 /// Serves one operator, if there is memory for it.
 fn serve_one<'a, R: Wait + Clock, L: Log>(
@@ -34,15 +34,16 @@ fn serve_one<'a, R: Wait + Clock, L: Log>(
     stream: TcpStream,
 ) -> Option<()> {
     stream
-        .set_read_timeout(Some(Duration::from_millis(SLICE)))
+        .set_read_timeout(Some(Duration::from_millis(SLICE_MS)))
         .ok()?;
     let times = Times {
-        reading: Duration::from_millis(REQUEST),
-        writing: Duration::from_millis(ANSWER),
+        reading: Duration::from_millis(REQUEST_MS),
+        writing: Duration::from_millis(ANSWER_MS),
     };
-    let line = line_over(rt, alloc, &node.signal, Haste::WithProgram, stream, times);
-    let (mut reader, mut writer, _wire) = line.ok()?;
-    let mut window = Window::new(rt, log, alloc, node, errands);
+    let (signal, cutoff) = (&node.signal, Cutoff::ProgramEnd);
+    let buffered = BufferedSocket::new(rt, alloc, signal, cutoff, stream, times);
+    let (mut reader, mut writer, _socket) = buffered.ok()?.into_parts();
+    let mut clerk = OperatorClerk::new(rt, log, alloc, node, errands);
     let known = Known { rt, node };
     let _served = serve_operator(
         alloc,
@@ -50,8 +51,8 @@ fn serve_one<'a, R: Wait + Clock, L: Log>(
         &known,
         &mut reader,
         &mut writer,
-        &mut window,
-        moment(rt),
+        &mut clerk,
+        unix_millis(rt),
     );
     Some(())
 }
@@ -74,7 +75,7 @@ pub fn operate<R: Wait + Clock, L: Log>(
             Ok(stream) => {
                 let _served = serve_one(rt, log, alloc, node, paths, errands, stream);
             }
-            Err(_) => thread::sleep(rt, Duration::from_millis(PAUSE)),
+            Err(_) => thread::sleep(rt, Duration::from_millis(PAUSE_MS)),
         }
     }
 }

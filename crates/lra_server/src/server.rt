@@ -2,11 +2,11 @@
 ghost use Rattle.std.specs.Prelude.{◌≤◌, vec_len};
 
 use crate::begun::{Begun, Shut, begun_by};
-use crate::life::{Failure, Life, life_of, live, open_book};
+use crate::node_runtime::{Failure, NodeRuntime, open_book, run_node, runtime_of};
 use crate::{Stores, Unopened};
 use log::{Log, info};
 use lra_book::{Book, MAX_ENTRIES, MAX_MOVES};
-use lra_threads::{End, Ends, Keep, News, Node, Over, Peer, Site, Tally, drain};
+use lra_threads::{End, Keep, News, Node, Peer, Shutdown, Site, StopReason, Tally, drain};
 use sqlite::Alter;
 use std::alloc::{AllocError, Global};
 use std::io::{ErrorKind, Read};
@@ -106,24 +106,24 @@ fn begun_of<S: Alter + Drop>(
     Ok(begun)
 }
 
-/// The lives of all nodes, or the first port that can't be bound.
-fn lives_of<R: Net<Listener = TcpListener, Stream = TcpStream>, S: Alter + Drop>(
+/// What all nodes begin with, or the first port that can't be bound.
+fn runtimes_of<R: Net<Listener = TcpListener, Stream = TcpStream>, S: Alter + Drop>(
     rt: &R,
     alloc: Global,
     nodes: &[Node],
     books: Vec<Begun<S>>,
-) -> Result<Vec<Life<S>>, Trouble> {
-    let mut lives = Vec::new(alloc);
+) -> Result<Vec<NodeRuntime<S>>, Trouble> {
+    let mut runtimes = Vec::new(alloc);
     for (node, begun) in nodes.iter().zip(books) {
-        let life = match life_of(rt, node, begun) {
-            Ok(life) => life,
+        let runtime = match runtime_of(rt, node, begun) {
+            Ok(runtime) => runtime,
             Err((port, why)) => return Err(Trouble::Port(node.number, port, why)),
         };
-        if lives.push(life).is_err() {
+        if runtimes.push(runtime).is_err() {
             return Err(Trouble::Run(node.number));
         }
     }
-    Ok(lives)
+    Ok(runtimes)
 }
 
 /// A tally by which a run ends before it is full.
@@ -171,16 +171,17 @@ pub struct Members {
     pub last: u8,
     /// Where all nodes of the group are reached, in order.
     pub peers: Vec<Peer>,
-    /// Where each listens, if that is said; else on the loopback interface, at the port where it is reached.
+    /// Where each listens, if that is said; else on the loopback interface, at the port where it is
+    /// reached.
     pub listen: Option<SocketAddr>,
-    /// Where the first of them listens for operators, if that is said; each other at the port behind.
+    /// Where the first of them listens for operators, if that is said; each other at the next port.
     pub operate: Option<SocketAddr>,
     /// How long each keeps roots that have ended.
     pub keep: Keep,
 }
 
-/// An address at the port so many behind one.
-fn behind(address: Option<SocketAddr>, count: u8) -> Option<SocketAddr> {
+/// An address at the port so many after one.
+fn port_after(address: Option<SocketAddr>, count: u8) -> Option<SocketAddr> {
     let address = address?;
     let port = address.port().saturating_add(u16::from(count));
     Some(SocketAddr::new(address.ip(), port))
@@ -207,8 +208,8 @@ fn nodes_of_members(alloc: Global, members: Members) -> Result<Vec<Node>, AllocE
     let mut all = Vec::new(alloc);
     let mut number = first;
     for own in news.iter() {
-        let door = behind(operate, number.saturating_sub(first));
-        let site = Site::apart(listen, door, number, Arc::try_clone(&peers)?);
+        let operators = port_after(operate, number.saturating_sub(first));
+        let site = Site::apart(listen, operators, number, Arc::try_clone(&peers)?);
         let own = Arc::try_clone(own)?;
         let told = same_news(alloc, &news)?;
         all.push(Node::new(alloc, number, nodes, site, keep, tally(), own, told))?;
@@ -217,26 +218,26 @@ fn nodes_of_members(alloc: Global, members: Members) -> Result<Vec<Node>, AllocE
     Ok(all)
 }
 
-/// Lives, and tells a failure.
-fn live_and_tell<R, L, S: Stores + Sync>(
+/// Runs a node, and tells a failure.
+fn run_and_tell<R, L, S: Stores + Sync>(
     rt: &R,
     log: &L,
     alloc: Global,
     node: &Node,
     stores: &S,
-    life: Life<S::Store>,
-    ends: &Ends,
+    runtime: NodeRuntime<S::Store>,
+    shutdown: &Shutdown,
 )
 where
     R: Threads + Wait + Clock + Net<Listener = TcpListener, Stream = TcpStream> + Eprint + Sync,
     L: Log + Sync,
 {
-    if let Err(failure) = live(rt, log, alloc, node, stores, life) {
+    if let Err(failure) = run_node(rt, log, alloc, node, stores, runtime) {
         match failure {
             Failure::Journal(why) => tell(rt, Trouble::Journal(node.number, why)),
             Failure::Run => tell(rt, Trouble::Run(node.number)),
         }
-        ends.tell(rt, End::Failed);
+        shutdown.tell(rt, End::Failed);
     }
 }
 
@@ -248,19 +249,19 @@ fn start<'s, E, R, L, S: Stores + Sync + 's>(
     alloc: Global,
     node: &'s Node,
     stores: &'s S,
-    life: Life<S::Store>,
-    ends: &'s Ends,
+    runtime: NodeRuntime<S::Store>,
+    shutdown: &'s Shutdown,
 )
 where
     R: Threads + Wait + Clock + Net<Listener = TcpListener, Stream = TcpStream> + Eprint + Sync,
     L: Log + Sync,
 {
     if scope
-        .spawn(move || live_and_tell(rt, log, alloc, node, stores, life, ends))
+        .spawn(move || run_and_tell(rt, log, alloc, node, stores, runtime, shutdown))
         .is_err()
     {
         tell(rt, Trouble::Run(node.number));
-        ends.tell(rt, End::Failed);
+        shutdown.tell(rt, End::Failed);
     }
 }
 
@@ -272,37 +273,37 @@ fn start_all<'s, E, R, L, S: Stores + Sync + 's>(
     alloc: Global,
     nodes: &'s [Node],
     stores: &'s S,
-    lives: Vec<Life<S::Store>>,
-    ends: &'s Ends,
+    runtimes: Vec<NodeRuntime<S::Store>>,
+    shutdown: &'s Shutdown,
 )
 where
     R: Threads + Wait + Clock + Net<Listener = TcpListener, Stream = TcpStream> + Eprint + Sync,
     L: Log + Sync,
 {
-    for (node, life) in nodes.iter().zip(lives) {
-        start(scope, rt, log, alloc, node, stores, life, ends);
+    for (node, runtime) in nodes.iter().zip(runtimes) {
+        start(scope, rt, log, alloc, node, stores, runtime, shutdown);
     }
 }
 
 /// The nodes' threads, until the input ends or a node fails.
-fn live_all<R, L, S: Stores + Sync>(
+fn run_all<R, L, S: Stores + Sync>(
     rt: &R,
     log: &L,
     alloc: Global,
     nodes: &[Node],
     stores: &S,
-    lives: Vec<Life<S::Store>>,
-    ends: &Ends,
+    runtimes: Vec<NodeRuntime<S::Store>>,
+    shutdown: &Shutdown,
 )
 where
     R: Threads + Wait + Clock + Net<Listener = TcpListener, Stream = TcpStream> + Eprint + Sync,
     L: Log + Sync,
 {
     thread::scope(thread::scope_env(), rt, move |scope| {
-        start_all(scope, rt, log, alloc, nodes, stores, lives, ends);
-        ends.wait(rt);
+        start_all(scope, rt, log, alloc, nodes, stores, runtimes, shutdown);
+        shutdown.wait(rt);
         for node in nodes {
-            node.end_run(rt, Over::Program);
+            node.end_run(rt, StopReason::Program);
         }
     })
 }
@@ -313,30 +314,31 @@ fn begin<R: Net<Listener = TcpListener, Stream = TcpStream>, S: Stores>(
     alloc: Global,
     nodes: &[Node],
     stores: &S,
-) -> Result<Vec<Life<S::Store>>, Trouble> {
+) -> Result<Vec<NodeRuntime<S::Store>>, Trouble> {
     let books = books_of(alloc, nodes, stores)?;
     let begun = begun_of(alloc, nodes, books)?;
-    lives_of(rt, alloc, nodes, begun)
+    runtimes_of(rt, alloc, nodes, begun)
 }
 
-/// Has a thread read the input, which tells its end. Where that can't be had, the run of this node can't be started.
+/// Has a thread read the input, which tells its end. Where that can't be had, the run of this node
+/// can't be started.
 fn watch<R: Threads, H: Wait + Send + Drop + 'static, I: Read + Send + Drop + 'static>(
     rt: &R,
     alloc: Global,
     host: H,
     first: u8,
     input: I,
-) -> Result<Arc<Ends>, Trouble> {
-    let Ok(ends) = Arc::new(alloc, Ends::new()) else {
+) -> Result<Arc<Shutdown>, Trouble> {
+    let Ok(shutdown) = Arc::new(alloc, Shutdown::new()) else {
         return Err(Trouble::Run(first));
     };
-    let Ok(theirs) = Arc::try_clone(&ends) else {
+    let Ok(theirs) = Arc::try_clone(&shutdown) else {
         return Err(Trouble::Run(first));
     };
     if thread::spawn(rt, move || drain(&host, input, &theirs)).is_err() {
         return Err(Trouble::Run(first));
     }
-    Ok(ends)
+    Ok(shutdown)
 }
 
 /// Runs these nodes, of which the first has this number. It gives the exit status.
@@ -357,28 +359,29 @@ where
     S: Stores + Sync,
     I: Read + Send + Drop + 'static,
 {
-    let lives = match begin(rt, alloc, nodes, stores) {
-        Ok(lives) => lives,
+    let runtimes = match begin(rt, alloc, nodes, stores) {
+        Ok(runtimes) => runtimes,
         Err(trouble) => {
             tell(rt, trouble);
             return 1;
         }
     };
-    let ends = match watch(rt, alloc, host, first, input) {
-        Ok(ends) => ends,
+    let shutdown = match watch(rt, alloc, host, first, input) {
+        Ok(shutdown) => shutdown,
         Err(trouble) => {
             tell(rt, trouble);
             return 1;
         }
     };
     tell_of_all(log, nodes);
-    live_all(rt, log, alloc, nodes, stores, lives, &ends);
-    u8::from(ends.has_failed(rt))
+    run_all(rt, log, alloc, nodes, stores, runtimes, &shutdown);
+    u8::from(shutdown.has_failed(rt))
 }
 
-/// Runs so many nodes, 1 to 8, whose journals lie in these stores; node I listens at the port + I - 1 of the loopback interface.
-/// It ends with 0 when the input ends, and with 1 at the first journal that can't be opened, run that can't be started, or port
-/// that can't be bound, which it tells on standard error.
+/// Runs so many nodes, 1 to 8, whose journals lie in these stores; node I listens at the port + I -
+/// 1 of the loopback interface. It ends with 0 when the input ends, and with 1 at the first journal
+/// that can't be opened, run that can't be started, or port that can't be bound, which it tells on
+/// standard error.
 pub fn serve<R, L, H, S, I>(
     rt: &R,
     log: &L,
@@ -404,8 +407,8 @@ where
     serve_these(rt, log, host, alloc, 1, &all, stores, input)
 }
 
-/// Runs some nodes of a group, 1 to 8, whose journals lie in these stores. They pull from the others where those are reached. It ends as
-/// `serve` does.
+/// Runs some nodes of a group, 1 to 8, whose journals lie in these stores. They pull from the
+/// others where those are reached. It ends as `serve` does.
 pub fn serve_members<R, L, H, S, I>(
     rt: &R,
     log: &L,

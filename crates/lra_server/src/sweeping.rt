@@ -5,11 +5,10 @@ ghost use Rattle.lra_book.specs.declared.calls.Call.TheVariants.{Command as Ente
 ghost use Rattle.lra_threads.specs.declared.sweep.Chore.{Chore as TheChore};
 ghost use Rattle.lra_server.specs.Entering.{DoesChore, DoesChoreIf, IsMade};
 
-use crate::taken::moment;
 use lra_book::{Call, Clerk, Reply};
 use lra_facts::{Command, CommandReply, Refusal};
 use lra_id::LraId;
-use lra_threads::{Chore, Node, Purged};
+use lra_threads::{Chore, Node, Purged, unix_millis};
 use std::alloc::Global;
 use std::sync::Wait;
 use std::time::Clock;
@@ -63,7 +62,7 @@ fn list<R: Wait + Clock, C: Clerk>(
 ) -> Result<(), Refusal>
     ensures { IsMade C.Clerk clerk.old clerk.new (AskPage beyond) result }
 {
-    clerk.call(alloc, Call::Page(beyond), moment(rt))?;
+    clerk.call(alloc, Call::Page(beyond), unix_millis(rt))?;
     note(rt, node, clerk.reply());
     Ok(())
 }
@@ -79,7 +78,7 @@ fn purge<R: Wait + Clock, C: Clerk>(
     ensures { IsMade C.Clerk clerk.old clerk.new (Enter (Purge root)) result }
 {
     let command = Command::Purge { root };
-    clerk.call(alloc, Call::Command(command), moment(rt))?;
+    clerk.call(alloc, Call::Command(command), unix_millis(rt))?;
     node.counts.sweep(rt, purged_by(clerk.reply()));
     node.sweep.purged(rt, root, purged_by(clerk.reply()));
     Ok(())
@@ -101,7 +100,8 @@ fn attend<R: Wait + Clock, C: Clerk>(
     }
 }
 
-/// Does what is to be done next to sweep the node's home, if there is something, and nothing has to wait for the journal.
+/// Does what is to be done next to sweep the node's home, if there is something, and nothing has to
+/// wait for the journal.
 pub fn sweep<R: Wait + Clock, C: Clerk>(
     rt: &R,
     alloc: Global,
@@ -110,7 +110,7 @@ pub fn sweep<R: Wait + Clock, C: Clerk>(
 ) -> Result<(), Refusal>
     ensures { (chore : Option TheChore) × DoesChoreIf C.Clerk clerk.old clerk.new chore result }
 {
-    if node.post.is_held(rt) {
+    if node.mailbox.is_held(rt) {
         return Ok(());
     }
     let Some(chore) = node.sweep.next(rt) else {

@@ -1,18 +1,19 @@
-// The thread that takes connections. It outlives the runs of its node, so that none is lost while one run follows another.
+// The thread that takes connections. It outlives the runs of its node, so that none is lost while
+// one run follows another.
 
-use crate::guest::Guest;
 use crate::node::Node;
+use crate::pending_connection::PendingConnection;
 use std::io::Error;
 use std::net::TcpListener;
 use std::sync::Wait;
 use std::thread;
 use std::time::{Clock, Duration};
 
-/// How long it waits where no connection can be had, in milliseconds.
-const PAUSE: u64 = 10;
+/// How long it waits where no connection can be had.
+const PAUSE_MS: u64 = 10;
 
-/// How long it waits where too many wait for a worker, in milliseconds.
-const CROWDED: u64 = 1;
+/// How long it waits where too many wait for a worker.
+const CROWDED_MS: u64 = 1;
 
 /// What the system answers where the process has no file left.
 const EMFILE: i32 = 24;
@@ -31,26 +32,26 @@ fn wait_for_room<R: Wait + Clock>(rt: &R, node: &Node) {
         if !node.queue.is_full(rt) || node.signal.has_ended(rt) {
             return;
         }
-        thread::sleep(rt, Duration::from_millis(CROWDED));
+        thread::sleep(rt, Duration::from_millis(CROWDED_MS));
     }
 }
 
-/// Takes connections and puts them on the queue, until the program is to end. Where no file is left for a connection, the one that has
-/// waited longest is closed.
+/// Takes connections and puts them on the queue, until the program is to end. Where no file is left
+/// for a connection, the one that has waited longest is closed.
 pub fn accept<R: Wait + Clock>(rt: &R, node: &Node, listener: &TcpListener) {
     for stream in listener.incoming() {
         match stream {
             Ok(stream) => {
                 node.counts.accept(rt);
-                if let Ok(guest) = Guest::new(rt, stream) {
-                    node.queue.put(rt, guest);
+                if let Ok(pending) = PendingConnection::new(rt, stream) {
+                    node.queue.put(rt, pending);
                 }
             }
             Err(error) => {
                 if wants_files(&error) {
                     node.queue.close_first(rt);
                 }
-                thread::sleep(rt, Duration::from_millis(PAUSE));
+                thread::sleep(rt, Duration::from_millis(PAUSE_MS));
             }
         }
         wait_for_room(rt, node);

@@ -4,7 +4,8 @@ ghost use Rattle.std.specs.Net.Socket.{socket_ip, socket_port};
 
 use std::net::{IpAddr, Ipv4Addr, SocketAddr};
 
-/// Where a node listens, by the port of the first node: on the loopback interface, one port after another.
+/// Where a node listens, by the port of the first node: on the loopback interface, one port after
+/// another.
 pub fn address_of(first: u16, number: u8) -> SocketAddr
     ensures ip { socket_ip result ≡ IpAddr.V4 Ipv4Addr.LOCALHOST }
     ensures port { socket_port result ≡ min (first + (number - 1)) (2 ^ 16 - 1) }

@@ -1,10 +1,12 @@
-// The thread that pulls from the other nodes of its process in turn. It outlives the runs of its node.
+// The thread that pulls from the other nodes of its process in turn. It outlives the runs of its
+// node.
 
+use crate::buffered_socket::{BufferedSocket, Times};
+use crate::clock::now;
 use crate::counts::Pull;
-use crate::line::{Times, line_over};
+use crate::deadline_stream::{Cutoff, SLICE_MS};
 use crate::news::Counts;
 use crate::node::Node;
-use crate::patient::{Haste, SLICE};
 use lra_heard::{Telling, ask_for};
 use lra_id::Front;
 use std::alloc::Global;
@@ -12,17 +14,17 @@ use std::net::{Net, TcpListener, TcpStream};
 use std::sync::Wait;
 use std::time::{Clock, Duration};
 
-/// How long another node may take to answer, in milliseconds.
-const PATIENCE: u64 = 10_000;
+/// How long another node may take to answer.
+const PATIENCE_MS: u64 = 10_000;
 
-/// How long a node pauses behind each pull, in milliseconds.
-const PAUSE: u64 = 50;
+/// How long a node pauses after each pull.
+const PAUSE_MS: u64 = 50;
 
-/// How long a round over all other nodes takes at least where something is new, in milliseconds.
-const SHORT_ROUND: u64 = 500;
+/// How long a round over all other nodes takes at least where something is new.
+const SHORT_ROUND_MS: u64 = 500;
 
-/// How long it takes at rest, in milliseconds.
-const LONG_ROUND: u64 = 5_000;
+/// How long it takes at rest.
+const LONG_ROUND_MS: u64 = 5_000;
 
 /// What another node has beyond a front, over a connection to it.
 pub(crate) fn pull_over<'a, R: Wait + Clock>(
@@ -33,15 +35,16 @@ pub(crate) fn pull_over<'a, R: Wait + Clock>(
     stream: TcpStream,
 ) -> Option<Telling> {
     stream
-        .set_read_timeout(Some(Duration::from_millis(SLICE)))
+        .set_read_timeout(Some(Duration::from_millis(SLICE_MS)))
         .ok()?;
-    let patience = Duration::from_millis(PATIENCE);
+    let patience = Duration::from_millis(PATIENCE_MS);
     let times = Times {
         reading: patience,
         writing: patience,
     };
-    let line = line_over(rt, alloc, &node.signal, Haste::WithProgram, stream, times);
-    let (mut reader, mut writer, _wire) = line.ok()?;
+    let (signal, cutoff) = (&node.signal, Cutoff::ProgramEnd);
+    let buffered = BufferedSocket::new(rt, alloc, signal, cutoff, stream, times);
+    let (mut reader, mut writer, _socket) = buffered.ok()?.into_parts();
     ask_for(alloc, &mut reader, &mut writer, front).ok()
 }
 
@@ -72,7 +75,7 @@ fn pull_one<R: Wait + Clock + Net<Listener = TcpListener, Stream = TcpStream>>(
     node: &Node,
     other: u8,
 ) -> Pulled {
-    let front = node.post.front(rt);
+    let front = node.mailbox.front(rt);
     let Ok(stream) = node.site.reach(rt, &node.signal, other) else {
         return Pulled::Failed;
     };
@@ -83,17 +86,17 @@ fn pull_one<R: Wait + Clock + Net<Listener = TcpListener, Stream = TcpStream>>(
     if told.nodes() != front.nodes() || told.below(&front) {
         return Pulled::Nothing;
     }
-    if node.post.put_telling(rt, telling) {
+    if node.mailbox.put_telling(rt, telling) {
         Pulled::New
     } else {
         Pulled::Failed
     }
 }
 
-/// How long a pause after a pull is, in milliseconds, by how long a round is to take.
-fn pause_of(node: &Node, round: u64) -> Duration {
+/// How long a pause after a pull is, by how long a round is to take.
+fn pause_of(node: &Node, round_ms: u64) -> Duration {
     let others = u64::from(node.nodes.saturating_sub(1)).max(1);
-    Duration::from_millis(round.checked_div(others).unwrap_or(round))
+    Duration::from_millis(round_ms.checked_div(others).unwrap_or(round_ms))
 }
 
 /// The node after this one, save the one that asks.
@@ -117,36 +120,36 @@ fn next_teller(node: &Node, other: u8, told: &Counts, seen: &Counts) -> u8 {
     next_other(node, other)
 }
 
-/// Pulls from the other nodes, until the program is to end: from one that told that it has something new at once, if there was a pause
-/// behind the last pull; and from each in turn, about twice a second while that brings anything, every five seconds at rest.
+/// Pulls from the other nodes, until the program is to end: from one that told that it has
+/// something new at once, if there was a pause after the last pull; and from each in turn, about
+/// twice a second while that brings anything, every five seconds at rest.
 pub fn pull_in_turn<R: Wait + Clock + Net<Listener = TcpListener, Stream = TcpStream>>(
     rt: &R,
     alloc: Global,
     node: &Node,
 ) {
     let mut other = node.number;
-    let mut round = SHORT_ROUND;
+    let mut round_ms = SHORT_ROUND_MS;
     let mut seen = Counts::new();
     for _ in rt.forever() {
-        if node.post.sleep(rt, Duration::from_millis(PAUSE)) {
+        if node.mailbox.sleep(rt, Duration::from_millis(PAUSE_MS)) {
             return;
         }
         let Some(told) = node
             .news
-            .wait(rt, node.number, &seen, pause_of(node, round))
+            .wait(rt, node.number, &seen, pause_of(node, round_ms))
         else {
             return;
         };
         other = next_teller(node, other, &told, &seen);
         let pulled = pull_one(rt, alloc, node, other);
-        let now = rt.monotonic().unwrap_or(Duration::from_millis(0));
-        node.counts.pull(rt, other, counted(pulled), now);
+        node.counts.pull(rt, other, counted(pulled), now(rt));
         if pulled != Pulled::Failed {
             seen.set(other, told.of(other));
         }
-        round = match pulled {
-            Pulled::New => SHORT_ROUND,
-            Pulled::Nothing | Pulled::Failed => round.saturating_mul(2).min(LONG_ROUND),
+        round_ms = match pulled {
+            Pulled::New => SHORT_ROUND_MS,
+            Pulled::Nothing | Pulled::Failed => round_ms.saturating_mul(2).min(LONG_ROUND_MS),
         };
     }
 }

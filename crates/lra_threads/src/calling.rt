@@ -1,8 +1,9 @@
 // The threads that call participants. They outlive the runs of their node.
 
-use crate::line::{LineReader, LineWriter, Times, line_over};
+use crate::buffered_socket::{BufferedSocket, SocketReader, SocketWriter, Times};
+use crate::clock::now;
+use crate::deadline_stream::{Cutoff, SLICE_MS};
 use crate::node::Node;
-use crate::patient::{Haste, SLICE};
 use crate::reaching::connect_to_one;
 use crate::signal::Signal;
 use log::{Log, warn};
@@ -17,8 +18,8 @@ use std::time::{Clock, Duration};
 use std::{io, str};
 use url::{Host, Url};
 
-/// How long a participant may take to be reached, to take its request, and to answer, in milliseconds each.
-const PATIENCE: u64 = 10_000;
+/// How long a participant may take to be reached, to take its request, and to answer, each.
+const PATIENCE_MS: u64 = 10_000;
 
 /// A connection to the host of a link.
 fn connect<R: Wait + Clock + Net<Stream = TcpStream>>(
@@ -27,7 +28,7 @@ fn connect<R: Wait + Clock + Net<Stream = TcpStream>>(
     url: &Url,
 ) -> io::Result<TcpStream> {
     let port = url.port_or_known_default().unwrap_or(80);
-    let time = Duration::from_millis(PATIENCE);
+    let time = Duration::from_millis(PATIENCE_MS);
     match url.host() {
         Some(Host::Domain(name)) => {
             connect_to_one(rt, signal, (name, port).to_socket_addrs(rt)?, time)
@@ -50,17 +51,18 @@ fn caller_over<'a, R: Wait + Clock>(
     alloc: Global,
     node: &'a Node,
     stream: TcpStream,
-) -> Option<NetCaller<LineReader<'a, R>, LineWriter<'a, R>>> {
+) -> Option<NetCaller<SocketReader<'a, R>, SocketWriter<'a, R>>> {
     stream
-        .set_read_timeout(Some(Duration::from_millis(SLICE)))
+        .set_read_timeout(Some(Duration::from_millis(SLICE_MS)))
         .ok()?;
-    let patience = Duration::from_millis(PATIENCE);
+    let patience = Duration::from_millis(PATIENCE_MS);
     let times = Times {
         reading: patience,
         writing: patience,
     };
-    let line = line_over(rt, alloc, &node.signal, Haste::WithProgram, stream, times);
-    let (reader, writer, _wire) = line.ok()?;
+    let (signal, cutoff) = (&node.signal, Cutoff::ProgramEnd);
+    let buffered = BufferedSocket::new(rt, alloc, signal, cutoff, stream, times);
+    let (reader, writer, _socket) = buffered.ok()?.into_parts();
     Some(NetCaller::new(reader, writer))
 }
 
@@ -105,7 +107,8 @@ fn warn_of<L: Log>(log: &L, node: &Node, plight: &Plight) {
     }
 }
 
-/// Calls participants, one after another, until the program is to end. It warns of those that are called in vain for a minute.
+/// Calls participants, one after another, until the program is to end. It warns of those that are
+/// called in vain for a minute.
 pub fn call_out<R: Wait + Clock + Net<Listener = TcpListener, Stream = TcpStream>, L: Log>(
     rt: &R,
     log: &L,
@@ -113,14 +116,14 @@ pub fn call_out<R: Wait + Clock + Net<Listener = TcpListener, Stream = TcpStream
     node: &Node,
 ) {
     for _ in rt.forever() {
-        let Some(due) = node.post.next_duty(rt) else {
+        let Some(due) = node.mailbox.next_duty(rt) else {
             return;
         };
-        let began = rt.monotonic().unwrap_or(Duration::from_millis(0));
+        let began = now(rt);
         let kind = due.duty().kind;
         let came = call_one(rt, alloc, node, due);
         node.counts.callback(rt, kind, heard_of(&came));
-        if let Some(plight) = node.post.tell(rt, began, came) {
+        if let Some(plight) = node.mailbox.tell(rt, began, came) {
             warn_of(log, node, &plight);
         }
     }

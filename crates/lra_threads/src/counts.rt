@@ -1,6 +1,6 @@
 // What the threads of a node count, to be told at its operator's port.
 
-use crate::signal::Over;
+use crate::signal::StopReason;
 use crate::sweep::Purged;
 use lra_callback::{Heard, Kind};
 use lra_id::Outcome;
@@ -124,15 +124,15 @@ fn heard_place(heard: Option<Heard>) -> usize {
 }
 
 /// The place of why a run is over, if that is counted.
-fn run_place(over: Over) -> Option<usize> {
-    match over {
-        Over::Program => None,
-        Over::Full => Some(0),
-        Over::JournalFailed => Some(1),
-        Over::Stopped => Some(2),
-        Over::RunFull => Some(3),
-        Over::TrailLost(_) => Some(4),
-        Over::Starved => Some(5),
+fn run_place(reason: StopReason) -> Option<usize> {
+    match reason {
+        StopReason::Program => None,
+        StopReason::Full => Some(0),
+        StopReason::JournalFailed => Some(1),
+        StopReason::Stopped => Some(2),
+        StopReason::RunFull => Some(3),
+        StopReason::TrailLost(_) => Some(4),
+        StopReason::Starved => Some(5),
     }
 }
 
@@ -205,8 +205,8 @@ impl Counts {
     }
 
     /// Counts a run that is over.
-    pub fn run<R: Wait>(&self, rt: &R, over: Over) {
-        if let Some(place) = run_place(over) {
+    pub fn run<R: Wait>(&self, rt: &R, reason: StopReason) {
+        if let Some(place) = run_place(reason) {
             add(self.numbers.lock(rt).runs.get_mut(place), 1);
         }
     }

@@ -1,6 +1,8 @@
-// The threads that pull from nodes in processes of their own, one from each. They outlive the runs of their node.
+// The threads that pull from nodes in processes of their own, one from each. They outlive the runs
+// of their node.
 
 use crate::asking::pull_over;
+use crate::clock::now;
 use crate::counts::Pull;
 use crate::node::Node;
 use log::{Log, warn};
@@ -11,17 +13,17 @@ use std::net::{Net, TcpListener, TcpStream};
 use std::sync::Wait;
 use std::time::{Clock, Duration};
 
-/// How long a node pauses behind each pull, in milliseconds.
-const PAUSE: u64 = 50;
+/// How long a node pauses after each pull.
+const PAUSE_MS: u64 = 50;
 
-/// How long it waits for news of another node where something was new the last time, in milliseconds.
-const SHORT_ROUND: u64 = 500;
+/// How long it waits for news of another node where something was new the last time.
+const SHORT_ROUND_MS: u64 = 500;
 
-/// How long it waits at rest, and where the other can't be reached, in milliseconds.
-const LONG_ROUND: u64 = 5_000;
+/// How long it waits at rest, and where the other can't be reached.
+const LONG_ROUND_MS: u64 = 5_000;
 
-/// For how long nothing can be had of another node before that is told, in milliseconds.
-const SILENCE: u64 = 5_000;
+/// For how long nothing can be had of another node before that is told.
+const SILENCE_MS: u64 = 5_000;
 
 /// What a pull came to.
 #[derive(Clone, Copy, PartialEq, Eq)]
@@ -60,20 +62,21 @@ impl Outlook {
         }
     }
 
-    /// Whether it is to be told now that nothing can be had.
-    fn fails(&mut self, now: Duration) -> bool {
+    /// Notes that nothing can be had. It says whether that is to be told now.
+    fn note_failure(&mut self, now: Duration) -> bool {
         let since = match self.since {
             Some(since) => since,
             None => now,
         };
         self.since = Some(since);
-        let is_due = !self.is_told && now.saturating_sub(since) >= Duration::from_millis(SILENCE);
+        let is_due = !self.is_told
+            && now.saturating_sub(since) >= Duration::from_millis(SILENCE_MS);
         self.is_told = self.is_told || is_due;
         is_due
     }
 
-    /// Whether it is to be told now that it answers again.
-    fn answers(&mut self) -> bool {
+    /// Notes that it answers. It says whether it is to be told now that it does again.
+    fn note_answer(&mut self) -> bool {
         let was_told = self.is_told;
         self.since = None;
         self.is_told = false;
@@ -81,12 +84,12 @@ impl Outlook {
     }
 
     /// Notes that no journal is older.
-    fn is_well(&mut self) {
+    fn note_well(&mut self) {
         self.is_odd = false;
     }
 
-    /// Whether it is to be told now that a journal is older.
-    fn is_strange(&mut self) -> bool {
+    /// Notes that a journal is older. It says whether that is to be told now.
+    fn note_older(&mut self) -> bool {
         let was_odd = self.is_odd;
         self.is_odd = true;
         !was_odd
@@ -106,7 +109,7 @@ fn hand_over<R: Wait>(rt: &R, node: &Node, front: &Front, telling: Telling) -> b
     if telling.front().below(front) {
         return false;
     }
-    node.post.hand_over(rt, telling)
+    node.mailbox.hand_over(rt, telling)
 }
 
 /// What comes of what another node told, beyond the front from which it was asked.
@@ -117,7 +120,7 @@ fn take_over<R: Wait>(rt: &R, node: &Node, other: u8, front: &Front, telling: Te
     }
     let is_older = count_of(&told, other) < count_of(front, other);
     // What this node gave until now it knows of.
-    let is_newer = count_of(&told, node.number) > count_of(&node.post.front(rt), node.number);
+    let is_newer = count_of(&told, node.number) > count_of(&node.mailbox.front(rt), node.number);
     let is_new = hand_over(rt, node, front, telling);
     if is_newer {
         return Pulled::Newer;
@@ -144,7 +147,7 @@ fn pull_once<R: Wait + Clock + Net<Listener = TcpListener, Stream = TcpStream>>(
     node: &Node,
     other: u8,
 ) -> Pulled {
-    let front = node.post.front(rt);
+    let front = node.mailbox.front(rt);
     let Ok(stream) = node.site.reach(rt, &node.signal, other) else {
         return Pulled::Unreached;
     };
@@ -154,8 +157,8 @@ fn pull_once<R: Wait + Clock + Net<Listener = TcpListener, Stream = TcpStream>>(
     }
 }
 
-/// Counts a pull, and warns of what it shows of another node: that nothing can be had of it, that it answers again, and that a journal is older than
-/// what its node told before.
+/// Counts a pull, and warns of what it shows of another node: that nothing can be had of it, that
+/// it answers again, and that a journal is older than what its node told before.
 fn warn_of<R: Wait + Clock, L: Log>(
     rt: &R,
     log: &L,
@@ -164,11 +167,11 @@ fn warn_of<R: Wait + Clock, L: Log>(
     pulled: Pulled,
     outlook: &mut Outlook,
 ) {
-    let now = rt.monotonic().unwrap_or(Duration::from_millis(0));
+    let now = now(rt);
     node.counts.pull(rt, other, counted(pulled), now);
     let number = node.number;
     if pulled == Pulled::Unreached || pulled == Pulled::Unanswered {
-        if outlook.fails(now) {
+        if outlook.note_failure(now) {
             let what = if pulled == Pulled::Unreached {
                 "can't be reached"
             } else {
@@ -178,30 +181,31 @@ fn warn_of<R: Wait + Clock, L: Log>(
         }
         return;
     }
-    if outlook.answers() {
+    if outlook.note_answer() {
         warn!(log; "node {}: node {} answers again", number, other);
     }
     if pulled == Pulled::New || pulled == Pulled::Nothing {
-        outlook.is_well();
+        outlook.note_well();
     }
-    if pulled == Pulled::Older && outlook.is_strange() {
+    if pulled == Pulled::Older && outlook.note_older() {
         warn!(log; "node {}: node {} told of more facts of its own before: its journal is older", number, other);
     }
-    if pulled == Pulled::Newer && outlook.is_strange() {
+    if pulled == Pulled::Newer && outlook.note_older() {
         warn!(log; "node {}: node {} has more facts of this node: the journal here is older", number, other);
     }
 }
 
-/// How long a round is, by what the last pull came to.
-fn round_behind(pulled: Pulled, round: u64) -> u64 {
+/// How long a round is, in milliseconds, by what the last pull came to.
+fn round_after(pulled: Pulled, round_ms: u64) -> u64 {
     match pulled {
-        Pulled::New | Pulled::Newer => SHORT_ROUND,
-        _ => round.saturating_mul(2).min(LONG_ROUND),
+        Pulled::New | Pulled::Newer => SHORT_ROUND_MS,
+        _ => round_ms.saturating_mul(2).min(LONG_ROUND_MS),
     }
 }
 
-/// Pulls from another node, until the program is to end: at once where it is known to have something new, or is to hear that this one
-/// has, if there was a pause behind the last pull; else twice a second while that brings anything, and every five seconds at rest.
+/// Pulls from another node, until the program is to end: at once where it is known to have
+/// something new, or is to hear that this one has, if there was a pause after the last pull; else
+/// twice a second while that brings anything, and every five seconds at rest.
 pub fn follow<R: Wait + Clock + Net<Listener = TcpListener, Stream = TcpStream>, L: Log>(
     rt: &R,
     log: &L,
@@ -209,26 +213,26 @@ pub fn follow<R: Wait + Clock + Net<Listener = TcpListener, Stream = TcpStream>,
     node: &Node,
     other: u8,
 ) {
-    if node.post.wait_for_count(rt) {
+    if node.mailbox.wait_for_count(rt) {
         return;
     }
     let mut outlook = Outlook::new();
     let mut seen = 0u64;
     let first = pull_once(rt, alloc, node, other);
-    node.post.note_asked(rt);
+    node.mailbox.note_asked(rt);
     warn_of(rt, log, node, other, first, &mut outlook);
-    let mut round = round_behind(first, SHORT_ROUND);
+    let mut round_ms = round_after(first, SHORT_ROUND_MS);
     for _ in rt.forever() {
-        if node.post.sleep(rt, Duration::from_millis(PAUSE)) {
+        if node.mailbox.sleep(rt, Duration::from_millis(PAUSE_MS)) {
             return;
         }
-        let time = Duration::from_millis(round);
+        let time = Duration::from_millis(round_ms);
         let Some(told) = node.news.wait_for(rt, other, seen, time) else {
             return;
         };
         let pulled = pull_once(rt, alloc, node, other);
         warn_of(rt, log, node, other, pulled, &mut outlook);
         seen = told;
-        round = round_behind(pulled, round);
+        round_ms = round_after(pulled, round_ms);
     }
 }

@@ -1,50 +1,56 @@
-//! The threads of a node that know no journal: its queue of connections, its calls to participants, and its pulls.
+//! The threads of a node that know no journal: its queue of connections, its calls to participants,
+//! and its pulls.
 #![tactic(auto)]
 
+mod accept_queue;
 mod accepting;
 mod address;
 mod asking;
+mod buffered_socket;
 mod calling;
+mod clock;
 mod counts;
-mod ends;
+mod deadline_stream;
 mod following;
-mod guest;
-mod line;
 mod lines;
+mod mailbox;
+mod mailbox_state;
 mod metrics;
 mod news;
 mod node;
-mod patient;
+mod pending_connection;
 mod plaints;
-mod post;
-mod queue;
 mod reaching;
+mod shared_socket;
+mod shutdown;
 mod signal;
 mod site;
 mod sweep;
 mod tally;
+mod task;
 mod watching;
 mod window;
-mod wire;
 
+pub use accept_queue::AcceptQueue;
 pub use accepting::accept;
 pub use address::{address_of, port_of};
 pub use asking::pull_in_turn;
+pub use buffered_socket::{BufferedSocket, SocketReader, SocketWriter, Times};
 pub use calling::call_out;
+pub use clock::{now, unix_millis};
 pub use counts::{Asked, Counts};
-pub use ends::{End, Ends, drain};
+pub use deadline_stream::{Cutoff, SLICE_MS};
 pub use following::follow;
-pub use guest::{Guest, REQUEST, Seen};
-pub use line::{LineReader, LineWriter, Times, line_over};
 pub use lines::{Lines, ToLines, lines_of};
+pub use mailbox::Mailbox;
 pub use news::News;
 pub use node::Node;
-pub use patient::{Haste, SLICE};
-pub use post::{Post, Task};
-pub use queue::Queue;
-pub use signal::{Over, Signal};
+pub use pending_connection::{PendingConnection, REQUEST_MS, Readiness};
+pub use shared_socket::SharedSocket;
+pub use shutdown::{End, Shutdown, drain};
+pub use signal::{Signal, StopReason};
 pub use site::{Peer, Site};
 pub use sweep::{Chore, Keep, Purged, Sweep};
 pub use tally::Tally;
+pub use task::Task;
 pub use watching::watch;
-pub use wire::Wire;

@@ -1,4 +1,5 @@
-// Lines for standard error, which a thread of their own writes: nobody waits for who doesn't read them.
+// Lines for standard error, which a thread of their own writes: nobody waits for who doesn't read
+// them.
 
 use log::kv::Source;
 use log::span::Spans;

@@ -1,5 +1,6 @@
 // The counts of a node in the text format of Prometheus, version 0.0.4.
 
+use crate::clock::now;
 use crate::counts::{CALL_NAMES, HEARD, KINDS, Numbers, PULLS, REFUSALS, RUNS, SWEPT};
 use crate::node::Node;
 use crate::sweep::PLACES;
@@ -180,7 +181,7 @@ fn push_ages(
 fn push_front<R: Wait>(page: &mut Page, rt: &R, node: &Node) -> Result<(), AllocError> {
     let name = "lra_front";
     page.family(name, "gauge", "Facts of each node that are known here.")?;
-    let front = node.post.front(rt);
+    let front = node.mailbox.front(rt);
     let mut of = 0u64;
     for count in front.as_slice() {
         of = of.saturating_add(1);
@@ -234,8 +235,8 @@ fn push_participants<R: Wait>(
 ) -> Result<(), AllocError> {
     push_callbacks(page, numbers)?;
     let help = "Participants that wait for a call, are called, or pause before the next.";
-    page.single("lra_callbacks_due", "gauge", help, node.post.due(rt))?;
-    let (count, oldest) = node.post.in_vain(rt, now);
+    page.single("lra_callbacks_due", "gauge", help, node.mailbox.due(rt))?;
+    let (count, oldest) = node.mailbox.in_vain(rt, now);
     let help = "Participants that are called in vain, 256 at most.";
     page.single("lra_callbacks_vain", "gauge", help, count)?;
     let help = "How long the one is called in vain that is so for longest.";
@@ -285,7 +286,7 @@ pub(crate) fn metrics_of<R: Wait + Clock>(
     alloc: Global,
     node: &Node,
 ) -> Result<Vec<u8>, AllocError> {
-    let now = rt.monotonic().unwrap_or(Duration::from_millis(0));
+    let now = now(rt);
     let numbers = node.counts.numbers(rt);
     let mut page = Page {
         alloc,

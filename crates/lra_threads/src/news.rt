@@ -48,7 +48,8 @@ struct Told {
     ended: bool,
 }
 
-/// Where the nodes of a program tell one another that they have something new, so that the others pull it at once.
+/// Where the nodes of a program tell one another that they have something new, so that the others
+/// pull it at once.
 #[derive(Drop)]
 pub struct News {
     told: Mutex<Told>,
@@ -80,8 +81,8 @@ impl News {
         self.came.notify_all();
     }
 
-    /// Waits so long until this node has told it more often than was seen. It gives how often it did, or nothing once the program is to
-    /// end.
+    /// Waits so long until this node has told it more often than was seen. It gives how often it
+    /// did, or nothing once the program is to end.
     pub(crate) fn wait_for<R: Wait + Clock>(
         &self,
         rt: &R,
@@ -100,8 +101,8 @@ impl News {
         Some(told.counts.of(other))
     }
 
-    /// Waits so long until another node has told more than was seen. It gives what all have told, or nothing once the program is to
-    /// end.
+    /// Waits so long until another node has told more than was seen. It gives what all have told,
+    /// or nothing once the program is to end.
     pub(crate) fn wait<R: Wait + Clock>(
         &self,
         rt: &R,

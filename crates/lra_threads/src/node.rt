@@ -1,13 +1,14 @@
 // What the threads of a node share.
 ghost use Rattle.std.specs.Prelude.{◌≤◌};
 
+use crate::accept_queue::AcceptQueue;
+use crate::clock::now;
 use crate::counts::Counts;
+use crate::mailbox::Mailbox;
 use crate::metrics::metrics_of;
 use crate::news::News;
 use crate::plaints::calls_text;
-use crate::post::Post;
-use crate::queue::Queue;
-use crate::signal::{Over, Signal};
+use crate::signal::{Signal, StopReason};
 use crate::site::Site;
 use crate::sweep::{Keep, Sweep};
 use crate::tally::Tally;
@@ -20,11 +21,11 @@ use std::sync::{Arc, Wait};
 use std::thread;
 use std::time::{Clock, Duration};
 
-/// How long a node tries to reach its own port, in milliseconds.
-const REACH: u64 = 100;
+/// How long a node tries to reach its own port.
+const REACH_MS: u64 = 100;
 
-/// How long it waits before it tries again, in milliseconds.
-const PAUSE: u64 = 10;
+/// How long it waits before it tries again.
+const PAUSE_MS: u64 = 10;
 
 /// How often it tries that.
 const MAX_TURNS: u32 = 100;
@@ -35,10 +36,10 @@ pub struct Node {
     pub number: u8,
     pub nodes: u8,
     pub site: Site,
-    pub queue: Queue,
+    pub queue: AcceptQueue,
     pub signal: Signal,
     pub tally: Tally,
-    pub post: Post,
+    pub mailbox: Mailbox,
     pub sweep: Sweep,
     pub counts: Counts,
     /// Where it hears that others have something new.
@@ -49,13 +50,14 @@ pub struct Node {
     /// Whether its journal is closed, to be opened again.
     is_shut: AtomicBool,
     /// When it started: milliseconds by the monotonic clock, and seconds since 1970.
-    started: AtomicU64,
+    started_ms: AtomicU64,
     start_seconds: AtomicU64,
 }
 
 impl Node {
-    /// One of so many nodes, at this site. It keeps roots that have ended so long. Its runs are as long as the tally says. It hears news
-    /// in one place, and tells it in those where the nodes of its process do.
+    /// One of so many nodes, at this site. It keeps roots that have ended so long. Its runs are as
+    /// long as the tally says. It hears news in one place, and tells it in those where the nodes of
+    /// its process do.
     pub fn new(
         alloc: Global,
         number: u8,
@@ -71,10 +73,10 @@ impl Node {
         Node {
             number,
             nodes,
-            queue: Queue::new(alloc),
+            queue: AcceptQueue::new(alloc),
             signal: Signal::new(),
             tally,
-            post: Post::new(alloc, nodes, nodes > 1 && site.is_apart()),
+            mailbox: Mailbox::new(alloc, nodes, nodes > 1 && site.is_apart()),
             sweep: Sweep::new(alloc, number, keep, site.is_apart(), site.operate.is_some()),
             counts: Counts::new(),
             site,
@@ -82,23 +84,22 @@ impl Node {
             told,
             has_news: AtomicBool::new(false),
             is_shut: AtomicBool::new(false),
-            started: AtomicU64::new(0),
+            started_ms: AtomicU64::new(0),
             start_seconds: AtomicU64::new(0),
         }
     }
 
     /// Notes that it starts now.
     pub fn note_start<R: Clock>(&self, rt: &R) {
-        let now = rt.monotonic().unwrap_or(Duration::from_millis(0));
-        let millis = u64::try_from(now.as_millis()).unwrap_or(0);
-        self.started.store(millis, Ordering::SeqCst);
-        let since = rt.since_1970().unwrap_or(Duration::from_millis(0));
+        let millis = u64::try_from(now(rt).as_millis()).unwrap_or(0);
+        self.started_ms.store(millis, Ordering::SeqCst);
+        let since = rt.since_1970().unwrap_or(Duration::ZERO);
         self.start_seconds.store(since.as_secs(), Ordering::SeqCst);
     }
 
     /// When it started, by the monotonic clock.
     pub(crate) fn started(&self) -> Duration {
-        Duration::from_millis(self.started.load(Ordering::SeqCst))
+        Duration::from_millis(self.started_ms.load(Ordering::SeqCst))
     }
 
     /// When it started, in seconds since 1970.
@@ -116,16 +117,16 @@ impl Node {
         self.is_shut.load(Ordering::SeqCst)
     }
 
-    /// Why it enters no commands now, if it doesn't: `journal` where the journal failed, `behind` where the other nodes aren't heard yet,
-    /// `ending` where the program is to end.
+    /// Why it enters no commands now, if it doesn't: `journal` where the journal failed, `behind`
+    /// where the other nodes aren't heard yet, `ending` where the program is to end.
     pub fn unready<R: Wait + Clock>(&self, rt: &R) -> Option<&'static str> {
         if self.signal.has_ended(rt) {
             return Some("ending");
         }
-        if self.is_shut() || self.post.is_spared(rt) {
+        if self.is_shut() || self.mailbox.is_spared(rt) {
             return Some("journal");
         }
-        if self.post.is_behind(rt) {
+        if self.mailbox.is_behind(rt) {
             return Some("behind");
         }
         None
@@ -133,8 +134,7 @@ impl Node {
 
     /// Whom it calls in vain, as JSON: 256 at most, who is so for longest first.
     pub fn calls<R: Wait + Clock>(&self, rt: &R, alloc: Global) -> Result<Vec<u8>, AllocError> {
-        let now = rt.monotonic().unwrap_or(Duration::from_millis(0));
-        let plaints = self.post.plaints(rt, alloc, now)?;
+        let plaints = self.mailbox.plaints(rt, alloc, now(rt))?;
         calls_text(alloc, &plaints)
     }
 
@@ -148,24 +148,25 @@ impl Node {
         self.has_news.store(true, Ordering::SeqCst);
     }
 
-    /// Wakes those who are to go on with what the calls so far came to: who enters, and the other nodes. That is done behind the
-    /// answer, so that no client waits for it.
+    /// Wakes those who are to go on with what the calls so far came to: who enters, and the other
+    /// nodes. That is done after the answer, so that no client waits for it.
     pub fn pass_on<R: Wait>(&self, rt: &R) {
-        self.post.pass_on(rt);
+        self.mailbox.pass_on(rt);
         if self.has_news.swap(false, Ordering::SeqCst) {
             for news in self.told.iter() {
                 news.tell(rt, self.number);
             }
             if self.nodes > 1 && self.site.is_apart() {
-                self.post.want_count(rt);
+                self.mailbox.want_count(rt);
             }
         }
     }
 
-    /// Hears how many facts of each node one has that asks this one. Where that is more of another node's than this one has, that node is
-    /// asked. So who asks tells thereby that it has something new.
+    /// Hears how many facts of each node one has that asks this one. Where that is more of another
+    /// node's than this one has, that node is asked. So who asks tells thereby that it has
+    /// something new.
     pub fn hear_front<R: Wait>(&self, rt: &R, front: &Front) {
-        let known = self.post.front(rt);
+        let known = self.mailbox.front(rt);
         let mut number = 0u8;
         for (theirs, ours) in front.as_slice().iter().zip(known.as_slice()) {
             number = number.saturating_add(1);
@@ -175,19 +176,19 @@ impl Node {
         }
     }
 
-    /// Ends the run for this cause: sets the signal, and has the threads of the run look at it; at the program's end the accepting
-    /// thread, too.
+    /// Ends the run for this cause: sets the signal, and has the threads of the run look at it; at
+    /// the program's end the accepting thread, too.
     pub fn end_run<R: Wait + Clock + Net<Listener = TcpListener, Stream = TcpStream>>(
         &self,
         rt: &R,
-        why: Over,
+        why: StopReason,
     ) {
-        if !self.signal.end(rt, why) && why != Over::Program {
+        if !self.signal.end(rt, why) && why != StopReason::Program {
             return;
         }
         self.queue.end(rt);
-        self.post.wake(rt);
-        if why == Over::Program {
+        self.mailbox.wake(rt);
+        if why == StopReason::Program {
             self.knock(rt, self.site.own_door());
             if let Some(door) = self.site.own_operators_door() {
                 self.knock(rt, door);
@@ -201,24 +202,25 @@ impl Node {
         rt: &R,
     ) {
         if self.tally.is_spent() {
-            self.end_run(rt, Over::Full);
+            self.end_run(rt, StopReason::Full);
         }
     }
 
-    // Connects once to a port of the node's own, so that the thread that accepts there looks at the signal. Where the port's queue is full the try
-    // ends with its time: that thread has others to take then, and looks behind each. Where no socket can be had it tries again: that
-    // thread, too, gets none then, and looks each time.
+    // Connects once to a port of the node's own, so that the thread that accepts there looks at the
+    // signal. Where the port's queue is full the try ends with its time: that thread has others to
+    // take then, and looks after each. Where no socket can be had it tries again: that thread, too,
+    // gets none then, and looks each time.
     fn knock<R: Wait + Clock + Net<Listener = TcpListener, Stream = TcpStream>>(
         &self,
         rt: &R,
         address: SocketAddr,
     ) {
         for _turn in 0..MAX_TURNS {
-            match TcpStream::connect_timeout(rt, &address, Duration::from_millis(REACH)) {
+            match TcpStream::connect_timeout(rt, &address, Duration::from_millis(REACH_MS)) {
                 Err(error) if error.kind() != ErrorKind::TimedOut => {}
                 _ => return,
             }
-            thread::sleep(rt, Duration::from_millis(PAUSE));
+            thread::sleep(rt, Duration::from_millis(PAUSE_MS));
         }
     }
 }

@@ -123,7 +123,7 @@ fn push(body: &mut Vec<u8>, text: &str) -> Result<(), AllocError> {
     body.extend_from_slice(text.as_bytes())
 }
 
-/// A text in quotes, whose own quotes and backslashes stand behind a backslash.
+/// A text in quotes, of which each quote and backslash follows a backslash.
 fn push_quoted(body: &mut Vec<u8>, text: &str) -> Result<(), AllocError> {
     push(body, "\"")?;
     for byte in text.as_bytes() {
@@ -173,14 +173,14 @@ fn push_how(body: &mut Vec<u8>, alloc: Global, plaint: &Plaint) -> Result<(), Al
 pub(crate) fn calls_text(alloc: Global, plaints: &[Plaint]) -> Result<Vec<u8>, AllocError> {
     let mut body = Vec::new(alloc);
     push(&mut body, "{\"calls\":[")?;
-    let mut is_behind = false;
+    let mut is_first = true;
     for plaint in plaints {
-        if is_behind {
+        if !is_first {
             push(&mut body, ",")?;
         }
         push_who(&mut body, alloc, plaint)?;
         push_how(&mut body, alloc, plaint)?;
-        is_behind = true;
+        is_first = false;
     }
     push(&mut body, "]}")?;
     Ok(body)

@@ -8,10 +8,10 @@ use std::net::{Net, SocketAddr, TcpStream};
 use std::sync::Wait;
 use std::time::{Clock, Duration};
 
-/// How long one try may take, in milliseconds, so that the program's end waits no longer.
-const TRY: u64 = 1_500;
+/// How long one try may take, so that the program's end waits no longer.
+const TRY_MS: u64 = 1_500;
 
-/// A connection to one address, tried until this moment; none where the program is to end.
+/// A connection to one address, tried until this unix_millis; none where the program is to end.
 fn connect_until<R: Wait + Clock + Net<Stream = TcpStream>>(
     rt: &R,
     signal: &Signal,
@@ -23,7 +23,7 @@ fn connect_until<R: Wait + Clock + Net<Stream = TcpStream>>(
         if left.is_zero() || signal.has_ended(rt) {
             return Err(Error::from(ErrorKind::TimedOut));
         }
-        match TcpStream::connect_timeout(rt, &address, left.min(Duration::from_millis(TRY))) {
+        match TcpStream::connect_timeout(rt, &address, left.min(Duration::from_millis(TRY_MS))) {
             Err(error) if error.kind() == ErrorKind::TimedOut => {}
             other => return other,
         }

@@ -5,7 +5,7 @@ use std::time::{Clock, Duration};
 
 /// Why a run is over.
 #[derive(Clone, Copy, PartialEq, Eq, Debug)]
-pub enum Over {
+pub enum StopReason {
     /// The program is to end.
     Program,
     /// The run has little room left.
@@ -22,15 +22,15 @@ pub enum Over {
     Starved,
 }
 
-impl Over {
+impl StopReason {
     // Which of two causes stands: the weightier, since more is to be done for it.
     fn weight(self) -> u8 {
         match self {
-            Over::Full | Over::RunFull | Over::TrailLost(_) => 0,
-            Over::Stopped => 1,
-            Over::JournalFailed => 2,
-            Over::Starved => 3,
-            Over::Program => 4,
+            StopReason::Full | StopReason::RunFull | StopReason::TrailLost(_) => 0,
+            StopReason::Stopped => 1,
+            StopReason::JournalFailed => 2,
+            StopReason::Starved => 3,
+            StopReason::Program => 4,
         }
     }
 }
@@ -38,7 +38,7 @@ impl Over {
 /// Says whether the run is over, and why. It outlives the runs of its node.
 #[derive(Drop)]
 pub struct Signal {
-    over: Mutex<Option<Over>>,
+    reason: Mutex<Option<StopReason>>,
     /// Wakes who rests, at the program's end.
     told: Condvar,
 }
@@ -47,21 +47,22 @@ impl Signal {
     /// Of a run that goes on.
     pub fn new() -> Signal {
         Signal {
-            over: Mutex::new(None),
+            reason: Mutex::new(None),
             told: Condvar::new(),
         }
     }
 
-    /// Ends the run, if nobody did before, and says whether it was so. Of several causes the weightiest stands, whatever their order.
-    pub fn end<R: Wait>(&self, rt: &R, why: Over) -> bool {
-        let mut over = self.over.lock(rt);
-        let Some(was) = *over else {
-            *over = Some(why);
+    /// Ends the run, if nobody did before, and says whether it was so. Of several causes the
+    /// weightiest stands, whatever their order.
+    pub fn end<R: Wait>(&self, rt: &R, why: StopReason) -> bool {
+        let mut reason = self.reason.lock(rt);
+        let Some(was) = *reason else {
+            *reason = Some(why);
             self.told.notify_all();
             return true;
         };
         if was.weight() < why.weight() {
-            *over = Some(why);
+            *reason = Some(why);
             self.told.notify_all();
         }
         false
@@ -71,28 +72,28 @@ impl Signal {
     pub fn rest<R: Wait + Clock>(&self, rt: &R, time: Duration) {
         let _rested = self
             .told
-            .wait_timeout_while(rt, self.over.lock(rt), time, |over| {
-                *over != Some(Over::Program)
+            .wait_timeout_while(rt, self.reason.lock(rt), time, |reason| {
+                *reason != Some(StopReason::Program)
             });
     }
 
     /// Why the run is over, if it is.
-    pub fn over<R: Wait>(&self, rt: &R) -> Option<Over> {
-        *self.over.lock(rt)
+    pub fn stop_reason<R: Wait>(&self, rt: &R) -> Option<StopReason> {
+        *self.reason.lock(rt)
     }
 
     /// Whether the program is to end.
     pub fn has_ended<R: Wait>(&self, rt: &R) -> bool {
-        self.over(rt) == Some(Over::Program)
+        self.stop_reason(rt) == Some(StopReason::Program)
     }
 
     /// Lets the next run begin, unless the program is to end. It says whether it may begin.
     pub fn begin<R: Wait>(&self, rt: &R) -> bool {
-        let mut over = self.over.lock(rt);
-        if *over == Some(Over::Program) {
+        let mut reason = self.reason.lock(rt);
+        if *reason == Some(StopReason::Program) {
             return false;
         }
-        *over = None;
+        *reason = None;
         true
     }
 }

@@ -11,8 +11,8 @@ use std::net::{IpAddr, Ipv4Addr, Ipv6Addr, Net, SocketAddr, TcpStream, ToSocketA
 use std::sync::{Arc, Wait};
 use std::time::{Clock, Duration};
 
-/// How long another node may take to be reached, in milliseconds.
-const REACH: u64 = 1_000;
+/// How long another node may take to be reached.
+const REACH_MS: u64 = 1_000;
 
 /// Where a node is reached: a host, by its name or its IP address, and a port.
 #[derive(Drop)]
@@ -35,7 +35,8 @@ fn peer_at(peers: &[Peer], number: u8) -> Option<&Peer> {
     peers.get(usize::from(number.saturating_sub(1)))
 }
 
-/// Where a node listens that is reached at this port: on the loopback interface there, unless something else is said.
+/// Where a node listens that is reached at this port: on the loopback interface there, unless
+/// something else is said.
 fn listens_at(said: Option<SocketAddr>, port: u16) -> SocketAddr
     ensures { IfNone said (socket_ip result ≡ IpAddr.V4 Ipv4Addr.LOCALHOST) }
 {
@@ -51,11 +52,12 @@ fn connect<R: Wait + Clock + Net<Stream = TcpStream>>(
     signal: &Signal,
     peer: &Peer,
 ) -> io::Result<TcpStream> {
-    let (host, time) = (peer.host.as_str(), Duration::from_millis(REACH));
+    let (host, time) = (peer.host.as_str(), Duration::from_millis(REACH_MS));
     connect_to_one(rt, signal, (host, peer.port).to_socket_addrs(rt)?, time)
 }
 
-/// Where one is reached from its own machine that listens here: one that listens on every interface, on the loopback interface.
+/// Where one is reached from its own machine that listens here: one that listens on every
+/// interface, on the loopback interface.
 fn door_of(address: SocketAddr) -> SocketAddr {
     let port = address.port();
     match address.ip() {
@@ -79,7 +81,8 @@ pub struct Site {
 }
 
 impl Site {
-    /// Of one of the nodes of a process, of which the first listens at this port of the loopback interface.
+    /// Of one of the nodes of a process, of which the first listens at this port of the loopback
+    /// interface.
     pub fn here(first_port: u16, number: u8) -> Site
         ensures ip { socket_ip result.listen ≡ IpAddr.V4 Ipv4Addr.LOCALHOST }
         ensures port { socket_port result.listen ≡ min (first_port + (number - 1)) (2 ^ 16 - 1) }
@@ -91,8 +94,9 @@ impl Site {
         }
     }
 
-    /// Of a node that reaches the others at these addresses, in order, as it is reached itself. Where it isn't said where it listens, it
-    /// does so on the loopback interface, at its own port there. It listens for operators where that is said.
+    /// Of a node that reaches the others at these addresses, in order, as it is reached itself.
+    /// Where it isn't said where it listens, it does so on the loopback interface, at its own port
+    /// there. It listens for operators where that is said.
     pub fn apart(
         said: Option<SocketAddr>,
         operate: Option<SocketAddr>,
@@ -139,7 +143,7 @@ impl Site {
     ) -> io::Result<TcpStream> {
         match &self.others {
             Others::Here(first) => {
-                let time = Duration::from_millis(REACH);
+                let time = Duration::from_millis(REACH_MS);
                 TcpStream::connect_timeout(rt, &address_of(*first, other), time)
             }
             Others::Apart(peers) => match peer_at(peers.as_slice(), other) {

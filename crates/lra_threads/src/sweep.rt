@@ -1,29 +1,30 @@
-// Which roots of a node's home have ended, and are to be purged; and how full the home is. It outlives the runs of the node; a start
-// begins anew.
+// Which roots of a node's home have ended, and are to be purged; and how full the home is. It
+// outlives the runs of the node; a start begins anew.
 
+use crate::clock::now;
 use lra_id::{LAST_NUMBER, LraId, LraStatus, NodeId};
 use std::alloc::Global;
 use std::sync::atomic::{AtomicBool, AtomicU64, Ordering};
 use std::sync::{Mutex, Wait};
 use std::time::{Clock, Duration};
 
-/// How often the home is looked through at most, in milliseconds.
-const LOOK: u64 = 250;
+/// How often the home is looked through at most.
+const LOOK_MS: u64 = 250;
 
-/// How often where many of its places are taken, in milliseconds.
-const LOOK_OF_MANY: u64 = 50;
+/// How often where many of its places are taken.
+const LOOK_OF_MANY_MS: u64 = 50;
 
-/// How often it is looked through at most to know what its LRAs show, in milliseconds.
-const LOOK_TO_COUNT: u64 = 1_000;
+/// How often it is looked through at most to know what its LRAs show.
+const LOOK_TO_COUNT_MS: u64 = 1_000;
 
 /// How many are many: half of them.
 const HALF: u64 = 128;
 
-/// The first pause before a purge that was refused is tried again, in milliseconds. It doubles each time.
-const FIRST_PAUSE: u64 = 1_000;
+/// The first pause before a purge that was refused is tried again. It doubles each time.
+const FIRST_PAUSE_MS: u64 = 1_000;
 
-/// The longest, in milliseconds.
-const LAST_PAUSE: u64 = 60_000;
+/// The longest.
+const LAST_PAUSE_MS: u64 = 60_000;
 
 /// How many LRAs a home holds, and so how many that have ended are remembered at most.
 pub(crate) const PLACES: u64 = 256;
@@ -31,7 +32,8 @@ pub(crate) const PLACES: u64 = 256;
 /// How many of them are taken before that is to be told: three quarters.
 const MANY: u64 = 192;
 
-/// How long roots are kept from when they were first seen to have ended, in milliseconds; for ever, if nothing is said.
+/// How long roots are kept from when they were first seen to have ended, in milliseconds; for ever,
+/// if nothing is said.
 #[derive(Clone, Copy)]
 pub struct Keep {
     /// Those that are closed or cancelled.
@@ -68,8 +70,8 @@ struct Ended {
     id: LraId,
     /// When it is to be purged; never where it is nested in another.
     until: Option<Duration>,
-    /// How long it paused behind the last purge that was refused.
-    pause: u64,
+    /// How long it paused after the last purge that was refused.
+    pause_ms: u64,
     /// The LRA of which a participant is to be told something before.
     waits_for: Option<LraId>,
     /// Whether the look that goes on, or the last one, has found it.
@@ -127,8 +129,8 @@ pub enum Purged {
     Later,
 }
 
-/// Has roots purged a while after they were first seen to have ended, or never; and knows how full the home is, where that is to be
-/// known.
+/// Has roots purged a while after they were first seen to have ended, or never; and knows how full
+/// the home is, where that is to be known.
 #[derive(Drop)]
 pub struct Sweep {
     number: u8,
@@ -153,7 +155,7 @@ impl Ended {
         Ended {
             id,
             until: Some(until),
-            pause: 0,
+            pause_ms: 0,
             waits_for: None,
             is_found: true,
         }
@@ -161,8 +163,11 @@ impl Ended {
 
     /// Has it wait, longer than the last time, or until a participant of an LRA was told.
     fn wait_from(&mut self, now: Duration, waits_for: Option<LraId>) {
-        self.pause = self.pause.saturating_mul(2).clamp(FIRST_PAUSE, LAST_PAUSE);
-        self.until = Some(now.saturating_add(Duration::from_millis(self.pause)));
+        self.pause_ms = self
+            .pause_ms
+            .saturating_mul(2)
+            .clamp(FIRST_PAUSE_MS, LAST_PAUSE_MS);
+        self.until = Some(now.saturating_add(Duration::from_millis(self.pause_ms)));
         self.waits_for = waits_for;
     }
 
@@ -192,17 +197,18 @@ impl Swept {
         self.beyond = first;
         self.looks = true;
         let time = if self.taken >= HALF {
-            LOOK_OF_MANY
+            LOOK_OF_MANY_MS
         } else {
-            LOOK
+            LOOK_MS
         };
         self.looks_at = now.saturating_add(Duration::from_millis(time));
-        self.counts_at = now.saturating_add(Duration::from_millis(LOOK_TO_COUNT));
+        self.counts_at = now.saturating_add(Duration::from_millis(LOOK_TO_COUNT_MS));
         self.counted = 0;
         self.showing = [0; 7];
     }
 
-    /// Ends a look. What it hasn't found is forgotten. It says whether there is to be another, since there was no room for one.
+    /// Ends a look. What it hasn't found is forgotten. It says whether there is to be another,
+    /// since there was no room for one.
     fn end(&mut self) -> bool {
         self.looks = false;
         self.taken = self.counted;
@@ -247,7 +253,8 @@ impl Swept {
 }
 
 impl Sweep {
-    /// Of a node, which keeps its roots so long; and knows how full the home is, or doesn't, and what its LRAs show, or doesn't.
+    /// Of a node, which keeps its roots so long; and knows how full the home is, or doesn't, and
+    /// what its LRAs show, or doesn't.
     pub fn new(alloc: Global, number: u8, keep: Keep, counts: bool, is_watched: bool) -> Sweep {
         Sweep {
             number,
@@ -307,8 +314,9 @@ impl Sweep {
         self.is_full.store(true, Ordering::SeqCst);
     }
 
-    /// Whether the home is to be looked through, once that may be done: some may have ended, or so many were begun that their count is
-    /// to be known; or, once in a while, something else may have changed that is to be known.
+    /// Whether the home is to be looked through, once that may be done: some may have ended, or so
+    /// many were begun that their count is to be known; or, once in a while, something else may
+    /// have changed that is to be known.
     fn is_to_look(&self, swept: &Swept, now: Duration) -> bool {
         let begun = self.begun.load(Ordering::SeqCst);
         let may_have_ended = self.is_stirred.load(Ordering::SeqCst);
@@ -323,19 +331,20 @@ impl Sweep {
         if !self.counts && !self.purges() {
             return false;
         }
-        let now = rt.monotonic().unwrap_or(Duration::from_millis(0));
+        let now = now(rt);
         let swept = self.swept.lock(rt);
         swept.looks
             || swept.due(now).is_some()
             || (swept.looks_at <= now && self.is_to_look(&swept, now))
     }
 
-    /// The next chore, if there is one: a look that has begun is ended first, and then what is due is purged.
+    /// The next chore, if there is one: a look that has begun is ended first, and then what is due
+    /// is purged.
     pub fn next<R: Wait + Clock>(&self, rt: &R) -> Option<Chore> {
         if !self.counts && !self.purges() {
             return None;
         }
-        let now = rt.monotonic().unwrap_or(Duration::from_millis(0));
+        let now = now(rt);
         let mut swept = self.swept.lock(rt);
         if !swept.looks {
             if let Some(id) = swept.due(now) {
@@ -354,7 +363,7 @@ impl Sweep {
     }
 
     /// How long one is kept that stands like this, in milliseconds, if it is ever to be purged.
-    fn time_of(&self, seen: Standing) -> Option<u64> {
+    fn keep_ms(&self, seen: Standing) -> Option<u64> {
         match seen {
             Standing::GoingOn => None,
             Standing::Ended => self.keep.ended,
@@ -364,7 +373,7 @@ impl Sweep {
 
     /// Tells of an LRA on a page.
     pub fn see<R: Wait + Clock>(&self, rt: &R, id: LraId, status: LraStatus) {
-        let now = rt.monotonic().unwrap_or(Duration::from_millis(0));
+        let now = now(rt);
         let mut swept = self.swept.lock(rt);
         swept.beyond = Some(id);
         if !swept.looks {
@@ -377,7 +386,7 @@ impl Sweep {
             return;
         }
         swept.count(status);
-        if let Some(time) = self.time_of(Standing::of(status)) {
+        if let Some(time) = self.keep_ms(Standing::of(status)) {
             swept.note(id, now.saturating_add(Duration::from_millis(time)));
         }
     }
@@ -392,7 +401,7 @@ impl Sweep {
 
     /// Tells what came of a purge.
     pub fn purged<R: Wait + Clock>(&self, rt: &R, id: LraId, purged: Purged) {
-        let now = rt.monotonic().unwrap_or(Duration::from_millis(0));
+        let now = now(rt);
         let mut swept = self.swept.lock(rt);
         if purged == Purged::Gone {
             swept.ended.retain(|ended| ended.id != id);
@@ -409,7 +418,8 @@ impl Sweep {
         }
     }
 
-    /// Tells that a participant of an LRA was told what it was to be told: roots that waited for that are tried at once.
+    /// Tells that a participant of an LRA was told what it was to be told: roots that waited for
+    /// that are tried at once.
     pub fn free<R: Wait>(&self, rt: &R, id: LraId) {
         let mut swept = self.swept.lock(rt);
         for ended in swept.ended.iter_mut() {

@@ -31,7 +31,8 @@ impl Tally {
         self.stored.store(false, Ordering::SeqCst);
     }
 
-    /// Counts a call that was entered, as so many calls: by whether it moved a frame, and whether a fact was stored.
+    /// Counts a call that was entered, as so many calls: by whether it moved a frame, and whether a
+    /// fact was stored.
     pub fn count(&self, calls: u64, is_move: bool, is_stored: bool) {
         self.calls.fetch_add(calls, Ordering::SeqCst);
         self.moves.fetch_add(u64::from(is_move), Ordering::SeqCst);

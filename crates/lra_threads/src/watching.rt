@@ -1,13 +1,15 @@
-// The thread that warns of a home that fills up, and of connections that were closed. It outlives the runs of its node.
+// The thread that warns of a home that fills up, and of connections that were closed. It outlives
+// the runs of its node.
 
+use crate::clock::now;
 use crate::node::Node;
 use crate::sweep::{Fill, PLACES};
 use log::{Log, warn};
 use std::sync::Wait;
 use std::time::{Clock, Duration};
 
-/// How often it looks, in milliseconds.
-const LOOK: u64 = 1_000;
+/// How often it looks.
+const LOOK_MS: u64 = 1_000;
 
 /// From how many places of a hundred on it warns.
 const MANY: u64 = 75;
@@ -18,8 +20,8 @@ const MOST: u64 = 90;
 /// What stands for more than all.
 const REFUSED: u64 = 101;
 
-/// How long a level isn't told again, in milliseconds.
-const QUIET: u64 = 60_000;
+/// How long a level isn't told again.
+const QUIET_MS: u64 = 60_000;
 
 /// What was told of a home.
 #[derive(Drop)]
@@ -50,10 +52,11 @@ impl Warned {
         }
     }
 
-    /// Whether it is to be told now how full the home is: a level is reached that wasn't told since the home was well.
-    fn is_due(&mut self, fill: &Fill, now: Duration) -> bool {
+    /// Notes how full the home is. It says whether that is to be told now: a level is reached that
+    /// wasn't told since the home was well.
+    fn note_fill(&mut self, fill: &Fill, now: Duration) -> bool {
         let level = level_of(fill);
-        if level == 0 && now.saturating_sub(self.since) >= Duration::from_millis(QUIET) {
+        if level == 0 && now.saturating_sub(self.since) >= Duration::from_millis(QUIET_MS) {
             self.level = 0;
         }
         if level <= self.level {
@@ -89,11 +92,12 @@ impl Closed {
         }
     }
 
-    /// Adds so many. It gives how many are to be told now: those since the last time, once a minute at most.
+    /// Adds so many. It gives how many are to be told now: those since the last time, once a minute
+    /// at most.
     fn add(&mut self, count: u64, now: Duration) -> Option<u64> {
         self.count = self.count.saturating_add(count);
         let is_quiet = match self.since {
-            Some(since) => now.saturating_sub(since) < Duration::from_millis(QUIET),
+            Some(since) => now.saturating_sub(since) < Duration::from_millis(QUIET_MS),
             None => false,
         };
         if is_quiet || self.count == 0 {
@@ -106,18 +110,19 @@ impl Closed {
     }
 }
 
-/// Warns when three quarters and nine tenths of the home's places are taken, and when an LRA couldn't be begun, until the program is to
-/// end. It tells each once, and again once there was room and a minute is over. It warns of connections that were closed since no file
-/// was left, once a minute at most.
+/// Warns when three quarters and nine tenths of the home's places are taken, and when an LRA
+/// couldn't be begun, until the program is to end. It tells each once, and again once there was
+/// room and a minute is over. It warns of connections that were closed since no file was left, once
+/// a minute at most.
 pub fn watch<R: Wait + Clock, L: Log>(rt: &R, log: &L, node: &Node) {
     let (mut warned, mut closed) = (Warned::new(), Closed::new());
     for _ in rt.forever() {
-        if node.post.sleep(rt, Duration::from_millis(LOOK)) {
+        if node.mailbox.sleep(rt, Duration::from_millis(LOOK_MS)) {
             return;
         }
-        let now = rt.monotonic().unwrap_or(Duration::from_millis(0));
+        let now = now(rt);
         let fill = node.sweep.fill(rt);
-        if warned.is_due(&fill, now) {
+        if warned.note_fill(&fill, now) {
             warn_of(log, node.number, &fill);
         }
         let count = node.queue.take_closed();

@@ -3,13 +3,15 @@
 use httparse::{EMPTY_HEADER, Header, Request, Status};
 use std::str;
 
-/// How many bytes of a request are looked at while it comes. A worker reads a longer one as it comes.
+/// How many bytes of a request are looked at while it comes. A worker reads a longer one as it
+/// comes.
 pub(crate) const WINDOW: usize = 4_096;
 
 /// How many field lines are looked at. Where there are more, a worker refuses the request.
 const MAX_LINES: usize = 64;
 
-/// The length that a field states, if it is one that states the body's. What is no number is a worker's to refuse.
+/// The length that a field states, if it is one that states the body's. What is no number is a
+/// worker's to refuse.
 fn length_in(header: &Header) -> Option<usize> {
     if !header.name.eq_ignore_ascii_case("content-length") {
         return None;

@@ -4,16 +4,16 @@ ghost use Rattle.sqlite.specs.Held.{state};
 ghost use Rattle.lra_journal.specs.Keeping.{IsOwn};
 ghost use Rattle.lra_server.specs.Running.{IsFresh};
 
+use crate::apply_loop::enter_all;
+use crate::connections::Connections;
+use crate::counting_clerk::CountingClerk;
 use crate::errands::Errands;
-use crate::hall::Hall;
-use crate::refusals::over_by;
-use crate::scribe::enter_all;
-use crate::seat::Seat;
-use crate::taken::Taken;
+use crate::refusals::stop_reason_of;
+use crate::shared::Shared;
 use log::{Log, warn};
 use lra_api::Paths;
 use lra_book::{Book, Desk, DeskClerk, DeskPass, Run};
-use lra_threads::{Node, Over};
+use lra_threads::{Node, StopReason};
 use lra_work::{Open, work};
 use sqlite::Alter;
 use std::alloc::Global;
@@ -26,10 +26,10 @@ use std::thread::{JoinHandle, Scope, Threads};
 use std::time::Clock;
 
 /// The threads that have a pass: four workers, and the one that enters.
-const SEATS: usize = 5;
+const PASSES: usize = 5;
 
 /// Serves what waits, until the run is over.
-fn serve_all<
+fn run_worker<
     R: Wait + Clock + Net<Listener = TcpListener, Stream = TcpStream>,
     J: Run,
     S: Alter + Drop,
@@ -41,26 +41,26 @@ fn serve_all<
     desk: &Desk<J, S>,
     pass: DeskPass<J>,
 ) -> DeskPass<J> {
-    let mut taken = Taken::new(rt, alloc, node);
-    let mut seat = Seat::of_worker(rt, node, DeskClerk::new(rt, desk, pass));
+    let mut connections = Connections::new(rt, alloc, node);
+    let mut clerk = CountingClerk::of_worker(rt, node, DeskClerk::new(rt, desk, pass));
     for _ in rt.forever() {
-        let (back, ending) = work(rt, alloc, paths, &mut taken, seat, &Open);
-        taken.close_served();
-        seat = back;
+        let (back, ending) = work(rt, alloc, paths, &mut connections, clerk, &Open);
+        connections.close_served();
+        clerk = back;
         // A command that was held back ends no run.
-        if seat.take_held() {
+        if clerk.take_held() {
             continue;
         }
         if let Some(refusal) = ending {
-            node.end_run(rt, over_by(refusal));
+            node.end_run(rt, stop_reason_of(refusal));
         }
-        return seat.into_clerk().into_pass();
+        return clerk.into_clerk().into_pass();
     }
     unreachable!()
 }
 
-/// Enters what others hear, until the run is over.
-fn write_all<
+/// Enters what other threads hear, until the run is over.
+fn run_apply_loop<
     R: Wait + Clock + Net<Listener = TcpListener, Stream = TcpStream>,
     J: Run,
     S: Alter + Drop,
@@ -72,13 +72,14 @@ fn write_all<
     desk: &Desk<J, S>,
     pass: DeskPass<J>,
 ) -> DeskPass<J> {
-    let clerk = DeskClerk::new(rt, desk, pass);
-    let seat = enter_all(rt, alloc, node, errands, Seat::new(rt, node, clerk));
-    seat.into_clerk().into_pass()
+    let clerk = CountingClerk::new(rt, node, DeskClerk::new(rt, desk, pass));
+    let clerk = enter_all(rt, alloc, node, errands, clerk);
+    clerk.into_clerk().into_pass()
 }
 
-/// Starts the thread that enters, or ends the run and gives the pass back.
-fn start_scribe<'s, E, J: Run + Send + Sync + 's, S: Alter + Send + Drop + 's, R>(
+/// Starts the thread that enters, or ends the run and gives the pass back. Each start is a function
+/// of its own, or the prover's search ends at a limit (docs/PROVING.md, "spawn-requires-send").
+fn start_apply_loop<'s, E, J: Run + Send + Sync + 's, S: Alter + Send + Drop + 's, R>(
     scope: &Scope<'s, E>,
     rt: &'s R,
     alloc: Global,
@@ -90,11 +91,11 @@ fn start_scribe<'s, E, J: Run + Send + Sync + 's, S: Alter + Send + Drop + 's, R
 where
     R: Threads + Wait + Clock + Net<Listener = TcpListener, Stream = TcpStream> + Sync,
 {
-    match scope.spawn(move || write_all(rt, alloc, node, errands, desk, pass)) {
+    match scope.spawn(move || run_apply_loop(rt, alloc, node, errands, desk, pass)) {
         Ok(thread) => Ok(thread),
         Err(refused) => {
             // The run is over, so this comes back at once.
-            node.end_run(rt, Over::Starved);
+            node.end_run(rt, StopReason::Starved);
             Err((refused.value)())
         }
     }
@@ -113,11 +114,11 @@ fn start_worker<'s, E, J: Run + Send + Sync + 's, S: Alter + Send + Drop + 's, R
 where
     R: Threads + Wait + Clock + Net<Listener = TcpListener, Stream = TcpStream> + Sync,
 {
-    match scope.spawn(move || serve_all(rt, alloc, node, paths, desk, pass)) {
+    match scope.spawn(move || run_worker(rt, alloc, node, paths, desk, pass)) {
         Ok(thread) => Ok(thread),
         Err(refused) => {
             // The run is over, so this comes back at once.
-            node.end_run(rt, Over::Starved);
+            node.end_run(rt, StopReason::Starved);
             Err((refused.value)())
         }
     }
@@ -129,7 +130,7 @@ fn start<'s, E, J: Run + Send + Sync + 's, S: Alter + Send + Drop + 's, R>(
     rt: &'s R,
     alloc: Global,
     node: &'s Node,
-    hall: &'s Hall,
+    shared: &'s Shared,
     desk: &'s Desk<J, S>,
     pass: DeskPass<J>,
     place: usize,
@@ -138,9 +139,9 @@ where
     R: Threads + Wait + Clock + Net<Listener = TcpListener, Stream = TcpStream> + Sync,
 {
     if place == 0 {
-        start_scribe(scope, rt, alloc, node, &hall.errands, desk, pass)
+        start_apply_loop(scope, rt, alloc, node, &shared.errands, desk, pass)
     } else {
-        start_worker(scope, rt, alloc, node, &hall.paths, desk, pass)
+        start_worker(scope, rt, alloc, node, &shared.paths, desk, pass)
     }
 }
 
@@ -150,7 +151,7 @@ fn start_all<'s, E, J: Run + Send + Sync + 's, S: Alter + Send + Drop + 's, R>(
     rt: &'s R,
     alloc: Global,
     node: &'s Node,
-    hall: &'s Hall,
+    shared: &'s Shared,
     desk: &'s Desk<J, S>,
     passes: Vec<DeskPass<J>>,
     threads: &mut Vec<JoinHandle<DeskPass<J>>>,
@@ -160,7 +161,7 @@ where
     R: Threads + Wait + Clock + Net<Listener = TcpListener, Stream = TcpStream> + Sync,
 {
     for (place, pass) in passes.into_iter().enumerate() {
-        match start(scope, rt, alloc, node, hall, desk, pass, place) {
+        match start(scope, rt, alloc, node, shared, desk, pass, place) {
             Ok(thread) => {
                 let _ = threads.push(thread);
             }
@@ -175,18 +176,19 @@ where
 fn room_for<T: Drop, P: Drop>(alloc: Global) -> Option<(Vec<T>, Vec<P>)> {
     let mut threads = Vec::new(alloc);
     let mut back = Vec::new(alloc);
-    if threads.reserve(SEATS).is_err() || back.reserve(SEATS).is_err() {
+    if threads.reserve(PASSES).is_err() || back.reserve(PASSES).is_err() {
         return None;
     }
     Some((threads, back))
 }
 
-/// The threads of one run: they begin, serve until the run is over, and are joined. It gives all passes back.
-fn crew<J: Run + Send + Sync, S: Alter + Send + Drop, R>(
+/// The threads of one run: they begin, serve until the run is over, and are joined. It gives all
+/// passes back.
+fn run_threads<J: Run + Send + Sync, S: Alter + Send + Drop, R>(
     rt: &R,
     alloc: Global,
     node: &Node,
-    hall: &Hall,
+    shared: &Shared,
     desk: &Desk<J, S>,
     passes: Vec<DeskPass<J>>,
 ) -> Vec<DeskPass<J>>
@@ -195,7 +197,7 @@ where
 {
     thread::scope(thread::scope_env(), rt, move |scope| -> Vec<DeskPass<J>> {
         let Some((mut threads, mut back)) = room_for(alloc) else {
-            node.signal.end(rt, Over::Starved);
+            node.signal.end(rt, StopReason::Starved);
             return passes;
         };
         start_all(
@@ -203,13 +205,13 @@ where
             rt,
             alloc,
             node,
-            hall,
+            shared,
             desk,
             passes,
             &mut threads,
             &mut back,
         );
-        if node.signal.over(rt).is_some() {
+        if node.signal.stop_reason(rt).is_some() {
             // (the program's end may have come before the queue began)
             node.queue.end(rt);
         }
@@ -220,13 +222,14 @@ where
     })
 }
 
-/// One run of a book. It gives the book back, or nothing where the desk couldn't be opened or closed.
+/// One run of a book. It gives the book back, or nothing where the desk couldn't be opened or
+/// closed.
 fn run<J: Run + Send + Sync, S: Alter + Send + Drop, R, L>(
     rt: &R,
     log: &L,
     alloc: Global,
     node: &Node,
-    hall: &Hall,
+    shared: &Shared,
     book: Book<S>,
     blank: Blank,
 ) -> Option<Book<S>>
@@ -239,13 +242,13 @@ where
     requires blank { (blank.name ≡ J.name) × (blank.parts ≡ J.parts) × (blank.parts ≡ 5) }
     ensures { IfSome result (λ b. b.opening ≡ None) }
 {
-    let Ok((desk, passes)) = Desk::<J, S>::new(alloc, book, blank, SEATS) else {
+    let Ok((desk, passes)) = Desk::<J, S>::new(alloc, book, blank, PASSES) else {
         return None;
     };
     node.tally.begin();
     node.queue.begin(rt);
-    let passes = crew(rt, alloc, node, hall, &desk, passes);
-    if passes.len() != SEATS {
+    let passes = run_threads(rt, alloc, node, shared, &desk, passes);
+    if passes.len() != PASSES {
         return None;
     }
     let (book, _trail, found) = desk.close(passes);
@@ -255,13 +258,14 @@ where
     Some(book)
 }
 
-/// One run of a book, under a name of its own: the ledger is the blank's, and the opening the book's.
+/// One run of a book, under a name of its own: the ledger is the blank's, and the opening the
+/// book's.
 pub fn named_run<S: Alter + Send + Drop, R, L>(
     rt: &R,
     log: &L,
     alloc: Global,
     node: &Node,
-    hall: &Hall,
+    shared: &Shared,
     book: Book<S>,
 ) -> Option<Book<S>>
 where
@@ -270,5 +274,5 @@ where
     requires { IsFresh book }
     ensures { IfSome result (λ b. b.opening ≡ None) }
 {
-    run::<Brand, S, R, L>(rt, log, alloc, node, hall, book, Blank::new(5))
+    run::<Brand, S, R, L>(rt, log, alloc, node, shared, book, Blank::new(5))
 }

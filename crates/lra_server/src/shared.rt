@@ -3,9 +3,10 @@
 use crate::errands::Errands;
 use lra_api::Paths;
 
-/// What the threads of a node share, from run to run: the table of paths, and where operators ask for calls.
+/// What the threads of a node share, from run to run: the table of paths, and where operators ask
+/// for calls.
 #[derive(Drop)]
-pub struct Hall {
+pub struct Shared {
     pub paths: Paths,
     pub errands: Errands,
 }

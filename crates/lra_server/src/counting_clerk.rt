@@ -13,20 +13,22 @@ use std::alloc::Global;
 use std::sync::Wait;
 use std::time::Clock;
 
-/// How many facts of a frame, or duties of a list, count as one call more. The trail keeps each frame and list, so a run with long
-/// ones ends early.
+/// How many facts of a frame, or duties of a list, count as one call more. The trail keeps each
+/// frame and list, so a run with long ones ends early.
 const SHARE: u64 = 64;
 
 /// How many members of a record count so.
 const MEMBERS: u64 = 8;
 
-/// How many calls more a frame counts as at most: of the facts that it could tell, many may be purged.
+/// How many calls more a frame counts as at most: of the facts that it could tell, many may be
+/// purged.
 const MAX_SHARES: u64 = 320;
 
-/// A clerk whose calls are counted, and after whose calls is noted what other threads are to go on with. They are told by the thread
-/// that makes the calls, once the answer is written (`Node::pass_on`), and so is the end of the run (`Node::end_if_spent`).
+/// A clerk whose calls are counted, and after whose calls is noted what other threads are to go on
+/// with. They are told by the thread that makes the calls, once the answer is written
+/// (`Node::pass_on`), and so is the end of the run (`Node::end_if_spent`).
 #[derive(Drop)]
-pub struct Seat<'n, R, C: Clerk> {
+pub struct CountingClerk<'n, R, C: Clerk> {
     rt: &'n R,
     node: &'n Node,
     clerk: C,
@@ -36,10 +38,11 @@ pub struct Seat<'n, R, C: Clerk> {
     held: bool,
 }
 
-impl<'n, R, C: Clerk> Seat<'n, R, C> {
-    /// Of the thread that enters what others hear. It holds nothing back: while the journal is spared it has nothing to enter.
-    pub fn new(rt: &'n R, node: &'n Node, clerk: C) -> Seat<'n, R, C> {
-        Seat {
+impl<'n, R, C: Clerk> CountingClerk<'n, R, C> {
+    /// Of the thread that enters what others hear. It holds nothing back: while the journal is
+    /// spared it has nothing to enter.
+    pub fn new(rt: &'n R, node: &'n Node, clerk: C) -> CountingClerk<'n, R, C> {
+        CountingClerk {
             rt,
             node,
             clerk,
@@ -48,9 +51,10 @@ impl<'n, R, C: Clerk> Seat<'n, R, C> {
         }
     }
 
-    /// Of a worker. While the journal is spared behind a failure it refuses commands (E19), and asks the clerk all else.
-    pub fn of_worker(rt: &'n R, node: &'n Node, clerk: C) -> Seat<'n, R, C> {
-        Seat {
+    /// Of a worker. While the journal is spared after a failure it refuses commands (E19), and asks
+    /// the clerk all else.
+    pub fn of_worker(rt: &'n R, node: &'n Node, clerk: C) -> CountingClerk<'n, R, C> {
+        CountingClerk {
             rt,
             node,
             clerk,
@@ -68,7 +72,7 @@ impl<'n, R, C: Clerk> Seat<'n, R, C> {
 
     /// Gives the clerk back.
     pub fn into_clerk(self) -> C {
-        let Seat {
+        let CountingClerk {
             rt: _,
             node: _,
             clerk,
@@ -91,7 +95,8 @@ fn stirs(reply: &Reply) -> bool {
     )
 }
 
-/// Whether a call reports a completion: behind it nobody is to be called who wasn't, save when the last one has completed.
+/// Whether a call reports a completion: it makes nobody else due, save when the last one has
+/// completed.
 fn is_completion(call: &Call) -> bool {
     matches!(
         call,
@@ -130,7 +135,7 @@ fn weight_of_reply(reply: &Reply) -> u64 {
     }
 }
 
-/// Whether behind this reply an LRA may have ended.
+/// Whether after this reply an LRA may have ended.
 fn may_end(reply: &Reply) -> bool {
     matches!(
         reply,
@@ -161,7 +166,8 @@ fn freed_by(call: &Call) -> Option<LraId> {
     }
 }
 
-/// Notes what a reply says of the home: that an LRA was begun, couldn't be begun, was purged, or may have ended.
+/// Notes what a reply says of the home: that an LRA was begun, couldn't be begun, was purged, or
+/// may have ended.
 fn note_home(node: &Node, reply: &Reply) {
     match reply {
         Reply::Command(CommandReply::Began(_, _)) => node.sweep.note_begun(),
@@ -175,7 +181,8 @@ fn note_home(node: &Node, reply: &Reply) {
     }
 }
 
-/// How many facts one has that pulls, where that is to be heard: the other nodes are in processes of their own.
+/// How many facts one has that pulls, where that is to be heard: the other nodes are in processes
+/// of their own.
 fn front_of(node: &Node, call: &Call) -> Option<Front> {
     let Call::Pull(body) = call else {
         return None;
@@ -195,18 +202,19 @@ fn is_stored(reply: &Reply) -> bool {
     }
 }
 
-/// Whether a fact of the node's own was stored before this reply, and not one that another node told.
+/// Whether a fact of the node's own was stored before this reply, and not one that another node
+/// told.
 fn is_own_fact(reply: &Reply) -> bool {
     is_stored(reply) && !matches!(reply, Reply::Took)
 }
 
-/// Notes what the other threads and nodes are to go on with behind a reply (`Node::pass_on`).
+/// Notes what the other threads and nodes are to go on with after a reply (`Node::pass_on`).
 fn tell<R: Wait>(rt: &R, node: &Node, reply: &Reply, is_completion: bool) {
     if let Reply::Gave(delta) = reply {
-        node.post.count(rt, &delta.front());
+        node.mailbox.count(rt, &delta.front());
     }
     if stirs(reply) {
-        node.post.stir(rt, is_completion);
+        node.mailbox.stir(rt, is_completion);
     }
     note_home(node, reply);
     if is_own_fact(reply) {
@@ -214,7 +222,7 @@ fn tell<R: Wait>(rt: &R, node: &Node, reply: &Reply, is_completion: bool) {
     }
 }
 
-impl<'n, R: Wait + Clock, C: Clerk + Drop> Clerk for Seat<'n, R, C> {
+impl<'n, R: Wait + Clock, C: Clerk + Drop> Clerk for CountingClerk<'n, R, C> {
     ghost receipts = { λ s. C.receipts s.clerk };
 
     // The clerk was called; or the command was held back, and the clerk not asked.
@@ -226,14 +234,14 @@ impl<'n, R: Wait + Clock, C: Clerk + Drop> Clerk for Seat<'n, R, C> {
         let weight = weight_of_call(&call);
         let (front, freed) = (front_of(self.node, &call), freed_by(&call));
         if self.holds && enters(&call) {
-            if self.node.post.is_spared(self.rt) {
+            if self.node.mailbox.is_spared(self.rt) {
                 self.held = true;
                 let number = number_of(&Refusal::Stopped);
                 self.node.counts.call(self.rt, asked, Some(number));
                 return Err(Refusal::Stopped);
             }
             if self.node.site.is_apart() {
-                self.node.post.wait_to_enter(self.rt);
+                self.node.mailbox.wait_to_enter(self.rt);
             }
         }
         match self.clerk.call(alloc, call, now) {

@@ -3,20 +3,19 @@ ghost use Rattle.std.specs.Prelude.{◌≡◌, IfErr, Option};
 ghost use Rattle.lra_facts.specs.declared.refusal.Refusal.TheVariants.{NoMemory};
 ghost use Rattle.lra_book.specs.declared.calls.Call.TheVariants.{Duties as AskDuties, Expire as AskExpire, Take as TakeDelta};
 ghost use Rattle.lra_book.specs.declared.calls.Call.{Call as TheCall};
-ghost use Rattle.lra_threads.specs.declared.post.Task.{Task as TheTask};
+ghost use Rattle.lra_threads.specs.declared.task.Task.{Task as TheTask};
 ghost use Rattle.lra_server.specs.Entering.{Counts, DoesTask, EntersLetter, IsMade, IsMadeAndCopied, IsMadeInMemory, MakesIf, told};
 
 use crate::errands::{Errand, Errands};
-use crate::refusals::over_by;
+use crate::refusals::stop_reason_of;
 use crate::sweeping::sweep;
-use crate::taken::moment;
 use lra_book::{Call, Clerk, PullBody, Reply};
 use lra_callback::Duties;
 use lra_facts::Refusal;
 use lra_heard::{Letter, Telling};
 use lra_id::{Front, LAST_NUMBER};
 use lra_peer::pull_body;
-use lra_threads::{Node, Task};
+use lra_threads::{Node, Task, unix_millis};
 use lra_work::ending_by;
 use std::alloc::{AllocError, Global};
 use std::net::{Net, TcpListener, TcpStream};
@@ -24,8 +23,8 @@ use std::sync::Wait;
 use std::thread;
 use std::time::{Clock, Duration};
 
-/// How long it rests where memory runs out, in milliseconds.
-const REST: u64 = 20;
+/// How long it rests where memory runs out.
+const REST_MS: u64 = 20;
 
 /// Enters what was heard. A letter that the clerk refuses goes back.
 fn enter<R: Wait + Clock, C: Clerk>(
@@ -40,13 +39,13 @@ fn enter<R: Wait + Clock, C: Clerk>(
     let Some(command) = letter.command() else {
         return Ok(());
     };
-    match clerk.call(alloc, Call::Command(command), moment(rt)) {
+    match clerk.call(alloc, Call::Command(command), unix_millis(rt)) {
         Ok(()) => {
-            node.post.is_entered(rt, &letter);
+            node.mailbox.note_entered(rt, &letter);
             Ok(())
         }
         Err(refusal) => {
-            node.post.put_back(rt, letter);
+            node.mailbox.put_back(rt, letter);
             Err(refusal)
         }
     }
@@ -73,9 +72,9 @@ fn take<R: Wait + Clock, C: Clerk>(
     ensures { IsMade C.Clerk clerk.old clerk.new (TakeDelta telling) result }
 {
     let front = telling.front();
-    clerk.call(alloc, Call::Take(telling.into_delta()), moment(rt))?;
+    clerk.call(alloc, Call::Take(telling.into_delta()), unix_millis(rt))?;
     if is_taken(clerk.reply()) {
-        node.post.learn(rt, &front);
+        node.mailbox.learn(rt, &front);
     }
     Ok(())
 }
@@ -102,9 +101,9 @@ fn ask<R: Wait + Clock, C: Clerk>(
 ) -> Result<(), Refusal>
     ensures { IsMadeInMemory C.Clerk clerk.old clerk.new AskDuties result }
 {
-    clerk.call(alloc, Call::Duties, moment(rt))?;
+    clerk.call(alloc, Call::Duties, unix_millis(rt))?;
     if let Some(duties) = duties_of(clerk.reply())? {
-        node.post.put_duties(rt, duties);
+        node.mailbox.put_duties(rt, duties);
     }
     Ok(())
 }
@@ -118,9 +117,9 @@ fn expire<R: Wait + Clock, C: Clerk>(
 ) -> Result<(), Refusal>
     ensures { IsMade C.Clerk clerk.old clerk.new AskExpire result }
 {
-    clerk.call(alloc, Call::Expire, moment(rt))?;
+    clerk.call(alloc, Call::Expire, unix_millis(rt))?;
     if is_expired(clerk.reply()) {
-        node.post.tick(rt);
+        node.mailbox.tick(rt);
     }
     Ok(())
 }
@@ -133,8 +132,8 @@ fn body_of_all(alloc: Global, nodes: u8) -> Result<PullBody, AllocError> {
     Ok(PullBody::new(bytes))
 }
 
-/// Asks as one that has all facts: so nothing is told but how many this node has. Behind that the others are asked, and hear of it
-/// (`Node::hear_front`).
+/// Asks as one that has all facts: so nothing is told but how many this node has. After that the
+/// others are asked, and hear of it (`Node::hear_front`).
 fn count<R: Wait + Clock, C: Clerk>(
     rt: &R,
     alloc: Global,
@@ -144,7 +143,7 @@ fn count<R: Wait + Clock, C: Clerk>(
     ensures { Counts C.Clerk clerk.old clerk.new result }
 {
     match body_of_all(alloc, node.nodes) {
-        Ok(body) => clerk.call(alloc, Call::Pull(body), moment(rt)),
+        Ok(body) => clerk.call(alloc, Call::Pull(body), unix_millis(rt)),
         Err(_) => Err(Refusal::NoMemory),
     }
 }
@@ -206,7 +205,7 @@ fn do_task<R: Wait + Clock, C: Clerk>(
         Task::Ask => {
             let asked = ask(rt, alloc, node, clerk);
             if asked.is_err() {
-                node.post.stir(rt, false);
+                node.mailbox.stir(rt, false);
             }
             asked
         }
@@ -214,7 +213,7 @@ fn do_task<R: Wait + Clock, C: Clerk>(
         Task::Count => {
             let counted = count(rt, alloc, node, clerk);
             if counted.is_err() {
-                node.post.want_count(rt);
+                node.mailbox.want_count(rt);
             }
             counted
         }
@@ -231,7 +230,7 @@ fn attend<R: Wait + Clock, C: Clerk>(
 ) -> Result<(), Refusal>
     ensures { (task : TheTask) × DoesTask C.Clerk clerk.old clerk.new task result }
 {
-    let task = node.post.next(rt, node.sweep.is_due(rt));
+    let task = node.mailbox.next(rt, node.sweep.is_due(rt));
     do_task(rt, alloc, node, clerk, task)
 }
 
@@ -242,12 +241,13 @@ fn rest<R: Wait + Clock + Net<Listener = TcpListener, Stream = TcpStream>>(
     refusal: Refusal,
 ) {
     match ending_by(refusal) {
-        Some(refusal) => node.end_run(rt, over_by(refusal)),
-        None => thread::sleep(rt, Duration::from_millis(REST)),
+        Some(refusal) => node.end_run(rt, stop_reason_of(refusal)),
+        None => thread::sleep(rt, Duration::from_millis(REST_MS)),
     }
 }
 
-/// Enters what the threads that call and pull hear, looks for deadlines, sweeps, and makes the calls that operators want, until the run is over. It gives the clerk back.
+/// Enters what the threads that call and pull hear, looks for deadlines, sweeps, and makes the
+/// calls that operators want, until the run is over. It gives the clerk back.
 pub fn enter_all<
     R: Wait + Clock + Net<Listener = TcpListener, Stream = TcpStream>,
     C: Clerk + Drop,
@@ -255,7 +255,7 @@ pub fn enter_all<
     for _ in rt.forever() {
         node.pass_on(rt);
         node.end_if_spent(rt);
-        if node.signal.over(rt).is_some() {
+        if node.signal.stop_reason(rt).is_some() {
             return clerk;
         }
         if let Err(refusal) = attend(rt, alloc, node, &mut clerk) {

@@ -2,7 +2,8 @@
 ghost use Rattle.std.specs.Prelude.{⊤};
 
 use lra_threads::{
-    Guest, Haste, LineReader, LineWriter, Node, REQUEST, Seen, Times, Wire, line_over,
+    BufferedSocket, Cutoff, Node, PendingConnection, REQUEST_MS, Readiness, SharedSocket,
+    SocketReader, SocketWriter, Times, unix_millis,
 };
 use lra_work::{Arrivals, Connection};
 use std::alloc::Global;
@@ -12,46 +13,39 @@ use std::sync::Wait;
 use std::time::{Clock, Duration};
 use std::{io, thread};
 
-/// How long a request may take of which all is there, in milliseconds: nothing more is waited for.
-const THERE: u64 = 50;
+/// How long a request may take of which all is there: nothing more is waited for.
+const WHOLE_REQUEST_MS: u64 = 50;
 
-/// How long its answer may take, in milliseconds.
-const ANSWER: u64 = 10_000;
+/// How long its answer may take.
+const ANSWER_MS: u64 = 10_000;
 
-/// How long is waited for a connection where no run is on, in milliseconds, before it is looked whether the program is to end.
-const LOOK: u64 = 50;
+/// How long is waited for a connection where no run is on, before it is looked whether the program
+/// is to end.
+const LOOK_MS: u64 = 50;
 
-/// How long a worker rests where nothing comes of all that wait, in milliseconds.
-const REST: u64 = 2;
+/// How long a worker rests where nothing comes of all that wait.
+const REST_MS: u64 = 2;
 
 /// What a worker takes from the queue of its node.
 #[derive(Drop)]
-pub struct Taken<'a, R: Wait + Clock> {
+pub struct Connections<'a, R: Wait + Clock> {
     rt: &'a R,
     alloc: Global,
     node: &'a Node,
     /// Until when they are taken; none where that is until the run is over.
     until: Option<Duration>,
-    served: Option<Rc<Wire>>,
+    served: Option<Rc<SharedSocket>>,
     /// Whether the one that is served is a long request, which is read as it comes.
     is_reading: bool,
 }
 
-/// Milliseconds since 1970, 0 where the clock can't be read.
-pub fn moment(clock: &impl Clock) -> u64 {
-    match clock.since_1970() {
-        Ok(time) => u64::try_from(time.as_millis()).unwrap_or(u64::MAX),
-        Err(_) => 0,
-    }
-}
-
 /// A reader and a writer over one socket.
-type Ends<'a, R> = Connection<LineReader<'a, R>, LineWriter<'a, R>>;
+type Buffered<'a, R> = Connection<SocketReader<'a, R>, SocketWriter<'a, R>>;
 
-impl<'a, R: Wait + Clock> Taken<'a, R> {
+impl<'a, R: Wait + Clock> Connections<'a, R> {
     /// From this node's queue, until its run is over.
-    pub fn new(rt: &'a R, alloc: Global, node: &'a Node) -> Taken<'a, R> {
-        Taken {
+    pub fn new(rt: &'a R, alloc: Global, node: &'a Node) -> Connections<'a, R> {
+        Connections {
             rt,
             alloc,
             node,
@@ -61,9 +55,15 @@ impl<'a, R: Wait + Clock> Taken<'a, R> {
         }
     }
 
-    /// From this node's queue, where no run is on, until this moment or until the program is to end.
-    pub fn between_runs(rt: &'a R, alloc: Global, node: &'a Node, until: Duration) -> Taken<'a, R> {
-        Taken {
+    /// From this node's queue, where no run is on, until this moment or until the program is to
+    /// end.
+    pub fn between_runs(
+        rt: &'a R,
+        alloc: Global,
+        node: &'a Node,
+        until: Duration,
+    ) -> Connections<'a, R> {
+        Connections {
             rt,
             alloc,
             node,
@@ -76,7 +76,7 @@ impl<'a, R: Wait + Clock> Taken<'a, R> {
     // Whether no more are to be taken.
     fn is_over(&self) -> bool {
         match self.until {
-            None => self.node.signal.over(self.rt).is_some(),
+            None => self.node.signal.stop_reason(self.rt).is_some(),
             Some(until) => {
                 let now = self.rt.monotonic().unwrap_or(until);
                 now >= until || self.node.signal.has_ended(self.rt)
@@ -85,12 +85,14 @@ impl<'a, R: Wait + Clock> Taken<'a, R> {
     }
 
     // The first connection of the queue, once there is one.
-    fn first(&self) -> Option<Guest> {
+    fn first(&self) -> Option<PendingConnection> {
         match self.until {
             None => self.node.queue.take(self.rt),
             Some(until) => {
                 let now = self.rt.monotonic().unwrap_or(until);
-                let time = until.saturating_sub(now).min(Duration::from_millis(LOOK));
+                let time = until
+                    .saturating_sub(now)
+                    .min(Duration::from_millis(LOOK_MS));
                 self.node.queue.take_within(self.rt, time)
             }
         }
@@ -98,7 +100,7 @@ impl<'a, R: Wait + Clock> Taken<'a, R> {
 
     // Rests, since nothing comes of all that wait. Where no run is on nobody wakes it.
     fn rest(&self) {
-        let time = Duration::from_millis(REST);
+        let time = Duration::from_millis(REST_MS);
         if self.until.is_none() {
             self.node.queue.rest(self.rt, time);
         } else {
@@ -106,40 +108,36 @@ impl<'a, R: Wait + Clock> Taken<'a, R> {
         }
     }
 
-    // A reader and a writer over a socket, on which a request may take so long to be read. It is kept, to be closed when it is served.
-    fn ends_of(&mut self, stream: TcpStream, reading: u64) -> io::Result<Ends<'a, R>> {
+    // A reader and a writer over a socket, on which a request may take so long to be read. It is
+    // kept, to be closed when it is served.
+    fn buffer(&mut self, stream: TcpStream, reading_ms: u64) -> io::Result<Buffered<'a, R>> {
         let times = Times {
-            reading: Duration::from_millis(reading),
-            writing: Duration::from_millis(ANSWER),
+            reading: Duration::from_millis(reading_ms),
+            writing: Duration::from_millis(ANSWER_MS),
         };
-        let signal = &self.node.signal;
-        let (reader, writer, wire) = line_over(
-            self.rt,
-            self.alloc,
-            signal,
-            Haste::WithRun(&self.node.queue),
-            stream,
-            times,
-        )?;
-        self.served = Some(wire);
+        let (signal, cutoff) = (&self.node.signal, Cutoff::RunEnd(&self.node.queue));
+        let buffered = BufferedSocket::new(self.rt, self.alloc, signal, cutoff, stream, times)?;
+        let (reader, writer, socket) = buffered.into_parts();
+        self.served = Some(socket);
         Ok(Connection {
             reader,
             writer,
-            now: moment(self.rt),
+            now: unix_millis(self.rt),
         })
     }
 
-    // A connection that was served, as it waits for its end: to be given the rest of its answer, or to be read on.
-    fn waiting(&self, wire: Wire) -> io::Result<Guest> {
-        let (stream, kept) = wire.into_parts();
+    // A connection that was served, as it waits for its end: to be sent the rest of its answer, or
+    // to be read on.
+    fn waiting(&self, socket: SharedSocket) -> io::Result<PendingConnection> {
+        let (stream, kept) = socket.into_parts();
         if kept.is_empty() {
-            return Guest::closing(self.rt, stream);
+            return PendingConnection::closing(self.rt, stream);
         }
         let now = self.rt.monotonic()?;
-        Guest::giving(
+        PendingConnection::sending(
             stream,
             kept,
-            now.saturating_add(Duration::from_millis(ANSWER)),
+            now.saturating_add(Duration::from_millis(ANSWER_MS)),
         )
     }
 
@@ -155,16 +153,16 @@ impl<'a, R: Wait + Clock> Taken<'a, R> {
             self.is_reading = false;
             self.node.queue.note_read();
         }
-        let Some(wire) = self.served.take() else {
+        let Some(socket) = self.served.take() else {
             return;
         };
-        if wire.kept() == 0 && wire.is_done() {
+        if socket.kept() == 0 && socket.is_done() {
             return;
         }
-        if let Some(wire) = Rc::into_inner(wire) {
-            if let Ok(guest) = self.waiting(wire) {
-                if let Seen::Silent(guest) = guest.look(self.rt, false) {
-                    let _waiting = self.node.queue.put_back(self.rt, guest);
+        if let Some(socket) = Rc::into_inner(socket) {
+            if let Ok(pending) = self.waiting(socket) {
+                if let Readiness::Pending(pending) = pending.look(self.rt, false) {
+                    let _waiting = self.node.queue.put_back(self.rt, pending);
                 }
             }
         }
@@ -172,15 +170,15 @@ impl<'a, R: Wait + Clock> Taken<'a, R> {
 }
 
 impl<'a, R: Wait + Clock + Net<Listener = TcpListener, Stream = TcpStream>> Arrivals
-    for Taken<'a, R> {
-    type Reader = LineReader<'a, R>;
+    for Connections<'a, R> {
+    type Reader = SocketReader<'a, R>;
 
-    type Writer = LineWriter<'a, R>;
+    type Writer = SocketWriter<'a, R>;
 
     // Nothing is known of what comes. A connection that can't be served is closed.
     ghost gives = { λ _ _ _. ⊤ };
 
-    fn next(&mut self) -> Option<Ends<'a, R>> {
+    fn next(&mut self) -> Option<Buffered<'a, R>> {
         self.close_served();
         self.node.pass_on(self.rt);
         self.node.end_if_spent(self.rt);
@@ -189,31 +187,31 @@ impl<'a, R: Wait + Clock + Net<Listener = TcpListener, Stream = TcpStream>> Arri
             if self.is_over() {
                 return None;
             }
-            let Some(guest) = self.first() else {
+            let Some(pending) = self.first() else {
                 if self.until.is_none() {
                     return None;
                 }
                 continue;
             };
-            match guest.look(self.rt, self.node.queue.may_read_on()) {
+            match pending.look(self.rt, self.node.queue.may_read_on()) {
                 // Who is silent makes room for those who speak.
-                Seen::Silent(guest) => {
-                    let waiting = self.node.queue.put_back(self.rt, guest);
+                Readiness::Pending(pending) => {
+                    let waiting = self.node.queue.put_back(self.rt, pending);
                     silent = silent.saturating_add(1);
                     if silent >= waiting {
                         self.rest();
                         silent = 0;
                     }
                 }
-                Seen::Gone => {}
-                Seen::Ready(stream) => {
-                    if let Ok(connection) = self.ends_of(stream, THERE) {
+                Readiness::Closed => {}
+                Readiness::Whole(stream) => {
+                    if let Ok(connection) = self.buffer(stream, WHOLE_REQUEST_MS) {
                         self.node.queue.hand_on(self.rt);
                         return Some(connection);
                     }
                 }
-                Seen::Long(stream) => {
-                    if let Ok(connection) = self.ends_of(stream, REQUEST) {
+                Readiness::Long(stream) => {
+                    if let Ok(connection) = self.buffer(stream, REQUEST_MS) {
                         self.note_reading();
                         self.node.queue.hand_on(self.rt);
                         return Some(connection);

@@ -2,8 +2,8 @@
 ghost use Rattle.std.specs.Prelude.{⊤, Err, IfErr, Ok, OnOk};
 ghost use Rattle.lra_book.specs.Clerks.{IsOfClerk, IsOutcome, last_reply};
 
+use crate::counting_clerk::enters;
 use crate::errands::Errands;
-use crate::seat::enters;
 use log::{Log, warn};
 use lra_book::{Call, Clerk, Receipt, Reply};
 use lra_facts::{Command, CommandReply, Refusal};
@@ -14,9 +14,10 @@ use std::str;
 use std::sync::Wait;
 use std::time::Clock;
 
-/// Has calls made by the thread that enters. Where the journal is closed it refuses them at once (E19), and while it is spared commands.
+/// Has calls made by the thread that enters. Where the journal is closed it refuses them at once
+/// (E19), and while it is spared commands.
 #[derive(Drop)]
-pub struct Window<'n, R, L> {
+pub struct OperatorClerk<'n, R, L> {
     rt: &'n R,
     log: &'n L,
     node: &'n Node,
@@ -24,15 +25,15 @@ pub struct Window<'n, R, L> {
     receipts: Vec<Receipt>,
 }
 
-impl<'n, R: Wait + Clock, L: Log> Window<'n, R, L> {
+impl<'n, R: Wait + Clock, L: Log> OperatorClerk<'n, R, L> {
     pub fn new(
         rt: &'n R,
         log: &'n L,
         alloc: Global,
         node: &'n Node,
         errands: &'n Errands,
-    ) -> Window<'n, R, L> {
-        Window {
+    ) -> OperatorClerk<'n, R, L> {
+        OperatorClerk {
             rt,
             log,
             node,
@@ -43,11 +44,11 @@ impl<'n, R: Wait + Clock, L: Log> Window<'n, R, L> {
 
     // Has a call made.
     fn make(&self, call: Call, now: u64) -> Result<Reply, Refusal> {
-        if self.node.is_shut() || (enters(&call) && self.node.post.is_spared(self.rt)) {
+        if self.node.is_shut() || (enters(&call) && self.node.mailbox.is_spared(self.rt)) {
             return Err(Refusal::Stopped);
         }
         self.errands.want(self.rt, call, now);
-        self.node.post.wake(self.rt);
+        self.node.mailbox.wake(self.rt);
         self.errands.wait(self.rt, self.node)
     }
 }
@@ -107,7 +108,7 @@ fn put_last(receipts: &mut Vec<Receipt>, call: Call, reply: Reply) -> Result<(),
     Ok(())
 }
 
-impl<'n, R: Wait + Clock, L: Log> Window<'n, R, L> {
+impl<'n, R: Wait + Clock, L: Log> OperatorClerk<'n, R, L> {
     // Tells of what was said in the place of a participant, if it was entered.
     fn tell(&self, call: &Call, reply: &Reply) {
         if let Call::Command(command) = call {
@@ -118,7 +119,7 @@ impl<'n, R: Wait + Clock, L: Log> Window<'n, R, L> {
     }
 }
 
-impl<'n, R: Wait + Clock, L: Log> Clerk for Window<'n, R, L> {
+impl<'n, R: Wait + Clock, L: Log> Clerk for OperatorClerk<'n, R, L> {
     ghost receipts = { λ w. w.receipts.items };
 
     // Nothing is said of who made the call: it went to another thread.

@@ -1,5 +1,5 @@
 use Rattle.lra_server.proofs.Outcomes.{told_made}
-use Rattle.lra_server.proofs.scribe.serve_errand.Goals as goal
+use Rattle.lra_server.proofs.apply_loop.serve_errand.Goals as goal
 
 pub returns : goal.returns
 returns g c =

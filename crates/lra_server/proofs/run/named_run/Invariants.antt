@@ -1,6 +1,6 @@
 -- The ledger and the opening of the run.
 use Rattle.std.specs.Prelude.{false}
-use Rattle.lra_server.proofs.crew.named_run.Given as goal
+use Rattle.lra_server.proofs.run.named_run.Given as goal
 
 abbrev pub ghosts-run-J-Ledger : goal.ghosts-run-J-Ledger
 ghosts-run-J-Ledger g a = record { name = a.blank.name; parts = a.blank.parts }

@@ -1,22 +1,22 @@
-// The life of a node: its runs, one after another, and the threads that outlive them.
+// A node at work: its runs, one after another, and the threads that outlive them.
 ghost use Rattle.std.specs.Prelude.{◌≡◌, IfOk, IfSome, None};
 
+use crate::backoff::Backoff;
 use crate::begun::{Begun, Shut, begun_by};
 use crate::closed::Closed;
-use crate::crew::named_run;
+use crate::connections::Connections;
 use crate::errands::Errands;
-use crate::hall::Hall;
 use crate::operating::operate;
 use crate::refusals::refusal_of;
-use crate::setbacks::Setbacks;
-use crate::taken::Taken;
+use crate::run::named_run;
+use crate::shared::Shared;
 use crate::{Stores, Unopened};
 use log::{Log, warn};
 use lra_api::Paths;
 use lra_book::Book;
 use lra_facts::Refusal;
 use lra_id::NodeId;
-use lra_threads::{Node, Over, accept, call_out, follow, pull_in_turn, watch};
+use lra_threads::{Node, StopReason, accept, call_out, follow, now, pull_in_turn, watch};
 use lra_work::{Open, work};
 use sqlite::Alter;
 use std::alloc::Global;
@@ -45,8 +45,8 @@ enum Role {
     Follow(u8),
 }
 
-/// How long a node waits where no memory can be had for its table of paths, in milliseconds.
-const PAUSE: u64 = 10;
+/// How long a node waits where no memory can be had for its table of paths.
+const PAUSE_MS: u64 = 10;
 
 /// How many files a journal takes, with its log and the look at its folder.
 const FILES: u8 = 4;
@@ -87,15 +87,16 @@ fn warn_of_journal<R: Clock, L: Log>(
     log: &L,
     node: &Node,
     why: Unopened,
-    setbacks: &mut Setbacks,
+    backoff: &mut Backoff,
 ) {
-    let now = rt.monotonic().unwrap_or(Duration::from_millis(0));
-    if setbacks.may_warn(now) {
+    let now = now(rt);
+    if backoff.note_warning(now) {
         warn!(log; "node {}: its journal can't be opened again yet: {}", node.number, why);
     }
 }
 
-/// Closes the connections that have waited longest for a worker, so that a journal and its log find a file each.
+/// Closes the connections that have waited longest for a worker, so that a journal and its log find
+/// a file each.
 fn close_some<R: Wait>(rt: &R, node: &Node) {
     for _turn in 0..FILES {
         node.queue.close_first(rt);
@@ -107,37 +108,38 @@ fn refuse_for<R: Wait + Clock + Net<Listener = TcpListener, Stream = TcpStream>>
     rt: &R,
     alloc: Global,
     node: &Node,
-    hall: &Hall,
+    shared: &Shared,
     time: Duration,
 ) {
-    let now = rt.monotonic().unwrap_or(Duration::from_millis(0));
-    let mut taken = Taken::between_runs(rt, alloc, node, now.saturating_add(time));
+    let now = now(rt);
+    let mut connections = Connections::between_runs(rt, alloc, node, now.saturating_add(time));
     for _ in rt.forever() {
         let (_clerk, ending) = work(
             rt,
             alloc,
-            &hall.paths,
-            &mut taken,
+            &shared.paths,
+            &mut connections,
             Closed::new(alloc),
             &Open,
         );
-        taken.close_served();
+        connections.close_served();
         if ending.is_none() {
             return;
         }
     }
 }
 
-/// The book of a node whose journal was closed, opened again once that can be done; none where the program is to end before. Meanwhile
-/// each request is refused. Each time it is longer before it tries again.
+/// The book of a node whose journal was closed, opened again once that can be done; none where the
+/// program is to end before. Meanwhile each request is refused. Each time it is longer before it
+/// tries again.
 fn reopened<R, L: Log, S: Stores>(
     rt: &R,
     log: &L,
     alloc: Global,
     node: &Node,
     stores: &S,
-    hall: &Hall,
-    setbacks: &mut Setbacks,
+    shared: &Shared,
+    backoff: &mut Backoff,
 ) -> Result<Option<Book<S::Store>>, Failure>
 where
     R: Wait + Clock + Net<Listener = TcpListener, Stream = TcpStream>,
@@ -151,8 +153,8 @@ where
         let why = match open_book(alloc, stores, node) {
             Ok(book) => {
                 node.note_shut(false);
-                setbacks.end_rest();
-                node.post.hold(rt, setbacks.next_pause());
+                backoff.end_rest();
+                node.mailbox.hold(rt, backoff.next_pause());
                 return Ok(Some(book));
             }
             Err(why) => why,
@@ -161,8 +163,8 @@ where
             return Err(Failure::Journal(why));
         }
         node.counts.failure(rt);
-        warn_of_journal(rt, log, node, why, setbacks);
-        refuse_for(rt, alloc, node, hall, setbacks.next_rest());
+        warn_of_journal(rt, log, node, why, backoff);
+        refuse_for(rt, alloc, node, shared, backoff.next_rest());
         if why == Unopened::NoFile {
             close_some(rt, node);
         }
@@ -170,75 +172,80 @@ where
     unreachable!()
 }
 
-/// Whether the next run is on the same book, by why the last is over: it had no fault, or no thread or no memory could be had for it.
-fn goes_on(over: Option<Over>) -> bool {
-    match over {
-        Some(Over::Full | Over::RunFull | Over::TrailLost(_) | Over::Starved) | None => true,
-        Some(Over::Program | Over::JournalFailed | Over::Stopped) => false,
+/// Whether the next run is on the same book, by why the last is over: it had no fault, or no thread
+/// or no memory could be had for it.
+fn goes_on(reason: Option<StopReason>) -> bool {
+    match reason {
+        Some(
+            StopReason::Full | StopReason::RunFull | StopReason::TrailLost(_) | StopReason::Starved,
+        )
+        | None => true,
+        Some(StopReason::Program | StopReason::JournalFailed | StopReason::Stopped) => false,
     }
 }
 
-/// Notes that a run is over which had its threads, or rests where it hadn't. It says whether the node can go on: at the start it can't
-/// without.
-fn rests<R: Wait + Clock>(
+/// Rests where a run had no threads, and else notes that it had them. It says whether the node can
+/// go on: at the start it can't without.
+fn rest_if_starved<R: Wait + Clock>(
     rt: &R,
     node: &Node,
-    over: Option<Over>,
-    setbacks: &mut Setbacks,
+    reason: Option<StopReason>,
+    backoff: &mut Backoff,
 ) -> bool {
-    if over != Some(Over::Starved) {
-        setbacks.note_run();
+    if reason != Some(StopReason::Starved) {
+        backoff.note_run();
         return true;
     }
-    if setbacks.has_run() {
-        node.signal.rest(rt, setbacks.next_rest());
+    if backoff.has_run() {
+        node.signal.rest(rt, backoff.next_rest());
         return true;
     }
     false
 }
 
-/// The book that the next run is on, by why the last is over: the same, or, where the journal failed or the desk was lost, one whose
-/// journal is opened again; none where the program is to end.
+/// The book that the next run is on, by why the last is over: the same, or, where the journal
+/// failed or the desk was lost, one whose journal is opened again; none where the program is to
+/// end.
 fn next_book<R, L: Log, S: Stores>(
     rt: &R,
     log: &L,
     alloc: Global,
     node: &Node,
     stores: &S,
-    hall: &Hall,
+    shared: &Shared,
     book: Option<Book<S::Store>>,
-    over: Option<Over>,
-    setbacks: &mut Setbacks,
+    reason: Option<StopReason>,
+    backoff: &mut Backoff,
 ) -> Result<Option<Book<S::Store>>, Failure>
 where
     R: Wait + Clock + Net<Listener = TcpListener, Stream = TcpStream>,
     requires { IfSome book (λ b. b.opening ≡ None) }
     ensures { IfOk result (λ next. IfSome next (λ b. b.opening ≡ None)) }
 {
-    if over == Some(Over::Program) {
+    if reason == Some(StopReason::Program) {
         return Ok(None);
     }
-    if goes_on(over) && !rests(rt, node, over, setbacks) {
+    if goes_on(reason) && !rest_if_starved(rt, node, reason, backoff) {
         return Err(Failure::Run);
     }
     let Some(book) = book else {
-        return reopened(rt, log, alloc, node, stores, hall, setbacks);
+        return reopened(rt, log, alloc, node, stores, shared, backoff);
     };
-    if goes_on(over) {
+    if goes_on(reason) {
         return Ok(Some(book));
     }
     // (it holds the file's lock until it is dropped)
     drop(book.close());
-    reopened(rt, log, alloc, node, stores, hall, setbacks)
+    reopened(rt, log, alloc, node, stores, shared, backoff)
 }
 
 /// Counts a run that is over, and a failure of the journal, if one ended it.
-fn count_of<R: Wait>(rt: &R, node: &Node, over: Option<Over>) {
-    let Some(over) = over else {
+fn count_of<R: Wait>(rt: &R, node: &Node, reason: Option<StopReason>) {
+    let Some(reason) = reason else {
         return;
     };
-    node.counts.run(rt, over);
-    if over == Over::JournalFailed {
+    node.counts.run(rt, reason);
+    if reason == StopReason::JournalFailed {
         node.counts.failure(rt);
     }
 }
@@ -248,18 +255,18 @@ fn warn_of<R: Clock, L: Log>(
     rt: &R,
     log: &L,
     node: &Node,
-    over: Option<Over>,
-    setbacks: &mut Setbacks,
+    reason: Option<StopReason>,
+    backoff: &mut Backoff,
 ) {
-    let now = rt.monotonic().unwrap_or(Duration::from_millis(0));
-    let Some(over) = over else {
+    let now = now(rt);
+    let Some(reason) = reason else {
         return;
     };
-    if let Some(refusal) = refusal_of(over) {
-        if setbacks.may_warn(now) {
+    if let Some(refusal) = refusal_of(reason) {
+        if backoff.note_warning(now) {
             warn!(log; "node {}: {}", node.number, refusal);
         }
-    } else if over == Over::Starved && setbacks.may_warn(now) {
+    } else if reason == StopReason::Starved && backoff.note_warning(now) {
         warn!(log; "node {}: no thread or no memory can be had for a run", node.number);
     }
 }
@@ -279,36 +286,37 @@ fn begun_in_time<R: Wait + Clock, S: Alter + Drop>(
         if node.signal.has_ended(rt) {
             return None;
         }
-        thread::sleep(rt, Duration::from_millis(PAUSE));
+        thread::sleep(rt, Duration::from_millis(PAUSE_MS));
     }
     unreachable!()
 }
 
-/// The next run, begun, or none where the program is to end. The last run's book is none where there was no memory for a desk.
+/// The next run, begun, or none where the program is to end. The last run's book is none where
+/// there was no memory for a desk.
 fn next_run<R, L: Log, S: Stores>(
     rt: &R,
     log: &L,
     alloc: Global,
     node: &Node,
     stores: &S,
-    hall: &Hall,
+    shared: &Shared,
     book: Option<Book<S::Store>>,
-    setbacks: &mut Setbacks,
+    backoff: &mut Backoff,
 ) -> Result<Option<Begun<S::Store>>, Failure>
 where
     R: Wait + Clock + Net<Listener = TcpListener, Stream = TcpStream>,
     requires { IfSome book (λ b. b.opening ≡ None) }
 {
     if node.tally.has_stored() {
-        setbacks.forget();
+        backoff.forget();
     }
-    let mut over = node.signal.over(rt);
-    if book.is_none() && over != Some(Over::Program) {
-        over = Some(Over::Starved);
+    let mut reason = node.signal.stop_reason(rt);
+    if book.is_none() && reason != Some(StopReason::Program) {
+        reason = Some(StopReason::Starved);
     }
-    count_of(rt, node, over);
-    warn_of(rt, log, node, over, setbacks);
-    let Some(book) = next_book(rt, log, alloc, node, stores, hall, book, over, setbacks)? else {
+    count_of(rt, node, reason);
+    warn_of(rt, log, node, reason, backoff);
+    let Some(book) = next_book(rt, log, alloc, node, stores, shared, book, reason, backoff)? else {
         return Ok(None);
     };
     if !node.signal.begin(rt) {
@@ -317,40 +325,41 @@ where
     Ok(begun_in_time(rt, alloc, node, Shut { book }))
 }
 
-/// A table of paths and an empty counter for errands, once there is memory for it; none where the program is to end before.
-fn hall_of<R: Wait + Clock>(rt: &R, alloc: Global, node: &Node) -> Option<Hall> {
+/// A table of paths and an empty counter for errands, once there is memory for it; none where the
+/// program is to end before.
+fn shared_of<R: Wait + Clock>(rt: &R, alloc: Global, node: &Node) -> Option<Shared> {
     for _ in rt.forever() {
         if let Ok(paths) = Paths::new(alloc) {
             let errands = Errands::new();
-            return Some(Hall { paths, errands });
+            return Some(Shared { paths, errands });
         }
-        if node.signal.over(rt).is_some() {
+        if node.signal.stop_reason(rt).is_some() {
             return None;
         }
-        thread::sleep(rt, Duration::from_millis(PAUSE));
+        thread::sleep(rt, Duration::from_millis(PAUSE_MS));
     }
     unreachable!()
 }
 
 /// The runs of a node, one after another, until the program is to end.
-fn live_on<R, L, S: Stores>(
+fn run_on<R, L, S: Stores>(
     rt: &R,
     log: &L,
     alloc: Global,
     node: &Node,
     stores: &S,
-    hall: &Hall,
+    shared: &Shared,
     mut begun: Begun<S::Store>,
 ) -> Result<(), Failure>
 where
     R: Threads + Wait + Clock + Net<Listener = TcpListener, Stream = TcpStream> + Sync,
     L: Log + Sync,
 {
-    let mut setbacks = Setbacks::new();
+    let mut backoff = Backoff::new();
     for _ in rt.forever() {
         let Begun { book } = begun;
-        let ended = named_run(rt, log, alloc, node, hall, book);
-        match next_run(rt, log, alloc, node, stores, hall, ended, &mut setbacks)? {
+        let ended = named_run(rt, log, alloc, node, shared, book);
+        match next_run(rt, log, alloc, node, stores, shared, ended, &mut backoff)? {
             Some(next) => begun = next,
             None => return Ok(()),
         }
@@ -366,8 +375,8 @@ fn role_of(node: &Node, place: usize) -> Option<Role> {
     if place <= CALLERS {
         return Some(Role::Call);
     }
-    let behind = place.saturating_sub(CALLERS);
-    if behind == 1 {
+    let after = place.saturating_sub(CALLERS);
+    if after == 1 {
         return Some(Role::Accept);
     }
     if !node.site.is_apart() {
@@ -377,7 +386,7 @@ fn role_of(node: &Node, place: usize) -> Option<Role> {
             None
         };
     }
-    let number = u8::try_from(behind.saturating_sub(1)).unwrap_or(node.number);
+    let number = u8::try_from(after.saturating_sub(1)).unwrap_or(node.number);
     if number == node.number {
         None
     } else {
@@ -387,7 +396,7 @@ fn role_of(node: &Node, place: usize) -> Option<Role> {
 
 /// Where a node's threads take connections.
 #[derive(Drop)]
-pub struct Doors {
+pub struct Listeners {
     listener: TcpListener,
     /// For operators, if they are served.
     operators: Option<TcpListener>,
@@ -411,8 +420,8 @@ fn help<R: Wait + Clock + Net<Listener = TcpListener, Stream = TcpStream>, L: Lo
     }
 }
 
-/// How many places of threads that outlive the runs a node has: one that watches, those that call, one that accepts, and those that
-/// pull.
+/// How many places of threads that outlive the runs a node has: one that watches, those that call,
+/// one that accepts, and those that pull.
 fn places_of(node: &Node) -> usize {
     let pulling = if node.site.is_apart() {
         usize::from(node.nodes)
@@ -427,16 +436,16 @@ fn end_helpers<R: Wait + Clock + Net<Listener = TcpListener, Stream = TcpStream>
     rt: &R,
     node: &Node,
 ) {
-    node.end_run(rt, Over::Program);
-    node.post.end(rt);
+    node.end_run(rt, StopReason::Program);
+    node.mailbox.end(rt);
     node.news.end(rt);
 }
 
-/// A node that is to live: its first run, and its ports.
+/// What a node begins with: its first run, and its ports.
 #[derive(Drop)]
-pub struct Life<S: Alter + Drop> {
+pub struct NodeRuntime<S: Alter + Drop> {
     pub begun: Begun<S>,
-    pub doors: Doors,
+    pub listeners: Listeners,
 }
 
 /// The port of an address, bound; or which can't be, and why.
@@ -450,25 +459,26 @@ fn bound<R: Net<Listener = TcpListener, Stream = TcpStream>>(
     }
 }
 
-/// A life with this run, at the node's ports; or which port can't be bound, and why.
-pub fn life_of<R: Net<Listener = TcpListener, Stream = TcpStream>, S: Alter + Drop>(
+/// What a node begins with that has this run, at its ports; or which port can't be bound, and why.
+pub fn runtime_of<R: Net<Listener = TcpListener, Stream = TcpStream>, S: Alter + Drop>(
     rt: &R,
     node: &Node,
     begun: Begun<S>,
-) -> Result<Life<S>, (u16, ErrorKind)> {
+) -> Result<NodeRuntime<S>, (u16, ErrorKind)> {
     let listener = bound(rt, node.site.listen)?;
     let operators = match node.site.operate {
         Some(address) => Some(bound(rt, address)?),
         None => None,
     };
-    let doors = Doors {
+    let listeners = Listeners {
         listener,
         operators,
     };
-    Ok(Life { begun, doors })
+    Ok(NodeRuntime { begun, listeners })
 }
 
-/// Starts a thread for a role. It says whether one could be had.
+/// Starts a thread for a role. It says whether one could be had. (As in `run`, each start is a
+/// function of its own.)
 fn start_helper<'s, E, R, L>(
     scope: &Scope<'s, E>,
     rt: &'s R,
@@ -514,8 +524,8 @@ fn start_helpers<'s, E, R, L>(
     log: &'s L,
     alloc: Global,
     node: &'s Node,
-    hall: &'s Hall,
-    doors: &'s Doors,
+    shared: &'s Shared,
+    listeners: &'s Listeners,
 ) -> bool
 where
     R: Threads + Wait + Clock + Net<Listener = TcpListener, Stream = TcpStream> + Sync,
@@ -525,44 +535,45 @@ where
         let Some(role) = role_of(node, place) else {
             continue;
         };
-        if !start_helper(scope, rt, log, alloc, node, &doors.listener, role) {
+        if !start_helper(scope, rt, log, alloc, node, &listeners.listener, role) {
             return false;
         }
     }
-    match &doors.operators {
+    match &listeners.operators {
         Some(operators) => {
-            let (paths, errands) = (&hall.paths, &hall.errands);
+            let (paths, errands) = (&shared.paths, &shared.errands);
             start_operator(scope, rt, log, alloc, node, paths, errands, operators)
         }
         None => true,
     }
 }
 
-/// The life of a node: its runs, with the threads that accept, call and pull beside them, until the program is to end.
-pub fn live<R, L, S: Stores + Sync>(
+/// Runs a node: its runs, with the threads that accept, call and pull beside them, until the
+/// program is to end.
+pub fn run_node<R, L, S: Stores + Sync>(
     rt: &R,
     log: &L,
     alloc: Global,
     node: &Node,
     stores: &S,
-    life: Life<S::Store>,
+    runtime: NodeRuntime<S::Store>,
 ) -> Result<(), Failure>
 where
     R: Threads + Wait + Clock + Net<Listener = TcpListener, Stream = TcpStream> + Sync,
     L: Log + Sync,
 {
-    let Life { begun, doors } = life;
+    let NodeRuntime { begun, listeners } = runtime;
     node.note_start(rt);
-    let Some(hall) = hall_of(rt, alloc, node) else {
+    let Some(shared) = shared_of(rt, alloc, node) else {
         return Ok(());
     };
-    let (doors, hall) = (&doors, &hall);
+    let (listeners, shared) = (&listeners, &shared);
     thread::scope(thread::scope_env(), rt, move |scope| {
-        if !start_helpers(scope, rt, log, alloc, node, hall, doors) {
+        if !start_helpers(scope, rt, log, alloc, node, shared, listeners) {
             end_helpers(rt, node);
             return Err(Failure::Run);
         }
-        let outcome = live_on(rt, log, alloc, node, stores, hall, begun);
+        let outcome = run_on(rt, log, alloc, node, stores, shared, begun);
         end_helpers(rt, node);
         outcome
     })

@@ -6,20 +6,20 @@ use std::net::TcpStream;
 
 /// A socket that its reader and its writer share, and what they saw on it. One thread has it.
 #[derive(Drop)]
-pub struct Wire {
+pub struct SharedSocket {
     stream: TcpStream,
     /// Whether the last read took all that had come.
     is_dry: Cell<bool>,
     /// Whether what is written is the answer to a request that was read to its end.
     is_heard: Cell<bool>,
-    /// What is left of an answer whose run is over: it is given later.
+    /// What is left of an answer whose run is over: it is sent later.
     kept: RefCell<Vec<u8>>,
 }
 
-impl Wire {
+impl SharedSocket {
     /// Over this socket.
-    pub fn new(alloc: Global, stream: TcpStream) -> Wire {
-        Wire {
+    pub fn new(alloc: Global, stream: TcpStream) -> SharedSocket {
+        SharedSocket {
             stream,
             is_dry: Cell::new(false),
             is_heard: Cell::new(false),
@@ -33,7 +33,7 @@ impl Wire {
 
     /// Gives the socket back, and what is left of the answer.
     pub fn into_parts(self) -> (TcpStream, Vec<u8>) {
-        let Wire {
+        let SharedSocket {
             stream,
             is_dry: _,
             is_heard: _,
@@ -42,7 +42,7 @@ impl Wire {
         (stream, kept.into_inner())
     }
 
-    /// Keeps bytes of an answer, to be given later. It says whether there was memory for them.
+    /// Keeps bytes of an answer, to be sent later. It says whether there was memory for them.
     pub(crate) fn keep(&self, bytes: &[u8]) -> bool {
         match self.kept.try_borrow_mut() {
             Ok(mut kept) => kept.extend_from_slice(bytes).is_ok(),
@@ -59,19 +59,20 @@ impl Wire {
     }
 
     /// Notes what a read with so much room came to.
-    pub(crate) fn has_read(&self, count: usize, room: usize) {
+    pub(crate) fn note_read(&self, count: usize, room: usize) {
         self.is_dry.set(count < room);
     }
 
-    /// Notes what is written. An answer of the codes 200 to 299 is one to a request that was read to its end.
-    pub(crate) fn writes(&self, bytes: &[u8]) {
+    /// Notes what is written. An answer of the codes 200 to 299 is one to a request that was read
+    /// to its end.
+    pub(crate) fn note_written(&self, bytes: &[u8]) {
         if bytes.starts_with(b"HTTP/1.1 2") {
             self.is_heard.set(true);
         }
     }
 
-    /// Whether nothing is left of the request that its client could still send. Then the system doesn't reset the connection when it
-    /// is closed, and the client gets the answer whole.
+    /// Whether nothing is left of the request that its client could still send. Then the system
+    /// doesn't reset the connection when it is closed, and the client gets the answer whole.
     pub fn is_done(&self) -> bool {
         self.is_dry.get() && self.is_heard.get()
     }

@@ -12,16 +12,17 @@ pub enum End {
     Failed,
 }
 
-/// Where the end of the program is told. The thread that reads the input shares it, and may outlive all others.
+/// Where the end of the program is told. The thread that reads the input shares it, and may outlive
+/// all others.
 #[derive(Drop)]
-pub struct Ends {
+pub struct Shutdown {
     end: Mutex<Option<End>>,
     told: Condvar,
 }
 
-impl Ends {
-    pub fn new() -> Ends {
-        Ends {
+impl Shutdown {
+    pub fn new() -> Shutdown {
+        Shutdown {
             end: Mutex::new(None),
             told: Condvar::new(),
         }
@@ -50,7 +51,7 @@ impl Ends {
 }
 
 /// Reads an input to its end, and tells that.
-pub fn drain<R: Wait, I: Read + Drop>(rt: &R, mut input: I, ends: &Ends) {
+pub fn drain<R: Wait, I: Read + Drop>(rt: &R, mut input: I, shutdown: &Shutdown) {
     let mut bytes = [0u8; 512];
     for _turn in 0..u64::MAX {
         match input.read(&mut bytes) {
@@ -60,5 +61,5 @@ pub fn drain<R: Wait, I: Read + Drop>(rt: &R, mut input: I, ends: &Ends) {
             Err(_) => break,
         }
     }
-    ends.tell(rt, End::Input);
+    shutdown.tell(rt, End::Input);
 }

@@ -1,6 +1,6 @@
 // Connections that wait for a worker.
 
-use crate::guest::Guest;
+use crate::pending_connection::PendingConnection;
 use std::alloc::Global;
 use std::collections::VecDeque;
 use std::sync::atomic::{AtomicU64, Ordering};
@@ -8,27 +8,28 @@ use std::sync::{Condvar, CondvarTimeouts, Mutex, Wait};
 use std::thread;
 use std::time::{Clock, Duration};
 
-/// How long a worker looks for a connection before it sleeps, in microseconds. What comes meanwhile wakes nobody.
-const WATCH: u64 = 100;
+/// How long a worker looks for a connection before it sleeps. What comes meanwhile wakes nobody.
+const WATCH_US: u64 = 100;
 
 /// How often it looks at most.
 const MAX_LOOKS: u32 = 10_000;
 
 /// How many connections wait at most at which nobody has looked yet. More wait in the system.
-const MAX_COMING: usize = 1_024;
+const MAX_UNSEEN: usize = 1_024;
 
 /// How many workers read a long request as it comes at most.
 const MAX_READING: u64 = 2;
 
-/// How many bytes of answers wait at most to be given on: two frames of full homes with the longest links.
+/// How many bytes of answers wait at most to be sent on: two frames of full homes with the longest
+/// links.
 const MAX_KEPT: usize = 64 << 20;
 
 // What lies under the lock.
 #[derive(Drop)]
 struct Waiting {
-    guests: VecDeque<Guest>,
+    pending: VecDeque<PendingConnection>,
     /// At how many of them nobody has looked yet.
-    coming: usize,
+    unseen: usize,
     /// How many bytes of answers they have still to take.
     kept: usize,
     /// Whether a worker looks, and doesn't sleep.
@@ -38,10 +39,10 @@ struct Waiting {
     ended: bool,
 }
 
-/// Connections that wait for a worker, first come first served. It outlives the runs of its node: what waits when a run ends is
-/// served in the next.
+/// Connections that wait for a worker, first come first served. It outlives the runs of its node:
+/// what waits when a run ends is served in the next.
 #[derive(Drop)]
-pub struct Queue {
+pub struct AcceptQueue {
     waiting: Mutex<Waiting>,
     came: Condvar,
     /// How many wait, for who looks without the lock; `u64::MAX` once the run is over.
@@ -55,29 +56,29 @@ pub struct Queue {
 }
 
 impl Waiting {
-    fn push(&mut self, guest: Guest) {
-        let (coming, kept) = (usize::from(guest.is_coming()), guest.kept());
-        if self.guests.push_back(guest).is_ok() {
-            self.coming = self.coming.saturating_add(coming);
+    fn push(&mut self, pending: PendingConnection) {
+        let (unseen, kept) = (usize::from(pending.is_unseen()), pending.kept());
+        if self.pending.push_back(pending).is_ok() {
+            self.unseen = self.unseen.saturating_add(unseen);
             self.kept = self.kept.saturating_add(kept);
         }
     }
 
-    fn pop(&mut self) -> Option<Guest> {
-        let guest = self.guests.pop_front()?;
-        let coming = usize::from(guest.is_coming());
-        self.coming = self.coming.saturating_sub(coming);
-        self.kept = self.kept.saturating_sub(guest.kept());
-        Some(guest)
+    fn pop(&mut self) -> Option<PendingConnection> {
+        let pending = self.pending.pop_front()?;
+        let unseen = usize::from(pending.is_unseen());
+        self.unseen = self.unseen.saturating_sub(unseen);
+        self.kept = self.kept.saturating_sub(pending.kept());
+        Some(pending)
     }
 }
 
-impl Queue {
-    pub fn new(alloc: Global) -> Queue {
-        Queue {
+impl AcceptQueue {
+    pub fn new(alloc: Global) -> AcceptQueue {
+        AcceptQueue {
             waiting: Mutex::new(Waiting {
-                guests: VecDeque::new(alloc),
-                coming: 0,
+                pending: VecDeque::new(alloc),
+                unseen: 0,
                 kept: 0,
                 watched: false,
                 asleep: 0,
@@ -93,7 +94,7 @@ impl Queue {
 
     // Tells who looks how many wait, and who keeps an answer how much.
     fn tell(&self, waiting: &Waiting) -> usize {
-        let count = waiting.guests.len();
+        let count = waiting.pending.len();
         let told = if waiting.ended {
             u64::MAX
         } else {
@@ -125,17 +126,18 @@ impl Queue {
         kept.saturating_add(bytes as u64) <= MAX_KEPT as u64
     }
 
-    // Puts a connection last. It says how many wait, and whether the worker that looks takes this one.
-    fn push<R: Wait>(&self, rt: &R, guest: Guest) -> (usize, bool) {
+    // Puts a connection last. It says how many wait, and whether the worker that looks takes this
+    // one.
+    fn push<R: Wait>(&self, rt: &R, pending: PendingConnection) -> (usize, bool) {
         let mut waiting = self.waiting.lock(rt);
-        waiting.push(guest);
+        waiting.push(pending);
         let count = self.tell(&waiting);
         (count, waiting.watched && count <= 1)
     }
 
     /// Puts a connection last that comes now. One for which there is no memory is closed.
-    pub(crate) fn put<R: Wait>(&self, rt: &R, guest: Guest) {
-        let (_count, is_seen) = self.push(rt, guest);
+    pub(crate) fn put<R: Wait>(&self, rt: &R, pending: PendingConnection) {
+        let (_count, is_seen) = self.push(rt, pending);
         if !is_seen {
             self.came.notify_one();
         }
@@ -143,22 +145,23 @@ impl Queue {
 
     /// How many connections wait.
     pub(crate) fn waiting<R: Wait>(&self, rt: &R) -> u64 {
-        self.waiting.lock(rt).guests.len() as u64
+        self.waiting.lock(rt).pending.len() as u64
     }
 
     /// Whether as many wait as may at which nobody has looked yet.
     pub(crate) fn is_full<R: Wait>(&self, rt: &R) -> bool {
-        self.waiting.lock(rt).coming >= MAX_COMING
+        self.waiting.lock(rt).unseen >= MAX_UNSEEN
     }
 
-    /// Puts a connection last of which nothing comes, and says how many wait. Whoever puts it back looks at it again, so nobody is
-    /// woken. One for which there is no memory is closed.
-    pub fn put_back<R: Wait>(&self, rt: &R, guest: Guest) -> usize {
-        let (count, _is_seen) = self.push(rt, guest);
+    /// Puts a connection last of which nothing comes, and says how many wait. Whoever puts it back
+    /// looks at it again, so nobody is woken. One for which there is no memory is closed.
+    pub fn put_back<R: Wait>(&self, rt: &R, pending: PendingConnection) -> usize {
+        let (count, _is_seen) = self.push(rt, pending);
         count
     }
 
-    /// Wakes a worker that sleeps, if connections wait: the one that looked at them has something else to do now.
+    /// Wakes a worker that sleeps, if connections wait: the one that looked at them has something
+    /// else to do now.
     pub fn hand_on<R: Wait>(&self, rt: &R) {
         let is_wanted = self.wants_another(rt);
         if is_wanted {
@@ -169,7 +172,7 @@ impl Queue {
     // Whether connections wait, and a worker sleeps.
     fn wants_another<R: Wait>(&self, rt: &R) -> bool {
         let waiting = self.waiting.lock(rt);
-        !waiting.guests.is_empty() && waiting.asleep > 0
+        !waiting.pending.is_empty() && waiting.asleep > 0
     }
 
     /// Sleeps so long where nothing comes of all that wait, or until one comes or the run is over.
@@ -188,7 +191,7 @@ impl Queue {
         let Ok(began) = rt.monotonic() else {
             return;
         };
-        let until = began.saturating_add(Duration::from_micros(WATCH));
+        let until = began.saturating_add(Duration::from_micros(WATCH_US));
         for _look in 0..MAX_LOOKS {
             if self.count.load(Ordering::SeqCst) > 0 {
                 return;
@@ -201,10 +204,11 @@ impl Queue {
         }
     }
 
-    // Begins to look, if there is something to look for and nobody else does.
-    fn begins_to_watch<R: Wait>(&self, rt: &R) -> bool {
+    // Begins to look, unless something waits already or somebody else looks. It says whether it
+    // did.
+    fn begin_watching<R: Wait>(&self, rt: &R) -> bool {
         let mut waiting = self.waiting.lock(rt);
-        if waiting.watched || waiting.ended || !waiting.guests.is_empty() {
+        if waiting.watched || waiting.ended || !waiting.pending.is_empty() {
             return false;
         }
         waiting.watched = true;
@@ -212,8 +216,8 @@ impl Queue {
     }
 
     /// The first connection. It waits for one, and gives none once the run is over.
-    pub fn take<R: Wait + Clock>(&self, rt: &R) -> Option<Guest> {
-        let watches = self.begins_to_watch(rt);
+    pub fn take<R: Wait + Clock>(&self, rt: &R) -> Option<PendingConnection> {
+        let watches = self.begin_watching(rt);
         if watches {
             self.watch(rt);
         }
@@ -223,7 +227,7 @@ impl Queue {
         }
         waiting.asleep = waiting.asleep.saturating_add(1);
         let mut waiting = self.came.wait_while(rt, waiting, |waiting| {
-            waiting.guests.is_empty() && !waiting.ended
+            waiting.pending.is_empty() && !waiting.ended
         });
         waiting.asleep = waiting.asleep.saturating_sub(1);
         if waiting.ended {
@@ -235,12 +239,16 @@ impl Queue {
     }
 
     /// The first connection, if one comes within this time; also where no run is on.
-    pub fn take_within<R: Wait + Clock>(&self, rt: &R, time: Duration) -> Option<Guest> {
+    pub fn take_within<R: Wait + Clock>(
+        &self,
+        rt: &R,
+        time: Duration,
+    ) -> Option<PendingConnection> {
         let mut waiting = self.waiting.lock(rt);
         waiting.asleep = waiting.asleep.saturating_add(1);
         let (mut waiting, _) = self
             .came
-            .wait_timeout_while(rt, waiting, time, |waiting| waiting.guests.is_empty());
+            .wait_timeout_while(rt, waiting, time, |waiting| waiting.pending.is_empty());
         waiting.asleep = waiting.asleep.saturating_sub(1);
         let first = waiting.pop();
         let _left = self.tell(&waiting);

@@ -1,0 +1,87 @@
+// How a node goes on after its journal failed, or no thread could be had.
+
+use std::time::Duration;
+
+/// How long nothing of the node's own is entered after a failure of its journal. It doubles each
+/// time.
+const FIRST_PAUSE_MS: u64 = 100;
+
+/// How long at most.
+const LAST_PAUSE_MS: u64 = 1_600;
+
+/// How long it waits before it opens its journal again, or begins a run for which no thread could
+/// be had. It doubles with each try that fails.
+const FIRST_REST_MS: u64 = 100;
+
+/// How long at most.
+const LAST_REST_MS: u64 = 1_000;
+
+/// The time between two warnings at least.
+const QUIET_MS: u64 = 1_000;
+
+/// What a node remembers of its failures.
+#[derive(Drop)]
+pub struct Backoff {
+    pause_ms: u64,
+    rest_ms: u64,
+    has_run: bool,
+    warned: Option<Duration>,
+}
+
+impl Backoff {
+    pub fn new() -> Backoff {
+        Backoff {
+            pause_ms: FIRST_PAUSE_MS,
+            rest_ms: FIRST_REST_MS,
+            has_run: false,
+            warned: None,
+        }
+    }
+
+    /// How long to hold back what the node would enter by itself. The next time it is twice as
+    /// long.
+    pub fn next_pause(&mut self) -> Duration {
+        let pause_ms = self.pause_ms;
+        self.pause_ms = pause_ms.saturating_mul(2).min(LAST_PAUSE_MS);
+        Duration::from_millis(pause_ms)
+    }
+
+    /// How long to rest before it tries again. The next time it is twice as long.
+    pub fn next_rest(&mut self) -> Duration {
+        let rest_ms = self.rest_ms;
+        self.rest_ms = rest_ms.saturating_mul(2).min(LAST_REST_MS);
+        Duration::from_millis(rest_ms)
+    }
+
+    /// What it tried came to something.
+    pub fn end_rest(&mut self) {
+        self.rest_ms = FIRST_REST_MS;
+    }
+
+    /// Notes that a run had its threads.
+    pub fn note_run(&mut self) {
+        self.has_run = true;
+        self.rest_ms = FIRST_REST_MS;
+    }
+
+    /// Whether a run had its threads since the start.
+    pub fn has_run(&self) -> bool {
+        self.has_run
+    }
+
+    /// Begins anew: something was stored.
+    pub fn forget(&mut self) {
+        self.pause_ms = FIRST_PAUSE_MS;
+    }
+
+    /// Notes a warning. It says whether it may be given at this moment.
+    pub fn note_warning(&mut self, now: Duration) -> bool {
+        if let Some(warned) = self.warned {
+            if now.saturating_sub(warned) < Duration::from_millis(QUIET_MS) {
+                return false;
+            }
+        }
+        self.warned = Some(now);
+        true
+    }
+}

@@ -1,0 +1,284 @@
+// What the threads that call and pull hand to the thread that enters, and what it hands to them. It
+// outlives the runs of a node, so a participant that is slow to answer holds up no run.
+
+ghost use Rattle.std.specs.Prelude.{◌≤◌};
+
+use crate::clock::now;
+use crate::mailbox_state::{MailboxState, OPENING_MS};
+use crate::plaints::Plaint;
+use crate::task::Task;
+use lra_callback::Duties;
+use lra_heard::{Letter, Telling, Unheard};
+use lra_id::Front;
+use lra_turns::{Due, Plight};
+use std::alloc::{AllocError, Global};
+use std::sync::{Condvar, CondvarTimeouts, Mutex, Wait};
+use std::time::{Clock, Duration};
+
+/// How long the thread that enters rests at most.
+const REST_MS: u64 = 250;
+
+/// What the threads of a node hand to one another.
+#[derive(Drop)]
+pub struct Mailbox {
+    state: Mutex<MailboxState>,
+    /// Wakes the thread that enters.
+    came: Condvar,
+    /// Wakes those who call.
+    due: Condvar,
+    /// Wakes who waits for what was told to be taken, for the node to be counted or open, or for
+    /// the program's end.
+    changed: Condvar,
+}
+
+impl Mailbox {
+    /// With nothing in it. Of the node's own front nothing is known yet. Where the others are in
+    /// processes of their own it is asked first, and then they are, before commands are entered.
+    pub fn new(alloc: Global, nodes: u8, are_apart: bool) -> Mailbox
+        requires { (1 ≤ nodes) × (nodes ≤ 8) }
+    {
+        Mailbox {
+            state: Mutex::new(MailboxState::new(alloc, nodes, are_apart)),
+            came: Condvar::new(),
+            due: Condvar::new(),
+            changed: Condvar::new(),
+        }
+    }
+
+    /// Notes that other participants may be to be called, after a completion or something else.
+    pub fn stir<R: Wait>(&self, rt: &R, is_completion: bool) {
+        self.state.lock(rt).stir(is_completion);
+    }
+
+    /// Wakes the thread that enters, if that was noted.
+    pub(crate) fn pass_on<R: Wait>(&self, rt: &R) {
+        let is_stirred = self.state.lock(rt).is_stirred();
+        if is_stirred {
+            self.came.notify_all();
+        }
+    }
+
+    /// Has nothing entered for so long: the journal failed, and questions are to be answered
+    /// meanwhile.
+    pub fn hold<R: Wait + Clock>(&self, rt: &R, time: Duration) {
+        let until = now(rt).saturating_add(time);
+        self.state.lock(rt).hold_until(until);
+    }
+
+    /// Has the thread that enters look whether the run is over, also where it is only about to
+    /// wait.
+    pub fn wake<R: Wait>(&self, rt: &R) {
+        self.state.lock(rt).hurry();
+        self.came.notify_all();
+    }
+
+    /// Ends the threads that call and pull.
+    pub fn end<R: Wait>(&self, rt: &R) {
+        self.state.lock(rt).end();
+        self.came.notify_all();
+        self.due.notify_all();
+        self.changed.notify_all();
+    }
+
+    /// Tells how many facts of each node this one has at least.
+    pub fn learn<R: Wait>(&self, rt: &R, front: &Front) {
+        self.state.lock(rt).learn(front);
+    }
+
+    /// Tells how many facts of each node this one has now.
+    pub fn count<R: Wait>(&self, rt: &R, front: &Front) {
+        self.learn(rt, front);
+        self.state.lock(rt).note_counted();
+        self.changed.notify_all();
+    }
+
+    /// Notes that it is to be asked how many facts the node has.
+    pub fn want_count<R: Wait>(&self, rt: &R) {
+        self.state.lock(rt).want_count();
+        self.came.notify_all();
+    }
+
+    /// Waits until it is known how many facts the node has, or until the program is to end. It says
+    /// whether it is to end.
+    pub(crate) fn wait_for_count<R: Wait>(&self, rt: &R) -> bool {
+        let state = self.changed.wait_while(
+            rt,
+            self.state.lock(rt),
+            |state| !state.is_counted() && !state.has_ended(),
+        );
+        state.has_ended()
+    }
+
+    /// Whether nothing of the node's own is to be entered now: the journal failed, or the other
+    /// nodes aren't heard yet.
+    pub fn is_held<R: Wait + Clock>(&self, rt: &R) -> bool {
+        let moment = now(rt);
+        let state = self.state.lock(rt);
+        state.is_spared(moment) || !state.is_open()
+    }
+
+    /// Whether the journal failed a moment ago, and is spared: nothing is to be stored.
+    pub fn is_spared<R: Wait + Clock>(&self, rt: &R) -> bool {
+        let moment = now(rt);
+        self.state.lock(rt).is_spared(moment)
+    }
+
+    /// Whether the other nodes aren't heard yet, so that nothing is to be entered.
+    pub(crate) fn is_behind<R: Wait>(&self, rt: &R) -> bool {
+        !self.state.lock(rt).is_open()
+    }
+
+    /// How many wait for a call, are called, or pause before the next.
+    pub(crate) fn due<R: Wait>(&self, rt: &R) -> u64 {
+        self.state.lock(rt).due()
+    }
+
+    /// How many are called in vain, and how long the one that is so for longest.
+    pub(crate) fn in_vain<R: Wait>(&self, rt: &R, moment: Duration) -> (u64, Duration) {
+        self.state.lock(rt).in_vain(moment)
+    }
+
+    /// Those who are called in vain, who is so for longest first.
+    pub(crate) fn plaints<R: Wait>(
+        &self,
+        rt: &R,
+        alloc: Global,
+        moment: Duration,
+    ) -> Result<Vec<Plaint>, AllocError> {
+        self.state.lock(rt).plaints(alloc, moment)
+    }
+
+    /// Tells that another node was asked for the first time since the start; what it told is handed
+    /// over, if it did.
+    pub(crate) fn note_asked<R: Wait>(&self, rt: &R) {
+        let mut state = self.state.lock(rt);
+        state.note_asked();
+        self.came.notify_all();
+    }
+
+    /// Waits until commands are entered, or until the program is to end; a second at most.
+    pub fn wait_to_enter<R: Wait + Clock>(&self, rt: &R) {
+        let time = Duration::from_millis(OPENING_MS);
+        let _ = self.changed.wait_timeout_while(
+            rt,
+            self.state.lock(rt),
+            time,
+            |state| !state.is_open() && !state.has_ended(),
+        );
+    }
+
+    /// How many facts of each node this one has at least.
+    pub(crate) fn front<R: Wait>(&self, rt: &R) -> Front {
+        self.state.lock(rt).front()
+    }
+
+    /// What the thread that enters does next. It waits for a quarter of a second at most, and not
+    /// where it has something else to do.
+    pub fn next<R: Wait + Clock>(&self, rt: &R, is_busy: bool) -> Task {
+        let moment = now(rt);
+        let mut state = self.state.lock(rt);
+        if state.open_if_due(moment) {
+            self.changed.notify_all();
+        }
+        if state.resume_calls(moment) {
+            self.due.notify_all();
+        }
+        if let Some(rest) = state.idle_time(moment, is_busy) {
+            let (waited, _) = self
+                .came
+                .wait_timeout(rt, state, rest.min(Duration::from_millis(REST_MS)));
+            state = waited;
+        }
+        let task = state.next_task(moment);
+        if matches!(&task, Task::Take(_)) {
+            self.changed.notify_all();
+        }
+        task
+    }
+
+    /// Hands those who are to be called to the threads that call.
+    pub fn put_duties<R: Wait + Clock>(&self, rt: &R, duties: Duties) {
+        let moment = now(rt);
+        let mut state = self.state.lock(rt);
+        state.put_duties(duties, moment);
+        if state.may_call() {
+            self.due.notify_all();
+        }
+    }
+
+    /// A participant that is to be called. It waits for one whose host may be called, and gives
+    /// none once the program is to end.
+    pub(crate) fn next_duty<R: Wait>(&self, rt: &R) -> Option<Due> {
+        let mut state = self.due.wait_while(rt, self.state.lock(rt), |state| {
+            !state.may_call() && !state.has_ended()
+        });
+        state.take_due()
+    }
+
+    /// Tells what came of a call that began at this moment: what was heard, or why the participant
+    /// is called again. Its host may be called once more then, by another thread too. It gives what
+    /// is to be told of calls in vain.
+    pub(crate) fn tell<R: Wait + Clock>(
+        &self,
+        rt: &R,
+        began: Duration,
+        came: Result<Letter, Unheard>,
+    ) -> Option<Plight> {
+        let moment = now(rt);
+        let mut state = self.state.lock(rt);
+        let plight = state.hear(moment.saturating_sub(began), came, moment);
+        self.came.notify_all();
+        if state.may_call() {
+            self.due.notify_one();
+        }
+        plight
+    }
+
+    /// Has deadlines looked at once more at once.
+    pub fn tick<R: Wait>(&self, rt: &R) {
+        self.state.lock(rt).tick();
+    }
+
+    /// Puts a letter back that couldn't be entered now.
+    pub fn put_back<R: Wait>(&self, rt: &R, letter: Letter) {
+        self.state.lock(rt).put_letter(letter);
+    }
+
+    /// Tells that what was heard is entered. A participant that is busy is called again after a
+    /// pause.
+    pub fn note_entered<R: Wait + Clock>(&self, rt: &R, letter: &Letter) {
+        let moment = now(rt);
+        self.state.lock(rt).note_entered(letter, moment);
+    }
+
+    /// Hands over what another node told, unless something waits already. It says whether it did.
+    pub(crate) fn put_telling<R: Wait>(&self, rt: &R, telling: Telling) -> bool {
+        let mut state = self.state.lock(rt);
+        let is_put = state.put_telling(telling);
+        if is_put {
+            self.came.notify_all();
+        }
+        is_put
+    }
+
+    /// Hands over what another node told, once nothing else waits. It says whether it did: not
+    /// where nothing of it is new by then, nor where the program is to end.
+    pub(crate) fn hand_over<R: Wait>(&self, rt: &R, telling: Telling) -> bool {
+        let mut state = self.changed.wait_while(rt, self.state.lock(rt), |state| {
+            state.has_telling() && !state.has_ended()
+        });
+        let is_put = state.put_awaited(telling);
+        if is_put {
+            self.came.notify_all();
+        }
+        is_put
+    }
+
+    /// Waits so long, or until the program is to end. It says whether it is to end.
+    pub(crate) fn sleep<R: Wait + Clock>(&self, rt: &R, time: Duration) -> bool {
+        let (state, _) = self
+            .changed
+            .wait_timeout_while(rt, self.state.lock(rt), time, |state| !state.has_ended());
+        state.has_ended()
+    }
+}
