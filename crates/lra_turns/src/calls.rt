@@ -5,7 +5,8 @@ ghost use Rattle.lra_turns.specs.Calling.{IsTakenFrom};
 ghost use Rattle.lra_turns.specs.Entering.{IsEntered};
 ghost use Rattle.lra_callback.specs.declared.duty.Duty.{Duty};
 ghost use Rattle.lra_turns.specs.Named.{AllKept, AllWaiting, IsKept, NamesNoOther, Passes};
-ghost use Rattle.lra_turns.specs.Slips.{without};
+ghost use Rattle.lra_turns.specs.Pausing.{IsBusyAt, IsFound, IsMissed, earlier, next_of, vain_of};
+ghost use Rattle.lra_turns.specs.Slips.{called_of, place_of, without};
 ghost use Rattle.lra_turns.specs.Turns.{MayTake, changed_at, is_due, with_end, with_hosts};
 ghost use Rattle.lra_turns.specs.Turns.{place_of as host_place};
 
@@ -41,9 +42,17 @@ fn enter(slip: &mut Slip, hosts: &mut Hosts, duty: Duty, now: Duration) -> bool
 }
 
 /// The earlier of two moments, if there are two.
-fn earlier(one: Option<Duration>, other: Duration) -> Duration {
+fn earlier(one: Option<Duration>, other: Duration) -> Duration
+    ensures { result ≡ earlier one other }
+{
     match one {
-        Some(one) => one.min(other),
+        Some(one) => {
+            if other.as_nanos() < one.as_nanos() {
+                other
+            } else {
+                one
+            }
+        }
         None => other,
     }
 }
@@ -268,7 +277,9 @@ impl Calls {
     }
 
     /// When the first pause is over, or the moment that is given, if that comes before.
-    pub fn resumes_by(&self, moment: Duration) -> Duration {
+    pub fn resumes_by(&self, moment: Duration) -> Duration
+        ensures { result ≡ earlier self.now.resumes_at moment }
+    {
         earlier(self.resumes_at, moment)
     }
 
@@ -283,6 +294,7 @@ impl Calls {
     fn resume_by(&mut self, until: Duration)
         ensures hosts { self.new.now ≡ self.old.now }
         ensures slips { self.new.slips ≡ self.old.slips }
+        ensures resumes { self.new.resumes_at ≡ Some (earlier self.old.resumes_at until) }
     {
         self.resumes_at = Some(self.resumes_by(until));
     }
@@ -290,7 +302,8 @@ impl Calls {
     /// Has a participant that is busy wait before it is called again, each time longer, for what the next list has. It was no call in
     /// vain.
     pub fn pause(&mut self, who: Called, now: Duration)
-        ensures { NamesNoOther self.old self.new [] }
+        ensures named { NamesNoOther self.old self.new [] }
+        ensures busy { IsBusyAt (place_of who self.old.slips) now self.old self.new }
     {
         let Some(place) = place_of(&self.slips, &who) else {
             return;
@@ -305,7 +318,8 @@ impl Calls {
     /// Has a participant wait before it is called again for this duty, each time longer: the call came to nothing. It gives what is to
     /// be told of that: once a minute has passed since the first such call in a row, and again each ten minutes.
     pub fn vain(&mut self, duty: Duty, came: Came, now: Duration) -> Option<Plight>
-        ensures { NamesNoOther self.old self.new (duty ∷ []) }
+        ensures named { NamesNoOther self.old self.new (duty ∷ []) }
+        ensures missed { IsMissed (place_of (called_of duty) self.old.slips) duty came now self.old self.new result }
     {
         let place = place_of(&self.slips, &Called::of(&duty))?;
         let mut vain = Vain::after(self.slips[place].vain, came, now);
@@ -317,7 +331,8 @@ impl Calls {
 
     /// Ends the count of the calls in vain, since something was heard. It gives what is to be told of that, if they were told.
     pub fn heard(&mut self, duty: &Duty, now: Duration) -> Option<Plight>
-        ensures { NamesNoOther self.old self.new [] }
+        ensures named { NamesNoOther self.old self.new [] }
+        ensures found { IsFound (place_of (called_of duty.now) self.old.slips) duty.now now self.old self.new result }
     {
         let place = place_of(&self.slips, &Called::of(duty))?;
         let vain = self.slips[place].vain.take()?;
@@ -325,13 +340,17 @@ impl Calls {
     }
 
     /// How somebody was called in vain, if its last call was.
-    pub fn vain_of(&self, who: &Called) -> Option<Vain> {
+    pub fn vain_of(&self, who: &Called) -> Option<Vain>
+        ensures { result ≡ vain_of who.now self.now.slips }
+    {
         let place = place_of(&self.slips, who)?;
         self.slips[place].vain
     }
 
     /// When somebody is called next; none while it waits for a thread or is called, or if nothing is remembered of it.
-    pub fn next_of(&self, who: &Called) -> Option<Duration> {
+    pub fn next_of(&self, who: &Called) -> Option<Duration>
+        ensures { result ≡ next_of who.now self.now.slips }
+    {
         let place = place_of(&self.slips, who)?;
         self.slips[place].until()
     }

@@ -1,5 +1,7 @@
 // What is remembered of one who is to be called, is called, or is called again after a pause.
-ghost use Rattle.std.specs.Prelude.{◌≡◌, ◌<◌, IfSome, None, Some, length, map, true};
+ghost use Rattle.std.specs.Prelude.{◌≡◌, ◌+◌, ◌*◌, ◌<◌, IfSome, None, Some, length, map, min, true};
+ghost use Rattle.std.specs.Duration.{as_nanos, max_nanos};
+ghost use Rattle.lra_turns.specs.Pausing.{missed};
 ghost use Rattle.lra_turns.specs.Slips.{IsPaused, IsRecalled, begun_to, called_of, is_called, is_over, place_of, same_called, until_in, without};
 ghost use Rattle.lra_turns.specs.Entering.{IsMadeToWait};
 
@@ -128,6 +130,7 @@ impl Slip {
     /// Has it pause, longer than the last time. It gives when that is over.
     pub(crate) fn pause_from(&mut self, now: Duration) -> Duration
         ensures paused { IsPaused result self.old self.new }
+        ensures time { as_nanos result ≡ min (as_nanos now + self.new.pause * 1_000_000) max_nanos }
     {
         let pause = self.pause.saturating_mul(2).clamp(FIRST_PAUSE, LAST_PAUSE);
         let until = now.saturating_add(Duration::from_millis(pause));
@@ -141,6 +144,8 @@ impl Slip {
         ensures kept { self.new.kept ≡ Some duty }
         ensures vain { self.new.vain ≡ Some vain }
         ensures who { self.new.who ≡ self.old.who }
+        ensures paused { IsPaused result (missed duty vain self.old) self.new }
+        ensures time { as_nanos result ≡ min (as_nanos now + self.new.pause * 1_000_000) max_nanos }
     {
         self.vain = Some(vain);
         self.kept = Some(duty);
