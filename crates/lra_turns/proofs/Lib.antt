@@ -1,3 +1,5 @@
 mod Choices
+mod Counts
 mod Named
+mod Once
 mod Places

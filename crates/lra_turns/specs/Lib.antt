@@ -2,6 +2,7 @@ pub mod Calling
 pub mod Entering
 pub mod Links
 pub mod Named
+pub mod Once
 pub mod Pausing
 pub mod Plights
 pub mod Slips

@@ -27,9 +27,9 @@ returns-clause-missed c =
     let at : Some c.in_ok-place.place ≡ place_of (called_of c.args.duty) c.self.inside.slips.items = search rules in
     let within : c.in_ok-place.place < length c.self.inside.slips.items = search rules in
     let counted : c.after-vain.result ≡ vain_after (slip_at c.self.inside.slips.items c.in_ok-place.place).vain c.args.came c.args.now =
-        c.after-vain.ensures ∙ ap (λ (slip : Slip). vain_after slip.vain c.args.came c.args.now) (stood_at c.self.inside.slips.items c.in_ok-place.place c.index.result.now within c.index.ensures) in
+    c.after-vain.ensures ∙ ap (λ (slip : Slip). vain_after slip.vain c.args.came c.args.now) (stood_at c.self.inside.slips.items c.in_ok-place.place c.index.result.now within c.index.ensures) in
     let old : c.index_mut.result.now ≡ slip_at c.self.inside.slips.items c.in_ok-place.place =
-        stood_at c.self.inside.slips.items c.in_ok-place.place c.index_mut.result.now within c.index_mut.ensures.value in
+    stood_at c.self.inside.slips.items c.in_ok-place.place c.index_mut.result.now within c.index_mut.ensures.value in
     let new : c.pause_in_vain-until.new.self ≡ slip_at c.resume_by.new.self.slips c.in_ok-place.place = search rules in
     subst (λ (old : Calling). Missed (place_of (called_of c.args.duty) old.slips) old) c.self.view_is
     (subst (λ (at : Option ℕ). Missed at (record { now = c.self.inside.hosts; slips = c.self.inside.slips.items; resumes_at = c.self.inside.resumes_at })) at
