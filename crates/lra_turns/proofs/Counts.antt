@@ -111,3 +111,31 @@ filter_keeps test p drops (x ∷ xs) =
       | true ↦ λ is. omega (arith, sum_by-cons (λ x. cond (test x) 1 0) x xs, sum_by-cons (λ x. cond (test x) 1 0) x (filter p xs), rest)
       | false ↦ λ is. omega (arith, sum_by-cons (λ x. cond (test x) 1 0) x xs, ap {B = ℕ} (λ b. cond b 1 0) (drops x is), rest)
     ] refl
+
+pub none_left : {X : Type 0} (xs : List X) → length xs ≡ 0 → xs ≡ []
+none_left [] e = refl
+none_left (x ∷ xs) e = absurd (omega (arith, e))
+
+-- what a filter leaves is within two sums, where each that it keeps is; and all are within what it leaves and another sum, where each
+-- that it drops is
+pub filter_within : {X : Type 0} (f g h : X → ℕ) (p : X → Bool) → ((x : X) → p x ≡ true → f x ≤ g x + h x) → (xs : List X) → sum_by f (filter p xs) ≤ sum_by g xs + sum_by h xs
+filter_within f g h p each [] = omega arith
+filter_within f g h p each (x ∷ xs) =
+    let rest = filter_within f g h p each xs in
+    elim (p x) as (λ b. p x ≡ b → sum_by f (cond b (x ∷ filter p xs) (filter p xs)) ≤ sum_by g (x ∷ xs) + sum_by h (x ∷ xs)) [
+      | true ↦ λ is. omega (arith, sum_by-cons f x (filter p xs), sum_by-cons g x xs, sum_by-cons h x xs, each x is, rest)
+      | false ↦ λ is. omega (arith, sum_by-cons g x xs, sum_by-cons h x xs, rest)
+    ] refl
+
+pub filter_leaves : {X : Type 0} (f g : X → ℕ) (p : X → Bool) → ((x : X) → p x ≡ false → f x ≤ g x) → (xs : List X) → sum_by f xs ≤ sum_by f (filter p xs) + sum_by g xs
+filter_leaves f g p each [] = omega arith
+filter_leaves f g p each (x ∷ xs) =
+    let rest = filter_leaves f g p each xs in
+    elim (p x) as (λ b. p x ≡ b → sum_by f (x ∷ xs) ≤ sum_by f (cond b (x ∷ filter p xs) (filter p xs)) + sum_by g (x ∷ xs)) [
+      | true ↦ λ is. omega (arith, sum_by-cons f x (filter p xs), sum_by-cons f x xs, sum_by-cons g x xs, rest)
+      | false ↦ λ is. omega (arith, sum_by-cons f x xs, sum_by-cons g x xs, each x is, rest)
+    ] refl
+
+pub none_summed : {X : Type 0} (f : X → ℕ) → ((x : X) → f x ≡ 0) → (xs : List X) → sum_by f xs ≡ 0
+none_summed f each [] = refl
+none_summed f each (x ∷ xs) = omega (arith, sum_by-cons f x xs, each x, none_summed f each xs)

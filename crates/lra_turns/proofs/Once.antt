@@ -6,7 +6,7 @@ use Rattle.std.proofs.lemmas.List.Sums.{sum_by-cons, sum_by-set}
 use Rattle.std.specs.List.{count_by, sum_by}
 use Rattle.std.specs.Prelude.{if◌then◌else◌}
 use Rattle.lra_callback.specs.declared.duty.Duty.{Duty}
-use Rattle.lra_turns.specs.Calling.{Calling, IsTakenFrom}
+use Rattle.lra_turns.specs.Calling.{Calling, IsTakenFrom, nothing}
 use Rattle.lra_turns.specs.Once.{BeginsOnce, HasEachOnce, IsBeingCalled, LeavesOthers, calls_of, dues_of, duties_for, is_for, is_of, is_stray, slips_of, waits_of}
 use Rattle.lra_turns.specs.Pausing.{IsBusyAt, IsFound, IsMissed, PausesAt, cleared, found, missed, nobody, slip_at}
 use Rattle.lra_turns.specs.Slips.{begun_to, called_of, is_called, is_called_in, place_of, same_called, standing, waits, waits_in, without}
@@ -209,12 +209,12 @@ found_slip who place slips e =
     let same : f.behind ≡ place = omega (arith, f.is) in
     (omega (arith, f.within, same), subst (λ (k : ℕ). (slip_at slips k).who ≡ who) same (called_is (slip_at slips f.behind).who who f.passes))
 
-not_stray : (duty : Duty) (slip : Slip) → slip.kept ≡ Some duty → slip.who ≡ called_of duty → is_stray slip ≡ false
+pub not_stray : (duty : Duty) (slip : Slip) → slip.kept ≡ Some duty → slip.who ≡ called_of duty → is_stray slip ≡ false
 not_stray duty slip kept is =
     ap (λ (k : Option Duty). not (option_map_or (is_for slip.who) k true)) kept
     ∙ ap (λ (w : Called). not (same_called (called_of duty) w)) is ∙ ap not (called_self (called_of duty))
 
-none_stray : (slip : Slip) → slip.kept ≡ None → is_stray slip ≡ false
+pub none_stray : (slip : Slip) → slip.kept ≡ None → is_stray slip ≡ false
 none_stray slip kept = ap (λ (k : Option Duty). not (option_map_or (is_for slip.who) k true)) kept
 
 busy_pauses : (who : Called) (now : Duration) (place : ℕ) (old new : Calling) → place_of who old.slips ≡ Some place → PausesAt place now cleared old new → PausesOne who place old new
@@ -337,3 +337,6 @@ once_ended duty pace calling once = record {
   waits = λ who. omega (arith, dues_ended who duty pace calling.now.hosts (host_place duty calling.now.hosts) refl, once.waits who);
   kept = once.kept;
 }
+
+pub none_once : HasEachOnce nothing
+none_once = record { slips = λ who. omega arith; waits = λ who. omega arith; kept = refl }

@@ -1,17 +1,14 @@
 -- Nobody is called twice at a time.
-use Rattle.std.specs.Prelude.{◌≡◌, ◌≤◌, ◌<◌, ◌&&◌, ℕ, Bool, true, false, List, not, nat_le}
+use Rattle.std.specs.Prelude.{◌≡◌, ◌≤◌, ◌<◌, ◌&&◌, ℕ, Bool, true, false, List, cond, not}
 use Rattle.std.specs.List.{count_by, sum_by}
 use Rattle.std.specs.Option.{option_map_or}
-use Rattle.std.specs.Duration.{as_nanos}
 use Rattle.std.specs.declared.time.Duration.{Duration}
 use Rattle.lra_callback.specs.declared.duty.Duty.{Duty}
 use Rattle.lra_turns.specs.Calling.{Calling}
-use Rattle.lra_turns.specs.Slips.{called_of, is_called, same_called, waits}
+use Rattle.lra_turns.specs.Slips.{called_of, is_called, pauses, same_called, waits}
 use Rattle.lra_turns.specs.Turns.{AtHost}
 use Rattle.lra_turns.specs.declared.slip.Called.{Called}
 use Rattle.lra_turns.specs.declared.slip.Slip.{Slip}
-use Rattle.lra_turns.specs.declared.slip.Stand.{Stand}
-use Rattle.lra_turns.specs.declared.slip.Stand.TheVariants.{Pauses}
 
 -- whether a slip is of somebody; whether somebody is called for a duty
 abbrev pub is_of : Called → Slip → Bool
@@ -20,7 +17,8 @@ is_of who slip = same_called slip.who who
 abbrev pub is_for : Called → Duty → Bool
 is_for who duty = same_called (called_of duty) who
 
--- how many slips there are of somebody; how many of these wait for a thread, and how many are of a call that goes on
+-- how many slips there are of somebody; how many of these wait for a thread, are of a call that goes on, pause still at a moment, and are
+-- on the list
 abbrev pub slips_of : Called → List Slip → ℕ
 slips_of who slips = count_by (is_of who) slips
 
@@ -30,12 +28,26 @@ waits_of who slips = count_by (λ (slip : Slip). is_of who slip && waits slip) s
 abbrev pub calls_of : Called → List Slip → ℕ
 calls_of who slips = count_by (λ (slip : Slip). is_of who slip && is_called slip) slips
 
+abbrev pub pauses_of : Duration → Called → List Slip → ℕ
+pauses_of now who slips = count_by (λ (slip : Slip). is_of who slip && pauses now slip) slips
+
+abbrev pub listed_of : Called → List Slip → ℕ
+listed_of who slips = count_by (λ (slip : Slip). is_of who slip && slip.is_listed) slips
+
+-- how many of them wait, and aren't on the list
+abbrev pub hidden_of : Called → List Slip → ℕ
+hidden_of who slips = count_by (λ (slip : Slip). is_of who slip && (waits slip && not slip.is_listed)) slips
+
 -- how many duties of a list are for somebody, and how many of those that wait at hosts
 abbrev pub duties_for : Called → List Duty → ℕ
 duties_for who duties = count_by (is_for who) duties
 
 abbrev pub dues_of : Called → List AtHost → ℕ
 dues_of who hosts = sum_by (λ (host : AtHost). duties_for who host.due) hosts
+
+-- how many of those wait at hosts that aren't on the list
+abbrev pub spare_of : Called → List AtHost → ℕ
+spare_of who hosts = sum_by (λ (host : AtHost). cond host.is_listed 0 (duties_for who host.due)) hosts
 
 -- a list of duties names nobody twice
 abbrev pub NamesNobodyTwice : List Duty → Type 0
@@ -51,6 +63,11 @@ pub record HasEachOnce (calling : Calling) : Type 0 where
   pub slips : (who : Called) → slips_of who calling.slips ≤ 1
   pub waits : (who : Called) → dues_of who calling.now.hosts ≤ waits_of who calling.slips
   pub kept : count_by is_stray calling.slips ≡ 0
+
+-- somebody may be called at this moment: it isn't called, and doesn't pause any longer
+pub record MayBeCalled (now : Duration) (who : Called) (calling : Calling) : Type 0 where
+  pub not_called : calls_of who calling.slips ≡ 0
+  pub not_paused : pauses_of now who calling.slips ≡ 0
 
 -- somebody is called
 abbrev pub IsBeingCalled : Called → Calling → Type 0

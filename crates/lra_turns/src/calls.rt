@@ -1,12 +1,16 @@
 // Whom the threads that call are to call, whom they call, and whom only after a pause.
-ghost use Rattle.std.specs.Prelude.{◌≡◌, ◌<◌, ◌↔◌, ◌∷◌, [], Bool, IfSome, IsTrue, None, false, length};
+ghost use Rattle.std.specs.Prelude.{◌≡◌, ◌<◌, ◌≤◌, ◌↔◌, ◌∷◌, [], Bool, IfSome, IsTrue, None, false, filter, length, map};
 ghost use Rattle.std.specs.List.{list_any};
 ghost use Rattle.lra_turns.specs.Calling.{IsTakenFrom};
 ghost use Rattle.lra_turns.specs.Entering.{IsEntered};
 ghost use Rattle.lra_callback.specs.declared.duty.Duty.{Duty};
+ghost use Rattle.lra_turns.specs.Listing.{IsBrought, IsPlaced, PutsOne, PutsSome, recalled_all, remembered};
 ghost use Rattle.lra_turns.specs.Named.{AllKept, AllWaiting, IsKept, NamesNoOther, Passes};
+ghost use Rattle.lra_turns.specs.Once.{HasEachOnce, MayBeCalled, NamesNobodyTwice, calls_of, dues_of, duties_for, slips_of};
 ghost use Rattle.lra_turns.specs.Pausing.{IsBusyAt, IsFound, IsMissed, earlier, next_of, vain_of};
-ghost use Rattle.lra_turns.specs.Slips.{called_of, place_of, without};
+ghost use Rattle.lra_turns.specs.Resuming.{ResumesAll, ResumesAt, ResumesOne};
+ghost use Rattle.lra_turns.specs.Slips.{called_of, is_remembered, place_of, taken_back, without};
+ghost use Rattle.lra_turns.specs.declared.slip.Called.{Called as TheCalled};
 ghost use Rattle.lra_turns.specs.Turns.{MayTake, changed_at, is_due, with_end, with_hosts};
 ghost use Rattle.lra_turns.specs.Turns.{place_of as host_place};
 
@@ -64,7 +68,8 @@ fn resume_one(
     now: Duration,
     next: Option<Duration>,
 ) -> Option<Duration>
-    ensures { (test : Duty → Bool) → IsKept test slip.old → AllWaiting test hosts.old.hosts →
+    ensures resumed { ResumesOne now slip.old slip.new hosts.old hosts.new next result }
+    ensures named { (test : Duty → Bool) → IsKept test slip.old → AllWaiting test hosts.old.hosts →
         IsKept test slip.new × AllWaiting test hosts.new.hosts }
 {
     if slip.is_over(now) {
@@ -81,7 +86,8 @@ fn resume_one(
 
 /// Has those wait for a thread whose pause is over. It gives when the next pause is.
 fn resume_all(slips: &mut [Slip], hosts: &mut Hosts, now: Duration) -> Option<Duration>
-    ensures { (test : Duty → Bool) → AllKept test slips.old → AllWaiting test hosts.old.hosts →
+    ensures resumed { ResumesAll now slips.old slips.new hosts.old.hosts hosts.new.hosts }
+    ensures named { (test : Duty → Bool) → AllKept test slips.old → AllWaiting test hosts.old.hosts →
         AllKept test slips.new × AllWaiting test hosts.new.hosts }
 {
     let mut next: Option<Duration> = None;
@@ -93,7 +99,8 @@ fn resume_all(slips: &mut [Slip], hosts: &mut Hosts, now: Duration) -> Option<Du
 
 /// Takes back those that wait for a thread.
 fn recall_each(slips: &mut [Slip])
-    ensures { (test : Duty → Bool) → AllKept test slips.old → AllKept test slips.new }
+    ensures exact { slips.new ≡ map taken_back slips.old }
+    ensures kept { (test : Duty → Bool) → AllKept test slips.old → AllKept test slips.new }
 {
     for slip in slips.iter_mut() {
         slip.recall();
@@ -102,7 +109,8 @@ fn recall_each(slips: &mut [Slip])
 
 /// Forgets who is not on the list, unless it is called now.
 fn forget_unlisted(slips: &mut Vec<Slip>)
-    ensures { (test : Duty → Bool) → AllKept test slips.old.items → AllKept test slips.new.items }
+    ensures exact { slips.new.items ≡ filter is_remembered slips.old.items }
+    ensures kept { (test : Duty → Bool) → AllKept test slips.old.items → AllKept test slips.new.items }
 {
     slips.retain(|slip| slip.is_listed || slip.is_called());
 }
@@ -111,6 +119,7 @@ fn forget_unlisted(slips: &mut Vec<Slip>)
 fn place_or_new(slips: &mut Vec<Slip>, from: usize, who: Called) -> Option<usize>
     ensures kept { (test : Duty → Bool) → AllKept test slips.old.items → AllKept test slips.new.items }
     ensures within { IfSome result (λ place. place < length slips.new.items) }
+    ensures placed { IsPlaced from who slips.old.items slips.new.items result }
 {
     if let Some(found) = place_from(slips.as_slice(), from, &who) {
         return Some(found);
@@ -126,6 +135,7 @@ fn place_or_new(slips: &mut Vec<Slip>, from: usize, who: Called) -> Option<usize
 fn bring(slips: &mut Vec<Slip>, place: usize, who: Called) -> bool
     ensures kept { (test : Duty → Bool) → AllKept test slips.old.items → AllKept test slips.new.items }
     ensures within { IsTrue result → place < length slips.new.items }
+    ensures brought { IsBrought place who slips.old.items slips.new.items result }
 {
     let Some(found) = place_or_new(slips, place, who) else {
         return false;
@@ -212,7 +222,8 @@ impl Calls {
 
     /// Puts the duty at a place of the list, where its slip goes too. It says whether there was memory for that.
     fn put_at(&mut self, place: usize, duty: Duty, now: Duration) -> bool
-        ensures { NamesNoOther self.old self.new (duty ∷ []) }
+        ensures named { NamesNoOther self.old self.new (duty ∷ []) }
+        ensures puts { (who : TheCalled) → place ≤ length self.old.slips → PutsOne now duty place who self.old self.new result }
     {
         if !bring(&mut self.slips, place, Called::of(&duty)) {
             return false;
@@ -222,7 +233,8 @@ impl Calls {
 
     /// Takes back all duties that no thread has begun with.
     fn recall(&mut self)
-        ensures { NamesNoOther self.old self.new [] }
+        ensures named { NamesNoOther self.old self.new [] }
+        ensures exact { self.new ≡ recalled_all self.old }
     {
         self.hosts.recall();
         recall_each(&mut self.slips);
@@ -230,7 +242,8 @@ impl Calls {
 
     /// Puts duties at the first places of the list, in their order. It says whether there was memory for all.
     fn put_each(&mut self, duties: Vec<Duty>, now: Duration) -> bool
-        ensures { NamesNoOther self.old self.new duties.items }
+        ensures named { NamesNoOther self.old self.new duties.items }
+        ensures puts { (who : TheCalled) → PutsSome now who (duties_for who duties.items) 0 self.old self.new result }
     {
         let (mut place, mut is_whole) = (0usize, true);
         for duty in duties {
@@ -245,7 +258,8 @@ impl Calls {
 
     /// Forgets who is no longer on the list, unless it is called now, and the hosts of those.
     fn forget_others(&mut self)
-        ensures { NamesNoOther self.old self.new [] }
+        ensures named { NamesNoOther self.old self.new [] }
+        ensures exact { self.new ≡ remembered self.old }
     {
         forget_unlisted(&mut self.slips);
         self.hosts.forget();
@@ -254,7 +268,14 @@ impl Calls {
     /// Puts all that are due, in the order of the list, in place of those that no thread has begun with. Who is no longer among them is
     /// forgotten, unless it is called now. It says whether there was memory for all.
     pub fn put_all(&mut self, duties: Vec<Duty>, now: Duration) -> bool
-        ensures { NamesNoOther self.old self.new duties.items }
+        ensures named { NamesNoOther self.old self.new duties.items }
+        ensures once { NamesNobodyTwice duties.items → HasEachOnce self.old → HasEachOnce self.new }
+        ensures called { (who : TheCalled) → calls_of who self.new.slips ≡ calls_of who self.old.slips }
+        ensures put { IsTrue result → NamesNobodyTwice duties.items → (who : TheCalled) →
+            0 < duties_for who duties.items → MayBeCalled now who self.old →
+            0 < dues_of who self.new.now.hosts }
+        ensures forgotten { (who : TheCalled) → duties_for who duties.items ≡ 0 →
+            calls_of who self.old.slips ≡ 0 → slips_of who self.new.slips ≡ 0 }
     {
         self.recall();
         let is_whole = self.put_each(duties, now);
@@ -264,12 +285,13 @@ impl Calls {
 
     /// Has those wait for a thread whose pause is over by now, and says whether somebody may be called.
     pub fn resume(&mut self, now: Duration) -> bool
-        ensures { NamesNoOther self.old self.new [] }
+        ensures named { NamesNoOther self.old self.new [] }
+        ensures resumed { ResumesAt self.old.resumes_at now self.old self.new result }
     {
         let Some(at) = self.resumes_at else {
             return false;
         };
-        if at > now {
+        if at.as_nanos() > now.as_nanos() {
             return false;
         }
         self.resumes_at = resume_all(&mut self.slips, &mut self.hosts, now);
