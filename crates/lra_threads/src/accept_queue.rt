@@ -9,6 +9,7 @@ use std::thread;
 use std::time::{Clock, Duration};
 
 /// How long a worker looks for a connection before it sleeps. What comes meanwhile wakes nobody.
+/// One worker at a time looks. On an idle virtual machine a wake-up costs more than an answer.
 const WATCH_US: u64 = 100;
 
 /// How often it looks at most.

@@ -153,7 +153,8 @@ fn bring(slips: &mut Vec<Slip>, place: usize, who: Called) -> bool
 pub struct Calls {
     alloc: Global,
     hosts: Hosts,
-    /// In the order of the last list, as far as they stand there.
+    /// In the order of the last list, as far as they stand there: so one pass over slips and list
+    /// finds nearly each at once.
     slips: Vec<Slip>,
     /// When a pause is over at the earliest.
     resumes_at: Option<Duration>,
