@@ -2,8 +2,9 @@
 """Runs benchmarks: `python3 benches/run.py NAME..`, or `all`. It proves and builds the programs of these names, some at
 a time, over the libraries that stand built in crates/*/out/rlib, as `rt ci` leaves them here or in the clone that BUILT
 names; and then runs one after another, TURNS times (3). All together take some 40 processor minutes. KEPT=FOLDER keeps
-the programs there, and takes those that it has. `--compile NAME..` looks instead whether they compile, without a proof
-or a library that stands built, in some 20 seconds each; .ci/run does so, so that none is found broken when it is needed.
+the programs there, and takes those that it has. `--compile NAME..` looks instead whether they compile, without a
+proof or a library that stands built, in some 20 seconds each; .ci/run does so, so that none is found broken when it is
+needed.
 
   status   what an LRA shows, by the records of its home and by the slow evaluators over the same facts
   pages    a look-up in a home, and a record that is put before or behind all others
