@@ -51,6 +51,8 @@ impl Replica {
     {
         let mut homes = Vec::new(alloc);
         for home in &self.homes {
+            // Calling `records` hands the prover that they are in order.
+            let _ = home.records();
             homes.push(Told {
                 held: Some(home.numbers(alloc)?),
                 records: home.clone()?,
