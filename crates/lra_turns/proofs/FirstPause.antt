@@ -39,8 +39,8 @@ none_not_on now (Pauses moment) u = absurd cc
 passed : (now : Duration) (place : ℕ) (slips : List Slip) (next : Option Duration) → pauses now (slip_at slips place) ≡ false → IsFirstPause now place slips next → IsFirstPause now (place + 1) slips next
 passed now place slips None off h = λ k e.
     elim (eqb_tells k place) as (λ _. pauses now (slip_at slips k) ≡ false) [
-      inl same ↦ subst (λ (k : ℕ). pauses now (slip_at slips k) ≡ false) (sym same.1) off
-    | inr other ↦ h k (omega (arith, other.1))
+      | inl same ↦ subst (λ (k : ℕ). pauses now (slip_at slips k) ≡ false) (sym same.1) off
+      | inr other ↦ h k (omega (arith, other.1))
     ]
 passed now place slips (Some at) off h = record {
   place = h.place;
@@ -49,8 +49,8 @@ passed now place slips (Some at) off h = record {
   goes_on = h.goes_on;
   first = λ k e on.
       elim (eqb_tells k place) as (λ _. IfSome (until_in (slip_at slips k).stand) (λ (until : Duration). as_nanos at ≤ as_nanos until)) [
-        inl same ↦ absurd (true_false (sym on ∙ subst (λ (k : ℕ). pauses now (slip_at slips k) ≡ false) (sym same.1) off))
-      | inr other ↦ h.first k (omega (arith, other.1)) on
+        | inl same ↦ absurd (true_false (sym on ∙ subst (λ (k : ℕ). pauses now (slip_at slips k) ≡ false) (sym same.1) off))
+        | inr other ↦ h.first k (omega (arith, other.1)) on
       ];
 }
 
@@ -60,9 +60,9 @@ here : (now : Duration) (place : ℕ) (slips : List Slip) (at until : Duration) 
     → (k : ℕ) → k < place + 1 → pauses now (slip_at slips k) ≡ true → IfSome (until_in (slip_at slips k).stand) (λ (u : Duration). as_nanos at ≤ as_nanos u)
 here now place slips at until is le so k e on =
     elim (eqb_tells k place) as (λ _. IfSome (until_in (slip_at slips k).stand) (λ (u : Duration). as_nanos at ≤ as_nanos u)) [
-      inl same ↦ subst (λ (k : ℕ). IfSome (until_in (slip_at slips k).stand) (λ (u : Duration). as_nanos at ≤ as_nanos u)) (sym same.1)
+      | inl same ↦ subst (λ (k : ℕ). IfSome (until_in (slip_at slips k).stand) (λ (u : Duration). as_nanos at ≤ as_nanos u)) (sym same.1)
           (subst (λ (o : Option Duration). IfSome o (λ (u : Duration). as_nanos at ≤ as_nanos u)) (sym is) le)
-    | inr other ↦ so k (omega (arith, other.1)) on
+      | inr other ↦ so k (omega (arith, other.1)) on
     ]
 
 added_at : (now : Duration) (place : ℕ) (slips : List Slip) (at until : Duration) (is_before : Bool) → nat_lt (as_nanos until) (as_nanos at) ≡ is_before → until_in (slip_at slips place).stand ≡ Some until
@@ -106,7 +106,7 @@ on_next now place slips next result (Some until) u off is h =
 
 next_at : (now : Duration) (place : ℕ) (slips : List Slip) (new : Slip) (before after : Turns) (next result : Option Duration) (over : Bool) → is_over now (slip_at slips place) ≡ over
     → MatchBool over (EntersKept now (slip_at slips place).kept (slip_at slips place) new before after × (result ≡ next))
-      ((new ≡ slip_at slips place) × (after ≡ before) × (result ≡ sooner next (until_in (slip_at slips place).stand)))
+    ((new ≡ slip_at slips place) × (after ≡ before) × (result ≡ sooner next (until_in (slip_at slips place).stand)))
     → IsFirstPause now place slips next → IsFirstPause now (place + 1) slips result
 next_at now place slips new before after next result true e h first =
     subst (IsFirstPause now (place + 1) slips) (sym h.1) (passed now place slips next (over_not_on now (slip_at slips place).stand e) first)

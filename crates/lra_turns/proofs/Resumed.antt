@@ -12,7 +12,7 @@ use Rattle.lra_turns.specs.Calling.{Calling}
 use Rattle.lra_turns.specs.Entering.{IsEntered, IsMadeToWait, keeping, left, noted}
 use Rattle.lra_turns.specs.Once.{HasEachOnce, calls_of, dues_of, duties_for, is_for, is_of, is_stray, slips_of, waits_of}
 use Rattle.lra_turns.specs.Pausing.{nobody, slip_at}
-use Rattle.lra_turns.specs.Resuming.{EntersKept, IsResumed, ResumesAll, ResumesAt, ResumesFor, ResumesOne, WaitsIfKept, emptied, sooner}
+use Rattle.lra_turns.specs.Resuming.{EntersKept, IsFirstPause, IsResumed, ResumesAll, ResumesAt, ResumesFor, ResumesOne, WaitsIfKept, emptied, sooner}
 use Rattle.lra_turns.specs.Slips.{called_of, is_called, is_called_in, is_over, is_over_in, same_called, until_in, waits}
 use Rattle.lra_turns.specs.Turns.{IsPut, MayTake, Turns}
 use Rattle.lra_turns.specs.declared.slip.Called.{Called}
@@ -152,7 +152,7 @@ once_all now old new all once = record {
 }
 
 resumed_or_not : (now : Duration) (old new : Calling) (may later : Bool)
-    → MatchBool later ((new ≡ old) × (may ≡ false)) (ResumesAll now old.slips new.slips old.now.hosts new.now.hosts × MayTake new.now may)
+    → MatchBool later ((new ≡ old) × (may ≡ false)) (ResumesAll now old.slips new.slips old.now.hosts new.now.hosts × MayTake new.now may × IsFirstPause now (length old.slips) old.slips new.resumes_at)
     → HasEachOnce old → HasEachOnce new × ((who : Called) → calls_of who new.slips ≡ calls_of who old.slips)
 resumed_or_not now old new may true h once = (subst HasEachOnce (sym h.0) once, λ who. ap (λ (c : Calling). calls_of who c.slips) h.0)
 resumed_or_not now old new may false h once = (once_all now old new h.0 once, λ who. (h.0.puts once.kept who).calls)
