@@ -1,13 +1,13 @@
 -- The duties of a list are due, and nobody is due twice.
-use Rattle.std.proofs.Common.{◌≡◌, ◌≤◌, ◌<◌, ◌+◌, ◌∷◌, [], ◌⊎◌, ◌&&◌, ◌||◌, ◌==◌, ◌∙◌, ℕ, Bool, true, false, List, Option, Some, None, ap, arith, cond, inl, inr, nat_lt, refl, rules, subst, sym}
+use Rattle.std.proofs.Common.{◌≡◌, ◌≤◌, ◌<◌, ◌∷◌, [], ◌⊎◌, ◌&&◌, ◌==◌, ◌∙◌, ℕ, Bool, true, false, List, Option, Some, None, ap, arith, cond, inl, inr, nat_lt, refl, subst, sym}
 use mathlib.Core.Bool.{not}
 use Rattle.std.proofs.lemmas.Bool.Decides.{nat_tests}
 use Rattle.std.proofs.lemmas.List.Sums.{sum_by-cons}
-use Rattle.std.specs.List.{AllByRecursion, count_by, list_any}
+use Rattle.std.specs.List.{AllByRecursion, list_any}
 use Rattle.std.specs.Option.{option_map_or}
-use Rattle.std.specs.Prelude.{is_some, if◌then◌else◌}
+use Rattle.std.specs.Prelude.{is_some}
 use Rattle.lra_id.specs.Ids.{Id}
-use Rattle.lra_states.specs.States.{compensating, completing, level}
+use Rattle.lra_states.specs.States.{compensating, completing}
 use Rattle.lra_states.specs.declared.outcome.Act.{Act}
 use Rattle.lra_states.specs.declared.outcome.Act.TheVariants.{Complete as CompleteAct, Compensate as CompensateAct}
 use Rattle.lra_states.specs.declared.outcome.Outcome.{Outcome}
@@ -19,7 +19,7 @@ use Rattle.lra_facts.specs.declared.fact.Fact.{Fact}
 use Rattle.lra_facts.specs.Duties.{has_forgot, has_to_compensate, has_to_forget, holds_back, is_compensation_due, is_forget_duty, is_over, is_pending, is_uncompensated, owes_forget, saga_path, topmost_cancelled}
 use Rattle.lra_facts.specs.Links.{Links}
 use Rattle.lra_facts.specs.Lists.{In}
-use Rattle.lra_facts.specs.Sets.{chain, demands, heard, is_decided, is_demanded, is_participant, is_root, joined_status, links_of, status_by, want}
+use Rattle.lra_facts.specs.Sets.{chain, demands, heard, is_decided, is_demanded, is_participant, is_root, links_of, status_by, want}
 use Rattle.lra_forest.proofs.Bools.{and_left, and_right, or_cases}
 use Rattle.lra_forest.proofs.SagaOrder.{last_some}
 use Rattle.lra_forest.specs.Dues.{AreAll, IsOrdered, is_before, is_complete_duty, is_topmost_before, topmost_number}

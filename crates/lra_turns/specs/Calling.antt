@@ -1,5 +1,5 @@
 -- Whom the threads are to call, whom they call, and who pauses.
-use Rattle.std.specs.Prelude.{◌≡◌, [], Bool, List, Option, None, Some, false, map}
+use Rattle.std.specs.Prelude.{◌≡◌, [], List, Option, None, Some, false, map}
 use Rattle.std.specs.declared.time.Duration.{Duration}
 use Rattle.lra_callback.specs.declared.duty.Duty.{Duty}
 use Rattle.lra_turns.specs.declared.slip.Slip.{Slip}

@@ -1,5 +1,5 @@
 -- What a list of duties does to the slips, one duty after another.
-use Rattle.std.specs.Prelude.{◌≡◌, ◌≤◌, ◌<◌, ◌+◌, ◌++◌, ◌∷◌, [], ◌⊎◌, ℕ, Bool, true, false, List, Option, None, Some, IsTrue, cond, filter, length, map, max, take}
+use Rattle.std.specs.Prelude.{◌≡◌, ◌≤◌, ◌<◌, ◌+◌, ◌++◌, ◌∷◌, [], ◌⊎◌, ℕ, Bool, List, Option, None, Some, IsTrue, cond, filter, length, map, max, take}
 use Rattle.std.specs.List.{count_by}
 use Rattle.std.specs.declared.time.Duration.{Duration}
 use Rattle.lra_callback.specs.declared.duty.Duty.{Duty}

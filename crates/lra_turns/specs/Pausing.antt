@@ -1,5 +1,5 @@
 -- Who is called again after a pause, and what came of the calls before.
-use Rattle.std.specs.Prelude.{◌≡◌, ◌+◌, ◌*◌, ℕ, Bool, false, true, List, Option, None, Some, IfNone, IfSome, IsSome, if◌then◌else◌, min, nat_lt, slice_index_or, slice_set}
+use Rattle.std.specs.Prelude.{◌≡◌, ◌+◌, ◌*◌, ℕ, false, true, List, Option, None, Some, IfNone, IfSome, IsSome, if◌then◌else◌, min, nat_lt, slice_index_or, slice_set}
 use Rattle.std.specs.Duration.{as_nanos, max_nanos}
 use Rattle.std.specs.declared.time.Duration.{Duration}
 use Rattle.lra_callback.specs.declared.duty.Duty.{Duty}

@@ -1,4 +1,4 @@
-use Rattle.std.proofs.Common.{arith, get_or, length, subst, sym, ◌≡◌, ◌∙◌, ◌<◌, ◌≤◌}
+use Rattle.std.proofs.Common.{arith, get_or, length, subst, sym, ◌≡◌, ◌<◌}
 use Rattle.std.proofs.lemmas.List.{get_or_default}
 use Rattle.std.proofs.lemmas.List.Elements.{All-set}
 use Rattle.lra_turns.specs.Named.{IsKept}
