@@ -1,13 +1,13 @@
 -- a slip that is brought to a place
-use Rattle.std.proofs.Common.{◌≡◌, ◌≤◌, ◌<◌, ◌+◌, ◌++◌, ◌∷◌, [], ◌⊎◌, ◌∙◌, inl, inr, ℕ, Bool, true, false, List, IsTrue, ap, arith, cond, get_or, length, length-append, refl, rules, subst, sym, take}
+use Rattle.std.proofs.Common.{◌≡◌, ◌≤◌, ◌<◌, ◌+◌, ◌++◌, ◌∷◌, [], ◌⊎◌, ◌∙◌, inl, inr, ℕ, Bool, true, List, ap, arith, cond, get_or, length, length-append, refl, subst, sym, take}
 use Rattle.std.proofs.Math.ListN.{set}
 use Rattle.std.proofs.lemmas.List.{take-append-le, take-set-le}
-use Rattle.std.proofs.lemmas.List.Edits.{Swapped, length-swap, swap_is, swapped_from_swap}
+use Rattle.std.proofs.lemmas.List.Edits.{length-swap, swap_is, swapped_from_swap}
 use Rattle.std.proofs.lemmas.List.Elements.{All-set}
 use Rattle.std.proofs.lemmas.List.Sorted.{IsPermutation-swap, sum_by-IsPermutation}
 use Rattle.std.proofs.lemmas.List.Sums.{sum_by_push}
 use Rattle.std.specs.List.{All, count_by, swap}
-use Rattle.lra_turns.specs.Listing.{IsBrought, IsPlaced, IsPlacedAt}
+use Rattle.lra_turns.specs.Listing.{IsBrought, IsPlacedAt}
 use Rattle.lra_turns.specs.Once.{slips_of}
 use Rattle.lra_turns.specs.Pausing.{nobody, slip_at}
 use Rattle.lra_turns.specs.Slips.{fresh}

@@ -1,6 +1,6 @@
 -- Counting over lists, and who is one.
-use Rattle.std.proofs.Common.{◌≡◌, ◌≤◌, ◌+◌, ◌∷◌, [], ◌&&◌, ◌==◌, ◌∙◌, ℕ, Bool, true, false, List, Some, Option, None, ap, arith, cond, filter, map, not, refl, rules, subst, sym, length, ◌<◌, get_or, zero, suc}
-use Rattle.std.proofs.lemmas.Bool.{and_left as and_no, and_right as and_none, eqb-true}
+use Rattle.std.proofs.Common.{◌≡◌, ◌≤◌, ◌+◌, ◌∷◌, [], ◌&&◌, ◌==◌, ◌∙◌, ℕ, Bool, true, false, List, Some, ap, arith, cond, filter, map, not, refl, sym, length, ◌<◌, get_or, zero, suc}
+use Rattle.std.proofs.lemmas.Bool.{eqb-true}
 use Rattle.std.proofs.lemmas.List.Filters.{sum_by-filter_both}
 use Rattle.std.proofs.lemmas.List.Sums.{sum_by-cons}
 use Rattle.std.specs.List.{count_by, position_from, sum_by}

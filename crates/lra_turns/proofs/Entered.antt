@@ -1,27 +1,20 @@
 -- What comes of a duty of a list, in numbers.
-use Rattle.std.proofs.Common.{◌≡◌, ◌≤◌, ◌<◌, ◌+◌, ◌++◌, ◌∷◌, [], ◌⊎◌, ◌&&◌, ◌∙◌, ℕ, Bool, true, false, List, Option, Some, None, IsTrue, ap, arith, cond, get_or, length, max, not, refl, rules, slice_set, subst, sym, take}
-use Rattle.std.proofs.lemmas.Bool.{and_left as and_no, and_right as and_none}
-use Rattle.std.proofs.lemmas.List.{get_or-set_same, length-set, take-set-le}
-use Rattle.std.proofs.lemmas.List.Sums.{sum_by-cons, sum_by-set, sum_by_more, sum_by_push}
-use Rattle.std.specs.List.{count_by, sum_by}
-use Rattle.std.specs.Option.{option_map_or}
+use Rattle.std.proofs.Common.{◌≡◌, ◌≤◌, ◌+◌, ◌∷◌, [], ◌∙◌, ℕ, Bool, true, false, List, Option, Some, None, ap, arith, cond, not, refl, sym}
+use Rattle.std.proofs.lemmas.List.Sums.{sum_by-cons, sum_by-set, sum_by_push}
 use Rattle.std.specs.Prelude.{MatchBool}
 use Rattle.std.specs.declared.time.Duration.{Duration}
 use Rattle.lra_callback.specs.declared.duty.Duty.{Duty}
-use Rattle.lra_turns.specs.Calling.{Calling}
 use Rattle.lra_turns.specs.Entering.{IsEntered, IsMadeToWait, keeping, left, noted}
-use Rattle.lra_turns.specs.Listing.{IsBrought, PutsOne}
-use Rattle.lra_turns.specs.Once.{calls_of, dues_of, duties_for, hidden_of, is_for, is_of, is_stray, listed_of, pauses_of, slips_of, spare_of, waits_of}
-use Rattle.lra_turns.specs.Pausing.{nobody, slip_at}
-use Rattle.lra_turns.specs.Slips.{called_of, fresh, is_called, is_called_in, is_over, is_over_in, pauses, pauses_in, same_called, waits, waits_in}
-use Rattle.lra_turns.specs.Turns.{AtHost, IsPut, IsPutAt, Turns, changed_at, host_at, is_host_of, listed, newcomer, next_turn, nowhere, with_due, with_hosts}
+use Rattle.lra_turns.specs.Once.{dues_of, duties_for, is_for, is_stray, spare_of}
+use Rattle.lra_turns.specs.Slips.{called_of, is_called, is_called_in, is_over, is_over_in, pauses, pauses_in, waits, waits_in}
+use Rattle.lra_turns.specs.Turns.{AtHost, IsPut, IsPutAt, Turns, changed_at, host_at, is_host_of, listed, newcomer, next_turn, nowhere, with_due}
 use Rattle.lra_turns.specs.Turns.{place_of as host_place}
 use Rattle.lra_turns.specs.declared.slip.Called.{Called}
 use Rattle.lra_turns.specs.declared.slip.Slip.{Slip}
 use Rattle.lra_turns.specs.declared.slip.Stand.{Stand}
 use Rattle.lra_turns.specs.declared.slip.Stand.TheVariants.{IsCalled, Pauses, Waits}
-use Rattle.lra_turns.proofs.Counts.{called_is, called_self, found_in}
-use Rattle.lra_turns.proofs.Once.{bit, not_stray, none_stray, set_counts}
+use Rattle.lra_turns.proofs.Counts.{found_in}
+use Rattle.lra_turns.proofs.Once.{bit, not_stray, none_stray}
 
 -- duties at hosts where a host is noted, and where one more is put
 dues_noted : (who : Called) (duty : Duty) (hosts : List AtHost) (at : Option ℕ) → host_place duty hosts ≡ at → dues_of who (changed_at at listed hosts) ≡ dues_of who hosts

@@ -1,5 +1,5 @@
 -- When the first pause is over, of one slip after another.
-use Rattle.std.proofs.Common.{◌≡◌, ◌≤◌, ◌<◌, ◌+◌, ◌∙◌, ℕ, Bool, true, false, List, MatchBool, Option, Some, None, IfSome, ap, arith, inl, inr, not, refl, rules, subst, sym}
+use Rattle.std.proofs.Common.{◌≡◌, ◌≤◌, ◌<◌, ◌+◌, ◌∙◌, ℕ, Bool, true, false, List, MatchBool, Option, Some, None, IfSome, ap, arith, inl, inr, not, refl, subst, sym}
 use Rattle.std.proofs.lemmas.Bool.{ltb-false, ltb-true}
 use Rattle.std.proofs.lemmas.Bool.Decides.{eqb_tells}
 use Rattle.std.specs.Duration.{as_nanos}

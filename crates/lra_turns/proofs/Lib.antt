@@ -2,9 +2,11 @@ mod Brought
 mod Choices
 mod Counts
 mod Entered
+mod FirstPause
 mod Lists
 mod Named
 mod Once
+mod OnceDue
 mod Puts
 mod Resumed
 mod Places

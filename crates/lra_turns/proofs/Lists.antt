@@ -1,8 +1,8 @@
 -- A whole list of duties, in numbers.
-use Rattle.std.proofs.Common.{◌≡◌, ◌≤◌, ◌<◌, ◌+◌, ◌∷◌, [], ◌&&◌, ◌∙◌, ℕ, Bool, true, false, List, IsTrue, ap, arith, cond, filter, length, map, not, refl, rules, subst, sym}
+use Rattle.std.proofs.Common.{◌≡◌, ◌≤◌, ◌<◌, ◌+◌, ◌&&◌, ◌∙◌, ℕ, Bool, true, false, List, IsTrue, ap, arith, cond, filter, map, not, refl, sym}
 use Rattle.std.proofs.lemmas.Bool.{and_right as and_none}
 use Rattle.std.proofs.lemmas.List.Filters.{sum_by-filter_both}
-use Rattle.std.specs.List.{count_by, sum_by}
+use Rattle.std.specs.List.{count_by}
 use Rattle.std.specs.Prelude.{if◌then◌else◌, nat_lt}
 use Rattle.std.specs.declared.time.Duration.{Duration}
 use Rattle.lra_callback.specs.declared.duty.Duty.{Duty}

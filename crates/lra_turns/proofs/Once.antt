@@ -1,9 +1,8 @@
 -- What keeps each participant there once, so that none is called twice at a time.
-use Rattle.std.proofs.Common.{◌≡◌, ◌≤◌, ◌<◌, ◌+◌, ◌∷◌, [], ◌&&◌, ◌∙◌, ℕ, Bool, true, false, List, Option, Some, None, ap, arith, cond, filter, get_or, length, map, not, refl, rules, slice_set, subst, sym}
+use Rattle.std.proofs.Common.{◌≡◌, ◌≤◌, ◌<◌, ◌+◌, ◌&&◌, ◌∙◌, ℕ, Bool, true, false, List, Option, Some, None, ap, arith, cond, length, map, not, refl, rules, slice_set, subst, sym}
 use Rattle.std.proofs.lemmas.Bool.{and_left as and_no, and_right as and_none}
-use Rattle.std.proofs.lemmas.List.{get_or_default}
 use Rattle.std.proofs.lemmas.List.Sums.{sum_by-cons, sum_by-set}
-use Rattle.std.specs.List.{count_by, sum_by}
+use Rattle.std.specs.List.{count_by}
 use Rattle.std.specs.Prelude.{if◌then◌else◌}
 use Rattle.lra_callback.specs.declared.duty.Duty.{Duty}
 use Rattle.lra_turns.specs.Calling.{Calling, IsTakenFrom, nothing}

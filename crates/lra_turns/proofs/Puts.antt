@@ -1,16 +1,16 @@
 -- One duty of a list, put at a place, in numbers.
-use Rattle.std.proofs.Common.{◌≡◌, ◌≤◌, ◌<◌, ◌+◌, ◌++◌, ◌∷◌, [], ◌⊎◌, ◌&&◌, ◌∙◌, inl, inr, ℕ, Bool, true, false, List, Option, Some, None, IsTrue, ap, arith, cond, get_or, length, max, min, not, refl, suc, zero, rules, slice_set, subst, sym, take}
-use Rattle.std.proofs.lemmas.Bool.{and_left as and_no, and_right as and_none, le-leb}
+use Rattle.std.proofs.Common.{◌≡◌, ◌≤◌, ◌<◌, ◌+◌, ◌∷◌, [], ◌⊎◌, ◌&&◌, ◌∙◌, inl, inr, ℕ, Bool, true, false, List, IsTrue, ap, arith, cond, length, max, min, not, refl, suc, zero, slice_set, subst, sym, take}
+use Rattle.std.proofs.lemmas.Bool.{and_right as and_none, le-leb}
 use Rattle.std.proofs.lemmas.Bool.Decides.{leb_tells}
 use Rattle.std.proofs.lemmas.List.{get_or-set_same, length-set, take-set-le}
 use Rattle.std.proofs.lemmas.List.Sums.{sum_by-cons, sum_by_more, sum_by_more_le}
-use Rattle.std.specs.List.{count_by, sum_by}
+use Rattle.std.specs.List.{count_by}
 use Rattle.std.specs.Duration.{as_nanos}
 use Rattle.std.specs.declared.time.Duration.{Duration}
 use Rattle.lra_callback.specs.declared.duty.Duty.{Duty}
 use Rattle.lra_turns.specs.Calling.{Calling}
 use Rattle.lra_turns.specs.Listing.{IsBrought, PutsOne, PutsSome}
-use Rattle.lra_turns.specs.Once.{calls_of, dues_of, duties_for, hidden_of, is_for, is_of, is_stray, listed_of, pauses_of, slips_of, spare_of, waits_of}
+use Rattle.lra_turns.specs.Once.{calls_of, dues_of, duties_for, is_for, is_of, is_stray, pauses_of, slips_of, spare_of, waits_of}
 use Rattle.lra_turns.specs.Pausing.{nobody, slip_at}
 use Rattle.lra_turns.specs.Slips.{called_of, fresh, is_called, pauses, same_called, waits}
 use Rattle.lra_turns.specs.Turns.{Turns}

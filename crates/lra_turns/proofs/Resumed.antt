@@ -1,5 +1,5 @@
 -- Those whose pause is over, in numbers.
-use Rattle.std.proofs.Common.{◌≡◌, ◌≤◌, ◌<◌, ◌+◌, ◌∷◌, [], ◌&&◌, ◌∙◌, ℕ, Bool, true, false, List, MatchBool, Option, Some, None, ap, arith, cond, inl, inr, length, not, refl, rules, set, slice_set, subst, sym}
+use Rattle.std.proofs.Common.{◌≡◌, ◌≤◌, ◌<◌, ◌+◌, ◌&&◌, ◌∙◌, ℕ, Bool, true, false, List, MatchBool, Option, Some, None, ap, arith, inl, inr, length, not, refl, slice_set, subst, sym}
 use Rattle.std.proofs.lemmas.Bool.Decides.{eqb_tells}
 use Rattle.std.proofs.lemmas.List.{get_or-set_other, get_or-set_same}
 use Rattle.std.specs.List.{count_by}
@@ -9,10 +9,10 @@ use Rattle.lra_callback.specs.declared.duty.Duty.{Duty}
 use Rattle.std.specs.Duration.{as_nanos}
 use Rattle.std.specs.Prelude.{nat_lt}
 use Rattle.lra_turns.specs.Calling.{Calling}
-use Rattle.lra_turns.specs.Entering.{IsEntered, IsMadeToWait, keeping, left, noted}
-use Rattle.lra_turns.specs.Once.{HasEachOnce, calls_of, dues_of, duties_for, is_for, is_of, is_stray, slips_of, waits_of}
+use Rattle.lra_turns.specs.Entering.{IsMadeToWait, keeping, left, noted}
+use Rattle.lra_turns.specs.Once.{HasEachOnce, calls_of, dues_of, is_for, is_of, is_stray}
 use Rattle.lra_turns.specs.Pausing.{nobody, slip_at}
-use Rattle.lra_turns.specs.Resuming.{EntersKept, IsResumed, ResumesAll, ResumesAt, ResumesFor, ResumesOne, WaitsIfKept, emptied, sooner}
+use Rattle.lra_turns.specs.Resuming.{EntersKept, IsFirstPause, IsResumed, ResumesAll, ResumesAt, ResumesFor, ResumesOne, WaitsIfKept, emptied, sooner}
 use Rattle.lra_turns.specs.Slips.{called_of, is_called, is_called_in, is_over, is_over_in, same_called, until_in, waits}
 use Rattle.lra_turns.specs.Turns.{IsPut, MayTake, Turns}
 use Rattle.lra_turns.specs.declared.slip.Called.{Called}
@@ -20,7 +20,7 @@ use Rattle.lra_turns.specs.declared.slip.Slip.{Slip}
 use Rattle.lra_turns.specs.declared.slip.Stand.{Stand}
 use Rattle.lra_turns.specs.declared.slip.Stand.TheVariants.{IsCalled, Pauses, Waits}
 use Rattle.lra_turns.proofs.Counts.{called_is}
-use Rattle.lra_turns.proofs.Entered.{Enters, enters}
+use Rattle.lra_turns.proofs.Entered.{enters}
 use Rattle.lra_turns.proofs.Once.{bit, set_counts}
 use Rattle.lra_turns.proofs.Puts.{cond_for, read_counts}
 
@@ -152,7 +152,7 @@ once_all now old new all once = record {
 }
 
 resumed_or_not : (now : Duration) (old new : Calling) (may later : Bool)
-    → MatchBool later ((new ≡ old) × (may ≡ false)) (ResumesAll now old.slips new.slips old.now.hosts new.now.hosts × MayTake new.now may)
+    → MatchBool later ((new ≡ old) × (may ≡ false)) (ResumesAll now old.slips new.slips old.now.hosts new.now.hosts × MayTake new.now may × IsFirstPause now (length old.slips) old.slips new.resumes_at)
     → HasEachOnce old → HasEachOnce new × ((who : Called) → calls_of who new.slips ≡ calls_of who old.slips)
 resumed_or_not now old new may true h once = (subst HasEachOnce (sym h.0) once, λ who. ap (λ (c : Calling). calls_of who c.slips) h.0)
 resumed_or_not now old new may false h once = (once_all now old new h.0 once, λ who. (h.0.puts once.kept who).calls)

@@ -1,5 +1,5 @@
 -- Whom the threads are to call, whom they call, and who pauses.
-use Rattle.std.specs.Prelude.{◌≡◌, [], Bool, List, Option, None, Some, false, map}
+use Rattle.std.specs.Prelude.{◌≡◌, [], List, Option, None, Some, false, map}
 use Rattle.std.specs.declared.time.Duration.{Duration}
 use Rattle.lra_callback.specs.declared.duty.Duty.{Duty}
 use Rattle.lra_turns.specs.declared.slip.Slip.{Slip}
@@ -8,7 +8,8 @@ use Rattle.lra_turns.specs.Turns.{IsTaken, Turns, changed_at, place_of, with_end
 use Rattle.lra_turns.specs.declared.pace.Pace.{Pace}
 use Rattle.lra_turns.specs.declared.slip.Called.{Called}
 
--- the hosts with whom is to be called there, what is remembered of each, and when the first pause is over
+-- the hosts with whom is to be called there, what is remembered of each, and when the first pause
+-- is over
 pub record Calling : Type 0 where
   pub now : Turns
   pub slips : List Slip

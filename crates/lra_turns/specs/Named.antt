@@ -1,5 +1,5 @@
 -- For whom and what somebody is to be called: nothing of that is made up.
-use Rattle.std.specs.Prelude.{◌≡◌, Bool, true, List, [], ◌∷◌, IfSome}
+use Rattle.std.specs.Prelude.{◌≡◌, Bool, true, List, IfSome}
 use Rattle.std.specs.List.{All}
 use Rattle.lra_callback.specs.declared.duty.Duty.{Duty}
 use Rattle.lra_turns.specs.Calling.{Calling}

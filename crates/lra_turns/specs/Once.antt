@@ -17,8 +17,8 @@ is_of who slip = same_called slip.who who
 abbrev pub is_for : Called → Duty → Bool
 is_for who duty = same_called (called_of duty) who
 
--- how many slips there are of somebody; how many of these wait for a thread, are of a call that goes on, pause still at a moment, and are
--- on the list
+-- how many slips there are of somebody; how many of these wait for a thread, are of a call that
+-- goes on, pause still at a moment, and are on the list
 abbrev pub slips_of : Called → List Slip → ℕ
 slips_of who slips = count_by (is_of who) slips
 
@@ -57,8 +57,9 @@ NamesNobodyTwice duties = (who : Called) → duties_for who duties ≤ 1
 abbrev pub is_stray : Slip → Bool
 is_stray slip = not (option_map_or (is_for slip.who) slip.kept true)
 
--- Of nobody there are two slips. A duty waits at a host only for one whose slip waits, and but one: so who is called is called for
--- nothing else. What is kept for one who pauses is for itself.
+-- Of nobody there are two slips. A duty waits at a host only for one whose slip waits, and but
+-- one: so who is called is called for nothing else. What is kept for one who pauses is for
+-- itself.
 pub record HasEachOnce (calling : Calling) : Type 0 where
   pub slips : (who : Called) → slips_of who calling.slips ≤ 1
   pub waits : (who : Called) → dues_of who calling.now.hosts ≤ waits_of who calling.slips

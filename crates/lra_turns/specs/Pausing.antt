@@ -1,5 +1,5 @@
 -- Who is called again after a pause, and what came of the calls before.
-use Rattle.std.specs.Prelude.{◌≡◌, ◌+◌, ◌*◌, ℕ, Bool, false, true, List, Option, None, Some, IfNone, IfSome, IsSome, if◌then◌else◌, min, nat_lt, slice_index_or, slice_set}
+use Rattle.std.specs.Prelude.{◌≡◌, ◌+◌, ◌*◌, ℕ, false, true, List, Option, None, Some, IfNone, IfSome, IsSome, if◌then◌else◌, min, nat_lt, slice_index_or, slice_set}
 use Rattle.std.specs.Duration.{as_nanos, max_nanos}
 use Rattle.std.specs.declared.time.Duration.{Duration}
 use Rattle.lra_callback.specs.declared.duty.Duty.{Duty}
@@ -28,7 +28,8 @@ vain_at (Some place) slips = (slip_at slips place).vain
 abbrev pub vain_of : Called → List Slip → Option Vain
 vain_of who slips = vain_at (place_of who slips) slips
 
--- when somebody is called next; none while it waits or is called, or where nothing is remembered of it
+-- when somebody is called next; none while it waits or is called, or where nothing is remembered
+-- of it
 abbrev pub next_at : Option ℕ → List Slip → Option Duration
 next_at None slips = None
 next_at (Some place) slips = until_in (slip_at slips place).stand
@@ -53,7 +54,8 @@ missed duty vain slip = record { who = slip.who; pause = slip.pause; stand = sli
 abbrev pub found : Slip → Slip
 found slip = record { who = slip.who; pause = slip.pause; stand = slip.stand; kept = slip.kept; is_listed = slip.is_listed; vain = None }
 
--- the slip at this place is changed so, and pauses from now on; nothing else changes but when the first pause is over
+-- the slip at this place is changed so, and pauses from now on; nothing else changes but when the
+-- first pause is over
 pub record PausesAt (place : ℕ) (now : Duration) (change : Slip → Slip) (old new : Calling) : Type 0 where
   pub until : Duration
   pub paused : IsPaused until (change (slip_at old.slips place)) (slip_at new.slips place)

@@ -1,5 +1,5 @@
 -- Whose pause is over, and what comes of it.
-use Rattle.std.specs.Prelude.{◌≡◌, ◌<◌, ◌+◌, ℕ, Bool, List, MatchBool, Option, None, Some, false, length, nat_lt, true}
+use Rattle.std.specs.Prelude.{◌≡◌, ◌<◌, ◌≤◌, ◌+◌, ℕ, Bool, IfSome, List, MatchBool, Option, None, Some, false, length, nat_lt, true}
 use Rattle.std.specs.List.{count_by}
 use Rattle.std.specs.Duration.{as_nanos}
 use Rattle.std.specs.declared.time.Duration.{Duration}
@@ -8,7 +8,7 @@ use Rattle.lra_turns.specs.Calling.{Calling}
 use Rattle.lra_turns.specs.Entering.{IsEntered, IsMadeToWait}
 use Rattle.lra_turns.specs.Once.{calls_of, dues_of, is_stray, slips_of, waits_of}
 use Rattle.lra_turns.specs.Pausing.{earlier, slip_at}
-use Rattle.lra_turns.specs.Slips.{is_over, until_in}
+use Rattle.lra_turns.specs.Slips.{is_over, pauses, until_in}
 use Rattle.lra_turns.specs.Turns.{AtHost, MayTake, Turns}
 use Rattle.lra_turns.specs.declared.slip.Called.{Called}
 use Rattle.lra_turns.specs.declared.slip.Slip.{Slip}
@@ -43,6 +43,20 @@ WaitsIfKept (Some duty) old new = (is_put : Bool) × IsMadeToWait is_put (emptie
 abbrev pub IsResumed : Duration → Slip → Slip → Type 0
 IsResumed now old new = MatchBool (is_over now old) (WaitsIfKept old.kept old new) (new ≡ old)
 
+-- When the first pause is over of those of the first so many that go on: none, where none goes
+-- on.
+pub record IsFirstPauseAt (now : Duration) (count : ℕ) (slips : List Slip) (at : Duration) : Type 0 where
+  pub place : ℕ
+  pub within : place < count
+  pub is : until_in (slip_at slips place).stand ≡ Some at
+  pub goes_on : pauses now (slip_at slips place) ≡ true
+  pub first : (other : ℕ) → other < count → pauses now (slip_at slips other) ≡ true
+      → IfSome (until_in (slip_at slips other).stand) (λ (until : Duration). as_nanos at ≤ as_nanos until)
+
+abbrev pub IsFirstPause : Duration → ℕ → List Slip → Option Duration → Type 0
+IsFirstPause now count slips None = (place : ℕ) → place < count → pauses now (slip_at slips place) ≡ false
+IsFirstPause now count slips (Some at) = IsFirstPauseAt now count slips at
+
 -- what that changes as to somebody: for each slip that waits from now on a duty does
 pub record ResumesFor (who : Called) (old new : List Slip) (before after : List AtHost) : Type 0 where
   pub slips : slips_of who new ≡ slips_of who old
@@ -56,10 +70,11 @@ pub record ResumesAll (now : Duration) (old new : List Slip) (before after : Lis
   pub stray : count_by is_stray old ≡ 0 → count_by is_stray new ≡ 0
   pub puts : count_by is_stray old ≡ 0 → (who : Called) → ResumesFor who old new before after
 
--- Once a pause is over, each whose pause is over waits for a thread; before that nothing changes.
+-- Once a pause is over, each whose pause is over waits for a thread, and the first of the others
+-- is looked for; before that nothing changes.
 abbrev pub ResumesAt : Option Duration → Duration → Calling → Calling → Bool → Type 0
 ResumesAt None now old new may = (new ≡ old) × (may ≡ false)
 ResumesAt (Some at) now old new may =
     MatchBool (nat_lt (as_nanos now) (as_nanos at))
     ((new ≡ old) × (may ≡ false))
-    (ResumesAll now old.slips new.slips old.now.hosts new.now.hosts × MayTake new.now may)
+    (ResumesAll now old.slips new.slips old.now.hosts new.now.hosts × MayTake new.now may × IsFirstPause now (length old.slips) old.slips new.resumes_at)

@@ -1,5 +1,5 @@
 -- Who is called, and what is remembered of each.
-use Rattle.std.specs.Prelude.{◌≡◌, ◌*◌, ◌==◌, ◌&&◌, ℕ, Bool, true, false, List, Option, None, Some, filter, if◌then◌else◌, map, max, min, nat_le, not}
+use Rattle.std.specs.Prelude.{◌≡◌, ◌*◌, ◌==◌, ◌&&◌, ℕ, Bool, true, false, List, Option, None, Some, filter, if◌then◌else◌, max, min, nat_le, not}
 use Rattle.std.specs.List.{position_from}
 use Rattle.std.specs.Duration.{as_nanos}
 use Rattle.std.specs.declared.time.Duration.{Duration}

@@ -8,7 +8,7 @@ ghost use Rattle.lra_turns.specs.Listing.{IsBrought, IsPlaced, PutsOne, PutsSome
 ghost use Rattle.lra_turns.specs.Named.{AllKept, AllWaiting, IsKept, NamesNoOther, Passes};
 ghost use Rattle.lra_turns.specs.Once.{HasEachOnce, MayBeCalled, NamesNobodyTwice, calls_of, dues_of, duties_for, slips_of};
 ghost use Rattle.lra_turns.specs.Pausing.{IsBusyAt, IsFound, IsMissed, earlier, next_of, vain_of};
-ghost use Rattle.lra_turns.specs.Resuming.{ResumesAll, ResumesAt, ResumesOne};
+ghost use Rattle.lra_turns.specs.Resuming.{IsFirstPause, ResumesAll, ResumesAt, ResumesOne};
 ghost use Rattle.lra_turns.specs.Slips.{called_of, is_remembered, place_of, taken_back, without};
 ghost use Rattle.lra_turns.specs.declared.slip.Called.{Called as TheCalled};
 ghost use Rattle.lra_turns.specs.Turns.{MayTake, changed_at, is_due, with_end, with_hosts};
@@ -87,6 +87,7 @@ fn resume_one(
 /// Has those wait for a thread whose pause is over. It gives when the next pause is.
 fn resume_all(slips: &mut [Slip], hosts: &mut Hosts, now: Duration) -> Option<Duration>
     ensures resumed { ResumesAll now slips.old slips.new hosts.old.hosts hosts.new.hosts }
+    ensures next { IsFirstPause now (length slips.old) slips.old result }
     ensures named { (test : Duty → Bool) → AllKept test slips.old → AllWaiting test hosts.old.hosts →
         AllKept test slips.new × AllWaiting test hosts.new.hosts }
 {
@@ -224,7 +225,8 @@ impl Calls {
     /// Puts the duty at a place of the list, where its slip goes too. It says whether there was memory for that.
     fn put_at(&mut self, place: usize, duty: Duty, now: Duration) -> bool
         ensures named { NamesNoOther self.old self.new (duty ∷ []) }
-        ensures puts { (who : TheCalled) → place ≤ length self.old.slips → PutsOne now duty place who self.old self.new result }
+        ensures puts { (who : TheCalled) → place ≤ length self.old.slips →
+            PutsOne now duty place who self.old self.new result }
     {
         if !bring(&mut self.slips, place, Called::of(&duty)) {
             return false;
@@ -244,7 +246,8 @@ impl Calls {
     /// Puts duties at the first places of the list, in their order. It says whether there was memory for all.
     fn put_each(&mut self, duties: Vec<Duty>, now: Duration) -> bool
         ensures named { NamesNoOther self.old self.new duties.items }
-        ensures puts { (who : TheCalled) → PutsSome now who (duties_for who duties.items) 0 self.old self.new result }
+        ensures puts { (who : TheCalled) →
+            PutsSome now who (duties_for who duties.items) 0 self.old self.new result }
     {
         let (mut place, mut is_whole) = (0usize, true);
         for duty in duties {
@@ -270,7 +273,8 @@ impl Calls {
     /// forgotten, unless it is called now. It says whether there was memory for all.
     pub fn put_all(&mut self, duties: Vec<Duty>, now: Duration) -> bool
         ensures named { NamesNoOther self.old self.new duties.items }
-        ensures once { NamesNobodyTwice duties.items → HasEachOnce self.old → HasEachOnce self.new }
+        ensures once { NamesNobodyTwice duties.items →
+            HasEachOnce self.old → HasEachOnce self.new }
         ensures called { (who : TheCalled) → calls_of who self.new.slips ≡ calls_of who self.old.slips }
         ensures put { IsTrue result → NamesNobodyTwice duties.items → (who : TheCalled) →
             0 < duties_for who duties.items → MayBeCalled now who self.old →
@@ -342,7 +346,8 @@ impl Calls {
     /// be told of that: once a minute has passed since the first such call in a row, and again each ten minutes.
     pub fn vain(&mut self, duty: Duty, came: Came, now: Duration) -> Option<Plight>
         ensures named { NamesNoOther self.old self.new (duty ∷ []) }
-        ensures missed { IsMissed (place_of (called_of duty) self.old.slips) duty came now self.old self.new result }
+        ensures missed { IsMissed (place_of (called_of duty) self.old.slips) duty came now
+            self.old self.new result }
     {
         let place = place_of(&self.slips, &Called::of(&duty))?;
         let mut vain = Vain::after(self.slips[place].vain, came, now);
@@ -355,7 +360,8 @@ impl Calls {
     /// Ends the count of the calls in vain, since something was heard. It gives what is to be told of that, if they were told.
     pub fn heard(&mut self, duty: &Duty, now: Duration) -> Option<Plight>
         ensures named { NamesNoOther self.old self.new [] }
-        ensures found { IsFound (place_of (called_of duty.now) self.old.slips) duty.now now self.old self.new result }
+        ensures found { IsFound (place_of (called_of duty.now) self.old.slips) duty.now now
+            self.old self.new result }
     {
         let place = place_of(&self.slips, &Called::of(duty))?;
         let vain = self.slips[place].vain.take()?;

@@ -1,9 +1,15 @@
 // Laws of the definitions: each function does nothing, and its contract is the law.
-ghost use Rattle.std.specs.Prelude.{◌≡◌, ◌<◌, ◌≤◌, Bool, None, Option, Some, ℕ, false, length, true};
+ghost use Rattle.std.specs.Prelude.{◌≡◌, ◌<◌, ◌≤◌, Bool, List, None, Option, Some, ℕ, false, length, true};
+ghost use Rattle.lra_facts.specs.declared.fact.Fact.{Fact};
+ghost use Rattle.lra_forest.specs.Dues.{AreAll};
+ghost use Rattle.lra_history.specs.Growth.{IsSettled};
+ghost use Rattle.lra_history.specs.Views.{StandsFor, View};
+ghost use Rattle.lra_callback.specs.ViewDuties.{duties_of};
+ghost use Rattle.lra_callback.specs.CallDuties.{IsDuty, comes_first};
 ghost use Rattle.lra_callback.specs.declared.duty.Duty.{Duty};
 ghost use Rattle.lra_turns.specs.Calling.{Calling, IsTakenFrom, ended, forgotten, nothing};
 ghost use Rattle.lra_turns.specs.Named.{AllNamed, Passes};
-ghost use Rattle.lra_turns.specs.Once.{BeginsOnce, HasEachOnce, IsBeingCalled, LeavesOthers, calls_of};
+ghost use Rattle.lra_turns.specs.Once.{BeginsOnce, HasEachOnce, IsBeingCalled, LeavesOthers, NamesNobodyTwice, calls_of};
 ghost use Rattle.lra_turns.specs.Pausing.{IsBusyAt, IsFound, IsMissed};
 ghost use Rattle.lra_turns.specs.Resuming.{ResumesAt};
 ghost use Rattle.lra_turns.specs.Slips.{called_of, place_of};
@@ -43,7 +49,17 @@ pub fn nobody_waits_for_nothing()
         may_be_called (slow_calls now.hosts) (host_at now.hosts other) ≡ true → IsNext now None → ⊥ }
 {}
 
-/// Nobody is called twice at a time: who is called was not called before, and is called once now; and of nobody else a call begins.
+/// All duties of a home, in their order, name nobody twice: that is the list that a node makes.
+/// Who is to complete or to compensate has nothing to forget yet.
+pub fn a_list_names_nobody_twice()
+    ensures set { (home : ℕ) (S : List Fact) (duties : List Duty) →
+        AreAll (IsDuty home S) (comes_first S) duties → NamesNobodyTwice duties }
+    ensures view { (S : List Fact) (view : View) (me : ℕ) → IsSettled S → StandsFor S view →
+        1 ≤ me → me ≤ length view.front → NamesNobodyTwice (duties_of view me) }
+{}
+
+/// Nobody is called twice at a time: who is called was not called before, and is called once now;
+/// and of nobody else a call begins.
 pub fn who_is_taken_was_not_called()
     ensures begins { (old new : Calling) (duty : Duty) →
         HasEachOnce old → IsTakenFrom old new (Some duty) → BeginsOnce (called_of duty) old new }
@@ -51,8 +67,9 @@ pub fn who_is_taken_was_not_called()
         HasEachOnce old → IsTakenFrom old new (Some duty) → HasEachOnce new }
 {}
 
-/// What else comes keeps each there once, and leaves others who are called alone: pauses that are over, and of one who is called the end
-/// of its call, that it was heard, was busy, was called in vain, and is forgotten.
+/// What else comes keeps each there once, and leaves others who are called alone: pauses that are
+/// over, and of one who is called the end of its call, that it was heard, was busy, was called in
+/// vain, and is forgotten.
 pub fn who_is_called_is_left_alone()
     ensures resumed { (at : Option Duration) (now : Duration) (old new : Calling) (may : Bool) →
         ResumesAt at now old new may → HasEachOnce old →

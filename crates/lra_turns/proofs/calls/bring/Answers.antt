@@ -1,5 +1,5 @@
-use Rattle.std.proofs.Common.{arith, length, rules, subst, sym, true, List, ◌<◌}
-use Rattle.lra_turns.specs.Listing.{IsBrought, IsPlacedAt}
+use Rattle.std.proofs.Common.{length, rules, subst, sym, true, List, ◌<◌}
+use Rattle.lra_turns.specs.Listing.{IsBrought}
 use Rattle.lra_turns.specs.Named.{AllKept, IsKept}
 use Rattle.lra_turns.specs.declared.slip.Slip.{Slip}
 use Rattle.lra_turns.proofs.Brought.{brought_at, swapped_all}

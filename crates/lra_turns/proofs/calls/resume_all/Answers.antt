@@ -1,10 +1,11 @@
-use Rattle.std.proofs.Common.{arith, get_or, length, subst, sym, ◌≡◌, ◌∙◌, ◌<◌, ◌≤◌}
+use Rattle.std.proofs.Common.{arith, get_or, length, subst, sym, ◌≡◌, ◌<◌}
 use Rattle.std.proofs.lemmas.List.{get_or_default}
 use Rattle.std.proofs.lemmas.List.Elements.{All-set}
 use Rattle.lra_turns.specs.Named.{IsKept}
 use Rattle.lra_turns.specs.Pausing.{nobody, slip_at}
 use Rattle.lra_turns.specs.Resuming.{IsResumed, ResumesOne}
 use Rattle.lra_turns.specs.declared.slip.Slip.{Slip}
+use Rattle.lra_turns.proofs.FirstPause.{pause_next}
 use Rattle.lra_turns.proofs.Resumed.{each_next, resumed, resumes_next, rest_next, stray_next}
 use Rattle.lra_turns.proofs.calls.resume_all.Goals as goal
 
@@ -27,4 +28,6 @@ loop-slip-preserved c =
           (c.loop-slip.invariant.stray own);
       puts = λ own who. resumes_next c.args.now who c.args.slips.now c.loop-slip.slips c.loop-slip.slip-index c.resume_one-next.new.slip c.args.hosts.now c.loop-slip.hosts c.resume_one-next.new.hosts c.loop-slip.next c.resume_one-next.result bound one
           (c.loop-slip.invariant.stray own) (c.loop-slip.invariant.puts own who);
+      next = pause_next c.args.now c.loop-slip.slip-index c.args.slips.now c.resume_one-next.new.slip c.loop-slip.hosts c.resume_one-next.new.hosts c.loop-slip.next c.resume_one-next.result
+          (subst (λ (slip : Slip). ResumesOne c.args.now slip c.resume_one-next.new.slip c.loop-slip.hosts c.resume_one-next.new.hosts c.loop-slip.next c.resume_one-next.result) same one) c.loop-slip.invariant.next;
     }

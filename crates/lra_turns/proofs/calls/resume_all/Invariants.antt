@@ -4,7 +4,7 @@ use Rattle.lra_callback.specs.declared.duty.Duty.{Duty}
 use Rattle.lra_turns.specs.Named.{AllKept, AllWaiting}
 use Rattle.lra_turns.specs.Once.{is_stray}
 use Rattle.lra_turns.specs.Pausing.{slip_at}
-use Rattle.lra_turns.specs.Resuming.{IsResumed, ResumesFor}
+use Rattle.lra_turns.specs.Resuming.{IsFirstPause, IsResumed, ResumesFor}
 use Rattle.lra_turns.specs.declared.slip.Called.{Called}
 use Rattle.lra_turns.proofs.calls.resume_all.Given as goal
 
@@ -16,4 +16,5 @@ invariant-loop-slip l = record {
   rest : (place : ℕ) → l.slip-index ≤ place → slip_at l.slips place ≡ slip_at l.fn.slips place;
   stray : count_by is_stray l.fn.slips ≡ 0 → count_by is_stray l.slips ≡ 0;
   puts : count_by is_stray l.fn.slips ≡ 0 → (who : Called) → ResumesFor who l.fn.slips l.slips l.fn.hosts.hosts l.hosts.hosts;
+  next : IsFirstPause l.now l.slip-index l.fn.slips l.next;
 }

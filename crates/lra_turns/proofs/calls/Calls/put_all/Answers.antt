@@ -1,6 +1,6 @@
 use Rattle.std.proofs.Common.{subst, sym, ◌≡◌, ◌<◌}
 use Rattle.lra_turns.specs.Calling.{Calling}
-use Rattle.lra_turns.specs.Listing.{PutsSome, recalled_all}
+use Rattle.lra_turns.specs.Listing.{PutsSome}
 use Rattle.lra_turns.specs.Once.{HasEachOnce, calls_of, dues_of, duties_for, slips_of}
 use Rattle.lra_turns.proofs.Lists.{Lists, lists_called, lists_forgotten, lists_once, lists_put}
 use Rattle.lra_turns.proofs.calls.Calls.put_all.Goals as goal

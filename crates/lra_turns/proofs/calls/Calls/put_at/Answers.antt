@@ -1,4 +1,4 @@
-use Rattle.std.proofs.Common.{arith, false, length, refl, rules, slice_set, subst, sym, true, Bool, ◌≡◌, ◌≤◌}
+use Rattle.std.proofs.Common.{arith, false, length, refl, slice_set, subst, sym, true, Bool, ◌≡◌, ◌≤◌}
 use Rattle.std.proofs.lemmas.List.Elements.{All-set}
 use Rattle.lra_turns.specs.Named.{AllNamed, IsKept}
 use Rattle.lra_turns.specs.Calling.{Calling}

@@ -1,11 +1,11 @@
-use Rattle.std.proofs.Common.{◌≡◌, ◌≤◌, ◌<◌, ◌+◌, ◌^◌, ◌∷◌, [], Bool, ℕ, List, arith, false, length, refl, rules, subst, sym, true}
+use Rattle.std.proofs.Common.{◌≡◌, ◌≤◌, ◌+◌, [], Bool, List, arith, false, length, refl, subst, true}
 use Rattle.lra_callback.specs.declared.duty.Duty.{Duty}
 use Rattle.lra_turns.specs.Listing.{PutsOne, PutsSome}
 use Rattle.lra_turns.specs.Once.{duties_for}
 use Rattle.lra_turns.specs.declared.slip.Called.{Called}
 use Rattle.lra_turns.proofs.Counts.{none_left}
 use Rattle.lra_turns.proofs.Named.{put_next}
-use Rattle.lra_turns.proofs.Puts.{IsFirstFew, false_true, first_capped, first_next, first_zero, puts_next, puts_nothing}
+use Rattle.lra_turns.proofs.Puts.{false_true, first_capped, first_next, first_zero, puts_next}
 use Rattle.lra_turns.proofs.calls.Calls.put_each.Goals as goal
 
 pub loop-duty-preserved-then-put_at : goal.loop-duty-preserved-then-put_at
