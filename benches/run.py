@@ -2,7 +2,9 @@
 """Runs benchmarks: `python3 benches/run.py NAME..`, or `all`. It proves and builds the programs of these names, some at
 a time, over the libraries that stand built in crates/*/out/rlib, as `rt ci` leaves them here or in the clone that BUILT
 names; and then runs one after another, TURNS times (3). All together take some 40 processor minutes. KEPT=FOLDER keeps
-the programs there, and takes those that it has.
+the programs there, and takes those that it has. `--compile NAME..` looks instead whether they compile, without a
+proof or a library that stands built, in some 20 seconds each; .ci/run does so, so that none is found broken when it is
+needed.
 
   status   what an LRA shows, by the records of its home and by the slow evaluators over the same facts
   pages    a look-up in a home, and a record that is put before or behind all others
@@ -17,6 +19,7 @@ the programs there, and takes those that it has.
   api      requests that a clerk serves from memory to memory, with a journal in memory, and their parser alone
   journal  begins and joins stored in a file, and the opening of 2,048 LRAs, beside the C library"""
 import os
+import re
 import shutil
 import subprocess
 import sys
@@ -90,10 +93,36 @@ def run_turns(name: str, folder: str, turns: int) -> None:
             print("no built server: benches/pull.py was left out")
 
 
+def is_compiled(copy: str, name: str) -> bool:
+    """Whether a program compiles: `rt try` begins to run it, and cuts it off after a second."""
+    crate = repo.add_crate(copy, f"bench_{name}", {"main.rt": repo.read(f"benches/{name}/main.rt.txt")},
+                           " ".join([*USES[name], "anyhow"]))
+    words = ["rt", "try", "--steps", "1", "--seconds", "1"]
+    tried = subprocess.run(words, cwd=crate, stdin=subprocess.DEVNULL, stdout=subprocess.PIPE,
+                           stderr=subprocess.STDOUT, text=True, errors="replace")
+    is_well = re.search(r"^run=(?!none)", tried.stdout, re.M) is not None
+    print(f"{name}: it compiles" if is_well else f"{tried.stdout}{name}: it doesn't compile", flush=True)
+    return is_well
+
+
+def compile_all(names: list[str]) -> int:
+    """Looks whether each of these programs compiles."""
+    with tempfile.TemporaryDirectory(prefix="benches-") as copy:
+        repo.copy_crates(copy)
+        with ThreadPoolExecutor(AT_ONCE) as pool:
+            found = list(pool.map(lambda name: is_compiled(copy, name), names))
+    return int(not all(found))
+
+
 def main() -> int:
-    names = list(USES) if sys.argv[1:] == ["all"] else sys.argv[1:]
+    words = sys.argv[1:]
+    is_look = words[:1] == ["--compile"]
+    names = words[1:] if is_look else words
+    names = list(USES) if names == ["all"] else names
     if not names or any(name not in USES for name in names):
         sys.exit(__doc__)
+    if is_look:
+        return compile_all(names)
     missing = unbuilt(names)
     if missing:
         how = "run `rt ci` here first, or name the clone in which it ran by BUILT"

@@ -14,7 +14,8 @@ use std::sync::Wait;
 use std::thread;
 use std::time::{Clock, Duration};
 
-/// How long a request may take. One is served after another.
+/// How long a request may take. One is served after another, so a silent one costs the next a
+/// second. More threads would be worth it only for a port that anybody reaches.
 const REQUEST_MS: u64 = 1_000;
 
 /// How long its answer may take.

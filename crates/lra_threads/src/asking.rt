@@ -122,7 +122,8 @@ fn next_teller(node: &Node, other: u8, told: &Counts, seen: &Counts) -> u8 {
 
 /// Pulls from the other nodes, until the program is to end: from one that told that it has
 /// something new at once, if there was a pause after the last pull; and from each in turn, about
-/// twice a second while that brings anything, every five seconds at rest.
+/// twice a second while that brings anything, every five seconds at rest. `follow` waits for room,
+/// for one other node; this gives up, as it has more to ask.
 pub fn pull_in_turn<R: Wait + Clock + Net<Listener = TcpListener, Stream = TcpStream>>(
     rt: &R,
     alloc: Global,

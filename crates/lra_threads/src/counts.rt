@@ -1,4 +1,6 @@
-// What the threads of a node count, to be told at its operator's port.
+// What the threads of a node count, to be told at its operator's port. The counts stand under one
+// lock and not in forty atomics, so a page shows them as of one moment. No thread holds it while it
+// waits for anything.
 
 use crate::signal::StopReason;
 use crate::sweep::Purged;

@@ -1,4 +1,5 @@
-// Connections to one of several addresses, within a time.
+// Connections to one of several addresses, within a time. They go by the host's own handle: `log`'s
+// answers that it can neither connect within a time nor look a name up.
 ghost use Rattle.std.specs.Iterator.{IsFinite};
 
 use crate::signal::Signal;

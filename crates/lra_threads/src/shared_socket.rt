@@ -4,7 +4,8 @@ use std::alloc::Global;
 use std::cell::{Cell, RefCell};
 use std::net::TcpStream;
 
-/// A socket that its reader and its writer share, and what they saw on it. One thread has it.
+/// A socket that its reader and its writer share, and what they saw on it. One thread has it. So a
+/// connection takes one open file, and a message leaves in one system call.
 #[derive(Drop)]
 pub struct SharedSocket {
     stream: TcpStream,
@@ -72,7 +73,9 @@ impl SharedSocket {
     }
 
     /// Whether nothing is left of the request that its client could still send. Then the system
-    /// doesn't reset the connection when it is closed, and the client gets the answer whole.
+    /// doesn't reset the connection when it is closed, and the client gets the answer whole. After
+    /// any other answer the writing side is shut, and what still comes is read for a second,
+    /// without a worker: else the client might lose the answer.
     pub fn is_done(&self) -> bool {
         self.is_dry.get() && self.is_heard.get()
     }

@@ -3,7 +3,8 @@
 use std::sync::{Condvar, CondvarTimeouts, Mutex, Wait};
 use std::time::{Clock, Duration};
 
-/// Why a run is over.
+/// Why a run is over. It has cases of its own, since under `Mutex::new` no value of an enum that
+/// holds a `Refusal` can be made (a bug of this kit).
 #[derive(Clone, Copy, PartialEq, Eq, Debug)]
 pub enum StopReason {
     /// The program is to end.
@@ -23,7 +24,8 @@ pub enum StopReason {
 }
 
 impl StopReason {
-    // Which of two causes stands: the weightier, since more is to be done for it.
+    // Which of two causes stands: the weightier, since more is to be done for it. Otherwise an E18
+    // after an early end would leave a stopped book to the next run.
     fn weight(self) -> u8 {
         match self {
             StopReason::Full | StopReason::RunFull | StopReason::TrailLost(_) => 0,

@@ -1,2 +1,10 @@
+mod Brought
 mod Choices
+mod Counts
+mod Entered
+mod Lists
 mod Named
+mod Once
+mod Puts
+mod Resumed
+mod Places

@@ -3,7 +3,7 @@ use Rattle.std.specs.Prelude.{◌≡◌, Bool, MatchBool, None, Some, false, tru
 use Rattle.std.specs.declared.time.Duration.{Duration}
 use Rattle.lra_callback.specs.declared.duty.Duty.{Duty}
 use Rattle.lra_turns.specs.declared.slip.Slip.{Slip}
-use Rattle.lra_turns.specs.Slips.{is_called, is_over, waits}
+use Rattle.lra_turns.specs.Slips.{is_called, is_over, pauses, waits}
 use Rattle.lra_turns.specs.Turns.{IsPut, Turns, changed_at, listed, place_of, with_hosts}
 
 -- the host of a duty is noted, and whom to call there stays
@@ -24,6 +24,7 @@ pub record IsMadeToWait (is_put : Bool) (old new : Slip) : Type 0 where
   pub pause : new.pause ≡ old.pause
   pub waits : waits new ≡ is_put
   pub not_called : is_called new ≡ false
+  pub not_paused : (now : Duration) → pauses now new ≡ false
   pub kept : new.kept ≡ None
   pub listed : new.is_listed ≡ true
   pub vain : new.vain ≡ old.vain

@@ -1,7 +1,11 @@
 pub mod Calling
 pub mod Entering
 pub mod Links
+pub mod Listing
 pub mod Named
+pub mod Once
+pub mod Pausing
 pub mod Plights
+pub mod Resuming
 pub mod Slips
 pub mod Turns

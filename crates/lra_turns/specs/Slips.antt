@@ -51,6 +51,43 @@ is_over_in now _ = false
 abbrev pub is_over : Duration → Slip → Bool
 is_over now slip = is_over_in now slip.stand
 
+-- whether it pauses, and may not be called yet at this moment
+abbrev pub pauses_in : Duration → Stand → Bool
+pauses_in now (Pauses until) = not (nat_le (as_nanos until) (as_nanos now))
+pauses_in now _ = false
+
+abbrev pub pauses : Duration → Slip → Bool
+pauses now slip = pauses_in now slip.stand
+
+-- a pause that is over at each moment
+abbrev pub at_once : Duration
+at_once = record { secs = 0; nanos = 0 }
+
+-- one that may be called at once
+abbrev pub fresh : Called → Slip
+fresh who = record { who = who; pause = 0; stand = Pauses at_once; kept = None; is_listed = false; vain = None }
+
+-- one that waits for a thread, or, where there was no memory for that, for the next list
+abbrev pub waits_if : Bool → Stand
+waits_if true = Waits
+waits_if false = Pauses at_once
+
+abbrev pub made_to_wait : Bool → Slip → Slip
+made_to_wait is_put slip = record { who = slip.who; pause = slip.pause; stand = waits_if is_put; kept = None; is_listed = slip.is_listed; vain = slip.vain }
+
+-- one that no longer waits for a thread, and isn't on the list
+abbrev pub back : Stand → Stand
+back Waits = Pauses at_once
+back IsCalled = IsCalled
+back (Pauses until) = Pauses until
+
+abbrev pub taken_back : Slip → Slip
+taken_back slip = record { who = slip.who; pause = slip.pause; stand = back slip.stand; kept = slip.kept; is_listed = false; vain = slip.vain }
+
+-- whether it is remembered behind a list: it is on it, or is called
+abbrev pub is_remembered : Slip → Bool
+is_remembered slip = if slip.is_listed then true else is_called slip
+
 -- where it stands now
 abbrev pub standing : Stand → Slip → Slip
 standing stand slip = record { who = slip.who; pause = slip.pause; stand = stand; kept = slip.kept; is_listed = slip.is_listed; vain = slip.vain }

@@ -1,11 +1,16 @@
 // Whom the threads that call are to call, whom they call, and whom only after a pause.
-ghost use Rattle.std.specs.Prelude.{◌≡◌, ◌<◌, ◌↔◌, ◌∷◌, [], Bool, IfSome, IsTrue, None, false, length};
+ghost use Rattle.std.specs.Prelude.{◌≡◌, ◌<◌, ◌≤◌, ◌↔◌, ◌∷◌, [], Bool, IfSome, IsTrue, None, false, filter, length, map};
 ghost use Rattle.std.specs.List.{list_any};
 ghost use Rattle.lra_turns.specs.Calling.{IsTakenFrom};
 ghost use Rattle.lra_turns.specs.Entering.{IsEntered};
 ghost use Rattle.lra_callback.specs.declared.duty.Duty.{Duty};
+ghost use Rattle.lra_turns.specs.Listing.{IsBrought, IsPlaced, PutsOne, PutsSome, recalled_all, remembered};
 ghost use Rattle.lra_turns.specs.Named.{AllKept, AllWaiting, IsKept, NamesNoOther, Passes};
-ghost use Rattle.lra_turns.specs.Slips.{without};
+ghost use Rattle.lra_turns.specs.Once.{HasEachOnce, MayBeCalled, NamesNobodyTwice, calls_of, dues_of, duties_for, slips_of};
+ghost use Rattle.lra_turns.specs.Pausing.{IsBusyAt, IsFound, IsMissed, earlier, next_of, vain_of};
+ghost use Rattle.lra_turns.specs.Resuming.{ResumesAll, ResumesAt, ResumesOne};
+ghost use Rattle.lra_turns.specs.Slips.{called_of, is_remembered, place_of, taken_back, without};
+ghost use Rattle.lra_turns.specs.declared.slip.Called.{Called as TheCalled};
 ghost use Rattle.lra_turns.specs.Turns.{MayTake, changed_at, is_due, with_end, with_hosts};
 ghost use Rattle.lra_turns.specs.Turns.{place_of as host_place};
 
@@ -41,9 +46,17 @@ fn enter(slip: &mut Slip, hosts: &mut Hosts, duty: Duty, now: Duration) -> bool
 }
 
 /// The earlier of two moments, if there are two.
-fn earlier(one: Option<Duration>, other: Duration) -> Duration {
+fn earlier(one: Option<Duration>, other: Duration) -> Duration
+    ensures { result ≡ earlier one other }
+{
     match one {
-        Some(one) => one.min(other),
+        Some(one) => {
+            if other.as_nanos() < one.as_nanos() {
+                other
+            } else {
+                one
+            }
+        }
         None => other,
     }
 }
@@ -55,7 +68,8 @@ fn resume_one(
     now: Duration,
     next: Option<Duration>,
 ) -> Option<Duration>
-    ensures { (test : Duty → Bool) → IsKept test slip.old → AllWaiting test hosts.old.hosts →
+    ensures resumed { ResumesOne now slip.old slip.new hosts.old hosts.new next result }
+    ensures named { (test : Duty → Bool) → IsKept test slip.old → AllWaiting test hosts.old.hosts →
         IsKept test slip.new × AllWaiting test hosts.new.hosts }
 {
     if slip.is_over(now) {
@@ -72,7 +86,8 @@ fn resume_one(
 
 /// Has those wait for a thread whose pause is over. It gives when the next pause is.
 fn resume_all(slips: &mut [Slip], hosts: &mut Hosts, now: Duration) -> Option<Duration>
-    ensures { (test : Duty → Bool) → AllKept test slips.old → AllWaiting test hosts.old.hosts →
+    ensures resumed { ResumesAll now slips.old slips.new hosts.old.hosts hosts.new.hosts }
+    ensures named { (test : Duty → Bool) → AllKept test slips.old → AllWaiting test hosts.old.hosts →
         AllKept test slips.new × AllWaiting test hosts.new.hosts }
 {
     let mut next: Option<Duration> = None;
@@ -84,7 +99,8 @@ fn resume_all(slips: &mut [Slip], hosts: &mut Hosts, now: Duration) -> Option<Du
 
 /// Takes back those that wait for a thread.
 fn recall_each(slips: &mut [Slip])
-    ensures { (test : Duty → Bool) → AllKept test slips.old → AllKept test slips.new }
+    ensures exact { slips.new ≡ map taken_back slips.old }
+    ensures kept { (test : Duty → Bool) → AllKept test slips.old → AllKept test slips.new }
 {
     for slip in slips.iter_mut() {
         slip.recall();
@@ -93,7 +109,8 @@ fn recall_each(slips: &mut [Slip])
 
 /// Forgets who is not on the list, unless it is called now.
 fn forget_unlisted(slips: &mut Vec<Slip>)
-    ensures { (test : Duty → Bool) → AllKept test slips.old.items → AllKept test slips.new.items }
+    ensures exact { slips.new.items ≡ filter is_remembered slips.old.items }
+    ensures kept { (test : Duty → Bool) → AllKept test slips.old.items → AllKept test slips.new.items }
 {
     slips.retain(|slip| slip.is_listed || slip.is_called());
 }
@@ -102,6 +119,7 @@ fn forget_unlisted(slips: &mut Vec<Slip>)
 fn place_or_new(slips: &mut Vec<Slip>, from: usize, who: Called) -> Option<usize>
     ensures kept { (test : Duty → Bool) → AllKept test slips.old.items → AllKept test slips.new.items }
     ensures within { IfSome result (λ place. place < length slips.new.items) }
+    ensures placed { IsPlaced from who slips.old.items slips.new.items result }
 {
     if let Some(found) = place_from(slips.as_slice(), from, &who) {
         return Some(found);
@@ -117,6 +135,7 @@ fn place_or_new(slips: &mut Vec<Slip>, from: usize, who: Called) -> Option<usize
 fn bring(slips: &mut Vec<Slip>, place: usize, who: Called) -> bool
     ensures kept { (test : Duty → Bool) → AllKept test slips.old.items → AllKept test slips.new.items }
     ensures within { IsTrue result → place < length slips.new.items }
+    ensures brought { IsBrought place who slips.old.items slips.new.items result }
 {
     let Some(found) = place_or_new(slips, place, who) else {
         return false;
@@ -134,7 +153,8 @@ fn bring(slips: &mut Vec<Slip>, place: usize, who: Called) -> bool
 pub struct Calls {
     alloc: Global,
     hosts: Hosts,
-    /// In the order of the last list, as far as they stand there.
+    /// In the order of the last list, as far as they stand there: so one pass over slips and list
+    /// finds nearly each at once.
     slips: Vec<Slip>,
     /// When a pause is over at the earliest.
     resumes_at: Option<Duration>,
@@ -203,7 +223,8 @@ impl Calls {
 
     /// Puts the duty at a place of the list, where its slip goes too. It says whether there was memory for that.
     fn put_at(&mut self, place: usize, duty: Duty, now: Duration) -> bool
-        ensures { NamesNoOther self.old self.new (duty ∷ []) }
+        ensures named { NamesNoOther self.old self.new (duty ∷ []) }
+        ensures puts { (who : TheCalled) → place ≤ length self.old.slips → PutsOne now duty place who self.old self.new result }
     {
         if !bring(&mut self.slips, place, Called::of(&duty)) {
             return false;
@@ -213,7 +234,8 @@ impl Calls {
 
     /// Takes back all duties that no thread has begun with.
     fn recall(&mut self)
-        ensures { NamesNoOther self.old self.new [] }
+        ensures named { NamesNoOther self.old self.new [] }
+        ensures exact { self.new ≡ recalled_all self.old }
     {
         self.hosts.recall();
         recall_each(&mut self.slips);
@@ -221,7 +243,8 @@ impl Calls {
 
     /// Puts duties at the first places of the list, in their order. It says whether there was memory for all.
     fn put_each(&mut self, duties: Vec<Duty>, now: Duration) -> bool
-        ensures { NamesNoOther self.old self.new duties.items }
+        ensures named { NamesNoOther self.old self.new duties.items }
+        ensures puts { (who : TheCalled) → PutsSome now who (duties_for who duties.items) 0 self.old self.new result }
     {
         let (mut place, mut is_whole) = (0usize, true);
         for duty in duties {
@@ -236,7 +259,8 @@ impl Calls {
 
     /// Forgets who is no longer on the list, unless it is called now, and the hosts of those.
     fn forget_others(&mut self)
-        ensures { NamesNoOther self.old self.new [] }
+        ensures named { NamesNoOther self.old self.new [] }
+        ensures exact { self.new ≡ remembered self.old }
     {
         forget_unlisted(&mut self.slips);
         self.hosts.forget();
@@ -245,7 +269,14 @@ impl Calls {
     /// Puts all that are due, in the order of the list, in place of those that no thread has begun with. Who is no longer among them is
     /// forgotten, unless it is called now. It says whether there was memory for all.
     pub fn put_all(&mut self, duties: Vec<Duty>, now: Duration) -> bool
-        ensures { NamesNoOther self.old self.new duties.items }
+        ensures named { NamesNoOther self.old self.new duties.items }
+        ensures once { NamesNobodyTwice duties.items → HasEachOnce self.old → HasEachOnce self.new }
+        ensures called { (who : TheCalled) → calls_of who self.new.slips ≡ calls_of who self.old.slips }
+        ensures put { IsTrue result → NamesNobodyTwice duties.items → (who : TheCalled) →
+            0 < duties_for who duties.items → MayBeCalled now who self.old →
+            0 < dues_of who self.new.now.hosts }
+        ensures forgotten { (who : TheCalled) → duties_for who duties.items ≡ 0 →
+            calls_of who self.old.slips ≡ 0 → slips_of who self.new.slips ≡ 0 }
     {
         self.recall();
         let is_whole = self.put_each(duties, now);
@@ -255,12 +286,13 @@ impl Calls {
 
     /// Has those wait for a thread whose pause is over by now, and says whether somebody may be called.
     pub fn resume(&mut self, now: Duration) -> bool
-        ensures { NamesNoOther self.old self.new [] }
+        ensures named { NamesNoOther self.old self.new [] }
+        ensures resumed { ResumesAt self.old.resumes_at now self.old self.new result }
     {
         let Some(at) = self.resumes_at else {
             return false;
         };
-        if at > now {
+        if at.as_nanos() > now.as_nanos() {
             return false;
         }
         self.resumes_at = resume_all(&mut self.slips, &mut self.hosts, now);
@@ -268,7 +300,9 @@ impl Calls {
     }
 
     /// When the first pause is over, or the moment that is given, if that comes before.
-    pub fn resumes_by(&self, moment: Duration) -> Duration {
+    pub fn resumes_by(&self, moment: Duration) -> Duration
+        ensures { result ≡ earlier self.now.resumes_at moment }
+    {
         earlier(self.resumes_at, moment)
     }
 
@@ -283,6 +317,7 @@ impl Calls {
     fn resume_by(&mut self, until: Duration)
         ensures hosts { self.new.now ≡ self.old.now }
         ensures slips { self.new.slips ≡ self.old.slips }
+        ensures resumes { self.new.resumes_at ≡ Some (earlier self.old.resumes_at until) }
     {
         self.resumes_at = Some(self.resumes_by(until));
     }
@@ -290,7 +325,8 @@ impl Calls {
     /// Has a participant that is busy wait before it is called again, each time longer, for what the next list has. It was no call in
     /// vain.
     pub fn pause(&mut self, who: Called, now: Duration)
-        ensures { NamesNoOther self.old self.new [] }
+        ensures named { NamesNoOther self.old self.new [] }
+        ensures busy { IsBusyAt (place_of who self.old.slips) now self.old self.new }
     {
         let Some(place) = place_of(&self.slips, &who) else {
             return;
@@ -305,7 +341,8 @@ impl Calls {
     /// Has a participant wait before it is called again for this duty, each time longer: the call came to nothing. It gives what is to
     /// be told of that: once a minute has passed since the first such call in a row, and again each ten minutes.
     pub fn vain(&mut self, duty: Duty, came: Came, now: Duration) -> Option<Plight>
-        ensures { NamesNoOther self.old self.new (duty ∷ []) }
+        ensures named { NamesNoOther self.old self.new (duty ∷ []) }
+        ensures missed { IsMissed (place_of (called_of duty) self.old.slips) duty came now self.old self.new result }
     {
         let place = place_of(&self.slips, &Called::of(&duty))?;
         let mut vain = Vain::after(self.slips[place].vain, came, now);
@@ -317,7 +354,8 @@ impl Calls {
 
     /// Ends the count of the calls in vain, since something was heard. It gives what is to be told of that, if they were told.
     pub fn heard(&mut self, duty: &Duty, now: Duration) -> Option<Plight>
-        ensures { NamesNoOther self.old self.new [] }
+        ensures named { NamesNoOther self.old self.new [] }
+        ensures found { IsFound (place_of (called_of duty.now) self.old.slips) duty.now now self.old self.new result }
     {
         let place = place_of(&self.slips, &Called::of(duty))?;
         let vain = self.slips[place].vain.take()?;
@@ -325,13 +363,17 @@ impl Calls {
     }
 
     /// How somebody was called in vain, if its last call was.
-    pub fn vain_of(&self, who: &Called) -> Option<Vain> {
+    pub fn vain_of(&self, who: &Called) -> Option<Vain>
+        ensures { result ≡ vain_of who.now self.now.slips }
+    {
         let place = place_of(&self.slips, who)?;
         self.slips[place].vain
     }
 
     /// When somebody is called next; none while it waits for a thread or is called, or if nothing is remembered of it.
-    pub fn next_of(&self, who: &Called) -> Option<Duration> {
+    pub fn next_of(&self, who: &Called) -> Option<Duration>
+        ensures { result ≡ next_of who.now self.now.slips }
+    {
         let place = place_of(&self.slips, who)?;
         self.slips[place].until()
     }

@@ -1,6 +1,9 @@
 // What is remembered of one who is to be called, is called, or is called again after a pause.
-ghost use Rattle.std.specs.Prelude.{◌≡◌, ◌<◌, IfSome, None, Some, length, map, true};
-ghost use Rattle.lra_turns.specs.Slips.{IsPaused, IsRecalled, begun_to, called_of, is_called, is_over, place_of, same_called, until_in, without};
+ghost use Rattle.std.specs.Prelude.{◌≡◌, ◌+◌, ◌*◌, ◌<◌, ◌≤◌, IfNone, IfSome, None, Some, length, map, min, take, true};
+ghost use Rattle.std.specs.Duration.{as_nanos, max_nanos};
+ghost use Rattle.lra_turns.specs.Once.{slips_of};
+ghost use Rattle.lra_turns.specs.Pausing.{missed, slip_at};
+ghost use Rattle.lra_turns.specs.Slips.{IsPaused, IsRecalled, begun_to, called_of, fresh, is_called, is_over, made_to_wait, place_of, same_called, taken_back, until_in, without};
 ghost use Rattle.lra_turns.specs.Entering.{IsMadeToWait};
 
 use crate::plight::Vain;
@@ -114,13 +117,14 @@ impl Slip {
     pub(crate) fn of(who: Called) -> Slip
         ensures who { result.who ≡ who }
         ensures kept { result.kept ≡ None }
+        ensures fresh { result ≡ fresh who }
     {
         Slip {
             who,
             pause: 0,
-            stand: Stand::Pauses(Duration::from_millis(0)),
+            stand: Stand::Pauses(Duration::ZERO),
             kept: None,
-            is_listed: true,
+            is_listed: false,
             vain: None,
         }
     }
@@ -128,6 +132,7 @@ impl Slip {
     /// Has it pause, longer than the last time. It gives when that is over.
     pub(crate) fn pause_from(&mut self, now: Duration) -> Duration
         ensures paused { IsPaused result self.old self.new }
+        ensures time { as_nanos result ≡ min (as_nanos now + self.new.pause * 1_000_000) max_nanos }
     {
         let pause = self.pause.saturating_mul(2).clamp(FIRST_PAUSE, LAST_PAUSE);
         let until = now.saturating_add(Duration::from_millis(pause));
@@ -141,6 +146,8 @@ impl Slip {
         ensures kept { self.new.kept ≡ Some duty }
         ensures vain { self.new.vain ≡ Some vain }
         ensures who { self.new.who ≡ self.old.who }
+        ensures paused { IsPaused result (missed duty vain self.old) self.new }
+        ensures time { as_nanos result ≡ min (as_nanos now + self.new.pause * 1_000_000) max_nanos }
     {
         self.vain = Some(vain);
         self.kept = Some(duty);
@@ -186,22 +193,24 @@ impl Slip {
     /// Has it wait for a thread, or, where there was no memory for that, for the next list.
     pub(crate) fn wait(&mut self, is_put: bool)
         requires { self.old.is_listed ≡ true }
-        ensures { IsMadeToWait is_put self.old self.new }
+        ensures made { IsMadeToWait is_put self.old self.new }
+        ensures exact { self.new ≡ made_to_wait is_put self.old }
     {
         self.kept = None;
         self.stand = if is_put {
             Stand::Waits
         } else {
-            Stand::Pauses(Duration::from_millis(0))
+            Stand::Pauses(Duration::ZERO)
         };
     }
 
     /// Takes it back from those that wait for a thread. How long it paused is kept.
     pub(crate) fn recall(&mut self)
-        ensures { IsRecalled self.old self.new }
+        ensures recalled { IsRecalled self.old self.new }
+        ensures exact { self.new ≡ taken_back self.old }
     {
         if matches!(self.stand, Stand::Waits) {
-            self.stand = Stand::Pauses(Duration::from_millis(0));
+            self.stand = Stand::Pauses(Duration::ZERO);
         }
         self.is_listed = false;
     }
@@ -209,7 +218,9 @@ impl Slip {
 
 /// The place of a slip, from a place on.
 pub(crate) fn place_from(slips: &[Slip], from: usize, who: &Called) -> Option<usize>
-    ensures { IfSome result (λ place. place < length slips.now) }
+    ensures within { IfSome result (λ place. place < length slips.now) }
+    ensures found { IfSome result (λ place. (from ≤ place) × ((slip_at slips.now place).who ≡ who.now)) }
+    ensures none { IfNone result (slips_of who.now (take from slips.now) ≡ slips_of who.now slips.now) }
 {
     for place in from..slips.len() {
         if slips[place].who.is(who) {

@@ -4,11 +4,11 @@ use Rattle.lra_turns.specs.Named.{AllDue, AllNamed, AllWaiting}
 use Rattle.lra_turns.specs.Turns.{Turns, is_kept}
 use Rattle.lra_turns.proofs.calls.Calls.forget_others.Goals as goal
 
-pub returns : goal.returns
-returns c = λ test all added.
+pub returns-clause-named : goal.returns-clause-named
+returns-clause-named c = λ test all added.
     let inside = subst (AllNamed test) (sym c.self.view_is) all in
     record {
       waiting = subst (λ (now : Turns). AllWaiting test now.hosts) (sym c.forget.ensures)
           (All-filter is_kept (AllDue test) c.self.inside.hosts.hosts inside.waiting);
-      kept = c.forget_unlisted.ensures test inside.kept;
+      kept = c.forget_unlisted.ensures.kept test inside.kept;
     }

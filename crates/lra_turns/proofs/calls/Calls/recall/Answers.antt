@@ -4,11 +4,11 @@ use Rattle.lra_turns.specs.Named.{AllDue, AllKept, AllNamed, AllWaiting, IsKept,
 use Rattle.lra_turns.specs.Turns.{Turns, recalled}
 use Rattle.lra_turns.proofs.calls.Calls.recall.Goals as goal
 
-pub returns : goal.returns
-returns c = λ test all added.
+pub returns-clause-named : goal.returns-clause-named
+returns-clause-named c = λ test all added.
     let inside = subst (AllNamed test) (sym c.self.view_is) all in
     let slips = c.recall_each.new.slips in
-    let kept = c.recall_each.ensures test (subst (AllKept test) (sym c.deref_mut.ensures.value) inside.kept) in
+    let kept = c.recall_each.ensures.kept test (subst (AllKept test) (sym c.deref_mut.ensures.value) inside.kept) in
     let rest = All-drop (IsKept test) (length slips) c.self.inside.slips.items inside.kept in
     record {
       waiting = subst (λ (now : Turns). AllWaiting test now.hosts) (sym c.recall.ensures)

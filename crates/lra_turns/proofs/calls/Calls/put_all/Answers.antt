@@ -1,0 +1,31 @@
+use Rattle.std.proofs.Common.{subst, sym, ◌≡◌, ◌<◌}
+use Rattle.lra_turns.specs.Calling.{Calling}
+use Rattle.lra_turns.specs.Listing.{PutsSome, recalled_all}
+use Rattle.lra_turns.specs.Once.{HasEachOnce, calls_of, dues_of, duties_for, slips_of}
+use Rattle.lra_turns.proofs.Lists.{Lists, lists_called, lists_forgotten, lists_once, lists_put}
+use Rattle.lra_turns.proofs.calls.Calls.put_all.Goals as goal
+
+lists : (c : goal.After-forget_others) → Lists c.args.now c.args.duties.items c.args.self.now c.put_each-is_whole.new.self c.put_each-is_whole.result
+lists c = record {
+  puts = λ who. subst (λ (old : Calling). PutsSome c.args.now who (duties_for who c.args.duties.items) 0 old c.put_each-is_whole.new.self c.put_each-is_whole.result) c.recall.ensures.exact
+      (c.put_each-is_whole.ensures.puts who);
+}
+
+pub returns-clause-once : goal.returns-clause-once
+returns-clause-once c = λ single once.
+    subst HasEachOnce (sym c.forget_others.ensures.exact) (lists_once c.args.now c.args.duties.items c.args.self.now c.put_each-is_whole.new.self c.put_each-is_whole.result (lists c) single once)
+
+pub returns-clause-called : goal.returns-clause-called
+returns-clause-called c = λ who.
+    subst (λ (new : Calling). calls_of who new.slips ≡ calls_of who c.args.self.now.slips) (sym c.forget_others.ensures.exact)
+    (lists_called c.args.now c.args.duties.items c.args.self.now c.put_each-is_whole.new.self c.put_each-is_whole.result (lists c) who)
+
+pub returns-clause-put : goal.returns-clause-put
+returns-clause-put c = λ whole single who named may.
+    subst (λ (new : Calling). 0 < dues_of who new.now.hosts) (sym c.forget_others.ensures.exact)
+    (lists_put c.args.now c.args.duties.items c.args.self.now c.put_each-is_whole.new.self c.put_each-is_whole.result (lists c) whole single who named may)
+
+pub returns-clause-forgotten : goal.returns-clause-forgotten
+returns-clause-forgotten c = λ who none free.
+    subst (λ (new : Calling). slips_of who new.slips ≡ 0) (sym c.forget_others.ensures.exact)
+    (lists_forgotten c.args.now c.args.duties.items c.args.self.now c.put_each-is_whole.new.self c.put_each-is_whole.result (lists c) who none free)

@@ -1,0 +1,98 @@
+-- Who is called again after a pause, and what came of the calls before.
+use Rattle.std.specs.Prelude.{◌≡◌, ◌+◌, ◌*◌, ℕ, Bool, false, true, List, Option, None, Some, IfNone, IfSome, IsSome, if◌then◌else◌, min, nat_lt, slice_index_or, slice_set}
+use Rattle.std.specs.Duration.{as_nanos, max_nanos}
+use Rattle.std.specs.declared.time.Duration.{Duration}
+use Rattle.lra_callback.specs.declared.duty.Duty.{Duty}
+use Rattle.lra_turns.specs.Calling.{Calling}
+use Rattle.lra_turns.specs.Plights.{Tells, is_told_at, told_at, vain_after}
+use Rattle.lra_turns.specs.Slips.{IsPaused, place_of, until_in}
+use Rattle.lra_turns.specs.declared.plight.Came.{Came}
+use Rattle.lra_turns.specs.declared.plight.Plight.{Plight}
+use Rattle.lra_turns.specs.declared.plight.Vain.{Vain}
+use Rattle.lra_turns.specs.declared.slip.Called.{Called}
+use Rattle.lra_turns.specs.declared.slip.Slip.{Slip}
+use Rattle.lra_turns.specs.declared.slip.Stand.TheVariants.{Waits}
+
+-- no slip, where there is none at a place
+abbrev pub nobody : Slip
+nobody = record { who = record { id = record { home = 0; num = 0 }; member = 0; of_end = false }; pause = 0; stand = Waits; kept = None; is_listed = false; vain = None }
+
+abbrev pub slip_at : List Slip → ℕ → Slip
+slip_at slips place = slice_index_or slips place nobody
+
+-- how somebody was called in vain, if its last call was, by the place of its slip
+abbrev pub vain_at : Option ℕ → List Slip → Option Vain
+vain_at None slips = None
+vain_at (Some place) slips = (slip_at slips place).vain
+
+abbrev pub vain_of : Called → List Slip → Option Vain
+vain_of who slips = vain_at (place_of who slips) slips
+
+-- when somebody is called next; none while it waits or is called, or where nothing is remembered of it
+abbrev pub next_at : Option ℕ → List Slip → Option Duration
+next_at None slips = None
+next_at (Some place) slips = until_in (slip_at slips place).stand
+
+abbrev pub next_of : Called → List Slip → Option Duration
+next_of who slips = next_at (place_of who slips) slips
+
+-- the earlier of two moments, if there are two
+abbrev pub earlier : Option Duration → Duration → Duration
+earlier None other = other
+earlier (Some one) other = if nat_lt (as_nanos other) (as_nanos one) then other else one
+
+-- one that is called again for what the next list has, and not in vain so far
+abbrev pub cleared : Slip → Slip
+cleared slip = record { who = slip.who; pause = slip.pause; stand = slip.stand; kept = None; is_listed = slip.is_listed; vain = None }
+
+-- one that is called again for this duty, after such calls in vain
+abbrev pub missed : Duty → Vain → Slip → Slip
+missed duty vain slip = record { who = slip.who; pause = slip.pause; stand = slip.stand; kept = Some duty; is_listed = slip.is_listed; vain = Some vain }
+
+-- one of whom something was heard
+abbrev pub found : Slip → Slip
+found slip = record { who = slip.who; pause = slip.pause; stand = slip.stand; kept = slip.kept; is_listed = slip.is_listed; vain = None }
+
+-- the slip at this place is changed so, and pauses from now on; nothing else changes but when the first pause is over
+pub record PausesAt (place : ℕ) (now : Duration) (change : Slip → Slip) (old new : Calling) : Type 0 where
+  pub until : Duration
+  pub paused : IsPaused until (change (slip_at old.slips place)) (slip_at new.slips place)
+  pub time : as_nanos until ≡ min (as_nanos now + (slip_at new.slips place).pause * 1_000_000) max_nanos
+  pub others : new.slips ≡ slice_set old.slips place (slip_at new.slips place)
+  pub resumes : new.resumes_at ≡ Some (earlier old.resumes_at until)
+  pub hosts : new.now ≡ old.now
+
+-- one who is busy pauses, if something is remembered of it
+abbrev pub IsBusyAt : Option ℕ → Duration → Calling → Calling → Type 0
+IsBusyAt None now old new = new ≡ old
+IsBusyAt (Some place) now old new = PausesAt place now cleared old new
+
+-- what is told of calls in vain, and what is remembered of them then
+pub record IsTold (duty : Duty) (now : Duration) (old new : Vain) (plight : Option Plight) : Type 0 where
+  pub due : IsSome plight → is_told_at now old ≡ true
+  pub told : IfSome plight (λ (p : Plight). Tells old duty now false p × (new ≡ told_at now old))
+  pub untold : IfNone plight (new ≡ old)
+
+-- one who was called in vain pauses, with one such call more; what is told is of these calls
+pub record IsMissedAt (place : ℕ) (duty : Duty) (came : Came) (now : Duration) (old new : Calling) (plight : Option Plight) : Type 0 where
+  pub vain : Vain
+  pub told : IsTold duty now (vain_after (slip_at old.slips place).vain came now) vain plight
+  pub pauses : PausesAt place now (missed duty vain) old new
+
+abbrev pub IsMissed : Option ℕ → Duty → Came → Duration → Calling → Calling → Option Plight → Type 0
+IsMissed None duty came now old new plight = (new ≡ old) × (plight ≡ None)
+IsMissed (Some place) duty came now old new plight = IsMissedAt place duty came now old new plight
+
+-- what is told of the end of calls in vain, if they were told
+abbrev pub TellsEnd : Option Vain → Duty → Duration → Option Plight → Type 0
+TellsEnd None duty now plight = plight ≡ None
+TellsEnd (Some vain) duty now plight = IfSome plight (λ (p : Plight). IsSome vain.told × Tells vain duty now true p)
+
+-- one of whom something was heard is in vain no more, and nothing else changes
+pub record IsFoundAt (place : ℕ) (duty : Duty) (now : Duration) (old new : Calling) (plight : Option Plight) : Type 0 where
+  pub changes : new ≡ record { now = old.now; slips = slice_set old.slips place (found (slip_at old.slips place)); resumes_at = old.resumes_at }
+  pub told : TellsEnd (slip_at old.slips place).vain duty now plight
+
+abbrev pub IsFound : Option ℕ → Duty → Duration → Calling → Calling → Option Plight → Type 0
+IsFound None duty now old new plight = (new ≡ old) × (plight ≡ None)
+IsFound (Some place) duty now old new plight = IsFoundAt place duty now old new plight
