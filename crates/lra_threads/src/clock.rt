@@ -2,8 +2,8 @@
 
 use std::time::{Clock, Duration};
 
-/// The moment by the monotonic clock. A clock that can't be read stands still at its start: what
-/// is due once is done at once, and what waits for a later moment stays.
+/// The moment by the monotonic clock. A clock that can't be read shows zero, so what waits for a
+/// later moment goes on waiting.
 pub fn now<R: Clock>(rt: &R) -> Duration {
     rt.monotonic().unwrap_or(Duration::ZERO)
 }

@@ -247,8 +247,8 @@ impl MailboxState {
         self.calls.resume(now)
     }
 
-    /// How long the thread that enters has nothing to do, if that is so at this moment. It is not
-    /// where it is in a hurry, or is busy with something else.
+    /// How long the thread that enters may wait at this moment for something to do: not at all where
+    /// it has a task, or is in a hurry, or busy with something else.
     pub(crate) fn idle_time(&self, now: Duration, is_busy: bool) -> Option<Duration> {
         let is_busy = is_busy && self.open && self.held_until <= now;
         if self.has_task(now) || self.hurried || is_busy {
