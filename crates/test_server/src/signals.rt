@@ -1,20 +1,20 @@
 // Of several causes for the end of a run the weightiest stands, whatever their order.
 
 use crate::loopback::needs;
-use lra_threads::{Over, Signal};
+use lra_threads::{Signal, StopReason};
 use std::sync::Wait;
 use std::test::Fail;
 
 /// The cause that stands where two are told in this order.
-fn stands<R: Wait>(rt: &R, first: Over, second: Over) -> Option<Over> {
+fn stands<R: Wait>(rt: &R, first: StopReason, second: StopReason) -> Option<StopReason> {
     let signal = Signal::new();
     let _first = signal.end(rt, first);
     let _second = signal.end(rt, second);
-    signal.over(rt)
+    signal.stop_reason(rt)
 }
 
 /// Whether the weightier of two causes stands, whichever comes first.
-fn outweighs<R: Wait>(rt: &R, weightier: Over, other: Over) -> bool {
+fn outweighs<R: Wait>(rt: &R, weightier: StopReason, other: StopReason) -> bool {
     stands(rt, weightier, other) == Some(weightier)
         && stands(rt, other, weightier) == Some(weightier)
 }
@@ -22,23 +22,23 @@ fn outweighs<R: Wait>(rt: &R, weightier: Over, other: Over) -> bool {
 #[test]
 fn the_weightiest_cause_stands(rt: HostRuntime) -> Result<(), Fail> {
     needs(
-        outweighs(&rt, Over::JournalFailed, Over::Full),
+        outweighs(&rt, StopReason::JournalFailed, StopReason::Full),
         "E18 beside an early end",
     )?;
     needs(
-        outweighs(&rt, Over::Stopped, Over::RunFull),
+        outweighs(&rt, StopReason::Stopped, StopReason::RunFull),
         "E19 beside E20",
     )?;
     needs(
-        outweighs(&rt, Over::JournalFailed, Over::TrailLost(7)),
+        outweighs(&rt, StopReason::JournalFailed, StopReason::TrailLost(7)),
         "E18 beside E21",
     )?;
     needs(
-        outweighs(&rt, Over::JournalFailed, Over::Stopped),
+        outweighs(&rt, StopReason::JournalFailed, StopReason::Stopped),
         "E18 beside E19",
     )?;
     needs(
-        outweighs(&rt, Over::Program, Over::JournalFailed),
+        outweighs(&rt, StopReason::Program, StopReason::JournalFailed),
         "the program's end beside E18",
     )
 }
