@@ -23,7 +23,7 @@ usage: ./coordinator [--unproved] [--operate PORT] [--keep MS] [--keep-failed MS
   N                  how many nodes, 1 to 8
   PORT               where node 1 listens on 127.0.0.1, 1024 to 65528; the others take the ports behind it
   DIR                a folder for the journals, which is there and may be written
-  --unproved         compile the server in minutes, without proving it: to try it out, since it is slow
+  --unproved         compile the server in minutes, without proving it: to try it out, some 40 times slower
   --operate PORT     where node 1 listens for operators on 127.0.0.1, in the same way
   --keep MS          purge roots that are closed or cancelled, MS milliseconds after they were first seen so
   --keep-failed MS   purge roots that failed to close or to cancel likewise"""
@@ -111,7 +111,7 @@ def serve_unproved(name: str, words: list[str], ports: Sequence[int], for_operat
     """Runs an unproved program with words that are right, which listens at these ports, until Ctrl-C, and gives its
     status."""
     program = unproved.compiled(name)
-    say("this is the unproved build, for trying out. It checks each access to memory, and is slow.")
+    say("this is the unproved build, for trying out. It checks each access to memory, and is some 40 times slower.")
     # In a group of its own: Ctrl-C is for this program, which then ends the server's input.
     server = subprocess.Popen([program, *words], stdin=subprocess.PIPE, process_group=0)
     try:
