@@ -11,8 +11,8 @@ use Rattle.lra_book.specs.declared.calls.Reply.{Reply}
 use Rattle.lra_book.specs.declared.clerk.Clerk.{Ghosts as OfClerk}
 use Rattle.lra_api.specs.Serving.{Makes}
 use Rattle.lra_heard.specs.Letters.{Said}
-use Rattle.lra_threads.specs.declared.task.Task.{Task}
-use Rattle.lra_threads.specs.declared.task.Task.TheVariants as task
+use Rattle.lra_mailbox.specs.declared.task.Task.{Task}
+use Rattle.lra_mailbox.specs.declared.task.Task.TheVariants as task
 use Rattle.lra_threads.specs.declared.sweep.Chore.{Chore}
 use Rattle.lra_threads.specs.declared.sweep.Chore.TheVariants as chore
 

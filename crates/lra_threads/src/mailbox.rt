@@ -4,13 +4,12 @@
 ghost use Rattle.std.specs.Prelude.{◌≤◌};
 
 use crate::clock::now;
-use crate::mailbox_state::{MailboxState, OPENING_MS};
-use crate::plaints::Plaint;
-use crate::task::Task;
+use crate::plaints::{Plaint, Sought, drop_sought, forget_found, in_vain, note_sought, plaints_of};
 use lra_callback::Duties;
 use lra_heard::{Letter, Telling, Unheard};
 use lra_id::Front;
-use lra_turns::{Due, Plight};
+use lra_mailbox::{MailboxState, OPENING_MS, Task};
+use lra_turns::{Called, Due, Plight};
 use std::alloc::{AllocError, Global};
 use std::sync::{Condvar, CondvarTimeouts, Mutex, Wait};
 use std::time::{Clock, Duration};
@@ -18,10 +17,41 @@ use std::time::{Clock, Duration};
 /// How long the thread that enters rests at most.
 const REST_MS: u64 = 250;
 
+/// What lies under the lock.
+#[derive(Drop)]
+struct Held {
+    alloc: Global,
+    state: MailboxState,
+    /// Whose last call was in vain, where it was called.
+    sought: Vec<Sought>,
+}
+
+impl Held {
+    /// Puts what came of a call that took so long. It gives what is to be told of calls in vain.
+    fn hear(
+        &mut self,
+        time: Duration,
+        came: Result<Letter, Unheard>,
+        now: Duration,
+    ) -> Option<Plight> {
+        match &came {
+            Ok(letter) => drop_sought(&mut self.sought, &Called::of(letter.duty())),
+            Err(unheard) => note_sought(&mut self.sought, self.alloc, &unheard.duty),
+        }
+        self.state.hear(time, came, now)
+    }
+
+    /// Those who are called in vain, who is so for longest first.
+    fn plaints(&mut self, alloc: Global, now: Duration) -> Result<Vec<Plaint>, AllocError> {
+        forget_found(&mut self.sought, self.state.calls());
+        plaints_of(&self.sought, self.state.calls(), alloc, now)
+    }
+}
+
 /// What the threads of a node hand to one another.
 #[derive(Drop)]
 pub struct Mailbox {
-    state: Mutex<MailboxState>,
+    held: Mutex<Held>,
     /// Wakes the thread that enters.
     came: Condvar,
     /// Wakes those who call.
@@ -37,8 +67,13 @@ impl Mailbox {
     pub fn new(alloc: Global, nodes: u8, are_apart: bool) -> Mailbox
         requires { (1 ≤ nodes) × (nodes ≤ 8) }
     {
+        let held = Held {
+            alloc,
+            state: MailboxState::new(alloc, nodes, are_apart),
+            sought: Vec::new(alloc),
+        };
         Mailbox {
-            state: Mutex::new(MailboxState::new(alloc, nodes, are_apart)),
+            held: Mutex::new(held),
             came: Condvar::new(),
             due: Condvar::new(),
             changed: Condvar::new(),
@@ -47,12 +82,12 @@ impl Mailbox {
 
     /// Notes that other participants may be to be called, after a completion or something else.
     pub fn stir<R: Wait>(&self, rt: &R, is_completion: bool) {
-        self.state.lock(rt).stir(is_completion);
+        self.held.lock(rt).state.stir(is_completion);
     }
 
     /// Wakes the thread that enters, if that was noted.
     pub(crate) fn pass_on<R: Wait>(&self, rt: &R) {
-        let is_stirred = self.state.lock(rt).is_stirred();
+        let is_stirred = self.held.lock(rt).state.is_stirred();
         if is_stirred {
             self.came.notify_all();
         }
@@ -62,19 +97,19 @@ impl Mailbox {
     /// meanwhile.
     pub fn hold<R: Wait + Clock>(&self, rt: &R, time: Duration) {
         let until = now(rt).saturating_add(time);
-        self.state.lock(rt).hold_until(until);
+        self.held.lock(rt).state.hold_until(until);
     }
 
     /// Has the thread that enters look whether the run is over, also where it is only about to
     /// wait.
     pub fn wake<R: Wait>(&self, rt: &R) {
-        self.state.lock(rt).hurry();
+        self.held.lock(rt).state.hurry();
         self.came.notify_all();
     }
 
     /// Ends the threads that call and pull.
     pub fn end<R: Wait>(&self, rt: &R) {
-        self.state.lock(rt).end();
+        self.held.lock(rt).state.end();
         self.came.notify_all();
         self.due.notify_all();
         self.changed.notify_all();
@@ -82,60 +117,61 @@ impl Mailbox {
 
     /// Tells how many facts of each node this one has at least.
     pub fn learn<R: Wait>(&self, rt: &R, front: &Front) {
-        self.state.lock(rt).learn(front);
+        self.held.lock(rt).state.learn(front);
     }
 
     /// Tells how many facts of each node this one has now.
     pub fn count<R: Wait>(&self, rt: &R, front: &Front) {
         self.learn(rt, front);
-        self.state.lock(rt).note_counted();
+        self.held.lock(rt).state.note_counted();
         self.changed.notify_all();
     }
 
     /// Notes that it is to be asked how many facts the node has.
     pub fn want_count<R: Wait>(&self, rt: &R) {
-        self.state.lock(rt).want_count();
+        self.held.lock(rt).state.want_count();
         self.came.notify_all();
     }
 
     /// Waits until it is known how many facts the node has, or until the program is to end. It says
     /// whether it is to end.
     pub(crate) fn wait_for_count<R: Wait>(&self, rt: &R) -> bool {
-        let state = self.changed.wait_while(
+        let held = self.changed.wait_while(
             rt,
-            self.state.lock(rt),
-            |state| !state.is_counted() && !state.has_ended(),
+            self.held.lock(rt),
+            |held| !held.state.is_counted() && !held.state.has_ended(),
         );
-        state.has_ended()
+        held.state.has_ended()
     }
 
     /// Whether nothing of the node's own is to be entered now: the journal failed, or the other
     /// nodes aren't heard yet.
     pub fn is_held<R: Wait + Clock>(&self, rt: &R) -> bool {
         let moment = now(rt);
-        let state = self.state.lock(rt);
-        state.is_spared(moment) || !state.is_open()
+        let held = self.held.lock(rt);
+        held.state.is_spared(moment) || !held.state.is_open()
     }
 
     /// Whether the journal failed a moment ago, and is spared: nothing is to be stored.
     pub fn is_spared<R: Wait + Clock>(&self, rt: &R) -> bool {
         let moment = now(rt);
-        self.state.lock(rt).is_spared(moment)
+        self.held.lock(rt).state.is_spared(moment)
     }
 
     /// Whether the other nodes aren't heard yet, so that nothing is to be entered.
     pub(crate) fn is_behind<R: Wait>(&self, rt: &R) -> bool {
-        !self.state.lock(rt).is_open()
+        !self.held.lock(rt).state.is_open()
     }
 
     /// How many wait for a call, are called, or pause before the next.
     pub(crate) fn due<R: Wait>(&self, rt: &R) -> u64 {
-        self.state.lock(rt).due()
+        self.held.lock(rt).state.calls().len() as u64
     }
 
     /// How many are called in vain, and how long the one that is so for longest.
     pub(crate) fn in_vain<R: Wait>(&self, rt: &R, moment: Duration) -> (u64, Duration) {
-        self.state.lock(rt).in_vain(moment)
+        let held = self.held.lock(rt);
+        in_vain(&held.sought, held.state.calls(), moment)
     }
 
     /// Those who are called in vain, who is so for longest first.
@@ -145,14 +181,14 @@ impl Mailbox {
         alloc: Global,
         moment: Duration,
     ) -> Result<Vec<Plaint>, AllocError> {
-        self.state.lock(rt).plaints(alloc, moment)
+        self.held.lock(rt).plaints(alloc, moment)
     }
 
     /// Tells that another node was asked for the first time since the start; what it told is handed
     /// over, if it did.
     pub(crate) fn note_asked<R: Wait>(&self, rt: &R) {
-        let mut state = self.state.lock(rt);
-        state.note_asked();
+        let mut held = self.held.lock(rt);
+        held.state.note_asked();
         self.came.notify_all();
     }
 
@@ -161,35 +197,35 @@ impl Mailbox {
         let time = Duration::from_millis(OPENING_MS);
         let _ = self.changed.wait_timeout_while(
             rt,
-            self.state.lock(rt),
+            self.held.lock(rt),
             time,
-            |state| !state.is_open() && !state.has_ended(),
+            |held| !held.state.is_open() && !held.state.has_ended(),
         );
     }
 
     /// How many facts of each node this one has at least.
     pub(crate) fn front<R: Wait>(&self, rt: &R) -> Front {
-        self.state.lock(rt).front()
+        self.held.lock(rt).state.front()
     }
 
     /// What the thread that enters does next. It waits for a quarter of a second at most, and not
     /// where it has something else to do.
     pub fn next<R: Wait + Clock>(&self, rt: &R, is_busy: bool) -> Task {
         let moment = now(rt);
-        let mut state = self.state.lock(rt);
-        if state.open_if_due(moment) {
+        let mut held = self.held.lock(rt);
+        if held.state.open_if_due(moment) {
             self.changed.notify_all();
         }
-        if state.resume_calls(moment) {
+        if held.state.resume_calls(moment) {
             self.due.notify_all();
         }
-        if let Some(rest) = state.idle_time(moment, is_busy) {
+        if let Some(rest) = held.state.idle_time(moment, is_busy) {
             let (waited, _) = self
                 .came
-                .wait_timeout(rt, state, rest.min(Duration::from_millis(REST_MS)));
-            state = waited;
+                .wait_timeout(rt, held, rest.min(Duration::from_millis(REST_MS)));
+            held = waited;
         }
-        let task = state.next_task(moment);
+        let task = held.state.next_task(moment);
         if matches!(&task, Task::Take(_)) {
             self.changed.notify_all();
         }
@@ -199,9 +235,9 @@ impl Mailbox {
     /// Hands those who are to be called to the threads that call.
     pub fn put_duties<R: Wait + Clock>(&self, rt: &R, duties: Duties) {
         let moment = now(rt);
-        let mut state = self.state.lock(rt);
-        state.put_duties(duties, moment);
-        if state.may_call() {
+        let mut held = self.held.lock(rt);
+        held.state.put_duties(duties, moment);
+        if held.state.may_call() {
             self.due.notify_all();
         }
     }
@@ -209,10 +245,10 @@ impl Mailbox {
     /// A participant that is to be called. It waits for one whose host may be called, and gives
     /// none once the program is to end.
     pub(crate) fn next_duty<R: Wait>(&self, rt: &R) -> Option<Due> {
-        let mut state = self.due.wait_while(rt, self.state.lock(rt), |state| {
-            !state.may_call() && !state.has_ended()
+        let mut held = self.due.wait_while(rt, self.held.lock(rt), |held| {
+            !held.state.may_call() && !held.state.has_ended()
         });
-        state.take_due()
+        held.state.take_due()
     }
 
     /// Tells what came of a call that began at this moment: what was heard, or why the participant
@@ -225,10 +261,10 @@ impl Mailbox {
         came: Result<Letter, Unheard>,
     ) -> Option<Plight> {
         let moment = now(rt);
-        let mut state = self.state.lock(rt);
-        let plight = state.hear(moment.saturating_sub(began), came, moment);
+        let mut held = self.held.lock(rt);
+        let plight = held.hear(moment.saturating_sub(began), came, moment);
         self.came.notify_all();
-        if state.may_call() {
+        if held.state.may_call() {
             self.due.notify_one();
         }
         plight
@@ -236,25 +272,25 @@ impl Mailbox {
 
     /// Has deadlines looked at once more at once.
     pub fn tick<R: Wait>(&self, rt: &R) {
-        self.state.lock(rt).tick();
+        self.held.lock(rt).state.tick();
     }
 
     /// Puts a letter back that couldn't be entered now.
     pub fn put_back<R: Wait>(&self, rt: &R, letter: Letter) {
-        self.state.lock(rt).put_letter(letter);
+        self.held.lock(rt).state.put_letter(letter);
     }
 
     /// Tells that what was heard is entered. A participant that is busy is called again after a
     /// pause.
     pub fn note_entered<R: Wait + Clock>(&self, rt: &R, letter: &Letter) {
         let moment = now(rt);
-        self.state.lock(rt).note_entered(letter, moment);
+        self.held.lock(rt).state.note_entered(letter, moment);
     }
 
     /// Hands over what another node told, unless something waits already. It says whether it did.
     pub(crate) fn put_telling<R: Wait>(&self, rt: &R, telling: Telling) -> bool {
-        let mut state = self.state.lock(rt);
-        let is_put = state.put_telling(telling);
+        let mut held = self.held.lock(rt);
+        let is_put = held.state.put_telling(telling);
         if is_put {
             self.came.notify_all();
         }
@@ -264,10 +300,10 @@ impl Mailbox {
     /// Hands over what another node told, once nothing else waits. It says whether it did: not
     /// where nothing of it is new by then, nor where the program is to end.
     pub(crate) fn hand_over<R: Wait>(&self, rt: &R, telling: Telling) -> bool {
-        let mut state = self.changed.wait_while(rt, self.state.lock(rt), |state| {
-            state.has_telling() && !state.has_ended()
+        let mut held = self.changed.wait_while(rt, self.held.lock(rt), |held| {
+            held.state.has_telling() && !held.state.has_ended()
         });
-        let is_put = state.put_awaited(telling);
+        let is_put = held.state.put_awaited(telling);
         if is_put {
             self.came.notify_all();
         }
@@ -276,9 +312,9 @@ impl Mailbox {
 
     /// Waits so long, or until the program is to end. It says whether it is to end.
     pub(crate) fn sleep<R: Wait + Clock>(&self, rt: &R, time: Duration) -> bool {
-        let (state, _) = self
+        let (held, _) = self
             .changed
-            .wait_timeout_while(rt, self.state.lock(rt), time, |state| !state.has_ended());
-        state.has_ended()
+            .wait_timeout_while(rt, self.held.lock(rt), time, |held| !held.state.has_ended());
+        held.state.has_ended()
     }
 }

@@ -1,0 +1,5 @@
+pub mod Hearing
+pub mod Mail
+pub mod Moments
+pub mod Resting
+pub mod Tasks

@@ -1,0 +1,124 @@
+-- What the threads of a node hand to one another, and what is to be done of it when.
+use Rattle.std.specs.Prelude.{◌≡◌, ◌⊎◌, ◌↔◌, ◌≤◌, ◌-◌, ◌+◌, ◌++◌, ◌∷◌, ◌&&◌, ◌||◌, ◌==◌, [], ℕ, Bool, true, false, List, Option, None, Some, IsTrue, MatchBool, if◌then◌else◌, length, nat_le, nat_lt, not}
+use Rattle.std.specs.List.{list_any}
+use Rattle.std.specs.Duration.{as_nanos}
+use Rattle.std.specs.declared.time.Duration.{Duration}
+use Rattle.lra_id.specs.Fronts.{IsBelow, join_fronts}
+use Rattle.lra_delta.specs.Frames.{Frame}
+use Rattle.lra_heard.specs.Letters.{Said}
+use Rattle.lra_turns.specs.Calling.{Calling}
+use Rattle.lra_turns.specs.Slips.{at_once}
+use Rattle.lra_turns.specs.Turns.{is_due}
+use Rattle.lra_mailbox.specs.Moments.{IsAfter}
+use Rattle.lra_mailbox.specs.declared.asking.Asking.{Asking}
+use Rattle.lra_mailbox.specs.declared.known.Known.{Known}
+use Rattle.lra_mailbox.specs.declared.opening.Opening.{Opening}
+use Rattle.lra_mailbox.specs.declared.turn.Turn.{Turn}
+
+-- Whom to call; what was heard and isn't entered, first that which came first; a frame that waits to be taken; what is known of how
+-- many facts there are; whether commands are entered yet; when deadlines are looked at, and when it is asked who is to be called; until
+-- when nothing is entered, as the journal failed; which kind of task was looked for last; whether the thread that enters is to look
+-- whether the run is over; and whether the program is to end
+pub record Mail : Type 0 where
+  pub calls : Calling
+  pub letters : List Said
+  pub telling : Option Frame
+  pub known : Known
+  pub opening : Opening
+  pub asking : Asking
+  pub held_until : Duration
+  pub last : Turn
+  pub is_hurried : Bool
+  pub has_ended : Bool
+
+-- with one of these in place of its own
+abbrev pub with_calls : Calling → Mail → Mail
+with_calls calls m = record { calls = calls; letters = m.letters; telling = m.telling; known = m.known; opening = m.opening; asking = m.asking; held_until = m.held_until; last = m.last; is_hurried = m.is_hurried; has_ended = m.has_ended }
+
+abbrev pub with_letters : List Said → Mail → Mail
+with_letters letters m = record { calls = m.calls; letters = letters; telling = m.telling; known = m.known; opening = m.opening; asking = m.asking; held_until = m.held_until; last = m.last; is_hurried = m.is_hurried; has_ended = m.has_ended }
+
+abbrev pub with_telling : Option Frame → Mail → Mail
+with_telling telling m = record { calls = m.calls; letters = m.letters; telling = telling; known = m.known; opening = m.opening; asking = m.asking; held_until = m.held_until; last = m.last; is_hurried = m.is_hurried; has_ended = m.has_ended }
+
+abbrev pub with_known : Known → Mail → Mail
+with_known known m = record { calls = m.calls; letters = m.letters; telling = m.telling; known = known; opening = m.opening; asking = m.asking; held_until = m.held_until; last = m.last; is_hurried = m.is_hurried; has_ended = m.has_ended }
+
+abbrev pub with_opening : Opening → Mail → Mail
+with_opening opening m = record { calls = m.calls; letters = m.letters; telling = m.telling; known = m.known; opening = opening; asking = m.asking; held_until = m.held_until; last = m.last; is_hurried = m.is_hurried; has_ended = m.has_ended }
+
+abbrev pub with_asking : Asking → Mail → Mail
+with_asking asking m = record { calls = m.calls; letters = m.letters; telling = m.telling; known = m.known; opening = m.opening; asking = asking; held_until = m.held_until; last = m.last; is_hurried = m.is_hurried; has_ended = m.has_ended }
+
+abbrev pub with_hold : Duration → Mail → Mail
+with_hold until m = record { calls = m.calls; letters = m.letters; telling = m.telling; known = m.known; opening = m.opening; asking = m.asking; held_until = until; last = m.last; is_hurried = m.is_hurried; has_ended = m.has_ended }
+
+abbrev pub with_last : Turn → Mail → Mail
+with_last last m = record { calls = m.calls; letters = m.letters; telling = m.telling; known = m.known; opening = m.opening; asking = m.asking; held_until = m.held_until; last = last; is_hurried = m.is_hurried; has_ended = m.has_ended }
+
+abbrev pub with_hurry : Bool → Mail → Mail
+with_hurry is_hurried m = record { calls = m.calls; letters = m.letters; telling = m.telling; known = m.known; opening = m.opening; asking = m.asking; held_until = m.held_until; last = m.last; is_hurried = is_hurried; has_ended = m.has_ended }
+
+abbrev pub with_end : Mail → Mail
+with_end m = record { calls = m.calls; letters = m.letters; telling = m.telling; known = m.known; opening = m.opening; asking = m.asking; held_until = m.held_until; last = m.last; is_hurried = m.is_hurried; has_ended = true }
+
+-- once it is known that the node has these facts of each node at least
+abbrev pub learnt : List ℕ → Known → Known
+learnt front known = record { front = if length known.front == length front then join_fronts known.front front else known.front; is_counted = known.is_counted; is_to_count = known.is_to_count; counts_at = known.counts_at }
+
+-- once it is known how many it has; and once that is to be asked
+abbrev pub counted : Known → Known
+counted known = record { front = known.front; is_counted = true; is_to_count = known.is_to_count; counts_at = known.counts_at }
+
+abbrev pub to_count : Known → Known
+to_count known = record { front = known.front; is_counted = known.is_counted; is_to_count = true; counts_at = known.counts_at }
+
+-- once it is to be asked who is to be called: now, or when deadlines are looked at
+abbrev pub stirred : Asking → Asking
+stirred a = record { is_stirred = true; is_put_off = a.is_put_off; asked_at = a.asked_at; ticks_at = a.ticks_at }
+
+abbrev pub put_off : Asking → Asking
+put_off a = record { is_stirred = a.is_stirred; is_put_off = true; asked_at = a.asked_at; ticks_at = a.ticks_at }
+
+-- once it was asked
+abbrev pub asked : Duration → Asking → Asking
+asked now a = record { is_stirred = false; is_put_off = a.is_put_off; asked_at = now; ticks_at = a.ticks_at }
+
+-- once deadlines are to be looked at at once
+abbrev pub hastened : Asking → Asking
+hastened a = record { is_stirred = a.is_stirred; is_put_off = a.is_put_off; asked_at = a.asked_at; ticks_at = at_once }
+
+-- whether it is asked when deadlines are looked at who is to be called: that was put off, or somebody is to be, and it was not asked for
+-- half a minute
+abbrev pub is_to_ask_again : Duration → Bool → Asking → Bool
+is_to_ask_again now is_anyone a = a.is_put_off || (is_anyone && nat_le 30_000_000_000 (as_nanos now - as_nanos a.asked_at))
+
+-- once deadlines were looked at, and are next at this moment
+abbrev pub looked : Duration → Bool → Duration → Asking → Asking
+looked now is_anyone next a = record { is_stirred = a.is_stirred || is_to_ask_again now is_anyone a; is_put_off = false; asked_at = a.asked_at; ticks_at = next }
+
+-- whether somebody is to be called, is called, or pauses
+abbrev pub is_anyone : Mail → Bool
+is_anyone m = nat_lt 0 (length m.calls.slips)
+
+-- once other participants may be due: it is asked now; or, after what makes nobody else due, when deadlines are looked at, while others
+-- wait
+abbrev pub after_news : Bool → Mail → Mail
+after_news makes_none_due m = with_asking (if makes_none_due && list_any is_due m.calls.now.hosts then put_off m.asking else stirred m.asking) m
+
+-- when it opens at the latest: a second after the first look
+abbrev pub IsOpenedBy : Duration → Option Duration → Duration → Type 0
+IsOpenedBy now (Some until) by = by ≡ until
+IsOpenedBy now None by = IsAfter 1_000 now by
+
+-- It is opened at a look by a node that has these facts: its time is over, or each other node was asked, and what they told is taken.
+-- That is said once.
+pub record IsOpenedAt (now : Duration) (front : List ℕ) (old new : Opening) : Type 0 where
+  pub until : Duration
+  pub by : IsOpenedBy now old.opens_at until
+  pub opens : IsTrue new.is_open ↔ ((as_nanos until ≤ as_nanos now) ⊎ ((old.unasked ≡ 0) × IsBelow old.awaited front))
+  pub rest : new ≡ record { is_open = new.is_open; opens_at = Some until; unasked = old.unasked; awaited = old.awaited }
+
+abbrev pub IsOpened : Duration → List ℕ → Opening → Opening → Bool → Type 0
+IsOpened now front old new result =
+    MatchBool old.is_open ((new ≡ old) × (result ≡ false)) (IsOpenedAt now front old new × (result ≡ new.is_open))

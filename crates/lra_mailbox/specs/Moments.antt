@@ -1,0 +1,16 @@
+-- Moments, counted from when the program began.
+use Rattle.std.specs.Prelude.{◌≡◌, ◌+◌, ◌*◌, ℕ, Bool, if◌then◌else◌, min, nat_le, nat_lt}
+use Rattle.std.specs.Duration.{as_nanos, max_nanos}
+use Rattle.std.specs.declared.time.Duration.{Duration}
+
+-- whether a moment has come
+abbrev pub is_by : Duration → Duration → Bool
+is_by now at = nat_le (as_nanos at) (as_nanos now)
+
+-- a moment is so many milliseconds after another
+abbrev pub IsAfter : ℕ → Duration → Duration → Type 0
+IsAfter ms now at = as_nanos at ≡ min (as_nanos now + ms * 1_000_000) max_nanos
+
+-- the earlier of two moments, and the later
+abbrev pub earlier_of : Duration → Duration → Duration
+earlier_of one other = if nat_lt (as_nanos other) (as_nanos one) then other else one

@@ -1,0 +1,38 @@
+-- How long the thread that enters may wait for something to do.
+use Rattle.std.specs.Prelude.{◌≡◌, ◌-◌, ◌&&◌, ◌||◌, ℕ, Bool, true, false, Option, None, Some, IsSomeAnd, MatchBool, if◌then◌else◌, not}
+use Rattle.std.specs.Duration.{as_nanos}
+use Rattle.std.specs.declared.time.Duration.{Duration}
+use Rattle.lra_turns.specs.Pausing.{earlier}
+use Rattle.lra_mailbox.specs.Mail.{Mail}
+use Rattle.lra_mailbox.specs.Moments.{earlier_of}
+use Rattle.lra_mailbox.specs.Tasks.{has, is_spared}
+use Rattle.lra_mailbox.specs.declared.turn.Turn.TheVariants.{OfCount, OfDeadlines, OfDuties, OfLetters, OfTelling}
+
+-- whether there is a task at this moment
+abbrev pub has_task : Duration → Mail → Bool
+has_task now m = not (is_spared now m) && (has now m OfDeadlines || (has now m OfCount || (has now m OfLetters || (has now m OfTelling || has now m OfDuties))))
+
+abbrev pub that_or : Option Duration → Duration → Duration
+that_or None other = other
+that_or (Some at) other = at
+
+-- when deadlines are looked at; or, before commands are entered, when they are at the latest
+abbrev pub looks_at : Mail → Duration
+looks_at m = if m.opening.is_open then m.asking.ticks_at else that_or m.opening.opens_at m.asking.ticks_at
+
+-- when there is something to do by itself
+abbrev pub next_at : Duration → Mail → Duration
+next_at now m = if is_spared now m then m.held_until else (if m.known.is_to_count then earlier_of (looks_at m) m.known.counts_at else looks_at m)
+
+-- when there is something to do at the latest: so, or when a pause is over
+abbrev pub rests_until : Duration → Mail → Duration
+rests_until now m = earlier m.calls.resumes_at (next_at now m)
+
+-- whether it may not wait: there is a task, it was told to look whether the run is over, or it is busy with something else, which it may do
+abbrev pub is_occupied : Duration → Bool → Mail → Bool
+is_occupied now is_busy m = has_task now m || (m.is_hurried || (is_busy && (m.opening.is_open && not (is_spared now m))))
+
+-- how long it may wait
+abbrev pub IsIdleFor : Duration → Bool → Mail → Option Duration → Type 0
+IsIdleFor now is_busy m rest = MatchBool (is_occupied now is_busy m) (rest ≡ None)
+    (IsSomeAnd rest (λ (time : Duration). as_nanos time ≡ as_nanos (rests_until now m) - as_nanos now))

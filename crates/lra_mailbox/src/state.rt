@@ -1,0 +1,529 @@
+// What lies under the lock of a node's mailbox.
+ghost use Rattle.std.specs.Prelude.{◌≡◌, ◌≤◌, ◌-◌, ◌||◌, [], IfNone, None, false, is_some, length, nat_lt, not, replicate, true};
+ghost use Rattle.lra_turns.specs.Calling.{nothing};
+ghost use Rattle.lra_turns.specs.Resuming.{ResumesAt};
+ghost use Rattle.lra_turns.specs.Slips.{at_once};
+ghost use Rattle.lra_turns.specs.Turns.{MayTake};
+ghost use Rattle.lra_mailbox.specs.Hearing.{HearsOf, IsAnswered, IsAwaited, IsDueFrom, IsHandedOver, IsListed, IsNoted, IsPutLast, is_harmless, pace_of};
+ghost use Rattle.lra_mailbox.specs.Moments.{earlier_of};
+ghost use Rattle.lra_mailbox.specs.Mail.{IsOpened, after_news, counted, hastened, is_anyone, learnt, to_count, with_asking, with_calls, with_end, with_hold, with_hurry, with_known, with_opening};
+ghost use Rattle.lra_mailbox.specs.Resting.{IsIdleFor, has_task, is_occupied, looks_at, next_at, rests_until};
+ghost use Rattle.lra_mailbox.specs.Tasks.{Does, IsNextKind, IsNextTask, has, is_spared};
+ghost use Rattle.lra_mailbox.specs.declared.turn.Turn.TheVariants.{OfDuties as TheDuties};
+
+use crate::Task;
+use crate::asking::Asking;
+use crate::known::Known;
+use crate::opening::Opening;
+use crate::turn::Turn;
+use lra_callback::{Duties, Duty, Heard, Kind};
+use lra_heard::{Letter, Telling, Unheard};
+use lra_id::{Act, Front, Outcome};
+use lra_turns::{Called, Calls, Due, Pace, Plight};
+use std::alloc::Global;
+use std::collections::VecDeque;
+use std::marker::Model;
+use std::time::Duration;
+
+/// From how long a call on its host is slow, in nanoseconds.
+const SLOW_NANOS: u128 = 1_000_000_000;
+
+/// Whether finishing this duty makes no other duty due: it is a completion, or told of an end.
+fn makes_none_due(duty: &Duty) -> bool
+    ensures { result ≡ is_harmless duty.now.kind duty.now.act }
+{
+    match duty.kind {
+        Kind::After => true,
+        Kind::Forget => false,
+        Kind::Complete | Kind::Compensate | Kind::Status => duty.act == Act::Complete,
+    }
+}
+
+/// How a host answers whose call took so long.
+fn pace_of(time: Duration) -> Pace
+    ensures { result ≡ pace_of time }
+{
+    if time.as_nanos() < SLOW_NANOS {
+        Pace::Quick
+    } else {
+        Pace::Slow
+    }
+}
+
+/// The earlier of two moments.
+fn earlier_of(one: Duration, other: Duration) -> Duration
+    ensures { result ≡ earlier_of one other }
+{
+    if other.as_nanos() < one.as_nanos() {
+        other
+    } else {
+        one
+    }
+}
+
+/// What the threads of a node hand to one another, and what is to be done of it when.
+#[derive(Drop)]
+pub struct MailboxState {
+    calls: Calls,
+    letters: VecDeque<Letter>,
+    telling: Option<Telling>,
+    known: Known,
+    opening: Opening,
+    asking: Asking,
+    /// Until when nothing is entered: the journal failed.
+    held_until: Duration,
+    /// Which kind of task was looked for last.
+    last: Turn,
+    /// Whether the thread that enters is to look whether the run is over.
+    is_hurried: bool,
+    has_ended: bool,
+}
+
+impl Model for MailboxState {
+    ghost use Rattle.lra_mailbox.specs.Mail.{Mail};
+
+    ghost Value = { Mail };
+
+    ghost view = { λ m. record {
+      calls = m.calls;
+      letters = m.letters.items;
+      telling = m.telling;
+      known = m.known;
+      opening = m.opening;
+      asking = m.asking;
+      held_until = m.held_until;
+      last = m.last;
+      is_hurried = m.is_hurried;
+      has_ended = m.has_ended;
+    } };
+}
+
+impl MailboxState {
+    /// With nothing in it, of a node beside so many in all. Of its own front nothing is known yet.
+    /// Where the others are in processes of their own it is asked first, and then they are, before
+    /// commands are entered.
+    pub fn new(alloc: Global, nodes: u8, are_apart: bool) -> MailboxState
+        requires { (1 ≤ nodes) × (nodes ≤ 8) }
+        ensures { result ≡ record {
+          calls = nothing;
+          letters = [];
+          telling = None;
+          known = record { front = replicate nodes 0; is_counted = false; is_to_count = are_apart; counts_at = at_once };
+          opening = record { is_open = not are_apart; opens_at = None; unasked = nodes - 1; awaited = replicate nodes 0 };
+          asking = record { is_stirred = true; is_put_off = false; asked_at = at_once; ticks_at = at_once };
+          held_until = at_once;
+          last = TheDuties;
+          is_hurried = false;
+          has_ended = false;
+        } }
+    {
+        MailboxState {
+            calls: Calls::new(alloc),
+            letters: VecDeque::new(alloc),
+            telling: None,
+            known: Known::new(nodes, are_apart),
+            opening: Opening::new(nodes, are_apart),
+            asking: Asking::new(),
+            held_until: Duration::ZERO,
+            last: Turn::OfDuties,
+            is_hurried: false,
+            has_ended: false,
+        }
+    }
+
+    /// Whom the threads are to call.
+    pub fn calls(&self) -> &Calls
+        ensures { result.now ≡ self.now.calls }
+    {
+        &self.calls
+    }
+
+    /// Has it asked who is to be called: now; or, after what makes nobody else due, when deadlines
+    /// are looked at, while others wait. A list of all that is due may be long.
+    pub fn stir(&mut self, makes_none_due: bool)
+        ensures { self.new ≡ after_news makes_none_due self.old }
+    {
+        if makes_none_due && self.calls.is_any_due() {
+            self.asking.put_off();
+        } else {
+            self.asking.stir();
+        }
+    }
+
+    /// Whether it is to be asked now who is to be called.
+    pub fn is_stirred(&self) -> bool
+        ensures { result ≡ self.now.asking.is_stirred }
+    {
+        self.asking.is_stirred
+    }
+
+    /// Has nothing entered until this moment.
+    pub fn hold_until(&mut self, until: Duration)
+        ensures { self.new ≡ with_hold until self.old }
+    {
+        self.held_until = until;
+    }
+
+    /// Whether nothing is to be stored at this moment, since the journal failed.
+    pub fn is_spared(&self, now: Duration) -> bool
+        ensures { result ≡ is_spared now self.now }
+    {
+        now.as_nanos() < self.held_until.as_nanos()
+    }
+
+    /// Whether commands are entered, as far as other nodes are concerned.
+    pub fn is_open(&self) -> bool
+        ensures { result ≡ self.now.opening.is_open }
+    {
+        self.opening.is_open
+    }
+
+    /// Has the next look for a task come to none, so that the thread that enters looks whether the
+    /// run is over.
+    pub fn hurry(&mut self)
+        ensures { self.new ≡ with_hurry true self.old }
+    {
+        self.is_hurried = true;
+    }
+
+    /// Notes that the program is to end.
+    pub fn end(&mut self)
+        ensures { self.new ≡ with_end self.old }
+    {
+        self.has_ended = true;
+    }
+
+    /// Whether the program is to end.
+    pub fn has_ended(&self) -> bool
+        ensures { result ≡ self.now.has_ended }
+    {
+        self.has_ended
+    }
+
+    /// Takes in how many facts of each node this one has at least.
+    pub fn learn(&mut self, front: &Front)
+        ensures { self.new ≡ with_known (learnt front.now self.old.known) self.old }
+    {
+        self.known.learn(front);
+    }
+
+    /// How many facts of each node this one has at least.
+    pub fn front(&self) -> Front
+        ensures { result ≡ self.now.known.front }
+    {
+        self.known.front
+    }
+
+    /// Notes that it is known how many facts the node has.
+    pub fn note_counted(&mut self)
+        ensures { self.new ≡ with_known (counted self.old.known) self.old }
+    {
+        self.known.is_counted = true;
+    }
+
+    /// Whether that is known.
+    pub fn is_counted(&self) -> bool
+        ensures { result ≡ self.now.known.is_counted }
+    {
+        self.known.is_counted
+    }
+
+    /// Notes that it is to be asked how many facts the node has.
+    pub fn want_count(&mut self)
+        ensures { self.new ≡ with_known (to_count self.old.known) self.old }
+    {
+        self.known.is_to_count = true;
+    }
+
+    /// Notes that another node was asked for the first time since the start.
+    pub fn note_asked(&mut self)
+        ensures { self.new ≡ with_opening (record { is_open = self.old.opening.is_open; opens_at = self.old.opening.opens_at; unasked = self.old.opening.unasked - 1; awaited = self.old.opening.awaited }) self.old }
+    {
+        self.opening.note_asked();
+    }
+
+    /// Has deadlines looked at at once.
+    pub fn tick(&mut self)
+        ensures { self.new ≡ with_asking (hastened self.old.asking) self.old }
+    {
+        self.asking.hasten();
+    }
+
+    /// Has commands entered from here on, if all others were asked and what they told is taken, or
+    /// the time for that is over. It says whether that begins now.
+    pub fn open_if_due(&mut self, now: Duration) -> bool
+        ensures opened { IsOpened now self.old.known.front self.old.opening self.new.opening result }
+        ensures rest { self.new ≡ with_opening self.new.opening self.old }
+    {
+        let front = self.known.front;
+        self.opening.open_if_due(now, &front)
+    }
+
+    /// Has those wait for a call again whose pause is over. It says whether somebody may be called.
+    pub fn resume_calls(&mut self, now: Duration) -> bool
+        ensures resumed { ResumesAt self.old.calls.resumes_at now self.old.calls self.new.calls result }
+        ensures rest { self.new ≡ with_calls self.new.calls self.old }
+    {
+        self.calls.resume(now)
+    }
+
+    /// Whether there is a task of a kind at this moment. Before commands are entered, it takes what
+    /// others told and counts facts, and no more.
+    fn has(&self, kind: Turn, now: Duration) -> bool
+        ensures { result ≡ has now self.now kind }
+    {
+        match kind {
+            Turn::OfDeadlines => self.opening.is_open && self.asking.is_tick_due(now),
+            Turn::OfCount => self.known.is_due(now),
+            Turn::OfLetters => self.opening.is_open && !self.letters.is_empty(),
+            Turn::OfTelling => self.telling.is_some(),
+            Turn::OfDuties => self.opening.is_open && self.asking.is_stirred,
+        }
+    }
+
+    /// Whether the thread that enters has something to do.
+    fn has_task(&self, now: Duration) -> bool
+        ensures { result ≡ has_task now self.now }
+    {
+        !self.is_spared(now)
+            && (self.has(Turn::OfDeadlines, now)
+                || (self.has(Turn::OfCount, now)
+                    || (self.has(Turn::OfLetters, now)
+                        || (self.has(Turn::OfTelling, now) || self.has(Turn::OfDuties, now)))))
+    }
+
+    /// When deadlines are looked at; or, before commands are entered, when they are at the latest.
+    fn looks_at(&self) -> Duration
+        ensures { result ≡ looks_at self.now }
+    {
+        if self.opening.is_open {
+            return self.asking.ticks_at;
+        }
+        match self.opening.opens_at {
+            Some(until) => until,
+            None => self.asking.ticks_at,
+        }
+    }
+
+    /// When there is something to do by itself.
+    fn next_at(&self, now: Duration) -> Duration
+        ensures { result ≡ next_at now self.now }
+    {
+        if self.is_spared(now) {
+            return self.held_until;
+        }
+        if self.known.is_to_count {
+            return earlier_of(self.looks_at(), self.known.counts_at);
+        }
+        self.looks_at()
+    }
+
+    /// Whether the thread that enters may not wait at this moment.
+    fn is_occupied(&self, now: Duration, is_busy: bool) -> bool
+        ensures { result ≡ is_occupied now is_busy self.now }
+    {
+        self.has_task(now)
+            || (self.is_hurried || (is_busy && (self.opening.is_open && !self.is_spared(now))))
+    }
+
+    /// How long the thread that enters may wait at this moment for something to do: not at all where
+    /// it has a task, or is in a hurry, or busy with something else.
+    pub fn idle_time(&self, now: Duration, is_busy: bool) -> Option<Duration>
+        ensures { IsIdleFor now is_busy self.now result }
+    {
+        if self.is_occupied(now, is_busy) {
+            return None;
+        }
+        let until = self.calls.resumes_by(self.next_at(now));
+        Some(until.saturating_sub(now))
+    }
+
+    /// The kind of task that has its turn, of those of which there is a task.
+    fn next_kind(&self, now: Duration) -> Option<Turn>
+        ensures { IsNextKind self.now.last (has now self.now) result }
+    {
+        let first = self.last.next();
+        let second = first.next();
+        let third = second.next();
+        let fourth = third.next();
+        if self.has(first, now) {
+            Some(first)
+        } else if self.has(second, now) {
+            Some(second)
+        } else if self.has(third, now) {
+            Some(third)
+        } else if self.has(fourth, now) {
+            Some(fourth)
+        } else if self.has(self.last, now) {
+            Some(self.last)
+        } else {
+            None
+        }
+    }
+
+    /// Does what there is of a kind.
+    fn take(&mut self, kind: Turn, now: Duration) -> Task
+        requires { has now self.old kind ≡ true }
+        ensures { Does now kind self.old self.new result }
+    {
+        self.last = kind;
+        match kind {
+            Turn::OfDeadlines => {
+                let is_anyone = !self.calls.is_empty();
+                self.asking.tick(now, is_anyone);
+                Task::Tick
+            }
+            Turn::OfCount => {
+                self.known.begin(now);
+                Task::Count
+            }
+            Turn::OfLetters => match self.letters.pop_front() {
+                Some(letter) => Task::Enter(letter),
+                None => Task::Rest,
+            },
+            Turn::OfTelling => match self.telling.take() {
+                Some(telling) => Task::Take(telling),
+                None => Task::Rest,
+            },
+            Turn::OfDuties => {
+                self.asking.ask(now);
+                Task::Ask
+            }
+        }
+    }
+
+    /// What the thread that enters does now: it looks whether the run is over if it is in a hurry,
+    /// or has nothing to do. The kinds of tasks take turns, so that none waits for ever for others
+    /// where each call takes long.
+    pub fn next_task(&mut self, now: Duration) -> Task
+        ensures { IsNextTask now self.old self.new result }
+    {
+        if self.is_hurried || self.is_spared(now) {
+            self.is_hurried = false;
+            return Task::Rest;
+        }
+        match self.next_kind(now) {
+            Some(kind) => self.take(kind, now),
+            None => Task::Rest,
+        }
+    }
+
+    /// Puts those who are to be called. One for whom there is no memory is asked for when deadlines
+    /// are looked at.
+    pub fn put_duties(&mut self, duties: Duties, now: Duration)
+        ensures { IsListed duties now self.old self.new }
+    {
+        let is_whole = self.calls.put_all(duties.into_vec(), now);
+        if !is_whole {
+            self.asking.put_off();
+        }
+    }
+
+    /// Whether there is somebody whose host may be called.
+    pub fn may_call(&self) -> bool
+        ensures { MayTake self.now.calls.now result }
+    {
+        self.calls.may_take()
+    }
+
+    /// The participant that is to be called next, if there is one; none once the program is to end.
+    pub fn take_due(&mut self) -> Option<Due>
+        ensures { IsDueFrom self.old self.new result }
+    {
+        if self.has_ended {
+            return None;
+        }
+        self.calls.take()
+    }
+
+    /// Puts a letter last. One for which there is no memory is lost, and the participant is called
+    /// again.
+    pub fn put_letter(&mut self, letter: Letter)
+        ensures { IsPutLast letter self.old self.new }
+    {
+        if let Err(refused) = self.letters.push_back(letter) {
+            self.calls.forget(Called::of(refused.value.duty()));
+            self.asking.put_off();
+        }
+    }
+
+    /// Puts what came of a call that took so long. A participant that is to be called again pauses
+    /// first. It gives what is to be told of calls in vain.
+    pub fn hear(
+        &mut self,
+        time: Duration,
+        came: Result<Letter, Unheard>,
+        now: Duration,
+    ) -> Option<Plight>
+        ensures { HearsOf time now came self.old self.new result }
+    {
+        let pace = pace_of(time);
+        match came {
+            Err(Unheard { duty, came }) => {
+                self.calls.end(&duty, pace);
+                self.calls.vain(duty, came, now)
+            }
+            Ok(letter) => {
+                self.calls.end(letter.duty(), pace);
+                let plight = self.calls.heard(letter.duty(), now);
+                self.put_letter(letter);
+                plight
+            }
+        }
+    }
+
+    /// Has one pause who is busy, and forgets that another was called.
+    fn answer(&mut self, who: Called, heard: Heard, now: Duration)
+        ensures answered { IsAnswered heard who now self.old.calls self.new.calls }
+        ensures rest { self.new ≡ with_calls self.new.calls self.old }
+    {
+        match heard {
+            Heard::Outcome(Outcome::Busy) => self.calls.pause(who, now),
+            _ => self.calls.forget(who),
+        }
+    }
+
+    /// Notes that what was heard is entered. A participant that is busy is called again after a
+    /// pause.
+    pub fn note_entered(&mut self, letter: &Letter, now: Duration)
+        ensures { IsNoted letter.now now self.old self.new }
+    {
+        self.answer(Called::of(letter.duty()), letter.heard(), now);
+        self.stir(makes_none_due(letter.duty()));
+    }
+
+    /// Whether something that another node told waits to be taken.
+    pub fn has_telling(&self) -> bool
+        ensures { result ≡ is_some self.now.telling }
+    {
+        self.telling.is_some()
+    }
+
+    /// Puts what another node told, unless something waits already. It says whether it did.
+    pub fn put_telling(&mut self, telling: Telling) -> bool
+        ensures { IsHandedOver telling self.old self.new result }
+    {
+        if self.telling.is_some() {
+            return false;
+        }
+        self.telling = Some(telling);
+        true
+    }
+
+    /// Puts what another node told, for which commands are held back at a start. It says whether it
+    /// did: not where nothing of it is new, nor where the program is to end.
+    pub fn put_awaited(&mut self, telling: Telling) -> bool
+        ensures { IsAwaited telling self.old self.new result }
+    {
+        let told = telling.front();
+        if self.has_ended
+            || told.nodes() != self.known.front.nodes()
+            || told.below(&self.known.front)
+        {
+            return false;
+        }
+        self.opening.wait_for(&told);
+        self.telling = Some(telling);
+        true
+    }
+}
