@@ -1,9 +1,10 @@
 // The thread that enters what the others hear, in each run of a node.
-ghost use Rattle.std.specs.Prelude.{◌≡◌, IfErr, Option};
+ghost use Rattle.std.specs.Prelude.{◌≡◌, IfErr, IfOk, Option};
 ghost use Rattle.lra_facts.specs.declared.refusal.Refusal.TheVariants.{NoMemory};
 ghost use Rattle.lra_book.specs.declared.calls.Call.TheVariants.{Duties as AskDuties, Expire as AskExpire, Take as TakeDelta};
 ghost use Rattle.lra_book.specs.declared.calls.Call.{Call as TheCall};
 ghost use Rattle.lra_mailbox.specs.declared.task.Task.{Task as TheTask};
+ghost use Rattle.lra_server.specs.Noting.{duties_in};
 ghost use Rattle.lra_server.specs.Entering.{Counts, DoesTask, EntersLetter, IsMade, IsMadeAndCopied, IsMadeInMemory, MakesIf, told};
 
 use crate::errands::{Errand, Errands};
@@ -82,7 +83,8 @@ fn take<R: Wait + Clock, C: Clerk>(
 
 /// The participants that are to be called, by a reply.
 fn duties_of(reply: &Reply) -> Result<Option<Duties>, Refusal>
-    ensures { IfErr result (λ refusal. refusal ≡ NoMemory) }
+    ensures duties { IfOk result (λ duties. duties ≡ duties_in reply.now) }
+    ensures error { IfErr result (λ refusal. refusal ≡ NoMemory) }
 {
     match reply {
         Reply::Due(duties) => match duties.clone() {

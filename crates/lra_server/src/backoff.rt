@@ -1,4 +1,7 @@
 // How a node goes on after its journal failed, or no thread could be had.
+ghost use Rattle.std.specs.Prelude.{◌≡◌, ◌*◌, None, false, not};
+ghost use Rattle.std.specs.Duration.{as_nanos};
+ghost use Rattle.lra_server.specs.Failing.{is_quiet, paused, ran, rested, stored, tried, warned_at};
 
 use std::time::Duration;
 
@@ -16,8 +19,8 @@ const FIRST_REST_MS: u64 = 100;
 /// How long at most.
 const LAST_REST_MS: u64 = 1_000;
 
-/// The time between two warnings at least.
-const QUIET_MS: u64 = 1_000;
+/// The time between two warnings at least, in nanoseconds.
+const QUIET_NANOS: u128 = 1_000_000_000;
 
 /// What a node remembers of its failures.
 #[derive(Drop)]
@@ -29,7 +32,9 @@ pub struct Backoff {
 }
 
 impl Backoff {
-    pub fn new() -> Backoff {
+    pub fn new() -> Backoff
+        ensures { result ≡ record { pause_ms = 100; rest_ms = 100; has_run = false; warned = None } }
+    {
         Backoff {
             pause_ms: FIRST_PAUSE_MS,
             rest_ms: FIRST_REST_MS,
@@ -40,44 +45,61 @@ impl Backoff {
 
     /// How long to hold back what the node would enter by itself. The next time it is twice as
     /// long.
-    pub fn next_pause(&mut self) -> Duration {
+    pub fn next_pause(&mut self) -> Duration
+        ensures time { as_nanos result ≡ self.old.pause_ms * 1_000_000 }
+        ensures next { self.new ≡ paused self.old }
+    {
         let pause_ms = self.pause_ms;
         self.pause_ms = pause_ms.saturating_mul(2).min(LAST_PAUSE_MS);
         Duration::from_millis(pause_ms)
     }
 
     /// How long to rest before it tries again. The next time it is twice as long.
-    pub fn next_rest(&mut self) -> Duration {
+    pub fn next_rest(&mut self) -> Duration
+        ensures time { as_nanos result ≡ self.old.rest_ms * 1_000_000 }
+        ensures next { self.new ≡ rested self.old }
+    {
         let rest_ms = self.rest_ms;
         self.rest_ms = rest_ms.saturating_mul(2).min(LAST_REST_MS);
         Duration::from_millis(rest_ms)
     }
 
     /// What it tried came to something.
-    pub fn end_rest(&mut self) {
+    pub fn end_rest(&mut self)
+        ensures { self.new ≡ tried self.old }
+    {
         self.rest_ms = FIRST_REST_MS;
     }
 
     /// Notes that a run had its threads.
-    pub fn note_run(&mut self) {
+    pub fn note_run(&mut self)
+        ensures { self.new ≡ ran self.old }
+    {
         self.has_run = true;
         self.rest_ms = FIRST_REST_MS;
     }
 
     /// Whether a run had its threads since the start.
-    pub fn has_run(&self) -> bool {
+    pub fn has_run(&self) -> bool
+        ensures { result ≡ self.now.has_run }
+    {
         self.has_run
     }
 
     /// Begins anew: something was stored.
-    pub fn forget(&mut self) {
+    pub fn forget(&mut self)
+        ensures { self.new ≡ stored self.old }
+    {
         self.pause_ms = FIRST_PAUSE_MS;
     }
 
     /// Notes a warning. It says whether it may be given at this moment.
-    pub fn note_warning(&mut self, now: Duration) -> bool {
+    pub fn note_warning(&mut self, now: Duration) -> bool
+        ensures may { result ≡ not (is_quiet now self.old.warned) }
+        ensures noted { self.new ≡ warned_at now self.old }
+    {
         if let Some(warned) = self.warned {
-            if now.saturating_sub(warned) < Duration::from_millis(QUIET_MS) {
+            if now.saturating_sub(warned).as_nanos() < QUIET_NANOS {
                 return false;
             }
         }

@@ -1,6 +1,7 @@
 // The clerk of a thread in a run of a node.
-ghost use Rattle.std.specs.Prelude.{◌≡◌, ◌⊎◌, Err};
+ghost use Rattle.std.specs.Prelude.{◌≡◌, ◌⊎◌, ◌≤◌, Err};
 ghost use Rattle.lra_facts.specs.declared.refusal.Refusal.TheVariants.{Stopped};
+ghost use Rattle.lra_server.specs.Noting.{enters, freed_by, is_completion, is_own, is_stored, may_end, stirs, told_by};
 
 use crate::counting::{asked_by, number_of, refused_by};
 use lra_book::{Call, Clerk, Reply};
@@ -84,7 +85,9 @@ impl<'n, R, C: Clerk> CountingClerk<'n, R, C> {
 }
 
 /// Whether after this reply other participants may be to be called.
-fn stirs(reply: &Reply) -> bool {
+fn stirs(reply: &Reply) -> bool
+    ensures { result ≡ stirs reply.now }
+{
     matches!(
         reply,
         Reply::Took
@@ -97,7 +100,9 @@ fn stirs(reply: &Reply) -> bool {
 
 /// Whether a call reports a completion: it makes nobody else due, save when the last one has
 /// completed.
-fn is_completion(call: &Call) -> bool {
+fn is_completion(call: &Call) -> bool
+    ensures { result ≡ is_completion call.now }
+{
     matches!(
         call,
         Call::Command(Command::Report {
@@ -108,7 +113,9 @@ fn is_completion(call: &Call) -> bool {
 }
 
 /// How many calls more a frame counts as, by the facts between its base and its front.
-fn shares_of(delta: &Delta) -> u64 {
+fn shares_of(delta: &Delta) -> u64
+    ensures { result ≤ 320 }
+{
     let (base, front) = (delta.base(), delta.front());
     let mut facts = 0u64;
     for (since, now) in base.as_slice().iter().zip(front.as_slice()) {
@@ -136,7 +143,9 @@ fn weight_of_reply(reply: &Reply) -> u64 {
 }
 
 /// Whether after this reply an LRA may have ended.
-fn may_end(reply: &Reply) -> bool {
+fn may_end(reply: &Reply) -> bool
+    ensures { result ≡ may_end reply.now }
+{
     matches!(
         reply,
         Reply::Took
@@ -146,12 +155,16 @@ fn may_end(reply: &Reply) -> bool {
 }
 
 /// Whether a call enters a command.
-pub(crate) fn enters(call: &Call) -> bool {
+pub(crate) fn enters(call: &Call) -> bool
+    ensures { result ≡ enters call.now }
+{
     matches!(call, Call::Command(_) | Call::Expire)
 }
 
 /// The LRA of which a command says that a participant was told what it was to be told.
-fn told_by(command: &Command) -> Option<LraId> {
+fn told_by(command: &Command) -> Option<LraId>
+    ensures { result ≡ told_by command.now }
+{
     match command {
         Command::Forgot { id, .. } | Command::Told { id, .. } => Some(*id),
         _ => None,
@@ -159,7 +172,9 @@ fn told_by(command: &Command) -> Option<LraId> {
 }
 
 /// The LRA of which a call says so.
-fn freed_by(call: &Call) -> Option<LraId> {
+fn freed_by(call: &Call) -> Option<LraId>
+    ensures { result ≡ freed_by call.now }
+{
     match call {
         Call::Command(command) => told_by(command),
         _ => None,
@@ -194,7 +209,9 @@ fn front_of(node: &Node, call: &Call) -> Option<Front> {
 }
 
 /// Whether a fact was stored before this reply.
-fn is_stored(reply: &Reply) -> bool {
+fn is_stored(reply: &Reply) -> bool
+    ensures { result ≡ is_stored reply.now }
+{
     match reply {
         Reply::Command(CommandReply::Known | CommandReply::Refused(_)) => false,
         Reply::Command(_) | Reply::Took | Reply::Expired(_) => true,
@@ -204,7 +221,9 @@ fn is_stored(reply: &Reply) -> bool {
 
 /// Whether a fact of the node's own was stored before this reply, and not one that another node
 /// told.
-fn is_own_fact(reply: &Reply) -> bool {
+fn is_own_fact(reply: &Reply) -> bool
+    ensures { result ≡ is_own reply.now }
+{
     is_stored(reply) && !matches!(reply, Reply::Took)
 }
 

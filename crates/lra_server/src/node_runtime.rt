@@ -1,5 +1,6 @@
 // A node at work: its runs, one after another, and the threads that outlive them.
 ghost use Rattle.std.specs.Prelude.{◌≡◌, IfOk, IfSome, None};
+ghost use Rattle.lra_server.specs.Ending.{goes_on};
 
 use crate::backoff::Backoff;
 use crate::begun::{Begun, Shut, begun_by};
@@ -174,7 +175,9 @@ where
 
 /// Whether the next run is on the same book, by why the last is over: it had no fault, or no thread
 /// or no memory could be had for it.
-fn goes_on(reason: Option<StopReason>) -> bool {
+fn goes_on(reason: Option<StopReason>) -> bool
+    ensures { result ≡ goes_on reason }
+{
     match reason {
         Some(
             StopReason::Full | StopReason::RunFull | StopReason::TrailLost(_) | StopReason::Starved,

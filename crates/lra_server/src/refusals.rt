@@ -1,10 +1,14 @@
 // Which refusals end a run.
+ghost use Rattle.std.specs.Prelude.{◌≡◌};
+ghost use Rattle.lra_server.specs.Ending.{met, reason_of};
 
 use lra_facts::Refusal;
 use lra_threads::StopReason;
 
 /// That a call met this refusal, which ends a run.
-pub fn stop_reason_of(refusal: Refusal) -> StopReason {
+pub fn stop_reason_of(refusal: Refusal) -> StopReason
+    ensures { result ≡ reason_of refusal }
+{
     match refusal {
         Refusal::JournalFailed => StopReason::JournalFailed,
         Refusal::Stopped => StopReason::Stopped,
@@ -14,7 +18,9 @@ pub fn stop_reason_of(refusal: Refusal) -> StopReason {
 }
 
 /// The refusal that a call met, if a run is over for one.
-pub fn refusal_of(reason: StopReason) -> Option<Refusal> {
+pub fn refusal_of(reason: StopReason) -> Option<Refusal>
+    ensures { result ≡ met reason }
+{
     match reason {
         StopReason::JournalFailed => Some(Refusal::JournalFailed),
         StopReason::Stopped => Some(Refusal::Stopped),

@@ -1,5 +1,6 @@
 // All nodes of a program.
-ghost use Rattle.std.specs.Prelude.{◌≤◌, vec_len};
+ghost use Rattle.std.specs.Prelude.{◌≡◌, ◌≤◌, vec_len};
+ghost use Rattle.lra_server.specs.Ending.{status_of};
 
 use crate::begun::{Begun, Shut, begun_by};
 use crate::node_runtime::{Failure, NodeRuntime, open_book, run_node, runtime_of};
@@ -341,7 +342,7 @@ fn watch<R: Threads, H: Wait + Send + Drop + 'static, I: Read + Send + Drop + 's
     Ok(shutdown)
 }
 
-/// Runs these nodes, of which the first has this number. It gives the exit status.
+/// Runs these nodes, of which the first has this number, until the input ends or a node fails.
 fn serve_these<R, L, H, S, I>(
     rt: &R,
     log: &L,
@@ -351,7 +352,7 @@ fn serve_these<R, L, H, S, I>(
     nodes: &[Node],
     stores: &S,
     input: I,
-) -> u8
+) -> Result<End, Trouble>
 where
     R: Threads + Wait + Clock + Net<Listener = TcpListener, Stream = TcpStream> + Eprint + Sync,
     L: Log + Sync,
@@ -359,23 +360,31 @@ where
     S: Stores + Sync,
     I: Read + Send + Drop + 'static,
 {
-    let runtimes = match begin(rt, alloc, nodes, stores) {
-        Ok(runtimes) => runtimes,
-        Err(trouble) => {
-            tell(rt, trouble);
-            return 1;
-        }
-    };
-    let shutdown = match watch(rt, alloc, host, first, input) {
-        Ok(shutdown) => shutdown,
-        Err(trouble) => {
-            tell(rt, trouble);
-            return 1;
-        }
-    };
+    let runtimes = begin(rt, alloc, nodes, stores)?;
+    let shutdown = watch(rt, alloc, host, first, input)?;
     tell_of_all(log, nodes);
     run_all(rt, log, alloc, nodes, stores, runtimes, &shutdown);
-    u8::from(shutdown.has_failed(rt))
+    Ok(shutdown.end(rt))
+}
+
+/// The exit status of a program that ended so.
+fn status_of(ended: Result<End, Trouble>) -> u8
+    ensures { result ≡ status_of ended }
+{
+    match ended {
+        Ok(End::Input) => 0,
+        Ok(End::Failed) | Err(_) => 1,
+    }
+}
+
+/// Tells why the program can't begin, if it can't, and gives the exit status.
+fn close<R: Eprint>(rt: &R, ended: Result<End, Trouble>) -> u8
+    ensures { result ≡ status_of ended }
+{
+    if let Err(trouble) = ended {
+        tell(rt, trouble);
+    }
+    status_of(ended)
 }
 
 /// Runs so many nodes, 1 to 8, whose journals lie in these stores; node I listens at the port + I -
@@ -399,12 +408,12 @@ where
     S: Stores + Sync,
     I: Read + Send + Drop + 'static,
     requires nodes { (1 ≤ nodes) × (nodes ≤ 8) }
+    ensures status { result ≤ 1 }
 {
     let Ok(all) = nodes_of(alloc, nodes, port) else {
-        tell(rt, Trouble::Run(1));
-        return 1;
+        return close(rt, Err(Trouble::Run(1)));
     };
-    serve_these(rt, log, host, alloc, 1, &all, stores, input)
+    close(rt, serve_these(rt, log, host, alloc, 1, &all, stores, input))
 }
 
 /// Runs some nodes of a group, 1 to 8, whose journals lie in these stores. They pull from the
@@ -425,11 +434,11 @@ where
     S: Stores + Sync,
     I: Read + Send + Drop + 'static,
     requires nodes { (1 ≤ vec_len members.peers) × (vec_len members.peers ≤ 8) }
+    ensures status { result ≤ 1 }
 {
     let first = members.first;
     let Ok(all) = nodes_of_members(alloc, members) else {
-        tell(rt, Trouble::Run(first));
-        return 1;
+        return close(rt, Err(Trouble::Run(first)));
     };
-    serve_these(rt, log, host, alloc, first, &all, stores, input)
+    close(rt, serve_these(rt, log, host, alloc, first, &all, stores, input))
 }

@@ -1,4 +1,5 @@
 // Connections that wait for a worker.
+ghost use Rattle.std.specs.Prelude.{◌≡◌, ◌⊎◌, ◌++◌, ◌∷◌, [], IfNone, IfSome};
 
 use crate::pending_connection::PendingConnection;
 use std::alloc::Global;
@@ -58,7 +59,11 @@ pub struct AcceptQueue {
 }
 
 impl Waiting {
-    fn push(&mut self, pending: PendingConnection) {
+    /// Puts a connection last. One for which there is no memory is closed.
+    fn push(&mut self, pending: PendingConnection)
+        ensures { (self.new.pending.items ≡ self.old.pending.items ++ pending ∷ [])
+            ⊎ (self.new.pending.items ≡ self.old.pending.items) }
+    {
         let (unseen, kept) = (usize::from(pending.is_unseen()), pending.kept());
         if self.pending.push_back(pending).is_ok() {
             self.unseen = self.unseen.saturating_add(unseen);
@@ -66,7 +71,11 @@ impl Waiting {
         }
     }
 
-    fn pop(&mut self) -> Option<PendingConnection> {
+    /// Takes the connection that has waited longest.
+    fn pop(&mut self) -> Option<PendingConnection>
+        ensures first { IfSome result (λ pending. self.old.pending.items ≡ pending ∷ self.new.pending.items) }
+        ensures none { IfNone result (self.old.pending.items ≡ []) }
+    {
         let pending = self.pending.pop_front()?;
         let unseen = usize::from(pending.is_unseen());
         self.unseen = self.unseen.saturating_sub(unseen);

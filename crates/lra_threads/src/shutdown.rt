@@ -37,6 +37,11 @@ impl Shutdown {
         self.told.notify_all();
     }
 
+    /// How the program came to its end.
+    pub fn end<R: Wait>(&self, rt: &R) -> End {
+        self.end.lock(rt).unwrap_or(End::Input)
+    }
+
     /// Waits for an end.
     pub fn wait<R: Wait>(&self, rt: &R) {
         let _told = self

@@ -1,4 +1,6 @@
 // What tells the threads of a node that its run is over.
+ghost use Rattle.std.specs.Prelude.{◌≡◌};
+ghost use Rattle.lra_threads.specs.Stops.{weight, weightier};
 
 use std::sync::{Condvar, CondvarTimeouts, Mutex, Wait};
 use std::time::{Clock, Duration};
@@ -24,9 +26,9 @@ pub enum StopReason {
 }
 
 impl StopReason {
-    // Which of two causes stands: the weightier, since more is to be done for it. Otherwise an E18
-    // after an early end would leave a stopped book to the next run.
-    fn weight(self) -> u8 {
+    fn weight(self) -> u8
+        ensures { result ≡ weight self }
+    {
         match self {
             StopReason::Full | StopReason::RunFull | StopReason::TrailLost(_) => 0,
             StopReason::Stopped => 1,
@@ -34,6 +36,16 @@ impl StopReason {
             StopReason::Starved => 3,
             StopReason::Program => 4,
         }
+    }
+}
+
+/// Which cause stands beside one that may stand already.
+fn weightier(was: Option<StopReason>, why: StopReason) -> StopReason
+    ensures { result ≡ weightier was why }
+{
+    match was {
+        Some(was) if was.weight() >= why.weight() => was,
+        _ => why,
     }
 }
 
@@ -58,16 +70,10 @@ impl Signal {
     /// weightiest stands, whatever their order.
     pub fn end<R: Wait>(&self, rt: &R, why: StopReason) -> bool {
         let mut reason = self.reason.lock(rt);
-        let Some(was) = *reason else {
-            *reason = Some(why);
-            self.told.notify_all();
-            return true;
-        };
-        if was.weight() < why.weight() {
-            *reason = Some(why);
-            self.told.notify_all();
-        }
-        false
+        let was = *reason;
+        *reason = Some(weightier(was, why));
+        self.told.notify_all();
+        was.is_none()
     }
 
     /// Rests so long, or until the program is to end.
