@@ -123,8 +123,7 @@ impl Replica {
         ensures next { IsNext (view_of self.old) me command result }
         ensures some { 1 ≤ me }
     {
-        // A node's number is at least 1: only a call of a `NodeId` tells.
-        let _ = me.number();
+        me.is_a_node();
         match self.judge(me, &command) {
             Err(refusal) => Err(refusal),
             Ok(true) => Ok(Prepared {

@@ -49,8 +49,7 @@ impl Replica {
         ensures value { result ≡ raised self.now.front me }
         ensures some { 1 ≤ me }
     {
-        // A node's number is at least 1: only a call of a `NodeId` tells.
-        let _ = me.number();
+        me.is_a_node();
         let mut front = self.front();
         front.set(me, front.count(me) + 1);
         front
