@@ -124,17 +124,13 @@ impl Replica {
         ensures some { 1 ≤ me }
     {
         me.is_a_node();
-        match self.judge(me, &command) {
-            Err(refusal) => Err(refusal),
-            Ok(true) => Ok(Prepared {
+        if self.judge(me, &command)? {
+            return Ok(Prepared {
                 reply: CommandReply::Known,
                 patch: None,
-            }),
-            Ok(false) => match self.accept(alloc, me, command) {
-                Ok(prepared) => Ok(prepared),
-                Err(_) => Err(Refusal::NoMemory),
-            },
+            });
         }
+        Ok(self.accept(alloc, me, command)?)
     }
 
     /// Prepares what a command asks of a node. `begin`, `join` and the others, which do it for one

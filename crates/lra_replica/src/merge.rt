@@ -194,12 +194,8 @@ impl Replica {
             (λ refusal. refusal ≡ NoMemory) }
     {
         let taken = other.tell_all(alloc)?;
-        match self.absorb(alloc, taken) {
-            Ok(patch) => {
-                self.apply(patch);
-                Ok(())
-            }
-            Err(refusal) => Err(refusal),
-        }
+        let patch = self.absorb(alloc, taken)?;
+        self.apply(patch);
+        Ok(())
     }
 }
