@@ -1,10 +1,9 @@
 // What a node is asked to enter, and what it replies.
 use crate::{Links, Refusal};
 use lra_id::{Act, LraId, LraStatus, Outcome, Verdict};
-use std::alloc::AllocError;
 
 /// What a node is asked to enter.
-#[derive(Debug, Drop)]
+#[derive(Clone, Debug, PartialEq, Drop)]
 pub enum Command {
     /// Begin an LRA, top-level or nested, with a deadline in milliseconds, 0 for none.
     Begin {
@@ -47,53 +46,6 @@ pub enum Command {
     Purge {
         root: LraId,
     },
-}
-
-impl Clone for Command {
-    ghost use Rattle.std.specs.Prelude.{◌≡◌};
-
-    ghost is_clone = { λ x y. y ≡ x };
-
-    fn clone(&self) -> Result<Command, AllocError> {
-        match self {
-            Command::Begin { parent, deadline } => Ok(Command::Begin {
-                parent: *parent,
-                deadline: *deadline,
-            }),
-            Command::Join { id, links } => Ok(Command::Join {
-                id: *id,
-                links: links.clone()?,
-            }),
-            Command::Leave { id, member } => Ok(Command::Leave {
-                id: *id,
-                member: *member,
-            }),
-            Command::Decide { id, verdict } => Ok(Command::Decide {
-                id: *id,
-                verdict: *verdict,
-            }),
-            Command::Report {
-                id,
-                member,
-                act,
-                outcome,
-            } => Ok(Command::Report {
-                id: *id,
-                member: *member,
-                act: *act,
-                outcome: *outcome,
-            }),
-            Command::Forgot { id, member } => Ok(Command::Forgot {
-                id: *id,
-                member: *member,
-            }),
-            Command::Told { id, member } => Ok(Command::Told {
-                id: *id,
-                member: *member,
-            }),
-            Command::Purge { root } => Ok(Command::Purge { root: *root }),
-        }
-    }
 }
 
 /// The reply to a command.

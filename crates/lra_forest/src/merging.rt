@@ -102,7 +102,7 @@ fn home_stamp(kept: &Record) -> u64
 /// Two records of one LRA, made into one. Members, links and the decision are those of the record
 /// that heard more of the home's own facts, and of these the own is copied, while the other's are
 /// moved.
-pub(crate) fn merged(own: &Record, other: Record) -> Result<Record, AllocError>
+pub(crate) fn merge_records(own: &Record, other: Record) -> Result<Record, AllocError>
     ensures { IfOk result (λ r. r ≡ merged_record own.now other) }
 {
     let stamps = own.stamps.join(&other.stamps);
@@ -184,7 +184,7 @@ impl Forest {
             IsPut own (brought (nat_le heard.num mine) own (Some heard)) put) }
     {
         match self.numbered(heard.num) {
-            Some(own) => Ok(unless_there(merged(own, heard)?, own)),
+            Some(own) => Ok(unless_there(merge_records(own, heard)?, own)),
             None if heard.num <= mine => Ok(None),
             None => Ok(Some(heard)),
         }

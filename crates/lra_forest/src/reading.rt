@@ -134,7 +134,7 @@ fn tells_forgot(id: LraId, member: u8, fact: &Fact) -> bool
     }
 }
 
-fn forgotten(facts: &[Fact], id: LraId, member: u8) -> bool
+fn has_forgot(facts: &[Fact], id: LraId, member: u8) -> bool
     ensures { result ≡ has_forgot facts.now id member }
 {
     facts.iter().any(|fact| tells_forgot(id, member, fact))
@@ -152,7 +152,7 @@ fn tells_end(id: LraId, member: u8, fact: &Fact) -> bool
     }
 }
 
-fn told(facts: &[Fact], id: LraId, member: u8) -> bool
+fn has_told(facts: &[Fact], id: LraId, member: u8) -> bool
     ensures { result ≡ has_told facts.now id member }
 {
     facts.iter().any(|fact| tells_end(id, member, fact))
@@ -171,8 +171,8 @@ fn member(facts: &[Fact], id: LraId, fact: &Fact) -> Result<Member, AllocError>
         links: links.clone()?,
         completed: plain::greatest_report(facts, id, *member, Act::Complete),
         compensated: plain::greatest_report(facts, id, *member, Act::Compensate),
-        forgotten: forgotten(facts, id, *member),
-        told: told(facts, id, *member),
+        forgotten: has_forgot(facts, id, *member),
+        told: has_told(facts, id, *member),
     }))
 }
 

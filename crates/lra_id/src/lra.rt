@@ -37,7 +37,7 @@ impl LraId {
         if num == 0 || num > LAST_NUMBER {
             return Err(BadText);
         }
-        let _range = home.number();
+        home.is_a_node();
         Ok(LraId { home, num })
     }
 

@@ -46,6 +46,12 @@ impl NodeId {
     {
         self.number
     }
+
+    /// Does nothing. Where it is called, the prover knows that a node's number is from 1 to 8, which
+    /// the type alone doesn't tell it.
+    pub fn is_a_node(self)
+        ensures { IsNodeNumber self }
+    {}
 }
 
 impl fmt::Display for NodeId {

@@ -1,21 +1,17 @@
 -- What a prepare answers by its view alone, and that this is what the definitions give for each set that the view stands for
-use Rattle.std.proofs.Common.{◌≡◌, ◌⊎◌, inl, inr, ◌≤◌, ◌<◌, ◌+◌, ◌-◌, ◌++◌, ℕ, zero, suc, List, [], ◌∷◌, refl, sym, ap, subst, ◌∙◌, Bool, true, false, arith, Option, Some, None, Result, Ok, Err, IfOk, IfErr, is_some, length}
+use Rattle.std.proofs.Common.{◌≡◌, ◌⊎◌, inl, inr, ◌≤◌, ◌<◌, ◌+◌, ◌-◌, ℕ, zero, suc, List, [], ◌∷◌, refl, sym, ap, subst, ◌∙◌, Bool, true, false, arith, Option, Some, None, Result, Ok, Err, IfOk, is_some, length}
 use Rattle.std.specs.Option.{option_map_or}
 use Rattle.lra_id.specs.Ids.{Id}
 use Rattle.lra_id.specs.Fronts.{count}
-use Rattle.lra_id.specs.declared.outcome.Act.{Act}
-use Rattle.lra_id.specs.declared.outcome.Outcome.{Outcome}
 use Rattle.lra_id.specs.declared.outcome.Verdict.{Verdict}
 use Rattle.lra_id.specs.declared.status.LraStatus.{LraStatus}
 use Rattle.lra_id.specs.declared.status.MemberStatus.{MemberStatus}
 use Rattle.lra_facts.specs.declared.fact.Fact.{Fact}
-use Rattle.lra_facts.specs.Links.{Links}
 use Rattle.lra_facts.specs.declared.refusal.Refusal.{Refusal}
 use Rattle.lra_facts.specs.declared.refusal.Refusal.TheVariants.{NoMemory, NotHeld, UnknownMember}
 use Rattle.lra_facts.specs.Refusals.{unless, first, unknown, spent}
 use Rattle.lra_facts.specs.Sets.{is_held, member_status, shows_now}
 use Rattle.lra_forest.specs.declared.record.Member.{Member}
-use Rattle.lra_forest.specs.declared.record.Member.TheVariants.{Nested}
 use Rattle.lra_forest.specs.declared.record.Record.{Record}
 use Rattle.lra_forest.specs.Forests.{id_of}
 use Rattle.lra_forest.specs.MembersByNumber.{numbered}
@@ -26,30 +22,23 @@ use Rattle.lra_forest.specs.Shape.{found_at}
 use Rattle.lra_facts.specs.declared.command.Command.{Command}
 use Rattle.lra_facts.specs.declared.command.Command.TheVariants.{Begin, Join, Leave, Decide, Report, Forgot, Told, Purge}
 use Rattle.lra_facts.specs.declared.command.CommandReply.{CommandReply}
-use Rattle.lra_facts.specs.declared.command.CommandReply.TheVariants.{Began, Decided, Joined, Left, Reported}
-use Rattle.lra_history.specs.Growth.{IsSettled, member_changed, forgetting, hearing, joined, leaving, record_after, reporting}
+use Rattle.lra_facts.specs.declared.command.CommandReply.TheVariants.{Decided}
+use Rattle.lra_history.specs.Growth.{IsSettled, member_changed, forgetting, hearing, record_after}
 use Rattle.lra_history.specs.Next.{accepted_on, change_on, change_record, changed, judge_on, next_fact_on, member_shown_on, no_change, shown_on}
-use Rattle.lra_history.specs.Changes.{fresh_record, with_stamp, Change, one_change, patched, two_changes}
+use Rattle.lra_history.specs.Changes.{with_stamp, Change, one_change, patched}
 use Rattle.lra_history.specs.Replies.{member_shown, shown_of, refusal_by, Denied, Judgement, AlreadyKnown, Accepted, accepted, judge, reply_by}
 use Rattle.lra_history.specs.Readings.{at_home, by_view}
 use Rattle.lra_history.specs.Views.{StandsFor, View, record_at, records_at}
-use Rattle.lra_history.proofs.SameReadings.{IsPlain, forgot_passed, judge_view, report_passed, told_passed, view_alike}
-use Rattle.lra_history.proofs.AcceptedCommands.{lawful_gives}
-use Rattle.lra_history.proofs.ReplyOrRefusal.{held_within, never_lost, reply_denied, reply_accepted}
-use Rattle.lra_history.proofs.ViewReplies.{accepted_open, leave_passed, decide_passed, found_id, found_there, changed_records, join_passed, nest_passed, numbers_on, is_added}
+use Rattle.lra_history.proofs.SameReadings.{IsPlain, forgot_passed, judge_view, told_passed, view_alike}
+use Rattle.lra_history.proofs.ReplyOrRefusal.{reply_denied, reply_accepted}
+use Rattle.lra_history.proofs.ViewReplies.{accepted_open, decide_passed, found_id, found_there, changed_records, nest_passed, numbers_on, is_added}
 use Rattle.lra_replica.specs.declared.commands.notices.Notice.{Notice}
 use Rattle.lra_replica.specs.declared.commands.notices.Notice.TheVariants.{ToForget, OfTheEnd}
 use Rattle.lra_replica.specs.declared.patch.Prepared.{Prepared}
-use Rattle.lra_replica.specs.Notices.{command_for, judgement_for, noted, reply_to}
+use Rattle.lra_replica.specs.Notices.{command_for, noted, reply_to}
 use Rattle.lra_replica.specs.Prepared.{IsAnswer, IsNext, IsReadyNext, IsPrepared}
 
 -- Answers
-
-pub answer_denied : (j : Judgement) (reply : CommandReply) (change : Change) (r : Refusal) → j ≡ Denied r → IsAnswer j reply change (Err r)
-answer_denied j reply change r e = subst (λ (k : Judgement). IsAnswer k reply change (Err r)) (sym e) refl
-
-pub answer_memory : (j : Judgement) (reply : CommandReply) (change : Change) (r : Refusal) → j ≡ Accepted → r ≡ NoMemory → IsAnswer j reply change (Err r)
-answer_memory j reply change r e memory = subst (λ (k : Judgement). IsAnswer k reply change (Err r)) (sym e) (inl (ap (λ x. Err x) memory))
 
 pub answer_accepted : (j : Judgement) (reply given : CommandReply) (change made : Change) → j ≡ Accepted → given ≡ reply → made ≡ change → IsAnswer j reply change (Ok (record { reply = given; patch = Some made }))
 answer_accepted j reply given change made e same is =
@@ -150,31 +139,6 @@ nest_few view me p deadline copy taken found =
       ap (λ (r : Record). r.home) found.2 ∙ (found_id view p found.0 found.1).0 ∙ own.1,
       omega (arith, own.2, numbers_on view p found.0 found.1, ap (λ (r : Record). length r.members) found.2),
     )
-
-one_more : (m : Member) (ms : List Member) → length (ms ++ m ∷ []) ≡ length ms + 1
-one_more m [] = refl
-one_more m (x ∷ ms) = omega (arith, one_more m ms)
-
-pub nest_next : (view : View) (me : ℕ) (p : Id) (deadline : ℕ) (id : Id) (slot : ℕ) (copy child : Record) (members : List Member) (change : Change) → IsReadyNext view me (Begin (Some p) deadline) p (Ok copy)
-    → id ≡ record { home = me; num = count view.front me + 1 } → members ≡ copy.members ++ Nested id.num ∷ [] → slot ≡ length members
-    → child ≡ fresh_record view.front me (Some (record { number = p.num; slot = slot })) deadline → change ≡ two_changes view me (record copy { members = members }) child
-    → IsNext view me (Begin (Some p) deadline) (Ok (record { reply = Began id slot; patch = Some change }))
-nest_next view me p deadline id slot copy child members change ready named is number begun change_is =
-    let c : Command = Begin (Some p) deadline in
-    let old = ready.1.0 in
-    let same : copy.members ≡ old.members = ap (λ (r : Record). r.members) ready.1.2 in
-    let own : members ≡ old.members ++ Nested (count view.front me + 1) ∷ [] = is ∙ ap (λ (ms : List Member). ms ++ Nested id.num ∷ []) same ∙ ap (λ (l : Id). old.members ++ Nested l.num ∷ []) named in
-    let many : slot ≡ (by_view view).numbers p + 1 = number ∙ ap (λ (ms : List Member). length ms) own ∙ one_more (Nested (count view.front me + 1)) old.members ∙ ap (λ (n : ℕ). n + 1) (sym (numbers_on view p old ready.1.1)) in
-    let next : record copy { members = members } ≡ record_after (next_fact_on view me c) old =
-    ap (λ (r : Record). record r { members = members }) ready.1.2 ∙ ap (λ (ms : List Member). record (with_stamp me (count view.front me + 1) old) { members = ms }) own in
-    let new : child ≡ fresh_record view.front me (Some (record { number = p.num; slot = (by_view view).numbers p + 1 })) deadline =
-    begun ∙ ap (λ (n : ℕ). fresh_record view.front me (Some (record { number = p.num; slot = n })) deadline) many in
-    answer_accepted (judge_on view me c) (accepted_on view me c) (Began id slot) (change_on view me c) change ready.0
-    (ap (λ (l : Id). Began l slot) named ∙ ap (λ (n : ℕ). Began (record { home = me; num = count view.front me + 1 }) n) many)
-    (change_is ∙ ap (λ (r : Record). two_changes view me r child) next ∙ ap (two_changes view me (record_after (next_fact_on view me c) old)) new
-    ∙ ap (λ (o : Option Record). option_map_or (λ (r : Record). two_changes view me (record_after (next_fact_on view me c) r) (fresh_record view.front me (Some (record { number = p.num; slot = (by_view view).numbers p + 1 })) deadline)) o (no_change view)) (sym ready.1.1))
-
--- A report
 
 -- That a participant was told something
 

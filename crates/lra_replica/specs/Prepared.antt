@@ -1,5 +1,5 @@
 -- What a prepare answers.
-use Rattle.std.specs.Prelude.{◌≡◌, ◌⊎◌, ◌+◌, ℕ, Bool, true, false, Option, Some, None, List, Result, Ok, Err, IfSome}
+use Rattle.std.specs.Prelude.{◌≡◌, ◌⊎◌, ◌+◌, ℕ, Bool, true, false, Some, None, List, Result, Ok, Err, IfSome}
 use Rattle.lra_id.specs.Ids.{Id}
 use Rattle.lra_id.specs.Fronts.{count}
 use Rattle.lra_facts.specs.declared.fact.Fact.{Fact}
@@ -24,11 +24,6 @@ IsDenied S view me c refusal = ((refusal ≡ NoMemory) × (judge S view.front me
 abbrev pub IsPrepared : List Fact → View → ℕ → Command → Result Prepared Refusal → Type 0
 IsPrepared S view me c (Ok prepared) = (prepared.reply ≡ reply_of S view.front me c) × AddsFact S view me c prepared.patch
 IsPrepared S view me c (Err refusal) = IsDenied S view me c refusal
-
--- what is made of a command that meets this refusal, or none
-abbrev pub judged_by : Option Refusal → Judgement
-judged_by None = Accepted
-judged_by (Some refusal) = Denied refusal
 
 -- what is made of a command of which this answers whether it is known already, or the refusal
 abbrev pub judged_as : Result Bool Refusal → Judgement

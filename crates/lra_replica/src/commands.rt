@@ -123,19 +123,14 @@ impl Replica {
         ensures next { IsNext (view_of self.old) me command result }
         ensures some { 1 ≤ me }
     {
-        // A node's number is at least 1: only a call of a `NodeId` tells.
-        let _ = me.number();
-        match self.judge(me, &command) {
-            Err(refusal) => Err(refusal),
-            Ok(true) => Ok(Prepared {
+        me.is_a_node();
+        if self.judge(me, &command)? {
+            return Ok(Prepared {
                 reply: CommandReply::Known,
                 patch: None,
-            }),
-            Ok(false) => match self.accept(alloc, me, command) {
-                Ok(prepared) => Ok(prepared),
-                Err(_) => Err(Refusal::NoMemory),
-            },
+            });
         }
+        Ok(self.accept(alloc, me, command)?)
     }
 
     /// Prepares what a command asks of a node. `begin`, `join` and the others, which do it for one

@@ -18,15 +18,6 @@ use lra_forest::{Changes, IntoRecords, Record, Told};
 use lra_id::Front;
 use std::alloc::{AllocError, Global};
 
-fn add_all<X: Drop>(list: &mut Vec<X>, more: Vec<X>) -> Result<(), AllocError>
-    ensures { OnOk result (list.new.items ≡ list.old.items ++ more.items) }
-{
-    for next in more {
-        list.push(next)?;
-    }
-    Ok(())
-}
-
 fn add_records(list: &mut Vec<Record>, more: IntoRecords) -> Result<(), AllocError>
     ensures { OnOk result (list.new.items ≡ list.old.items ++ more) }
 {
@@ -43,7 +34,8 @@ fn add_changes(patch: &mut Patch, changes: Changes) -> Result<(), AllocError>
     ensures front { patch.new.front ≡ patch.old.front }
     ensures purges { patch.new.purges ≡ patch.old.purges }
 {
-    add_all(&mut patch.removed, changes.removed)?;
+    let mut removed = changes.removed;
+    patch.removed.append(&mut removed)?;
     add_records(&mut patch.records, changes.records.into_records())
 }
 
@@ -202,12 +194,8 @@ impl Replica {
             (λ refusal. refusal ≡ NoMemory) }
     {
         let taken = other.tell_all(alloc)?;
-        match self.absorb(alloc, taken) {
-            Ok(patch) => {
-                self.apply(patch);
-                Ok(())
-            }
-            Err(refusal) => Err(refusal),
-        }
+        let patch = self.absorb(alloc, taken)?;
+        self.apply(patch);
+        Ok(())
     }
 }

@@ -95,7 +95,7 @@ impl Replica {
         ensures next { IfOk result
             (λ prepared. IsNext (view_of self.old) me (Begin (Some parent) deadline) (Ok prepared)) }
     {
-        let mut next = self.stamped(parent, me)?;
+        let mut next = self.copy_with_stamp(parent, me)?;
         let id = self.next_id(me);
         next.members.push(Member::Nested(id.num()))?;
         let slot = next.members.len() as u8;

@@ -50,7 +50,7 @@ impl Replica {
         ensures next { IfOk result
             (λ prepared. IsNext (view_of self.old) me (Decide id verdict) (Ok prepared)) }
     {
-        let mut next = self.stamped(id, me)?;
+        let mut next = self.copy_with_stamp(id, me)?;
         next.decision = Some(verdict);
         let (shown, next) = self.shown_with(next);
         let Ok(status) = shown else {

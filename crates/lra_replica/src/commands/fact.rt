@@ -25,7 +25,7 @@ pub fn stamp(stamps: &mut Front, node: NodeId, num: u64)
 
 impl Replica {
     /// A copy of the record of an LRA that is held, with the number of a node's next fact.
-    pub(crate) fn stamped(&self, id: LraId, node: NodeId) -> Result<Record, AllocError>
+    pub(crate) fn copy_with_stamp(&self, id: LraId, node: NodeId) -> Result<Record, AllocError>
         requires left { count self.now.front node < last_number }
         requires held { is_some (record_at (view_of self.now) id) ≡ true }
         ensures some { IfOk result (λ _. 1 ≤ node) }
@@ -49,8 +49,7 @@ impl Replica {
         ensures value { result ≡ raised self.now.front me }
         ensures some { 1 ≤ me }
     {
-        // A node's number is at least 1: only a call of a `NodeId` tells.
-        let _ = me.number();
+        me.is_a_node();
         let mut front = self.front();
         front.set(me, front.count(me) + 1);
         front

@@ -33,7 +33,7 @@ impl Replica {
         ensures next { IfOk result
             (λ prepared. IsNext (view_of self.old) me (Join id links) (Ok prepared)) }
     {
-        let mut next = self.stamped(id, me)?;
+        let mut next = self.copy_with_stamp(id, me)?;
         next.members.push(Member::Participant(Participant {
             links,
             completed: None,

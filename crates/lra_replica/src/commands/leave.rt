@@ -52,7 +52,7 @@ impl Replica {
         ensures next { IfOk result
             (λ prepared. IsNext (view_of self.old) me (Leave id member) (Ok prepared)) }
     {
-        let mut next = self.stamped(id, me)?;
+        let mut next = self.copy_with_stamp(id, me)?;
         leave_from(&mut next.members, member);
         let patch = self.patch_of_one(alloc, me, next)?;
         Ok(Prepared {

@@ -38,7 +38,7 @@ impl Notice {
     }
 
     /// The member that was told.
-    fn noted(self, member: Member) -> Member
+    fn note(self, member: Member) -> Member
         ensures { result ≡ noted self member }
     {
         match self {
@@ -48,7 +48,7 @@ impl Notice {
     }
 }
 
-fn forgotten(participant: Participant) -> Participant
+fn mark_forgotten(participant: Participant) -> Participant
     ensures { Member.Participant result ≡ forgetting (Member.Participant participant) }
 {
     let mut next = participant;
@@ -60,12 +60,12 @@ fn forgetting(member: Member) -> Member
     ensures { result ≡ forgetting member }
 {
     match member {
-        Member::Participant(participant) => Member::Participant(forgotten(participant)),
+        Member::Participant(participant) => Member::Participant(mark_forgotten(participant)),
         other => other,
     }
 }
 
-fn heard(participant: Participant) -> Participant
+fn mark_told(participant: Participant) -> Participant
     ensures { Member.Participant result ≡ hearing (Member.Participant participant) }
 {
     let mut next = participant;
@@ -77,7 +77,7 @@ fn hearing(member: Member) -> Member
     ensures { result ≡ hearing member }
 {
     match member {
-        Member::Participant(participant) => Member::Participant(heard(participant)),
+        Member::Participant(participant) => Member::Participant(mark_told(participant)),
         other => other,
     }
 }
@@ -87,7 +87,7 @@ fn note_at(members: &mut Members, number: u8, notice: Notice) -> Result<(), Allo
         OnOk result (members.new ≡ member_changed (noted notice) (number - 1) members.old) }
 {
     if let Some(member) = members.get(number) {
-        let next = notice.noted(member.clone()?);
+        let next = notice.note(member.clone()?);
         members.set(number, next);
     }
     Ok(())
@@ -111,7 +111,7 @@ impl Replica {
         ensures next { IfOk result
             (λ prepared. IsNext (view_of self.old) me (command_for notice id member) (Ok prepared)) }
     {
-        let mut next = self.stamped(id, me)?;
+        let mut next = self.copy_with_stamp(id, me)?;
         note_at(&mut next.members, member, notice)?;
         let patch = self.patch_of_one(alloc, me, next)?;
         Ok(Prepared {

@@ -16,7 +16,7 @@ use lra_forest::{Member, Members, Participant};
 use lra_id::{Act, LraId, NodeId, Outcome};
 use std::alloc::{AllocError, Global};
 
-fn reported(participant: Participant, act: Act, outcome: Outcome) -> Participant
+fn mark_outcome(participant: Participant, act: Act, outcome: Outcome) -> Participant
     ensures { Member.Participant result ≡ reporting act outcome (Member.Participant participant) }
 {
     let mut next = participant;
@@ -32,7 +32,7 @@ fn reporting(member: Member, act: Act, outcome: Outcome) -> Member
 {
     match member {
         Member::Participant(participant) => {
-            Member::Participant(reported(participant, act, outcome))
+            Member::Participant(mark_outcome(participant, act, outcome))
         }
         other => other,
     }
@@ -74,7 +74,7 @@ impl Replica {
         ensures next { IfOk result
             (λ prepared. IsNext (view_of self.old) me (Report id member act outcome) (Ok prepared)) }
     {
-        let mut next = self.stamped(id, me)?;
+        let mut next = self.copy_with_stamp(id, me)?;
         report_to(&mut next.members, member, act, outcome)?;
         let patch = self.patch_of_one(alloc, me, next)?;
         Ok(Prepared {

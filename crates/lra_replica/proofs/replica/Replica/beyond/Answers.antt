@@ -6,7 +6,7 @@ use Rattle.lra_replica.proofs.replica.Replica.beyond.Goals as goal
 
 pub returns : goal.returns
 returns c e =
-    let within : c.args.origin ≤ length c.self.inside.index.origins = omega (arith, c.number.ensures.range, c.self.invariant.origins) in
+    let within : c.args.origin ≤ length c.self.inside.index.origins = omega (arith, c.is_a_node.ensures, c.self.invariant.origins) in
     let inside = view_of (record { front = c.self.inside.front; purges = c.self.inside.purges; homes = c.self.inside.homes.items; index = c.self.inside.index }) in
     subst (λ (k : ReplicaState). In e c.beyond.result.now ↔ ((c.args.count < e.stamp) × (stamp_at (stamps_of (view_of k) (id_of e)) c.args.origin ≡ e.stamp))) c.self.view_is
     (c.beyond.ensures.changed (stamps_of inside) c.self.invariant.indexed within e)

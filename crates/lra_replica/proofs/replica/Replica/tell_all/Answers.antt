@@ -1,5 +1,4 @@
-use Rattle.std.proofs.Common.{◌∙◌, List, Some, ap, map, subst}
-use Rattle.lra_forest.specs.declared.record.Record.{Record}
+use Rattle.std.proofs.Common.{Some, ap, subst}
 use Rattle.lra_history.specs.Merging.{TellsAll}
 use Rattle.lra_replica.specs.Replicas.{ReplicaState, view_of}
 use Rattle.lra_replica.proofs.Tellings.{all_told, one_more_told, telling_kept, tells_all}
