@@ -5,7 +5,7 @@ use Rattle.lra_http.specs.declared.Source.{Ghosts as OfSource}
 use Rattle.lra_http.specs.declared.fault.Fault.{Fault}
 use Rattle.lra_http.specs.declared.message.Request.{Request}
 use Rattle.lra_http.specs.Bodies.{max_body_bytes}
-use Rattle.lra_http.specs.Requests.{IsMessage, Shows}
+use Rattle.lra_http.specs.Requests.{IsRequestMessage, ShowsNoRequest}
 use Rattle.lra_http.specs.Faults.{Stops}
 use Rattle.lra_http.specs.Streams.{AllWell, GivesWhat, IsFlushed, IsLost, Reads, Takes, TakesPart}
 
@@ -19,9 +19,9 @@ max_reads = 16385 + max_body_bytes
 -- cause, no call follows one that failed, and there are at most so many
 abbrev pub IsReading : {R : Type 0} → OfSource R → (old new : R) → Result Request Fault → Type 0
 IsReading source old new (Ok request) =
-    GivesWhat (source.stream old) (source.stream new) (λ bytes. IsMessage max_body_bytes bytes request) × AllWell max_reads 0 (source.calls old) (source.calls new)
+    GivesWhat (source.stream old) (source.stream new) (λ bytes. IsRequestMessage max_body_bytes bytes request) × AllWell max_reads 0 (source.calls old) (source.calls new)
 IsReading source old new (Err f) =
-    Stops (source.stream old) (source.stream new) (Shows max_body_bytes) f × Reads {A = Request} max_reads 0 (source.calls old) (source.calls new) (Err f)
+    Stops (source.stream old) (source.stream new) (ShowsNoRequest max_body_bytes) f × Reads {A = Request} max_reads 0 (source.calls old) (source.calls new) (Err f)
 
 -- Writing
 

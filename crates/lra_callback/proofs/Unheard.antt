@@ -3,7 +3,7 @@ use Rattle.std.proofs.Common.{◌≡◌, ◌∙◌, ◌<◌, ◌++◌, ℕ, List
 use Rattle.std.proofs.lemmas.List.{append_cancel_left}
 use Rattle.lra_id.specs.declared.outcome.Act.{Act}
 use Rattle.lra_http.specs.ByteResponses.{Response}
-use Rattle.lra_http.specs.Responses.{HasNoResponse, IsResponse, IsMessage, head_room}
+use Rattle.lra_http.specs.Responses.{HasNoResponse, IsResponse, IsResponseMessage, head_room}
 use Rattle.lra_http.specs.Streams.{GivenBytes, Gives}
 use Rattle.lra_http.proofs.Cuts.{cut_is_none}
 use Rattle.lra_http.proofs.Left.{response_taken}
@@ -33,13 +33,13 @@ none_heard_left act kind input old new (Code code body) none left (given, took, 
     absurd (none stands.1.0 is.response.body stands.0 stands.1.1)
 
 pub cut_heard : (act : Act) (kind : Kind) (front more : List ℕ) (whole : Response) (old new : GivenBytes) (answer : Answer)
-    → 0 < length more → IsMessage max_body_bytes (front ++ more) whole → Gives old new front → IsCodeOf old new answer
+    → 0 < length more → IsResponseMessage max_body_bytes (front ++ more) whole → Gives old new front → IsCodeOf old new answer
     → heard_of act kind answer ≡ Again
 cut_heard act kind front more whole old new answer some is gives =
     none_heard act kind front old new answer (cut_is_none max_body_bytes front more is.head whole.body some is.whole) gives
 
 pub cut_heard_left : (act : Act) (kind : Kind) (front more : List ℕ) (whole : Response) (old new : GivenBytes) (answer : Answer)
-    → 0 < length more → IsMessage max_body_bytes (front ++ more) whole → old.left ≡ Some front → IsCodeOf old new answer
+    → 0 < length more → IsResponseMessage max_body_bytes (front ++ more) whole → old.left ≡ Some front → IsCodeOf old new answer
     → heard_of act kind answer ≡ Again
 cut_heard_left act kind front more whole old new answer some is left =
     none_heard_left act kind front old new answer (cut_is_none max_body_bytes front more is.head whole.body some is.whole) left

@@ -44,8 +44,8 @@ use Rattle.lra_id.specs.declared.status.LraStatus.TheVariants.{Active, Closing, 
 use Rattle.lra_callback.specs.declared.answer.Kind.{Kind}
 use Rattle.lra_callback.specs.declared.answer.Kind.TheVariants.{Complete, Compensate, Status, Forget, After}
 use Rattle.lra_callback.specs.declared.duty.Duty.{Duty}
-use Rattle.lra_callback.specs.declared.request.FieldName.{FieldName}
-use Rattle.lra_callback.specs.declared.request.FieldName.TheVariants.{Action, Ended, Parent, Recovery, ContentType, ContentLength, Connection}
+use Rattle.lra_callback.specs.declared.request.RequestField.{RequestField}
+use Rattle.lra_callback.specs.declared.request.RequestField.TheVariants.{Action, Ended, Parent, Recovery, ContentType, ContentLength, Connection}
 use Rattle.lra_callback.specs.CallRequests.{IsOneRequest, IsUrlOf, field, field_name, fields_of, host_of, action_name, body_of, length_fields, method_of, parent_fields, recovery_path, request_by, target_of, told_body, urn}
 
 abbrev Visible : ℕ → Type 0
@@ -160,7 +160,7 @@ target_short url short = by url.query (piece_short (pieces url) 12)
 
 -- Fields
 
-field_plain : (name : FieldName) (value : List ℕ) → All Visible value → IsPlain (field name value)
+field_plain : (name : RequestField) (value : List ℕ) → All Visible value → IsPlain (field name value)
 unfolding is_token_byte
 field_plain Action value h = plain_visible (field_name Action) value (omega arith) refl h
 field_plain Ended value h = plain_visible (field_name Ended) value (omega arith) refl h

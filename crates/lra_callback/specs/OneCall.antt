@@ -7,7 +7,7 @@ use Rattle.lra_http.specs.ByteResponses.{Response}
 use Rattle.lra_http.specs.Bodies.{max_body_bytes}
 use Rattle.lra_http.specs.Faults.{Stops}
 use Rattle.lra_http.specs.Heads.{max_head_bytes}
-use Rattle.lra_http.specs.Responses.{IsMessage, Shows}
+use Rattle.lra_http.specs.Responses.{IsResponseMessage, ShowsNoResponse}
 use Rattle.lra_http.specs.Streams.{AllWell, Calls, GivenBytes, GivesWhat, IsFlushed, IsLost, OnReadFault, TakenBytes, Takes, TakesPart}
 use Rattle.lra_callback.specs.declared.answer.Answer.{Answer}
 use Rattle.lra_callback.specs.declared.answer.Answer.TheVariants.{Code, Broken}
@@ -24,7 +24,7 @@ answer_reads = max_head_bytes + 1 + max_body_bytes
 -- the bytes are a whole response with this code and this body, and no byte more
 pub record HasAnswered (bytes : List ℕ) (code : ℕ) (body : List ℕ) : Type 0 where
   pub response : Response
-  pub whole : IsMessage max_body_bytes bytes response
+  pub whole : IsResponseMessage max_body_bytes bytes response
   pub code_is : code ≡ response.status
   pub body_is : body ≡ response.body
 
@@ -36,7 +36,7 @@ IsCodeOf old new Broken = Unit {0}
 -- what was given shows why there is no whole response, or a read failed
 abbrev pub IsUnanswered : (old new : GivenBytes) (before after : Calls) → Type 0
 IsUnanswered old new before after =
-    (fault : Fault) × (fault ≢ NoMemory) × Stops old new (Shows max_body_bytes) fault
+    (fault : Fault) × (fault ≢ NoMemory) × Stops old new (ShowsNoResponse max_body_bytes) fault
     × OnReadFault (IsLost answer_reads 0 before after) (AllWell answer_reads 0 before after) fault
 
 -- what was given tells the answer, and so the reads came out

@@ -10,7 +10,7 @@ use Rattle.lra_delta.specs.declared.version.Version.{Version}
 use Rattle.lra_delta.specs.declared.input.Stop.{Stop}
 use Rattle.lra_delta.specs.declared.order.Last.{Last}
 use Rattle.lra_delta.specs.Order.{AreInOrder, ArePut, lists, records_told}
-use Rattle.lra_delta.specs.Reading.{record_at}
+use Rattle.lra_delta.specs.Reading.{read_record_at}
 use Rattle.lra_delta.specs.Rules.{Context, by_home, start, told_context}
 use Rattle.lra_delta.specs.Seen.{Reads, Seen}
 use Rattle.lra_delta.proofs.Filters.{at_home}
@@ -52,7 +52,7 @@ put_next n old ts ts' done r put order told held records =
 
 -- a record is read against the live lists alone
 pub reads_as_before : (old new : Seen) (result : Result Record Stop) (v : Version) (base front : List ℕ) (ts ts' : List Told) (last : Last) → lists ts' ≡ lists ts
-    → Reads old new (λ (x : Record). x) result (record_at (told_context v base front ts') last) → Reads old new (λ (x : Record). x) result (record_at (told_context v base front ts) last)
+    → Reads old new (λ (x : Record). x) result (read_record_at (told_context v base front ts') last) → Reads old new (λ (x : Record). x) result (read_record_at (told_context v base front ts) last)
 reads_as_before old new result v base front ts ts' last e read =
     let same : told_context v base front ts' ≡ told_context v base front ts = ap (λ (l : List (Option (List ℕ))). record { version = v; base = base; front = front; lives = l }) e in
-    subst (λ (k : Context). Reads old new (λ (x : Record). x) result (record_at k last)) same read
+    subst (λ (k : Context). Reads old new (λ (x : Record). x) result (read_record_at k last)) same read

@@ -16,7 +16,7 @@ use Rattle.lra_delta.specs.FrameFields.{Rest, Read, Short, Broken, ◌>>=◌, va
 use Rattle.lra_delta.specs.Encoding.{live_mark, live_body, live_list, live, record_text_as, records, body, flat, magic, encoding_as}
 use Rattle.lra_delta.specs.Rules.{Context, start, after, is_record_count, IsRecord, is_live_mark, is_live_count, is_live_number, AreLive, IsLive, is_node_count, are_counts, is_front, at_most, IsBody, IsDeltaAs, is_frame_length, by_home}
 use Rattle.lra_delta.specs.OneRecord.{IsRecordUnderAs, alone_at, record_in_as, under}
-use Rattle.lra_delta.specs.Reading.{records_at, live_list_at, live_by, live_at, body_at, within, ended_at, framed_at, frame_at, frame_in, versioned_at}
+use Rattle.lra_delta.specs.Reading.{read_records_at, live_list_at, live_by, read_live_at, body_at, within, ended_at, framed_at, frame_at, frame_in, versioned_at}
 use Rattle.lra_delta.proofs.Codes.{IsBytes, IsCode, IsThere, Takes, bind_ok, rule_ok, ok_is, uncut_bind, uncut_if, step, cased, finish, refit, each_code, number_code, wide8, wide16, wide32, wide64}
 use Rattle.lra_delta.proofs.HomeLists.{flat_by_home}
 use Rattle.lra_delta.proofs.RecordCodes.{vector_code, record_code}
@@ -52,8 +52,8 @@ live_by_code base purge top zero f = finish None refl (f.1, refl) (λ o g. no_li
 live_by_code base purge top (suc zero) f = cased (live_list_code top) (λ ns. Some ns) (λ ns g. refl) (λ ns g. ((f.1, g), refl)) (list_made base purge top)
 live_by_code base purge top (suc (suc n)) f = absurd (omega (arith, live_mark_small base purge (suc (suc n)) f.1))
 
-live_code : (base purge top : ℕ) → IsCode (live_at base purge top) live (IsLive base purge top)
-unfolding live_at live
+live_code : (base purge top : ℕ) → IsCode (read_live_at base purge top) live (IsLive base purge top)
+unfolding read_live_at live
 live_code base purge top = step (λ x. live_by top x.0 x.1) (number_code w8 (2 ^ 8) wide8 (is_live_mark base purge)) live_mark (live_mark_is base purge top) (λ mark f. live_by_code base purge top mark f)
 
 -- ---- records
@@ -67,8 +67,8 @@ nodes_few n e = grind (arith, nat_tests)
 record_count_small : (nodes n : ℕ) → nodes ≤ 8 → is_record_count nodes n ≡ true → n < 2 ^ 16
 record_count_small nodes n le e = grind (arith, nat_tests)
 
-pub records_code : (k : Context) → length k.front ≤ 8 → IsCode (records_at k) (records k.version) (λ rs. (is_record_count (length k.front) (length rs) ≡ true) × Along (IsRecord k) after start rs)
-unfolding records_at records
+pub records_code : (k : Context) → length k.front ≤ 8 → IsCode (read_records_at k) (records k.version) (λ rs. (is_record_count (length k.front) (length rs) ≡ true) × Along (IsRecord k) after start rs)
+unfolding read_records_at records
 records_code k le = step _ (number_code w16 (2 ^ 16) wide16 (is_record_count (length k.front))) (λ rs. length rs) (λ rs f. (record_count_small (length k.front) (length rs) le f.0, f.0)) (λ n fn.
     refit (each_code (record_code k) n start) (λ rs f. ((rw f.1 fn.1, f.0), f.1)) (λ rs f. (f.0.1, f.1)))
 

@@ -24,7 +24,7 @@ use Rattle.lra_delta.specs.Versions.{knows}
 use Rattle.lra_delta.specs.FrameFields.{many_at, vector_at, Along}
 use Rattle.lra_delta.specs.Encoding.{links_text, marks_of, marks_text, parent_mark, parent_body, parent, byte, number, place, decision_mark, outcome_mark, flag_mark, link_text, counted, vector, after_link, told_mark, participant, member_mark, member_body, member, members, record_text_as}
 use Rattle.lra_delta.specs.Rules.{is_mark, is_above, is_slot, IsPlace, IsParent, is_decision, is_outcome, is_outcome_for, is_mark_for, is_given_length, is_kept_or_none, is_length_for, may_be, may_be_after, needs_compensate, IsLink, IsParticipant, is_nested, IsMember, next_nested, is_member_count, Context, is_home, is_number, are_stamps, IsRecord}
-use Rattle.lra_delta.specs.Reading.{place_at, parent_by, parent_at, decision_of, decision_at, outcome_of, text_at, link_of, link_at, after_at, told_at, last_link_at, links_at, marks_at, participant_at, is_member_mark, member_by, member_at, members_at, record_at}
+use Rattle.lra_delta.specs.Reading.{place_at, parent_by, parent_at, decision_of, decision_at, outcome_of, text_at, link_of, link_at, after_at, told_at, last_link_at, links_at, marks_at, participant_at, is_member_mark, member_by, member_at, members_at, read_record_at}
 use Rattle.lra_delta.proofs.Together.{all_together, both, may_all, with_both}
 use Rattle.lra_delta.proofs.Codes.{IsCode, step, step_from, cased, finish, refit, guarded, ruled, ruled_at, each_code, cells_code, whole_code, number_code, wide8, wide64}
 
@@ -427,8 +427,8 @@ record_is : (p : Record) (a b : ℕ) (c : Option Place) (d : ℕ) (e : Option Ve
     → p ≡ record { home = a; num = b; parent = c; deadline = d; decision = e; stamps = s; members = p.members }
 record_is p a b c d e s ea eb ec ed ee es = rw (← ea, ← eb, ← ec, ← ed, ← ee, ← es) refl
 
-pub record_code : (k : Context) (last : Last) → IsCode (record_at k last) (record_text_as k.version) (IsRecord k last)
-unfolding record_at record_text_as
+pub record_code : (k : Context) (last : Last) → IsCode (read_record_at k last) (record_text_as k.version) (IsRecord k last)
+unfolding read_record_at record_text_as
 record_code k last =
     step _ (number_code w8 (2 ^ 8) wide8 (is_home (length k.front) last.home)) (λ p. p.home) (λ p f. (f.small, f.home)) (λ a fa.
     step _ (number_code w64 (2 ^ 64) wide64 (is_number k last a)) (λ p. p.num) (λ p f. (f.0.wide, rw (← f.1) f.0.num)) (λ b fb.

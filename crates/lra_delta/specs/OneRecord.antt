@@ -8,7 +8,7 @@ use Rattle.lra_delta.specs.declared.version.Version.TheVariants.{Two}
 use Rattle.lra_delta.specs.FrameFields.{Rest, Read, Broken, ◌>>=◌, value_of, told_of}
 use Rattle.lra_delta.specs.Grammar.{KeepsRulesIn}
 use Rattle.lra_delta.specs.Rules.{Context, IsRecord, start, told_context}
-use Rattle.lra_delta.specs.Reading.{record_at}
+use Rattle.lra_delta.specs.Reading.{read_record_at}
 
 abbrev pub under : Version → (front : List ℕ) → Context
 under v front = told_context v (replicate (length front) 0) front []
@@ -29,7 +29,7 @@ IsRecordUnderAs v front kept = IsRecord (under v front) start kept
 -- a record, and then the end
 unfoldable pub alone_at : Version → (front : List ℕ) → Rest → Read Record
 alone_at v front r = do
-  kept ← record_at (under v front) start r
+  kept ← read_record_at (under v front) start r
   if kept.1.place == r.limit then Ok kept else Err (Broken kept.1.place kept.1.place)
 
 -- all of the bytes

@@ -8,7 +8,7 @@ use Rattle.lra_delta.specs.declared.order.Last.{Last}
 use Rattle.lra_delta.specs.declared.input.Stop.{Stop}
 use Rattle.lra_delta.specs.FrameFields.{Along, Rest, Read}
 use Rattle.lra_delta.specs.Rules.{after, by_home, is_home, is_next}
-use Rattle.lra_delta.specs.Reading.{live_at}
+use Rattle.lra_delta.specs.Reading.{read_live_at}
 use Rattle.lra_delta.specs.Seen.{Reads, Seen}
 
 abbrev pub Follows : ℕ → Last → Record → Type 0
@@ -27,7 +27,7 @@ records_told homes = map (λ (told : Told). told.records.records) homes
 
 -- the home at a place, counted from 0
 abbrev pub live_of_place : (base purges front : List ℕ) → ℕ → Rest → Read (Option (List ℕ))
-live_of_place base purges front place = live_at (slice_index base place) (slice_index purges place) (slice_index front place)
+live_of_place base purges front place = read_live_at (slice_index base place) (slice_index purges place) (slice_index front place)
 
 abbrev pub next_place : ℕ → Option (List ℕ) → ℕ
 next_place place live = place + 1

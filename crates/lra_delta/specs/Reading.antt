@@ -151,8 +151,8 @@ members_at v stamp num r = do
   count ← number_at w8 is_member_count r
   each_at (member_at v stamp) next_nested count.0 num count.1
 
-unfoldable pub record_at : Context → Last → Rest → Read Record
-record_at k last r = do
+unfoldable pub read_record_at : Context → Last → Rest → Read Record
+read_record_at k last r = do
   home ← number_at w8 (is_home (length k.front) last.home) r
   num ← number_at w64 (is_number k last home.0) home.1
   parent ← parent_at num.0 num.1
@@ -173,10 +173,10 @@ record_at k last r = do
     members.1,
   )
 
-unfoldable pub records_at : Context → Rest → Read (List Record)
-records_at k r = do
+unfoldable pub read_records_at : Context → Rest → Read (List Record)
+read_records_at k r = do
   count ← number_at w16 (is_record_count (length k.front)) r
-  each_at (record_at k) after count.0 start count.1
+  each_at (read_record_at k) after count.0 start count.1
 
 unfoldable pub live_list_at : ℕ → Rest → Read (List ℕ)
 live_list_at top r = do
@@ -189,8 +189,8 @@ live_by top (suc _) r = do
   ns ← live_list_at top r
   Ok (Some ns.0, ns.1)
 
-unfoldable pub live_at : ℕ → ℕ → ℕ → Rest → Read (Option (List ℕ))
-live_at base purge top r = do
+unfoldable pub read_live_at : ℕ → ℕ → ℕ → Rest → Read (Option (List ℕ))
+read_live_at base purge top r = do
   mark ← number_at w8 (is_live_mark base purge) r
   live_by top mark.0 mark.1
 
@@ -200,8 +200,8 @@ body_at v r = do
   base ← vector_at nodes.0 are_counts nodes.1
   front ← vector_at nodes.0 (is_front base.0) base.1
   purges ← vector_at nodes.0 (at_most front.0) front.1
-  lives ← each_at (λ i. live_at (slice_index base.0 i) (slice_index purges.0 i) (slice_index front.0 i)) (λ i o. i + 1) nodes.0 0 purges.1
-  records ← records_at (record { version = v; base = base.0; front = front.0; lives = lives.0 }) lives.1
+  lives ← each_at (λ i. read_live_at (slice_index base.0 i) (slice_index purges.0 i) (slice_index front.0 i)) (λ i o. i + 1) nodes.0 0 purges.1
+  records ← read_records_at (record { version = v; base = base.0; front = front.0; lives = lives.0 }) lives.1
   Ok (record { base = base.0; front = front.0; purges = purges.0; live = lives.0; records = by_home nodes.0 records.0 }, records.1)
 
 -- the stated length bounds what comes

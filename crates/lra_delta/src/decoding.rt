@@ -8,17 +8,17 @@ ghost use Rattle.lra_delta.specs.Encoding.{encoding_as};
 ghost use Rattle.lra_delta.specs.declared.version.Version.{Version};
 
 use crate::Delta;
-use crate::bytes::Bytes;
 use crate::frame_fields::frame_of;
 use crate::input::Stop;
+use crate::slice::Slice;
 use lra_facts::Refusal;
 use std::alloc::Global;
 
 /// What all of the bytes encode.
-fn decoded(alloc: Global, bytes: &[u8]) -> Result<Delta, Refusal>
+fn frame_in_slice(alloc: Global, bytes: &[u8]) -> Result<Delta, Refusal>
     ensures { Decodes result (frame_in bytes.now) }
 {
-    let mut input = Bytes::new(bytes);
+    let mut input = Slice::new(bytes);
     match frame_of(alloc, &mut input) {
         Ok(delta) => Ok(delta),
         Err(Stop::Fault(place)) => Err(Refusal::BadFrame(place)),
@@ -41,6 +41,6 @@ impl Delta {
         ensures only { (version : Version) (frame : Frame) → IsDeltaAs version frame →
             bytes.now ≡ encoding_as version frame → Decodes result (Ok frame) }
     {
-        decoded(alloc, bytes)
+        frame_in_slice(alloc, bytes)
     }
 }

@@ -9,7 +9,7 @@ ghost use Rattle.lra_history.specs.Views.{records_at as records_of_home};
 ghost use Rattle.lra_delta.specs.Seen.{Answers, Reads};
 ghost use Rattle.lra_delta.specs.FrameFields.{each_at, number_at, vector_at};
 ghost use Rattle.lra_delta.specs.Rules.{are_counts, at_most, is_frame_length, is_front, is_live_number, is_node_count, start, told_context, after as after_lem};
-ghost use Rattle.lra_delta.specs.Reading.{body_at, frame_at, live_at, live_list_at, record_at, records_at};
+ghost use Rattle.lra_delta.specs.Reading.{body_at, frame_at, read_live_at, live_list_at, read_record_at, read_records_at};
 ghost use Rattle.lra_delta.specs.Encoding.{magic};
 ghost use Rattle.lra_delta.specs.Versions.{is_version, version_mark};
 ghost use Rattle.lra_delta.specs.Order.{AreEmpty, ArePutAs, lists, live_of_place, next_place, records_told};
@@ -125,7 +125,7 @@ fn live_list_of<I: Input>(alloc: Global, top: u64, input: &mut I) -> Result<Vec<
     each_live_number(alloc, top, count, input)
 }
 
-#[tactic(auto, unfolding(crate::specs::Reading::live_at, crate::specs::Reading::live_by))]
+#[tactic(auto, unfolding(crate::specs::Reading::read_live_at, crate::specs::Reading::live_by))]
 fn live_of<I: Input>(
     alloc: Global,
     base: u64,
@@ -134,7 +134,7 @@ fn live_of<I: Input>(
     input: &mut I,
 ) -> Result<Option<Vec<u64>>, Stop>
     ensures { Reads
-        (I.seen input.old) (I.seen input.new) held_numbers result (live_at base purge top) }
+        (I.seen input.old) (I.seen input.new) held_numbers result (read_live_at base purge top) }
 {
     let place = input.place();
     let mark = byte(input)?;
@@ -168,7 +168,7 @@ fn told_of<I: Input>(
 ) -> Result<Told, Stop>
     requires { place < 8 }
     ensures gives { Reads (I.seen input.old) (I.seen input.new)
-        (λ (told : Told). held_numbers told.held) result (live_at
+        (λ (told : Told). held_numbers told.held) result (read_live_at
         (slice_index base.now place) (slice_index purges.now place) (slice_index front.now place)) }
     ensures home { IfOk result (λ told. (told.records.home ≡ place + 1)
         × (told.records.records ≡ [])) }
@@ -259,7 +259,7 @@ fn each_record<I: Input>(
     requires { AreEmpty (length front.now) homes.old.items }
     ensures { ArePutAs (length front.now)
         (I.seen input.old) (I.seen input.new) homes.old.items homes.new.items result (each_at
-        (record_at (told_context version base.now front.now homes.old.items)) after_lem count start) }
+        (read_record_at (told_context version base.now front.now homes.old.items)) after_lem count start) }
 {
     let mut last = Last {
         home: 0,
@@ -275,7 +275,7 @@ fn each_record<I: Input>(
     Ok(())
 }
 
-#[tactic(auto, unfolding(crate::specs::Reading::records_at))]
+#[tactic(auto, unfolding(crate::specs::Reading::read_records_at))]
 fn records_of<I: Input>(
     alloc: Global,
     version: Version,
@@ -286,7 +286,7 @@ fn records_of<I: Input>(
 ) -> Result<(), Stop>
     requires { AreEmpty (length front.now) homes.old.items }
     ensures { ArePutAs (length front.now) (I.seen input.old) (I.seen input.new) homes.old.items
-        homes.new.items result (records_at (told_context version base.now front.now homes.old.items)) }
+        homes.new.items result (read_records_at (told_context version base.now front.now homes.old.items)) }
 {
     let place = input.place();
     let count = two_bytes(input)?;

@@ -2,7 +2,6 @@
 #![tactic(auto)]
 
 mod buffer;
-mod bytes;
 mod copies;
 mod count;
 mod decoding;
@@ -24,12 +23,12 @@ mod sameness;
 mod scan;
 mod since;
 mod size;
+mod slice;
 mod stream;
 mod version;
 mod writing;
 
 pub use buffer::Buffer;
-pub use bytes::Bytes;
 pub use count::ByteCount;
 pub use delta::Delta;
 pub use frame_encoding::{encode, encode_v1, put_frame};
@@ -37,4 +36,5 @@ pub use input::{Input, Stop};
 pub use one_record::{decode_record, encode_record};
 pub use output::Output;
 pub use preparing::prepare;
+pub use slice::Slice;
 pub use version::Version;

@@ -8,11 +8,11 @@ ghost use Rattle.lra_delta.specs.Encoding.{record_text, record_text_as};
 ghost use Rattle.lra_delta.specs.declared.version.Version.TheVariants.{Two};
 
 use crate::buffer::Buffer;
-use crate::bytes::Bytes;
 use crate::input::{Input, Stop};
 use crate::order::Last;
 use crate::record_encoding::put_record;
 use crate::record_fields::record_of;
+use crate::slice::Slice;
 use crate::version::Version;
 use lra_facts::Refusal;
 use lra_forest::Record;
@@ -44,10 +44,15 @@ fn alone_of<I: Input>(
 }
 
 /// The record that all of the bytes encode.
-fn alone(alloc: Global, bytes: &[u8], front: &Front, version: Version) -> Result<Record, Refusal>
+fn record_in_slice(
+    alloc: Global,
+    bytes: &[u8],
+    front: &Front,
+    version: Version,
+) -> Result<Record, Refusal>
     ensures { Decodes result (record_in_as version front.now bytes.now) }
 {
-    let mut input = Bytes::new(bytes);
+    let mut input = Slice::new(bytes);
     match alone_of(alloc, version, front, &mut input) {
         Ok(kept) => Ok(kept),
         Err(Stop::Fault(place)) => Err(Refusal::BadFrame(place)),
@@ -75,7 +80,7 @@ pub fn decode_record(
         IsRecordUnderAs version front.now kept →
         bytes.now ≡ record_text_as version kept → Decodes result (Ok kept) }
 {
-    alone(alloc, bytes, front, version)
+    record_in_slice(alloc, bytes, front, version)
 }
 
 /// The bytes that encode a record, in version 2. Under a front where it fits they are read as

@@ -9,7 +9,7 @@ ghost use Rattle.lra_delta.specs.Seen.{Reads};
 ghost use Rattle.lra_delta.specs.FrameFields.{each_at, many_at, number_at, vector_at, whole_at};
 ghost use Rattle.lra_delta.specs.Frames.{is_beyond, live_at};
 ghost use Rattle.lra_delta.specs.Rules.{are_stamps, at_most, is_among, is_home, is_length_for, is_next, is_number, may_be, may_be_after, needs_compensate, next_nested, told_context};
-ghost use Rattle.lra_delta.specs.Reading.{after_at, decision_at, last_link_at, link_at, links_at, member_at, members_at, parent_at, participant_at, place_at, record_at};
+ghost use Rattle.lra_delta.specs.Reading.{after_at, decision_at, last_link_at, link_at, links_at, member_at, members_at, parent_at, participant_at, place_at, read_record_at};
 ghost use Rattle.lra_facts.specs.Links.{links_together};
 ghost use Rattle.lra_delta.specs.declared.version.Version.TheVariants.{One, Two};
 
@@ -450,7 +450,7 @@ fn stamps_of<I: Input>(
 }
 
 /// A record, after the last one.
-#[tactic(auto, unfolding(crate::specs::Reading::record_at))]
+#[tactic(auto, unfolding(crate::specs::Reading::read_record_at))]
 pub(crate) fn record_of<I: Input>(
     alloc: Global,
     version: Version,
@@ -461,7 +461,7 @@ pub(crate) fn record_of<I: Input>(
     input: &mut I,
 ) -> Result<Record, Stop>
     ensures gives { Reads (I.seen input.old) (I.seen input.new)
-        (λ x. x) result (record_at (told_context version base.now front.now homes.now) last) }
+        (λ x. x) result (read_record_at (told_context version base.now front.now homes.now) last) }
     ensures follows { IfOk result (λ x. Follows (length front.now) last x) }
 {
     let home = home_of(front.nodes(), last.home, input)?;

@@ -105,7 +105,7 @@ fn tell_number(told: &mut Forest, home: &Forest, num: u64) -> Result<(), AllocEr
 }
 
 /// Tells of the LRA of an entry, too.
-fn tell(told: &mut Vec<Told>, homes: &[Forest], entry: &Entry) -> Result<(), AllocError>
+fn tell_entry(told: &mut Vec<Told>, homes: &[Forest], entry: &Entry) -> Result<(), AllocError>
     requires told { AreHomes (length homes.now) (homes_told told.old.items) }
     requires homes { AreHomes (length homes.now) homes.now }
     ensures { OnOk result
@@ -125,7 +125,7 @@ fn tell_each(told: &mut Vec<Told>, homes: &[Forest], entries: &[Entry]) -> Resul
         (AreTold (is_listed entries.now) homes.now told.old.items told.new.items) }
 {
     for entry in entries {
-        tell(told, homes, entry)?;
+        tell_entry(told, homes, entry)?;
     }
     Ok(())
 }

@@ -11,16 +11,16 @@ use Rattle.httparse.specs.declared.spans.ResponseSpans.{ResponseSpans}
 use Rattle.httparse.proofs.GrammarLemmas.{response_unique}
 use Rattle.lra_http.specs.declared.fault.Fault.{Fault}
 use Rattle.lra_http.specs.declared.fault.Fault.TheVariants.{BadHead}
-use Rattle.lra_http.specs.declared.head.Kind.TheVariants.{Response}
+use Rattle.lra_http.specs.declared.head.HeadKind.TheVariants.{Response}
 use Rattle.lra_http.specs.Heads.{HasNoHead, HasNoShorterHead, IsHead, IsHeadWithin, RefusesHead}
-use Rattle.lra_http.specs.Responses.{Room, head_room, is_interim, is_switch, Begins, HasFinal, HasNoFinal, IsOfHeads, IsSwitched, RefusesHeads, ArePartsOf, IsFinalRead}
+use Rattle.lra_http.specs.Responses.{Room, head_room, is_interim, is_switch, Begins, HasFinal, HasNoFinal, IsOfHeads, IsSwitched, RefusesHeads, ArePartsOfResponse, IsFinalRead}
 use Rattle.std.proofs.lemmas.Bool.Decides.{nat_tests}
 use Rattle.lra_http.proofs.Heads.{some_head}
 use Rattle.lra_http.proofs.Interims.{Continues, Reaches, continues_more, behind_none, ends_front, none_front, refuses_front}
 
 -- the parser's spans of bytes that are a head
 pub parts_are : (bytes : List ℕ) (headers : List HeaderSpan) (spans : ResponseSpans) (lines : ℕ) → IsHead Response bytes lines
-    → IsResponseOf bytes headers spans → IsResponseWithin bytes headers spans → ArePartsOf bytes headers spans
+    → IsResponseOf bytes headers spans → IsResponseWithin bytes headers spans → ArePartsOfResponse bytes headers spans
 parts_are bytes headers spans lines (k, valid, e, count) (h, at) within =
     let same = response_unique bytes k h [] (drop spans.len bytes) (valid, e ∙ sym (append-nil (print_response k))) at.reads in
     let counts : length (take spans.headers headers) ≡ length h.fields = simp length-map at (ap length at.fields) in
@@ -34,12 +34,12 @@ parts_are bytes headers spans lines (k, valid, e, count) (h, at) within =
 
 -- the head that was read, with its parts
 pub record Read (room : Room) (bytes : List ℕ) (headers : List HeaderSpan) (spans : ResponseSpans) : Type 0 where
-  pub parts : ArePartsOf bytes headers spans
+  pub parts : ArePartsOfResponse bytes headers spans
   pub short : length bytes ≤ room.bytes
   pub few : spans.headers ≤ room.lines
 
 pub read_is : (room : Room) (bytes : List ℕ) (headers : List HeaderSpan) (spans : ResponseSpans)
-    → IsHeadWithin Response room.bytes room.lines bytes → ArePartsOf bytes headers spans → Read room bytes headers spans
+    → IsHeadWithin Response room.bytes room.lines bytes → ArePartsOfResponse bytes headers spans → Read room bytes headers spans
 read_is room bytes headers spans read parts =
     let k = read.head.0 in
     let same = response_unique bytes k parts.head [] (drop spans.len bytes) (read.head.1, read.head.2 ∙ sym (append-nil (print_response k))) parts.at.reads in
@@ -60,7 +60,7 @@ begins_is room next bytes headers spans r = record {
   few = let own = r.parts.count in let few = r.few in omega (arith, own, few);
 }
 
-code_is : (P : ℕ → Type 0) (bytes : List ℕ) (headers : List HeaderSpan) (spans : ResponseSpans) (p : ArePartsOf bytes headers spans) → P spans.code → P (status_code p.head)
+code_is : (P : ℕ → Type 0) (bytes : List ℕ) (headers : List HeaderSpan) (spans : ResponseSpans) (p : ArePartsOfResponse bytes headers spans) → P spans.code → P (status_code p.head)
 code_is P bytes headers spans p h = subst P p.at.code h
 
 -- an interim head was read
@@ -173,12 +173,12 @@ slice_room : (n : ℕ) (headers : List HeaderSpan) → n ≤ 64 → length heade
 slice_room n headers few size = omega (arith, few, size, length-take n headers)
 
 pub read_here : (most lines : ℕ) (old : List HeaderSpan) (bytes looked : List ℕ) (headers : List HeaderSpan) (spans : ResponseSpans)
-    → lines ≤ 64 → length old ≡ 64 → IsHeadWithin Response most (length (take lines old)) bytes → looked ≡ bytes → ArePartsOf looked headers spans
+    → lines ≤ 64 → length old ≡ 64 → IsHeadWithin Response most (length (take lines old)) bytes → looked ≡ bytes → ArePartsOfResponse looked headers spans
     → Read (record { bytes = most; lines = lines }) bytes headers spans
 read_here most lines old bytes looked headers spans few size read same parts =
     read_is (record { bytes = most; lines = lines }) bytes headers spans
     (subst (λ (n : ℕ). IsHeadWithin Response most n bytes) (slice_room lines old few size) read)
-    (subst (λ (b : List ℕ). ArePartsOf b headers spans) same parts)
+    (subst (λ (b : List ℕ). ArePartsOfResponse b headers spans) same parts)
 
 pub refused_here : (first mid new : GivenBytes) (most lines : ℕ) (old : List HeaderSpan) (fault : Fault) → GivesWhat first mid (Reaches (record { bytes = most; lines = lines }))
     → lines ≤ 64 → length old ≡ 64 → Stops mid new (Shows (most + 1) (RefusesHead Response most (length (take lines old)))) fault

@@ -11,11 +11,11 @@ use Rattle.httparse.specs.Spans.{IsRequestOf, IsResponseOf, IsRequestWithin, IsR
 use Rattle.httparse.specs.declared.spans.HeaderSpan.{HeaderSpan}
 use Rattle.httparse.specs.declared.spans.RequestSpans.{RequestSpans}
 use Rattle.httparse.specs.declared.spans.ResponseSpans.{ResponseSpans}
-use Rattle.lra_http.specs.declared.head.Kind.{Kind}
-use Rattle.lra_http.specs.declared.head.Kind.TheVariants.{Request, Response}
-use Rattle.lra_http.specs.declared.head.Step.{Step}
-use Rattle.lra_http.specs.declared.head.Step.TheVariants.{Whole, Long}
-use Rattle.lra_http.specs.Heads.{IsStep, IsHead, HasNoHead, HasNoShorterHead, NeverHasHead, MayBecomeHead, Exceeds, Overflows, HasHead, IsHeadWithin, IsHeadTooLong, IsOpen, RefusesHead}
+use Rattle.lra_http.specs.declared.head.HeadKind.{HeadKind}
+use Rattle.lra_http.specs.declared.head.HeadKind.TheVariants.{Request, Response}
+use Rattle.lra_http.specs.declared.head.HeadState.{HeadState}
+use Rattle.lra_http.specs.declared.head.HeadState.TheVariants.{Whole, Long}
+use Rattle.lra_http.specs.Heads.{IsHeadState, IsHead, HasNoHead, HasNoShorterHead, NeverHasHead, MayBecomeHead, Exceeds, Overflows, HasHead, IsHeadWithin, IsHeadTooLong, IsOpen, RefusesHead}
 use Rattle.lra_http.specs.Faults.{Shows, Stops}
 use Rattle.lra_http.specs.Streams.{FoundEnd, GivenBytes, Gives, GivesWhat}
 use Rattle.lra_http.specs.declared.fault.Fault.{Fault}
@@ -24,15 +24,15 @@ use Rattle.lra_http.proofs.Known.{gives_more}
 
 -- ---- the two kinds as one
 
-pub none_of : (kind : Kind) (bytes text rest : List ℕ) (lines : ℕ) → HasNoHead kind bytes → IsHead kind text lines → bytes ≡ text ++ rest → ⊥
+pub none_of : (kind : HeadKind) (bytes text rest : List ℕ) (lines : ℕ) → HasNoHead kind bytes → IsHead kind text lines → bytes ≡ text ++ rest → ⊥
 none_of Request bytes text rest lines none (h, valid, e, count) same = none h rest (valid, same ∙ ap (λ (t : List ℕ). t ++ rest) e)
 none_of Response bytes text rest lines none (h, valid, e, count) same = none h rest (valid, same ∙ ap (λ (t : List ℕ). t ++ rest) e)
 
-pub none_from : (kind : Kind) (bytes : List ℕ) → ((text rest : List ℕ) (lines : ℕ) → IsHead kind text lines → bytes ≡ text ++ rest → ⊥) → HasNoHead kind bytes
+pub none_from : (kind : HeadKind) (bytes : List ℕ) → ((text rest : List ℕ) (lines : ℕ) → IsHead kind text lines → bytes ≡ text ++ rest → ⊥) → HasNoHead kind bytes
 none_from Request bytes f = λ h rest reads. f (print_request h) rest (length h.fields) (h, reads.0, refl, refl) reads.1
 none_from Response bytes f = λ h rest reads. f (print_response h) rest (length h.fields) (h, reads.0, refl, refl) reads.1
 
-pub over_of : (kind : Kind) (room : ℕ) (bytes more text rest : List ℕ) (lines : ℕ) → Overflows kind room bytes → IsHead kind text lines
+pub over_of : (kind : HeadKind) (room : ℕ) (bytes more text rest : List ℕ) (lines : ℕ) → Overflows kind room bytes → IsHead kind text lines
     → bytes ++ more ≡ text ++ rest → room < lines
 over_of Request room bytes more text rest lines over (h, valid, e, count) same =
     let many : room < length h.fields = over more h rest (valid, same ∙ ap (λ (t : List ℕ). t ++ rest) e) in
@@ -41,7 +41,7 @@ over_of Response room bytes more text rest lines over (h, valid, e, count) same 
     let many : room < length h.fields = over more h rest (valid, same ∙ ap (λ (t : List ℕ). t ++ rest) e) in
     omega (arith, count)
 
-pub exceeds_more : (kind : Kind) (room : ℕ) (bytes more : List ℕ) → Exceeds kind room bytes → Exceeds kind room (bytes ++ more)
+pub exceeds_more : (kind : HeadKind) (room : ℕ) (bytes more : List ℕ) → Exceeds kind room bytes → Exceeds kind room (bytes ++ more)
 exceeds_more Request room bytes more (prefix, rest, same, h, reads, many) =
     (prefix, rest ++ more, ap (λ (t : List ℕ). t ++ more) same ∙ append_assoc prefix rest more, h, reads, many)
 exceeds_more Response room bytes more (prefix, rest, same, h, reads, many) =
@@ -67,11 +67,11 @@ ends_response : (h : ResponseHead) → EndsInLine (print_response h)
 unfolding print_response
 ends_response h = search (ends_append, ends_line)
 
-pub ends_head : (kind : Kind) (text : List ℕ) (lines : ℕ) → IsHead kind text lines → EndsInLine text
+pub ends_head : (kind : HeadKind) (text : List ℕ) (lines : ℕ) → IsHead kind text lines → EndsInLine text
 ends_head Request text lines (h, valid, e, count) = subst EndsInLine (sym e) (ends_request h)
 ends_head Response text lines (h, valid, e, count) = subst EndsInLine (sym e) (ends_response h)
 
-pub some_head : (kind : Kind) (text : List ℕ) (lines : ℕ) → IsHead kind text lines → 0 < length text
+pub some_head : (kind : HeadKind) (text : List ℕ) (lines : ℕ) → IsHead kind text lines → 0 < length text
 some_head kind text lines is =
     let ends = ends_head kind text lines is in
     let size : length text ≡ length ends.0 + 1 = ap length ends.1 ∙ length-append ends.0 (line_feed ∷ []) in
@@ -80,7 +80,7 @@ some_head kind text lines is =
 -- ---- one byte more
 
 -- a head of a longer text that is no longer than the prefix is a head of the prefix
-pub short_head : (kind : Kind) (prefix more text rest : List ℕ) (lines : ℕ) → HasNoHead kind prefix → IsHead kind text lines
+pub short_head : (kind : HeadKind) (prefix more text rest : List ℕ) (lines : ℕ) → HasNoHead kind prefix → IsHead kind text lines
     → prefix ++ more ≡ text ++ rest → length text ≤ length prefix → ⊥
 short_head kind prefix more text rest lines none is e short =
     let n = length text in
@@ -88,7 +88,7 @@ short_head kind prefix more text rest lines none is e short =
     sym (take-append_seam text rest) ∙ ap (take n) (sym e) ∙ take-append-le n prefix more short in
     none_of kind prefix text (drop n prefix) lines none is (sym (take-append-drop n prefix) ∙ ap (λ (t : List ℕ). t ++ drop n prefix) (sym same))
 
-pub nothing : (kind : Kind) → HasNoHead kind []
+pub nothing : (kind : HeadKind) → HasNoHead kind []
 nothing kind = none_from kind [] (λ text rest lines is e.
     let some = some_head kind text lines is in
     let size : 0 ≡ length text + length rest = ap length e ∙ length-append text rest in
@@ -107,7 +107,7 @@ same_last (z ∷ a) [] x y e = absurd (let n : length (z ∷ a ++ x ∷ []) ≡ 
 same_last (z ∷ a) (w ∷ b) x y e = same_last a b x y (cc)
 
 -- with one byte more nothing stands behind a head
-none_shorter : (kind : Kind) (head : List ℕ) (byte : ℕ) → HasNoHead kind head → HasNoShorterHead kind (head ++ byte ∷ [])
+none_shorter : (kind : HeadKind) (head : List ℕ) (byte : ℕ) → HasNoHead kind head → HasNoShorterHead kind (head ++ byte ∷ [])
 none_shorter kind head byte none = λ text rest lines is same.
     let sizes : length head + 1 ≡ length text + length rest =
     sym (length-append head (byte ∷ [])) ∙ ap length same ∙ length-append text rest in
@@ -115,7 +115,7 @@ none_shorter kind head byte none = λ text rest lines is same.
     no_element rest (grind (arith, long, sizes))
 
 -- a byte that is no line feed ends no head
-pub none_more : (kind : Kind) (head items : List ℕ) (byte : ℕ) → items ≡ head ++ byte ∷ [] → HasNoHead kind head → byte ≢ line_feed → HasNoHead kind items
+pub none_more : (kind : HeadKind) (head items : List ℕ) (byte : ℕ) → items ≡ head ++ byte ∷ [] → HasNoHead kind head → byte ≢ line_feed → HasNoHead kind items
 none_more kind head items byte e none other = none_from kind items (λ text rest lines is same.
     let ends = ends_head kind text lines is in
     let whole : head ++ byte ∷ [] ≡ text ++ rest = sym e ∙ same in
@@ -152,7 +152,7 @@ space_response : (h : ResponseHead) → HasSpace (print_response h)
 unfolding print_response
 space_response h = search (space_here, space_left, space_right)
 
-space_head : (kind : Kind) (text : List ℕ) (lines : ℕ) → IsHead kind text lines → HasSpace text
+space_head : (kind : HeadKind) (text : List ℕ) (lines : ℕ) → IsHead kind text lines → HasSpace text
 space_head Request text lines (h, valid, e, count) = subst HasSpace (sym e) (space_request h)
 space_head Response text lines (h, valid, e, count) = subst HasSpace (sym e) (space_response h)
 
@@ -161,7 +161,7 @@ and_false true b = refl
 and_false false b = refl
 
 -- bytes without a space have no head
-none_unspaced : (kind : Kind) (bytes : List ℕ) → list_all is_other bytes ≡ true → HasNoHead kind bytes
+none_unspaced : (kind : HeadKind) (bytes : List ℕ) → list_all is_other bytes ≡ true → HasNoHead kind bytes
 none_unspaced kind bytes others = none_from kind bytes (λ text rest lines is same.
     let s = space_head kind text lines is in
     let none : list_all is_other bytes ≡ false =
@@ -183,14 +183,14 @@ unspaced_more false after head items byte is e others = λ none.
     ∙ ap (λ (b : Bool). not b && true) other
 
 -- a byte after which the parser isn't asked ends no head
-pub none_lacked : (kind : Kind) (spaced : Bool) (head items : List ℕ) (byte : ℕ) → items ≡ head ++ byte ∷ [] → HasNoHead kind head
+pub none_lacked : (kind : HeadKind) (spaced : Bool) (head items : List ℕ) (byte : ℕ) → items ≡ head ++ byte ∷ [] → HasNoHead kind head
     → Unspaced spaced items → (IsTrue spaced → byte ≢ line_feed) → HasNoHead kind items
 none_lacked kind true head items byte e none others other = none_more kind head items byte e none (other refl)
 none_lacked kind false head items byte e none others other = none_unspaced kind items (others refl)
 
 -- ---- the faults
 
-pub bad_shown : (kind : Kind) (most room : ℕ) (bytes : List ℕ) → NeverHasHead kind bytes → length bytes ≤ most + 1
+pub bad_shown : (kind : HeadKind) (most room : ℕ) (bytes : List ℕ) → NeverHasHead kind bytes → length bytes ≤ most + 1
     → Shows (most + 1) (RefusesHead kind most room) bytes BadHead
 bad_shown kind most room bytes never short = record {
   shown = λ more nothing. record { prefix = bytes; rest = more; whole = refl; short = short; never = never };
@@ -198,7 +198,7 @@ bad_shown kind most room bytes never short = record {
 }
 
 -- more field lines than there may be, whatever follows
-crowded : (kind : Kind) (most room : ℕ) (bytes more : List ℕ) → Exceeds kind room bytes → Overflows kind room bytes → IsHeadTooLong kind most room (bytes ++ more)
+crowded : (kind : HeadKind) (most room : ℕ) (bytes more : List ℕ) → Exceeds kind room bytes → Overflows kind room bytes → IsHeadTooLong kind most room (bytes ++ more)
 crowded kind most room bytes more exceeds over = (
   inr (exceeds_more kind room bytes more exceeds),
   λ text rest lines is same fits few.
@@ -207,24 +207,24 @@ crowded kind most room bytes more exceeds over = (
 )
 
 -- what the parser says at the end of the input
-pub at_end : (kind : Kind) (most room : ℕ) (bytes : List ℕ) → length bytes ≤ most
+pub at_end : (kind : HeadKind) (most room : ℕ) (bytes : List ℕ) → length bytes ≤ most
     → ((most < length bytes) × IsOpen kind bytes) ⊎ (Exceeds kind room bytes × Overflows kind room bytes)
     → Shows (most + 1) (RefusesHead kind most room) bytes HeadTooLong
 at_end kind most room bytes short (inl (long, may)) = absurd (omega (arith, short, long))
 at_end kind most room bytes short (inr (exceeds, over)) =
     record { shown = λ more nothing. crowded kind most room bytes more exceeds over; short = omega (arith, short) }
 
-pub bad_head : (kind : Kind) (most room : ℕ) (head items : List ℕ) (byte : ℕ) → items ≡ head ++ byte ∷ []
+pub bad_head : (kind : HeadKind) (most room : ℕ) (head items : List ℕ) (byte : ℕ) → items ≡ head ++ byte ∷ []
     → length head ≤ most → NeverHasHead kind items → Shows (most + 1) (RefusesHead kind most room) items BadHead
 bad_head kind most room head items byte e short never =
     bad_shown kind most room items never (let size : length items ≡ length head + 1 = ap length e ∙ length-append head (byte ∷ []) in omega (arith, size, short))
 
 -- a head that ends at the last byte, and bytes that may become one
-whole_becomes : (kind : Kind) (bytes text : List ℕ) (lines : ℕ) → IsHead kind text lines → bytes ≡ text → MayBecomeHead kind bytes
+whole_becomes : (kind : HeadKind) (bytes text : List ℕ) (lines : ℕ) → IsHead kind text lines → bytes ≡ text → MayBecomeHead kind bytes
 whole_becomes Request bytes text lines (h, valid, e, count) same = inl ([], h, (valid, ap (λ (t : List ℕ). t ++ []) (same ∙ e)))
 whole_becomes Response bytes text lines (h, valid, e, count) same = ([], h, (valid, ap (λ (t : List ℕ). t ++ []) (same ∙ e)))
 
-becomes : (kind : Kind) (head items : List ℕ) (byte : ℕ) → items ≡ head ++ byte ∷ [] → HasNoHead kind head → IsOpen kind items → MayBecomeHead kind items
+becomes : (kind : HeadKind) (head items : List ℕ) (byte : ℕ) → items ≡ head ++ byte ∷ [] → HasNoHead kind head → IsOpen kind items → MayBecomeHead kind items
 becomes kind head items byte e none (inl may) = may
 becomes kind head items byte e none (inr (text, rest, lines, is, same)) =
     let sizes : length head + 1 ≡ length text + length rest =
@@ -233,7 +233,7 @@ becomes kind head items byte e none (inr (text, rest, lines, is, same)) =
     let all : length rest ≡ 0 = grind (arith, long, sizes) in
     whole_becomes kind items text lines is (same ∙ ap (λ (r : List ℕ). text ++ r) (no_element rest all) ∙ append-nil text)
 
-pub long_head : (kind : Kind) (most room : ℕ) (head items : List ℕ) (byte : ℕ) → items ≡ head ++ byte ∷ []
+pub long_head : (kind : HeadKind) (most room : ℕ) (head items : List ℕ) (byte : ℕ) → items ≡ head ++ byte ∷ []
     → HasNoHead kind head → length head ≤ most
     → ((most < length items) × IsOpen kind items) ⊎ (Exceeds kind room items × Overflows kind room items)
     → Shows (most + 1) (RefusesHead kind most room) items HeadTooLong
@@ -255,7 +255,7 @@ long_head kind most room head items byte e none short (inr (exceeds, over)) = re
 }
 
 -- where the head stops behind these bytes
-pub stops : (kind : Kind) (most room : ℕ) (old new : GivenBytes) (bytes : List ℕ) (fault : Fault) → Gives old new bytes
+pub stops : (kind : HeadKind) (most room : ℕ) (old new : GivenBytes) (bytes : List ℕ) (fault : Fault) → Gives old new bytes
     → Shows (most + 1) (RefusesHead kind most room) bytes fault → (fault ≡ Cut → FoundEnd new)
     → Stops old new (Shows (most + 1) (RefusesHead kind most room)) fault
 stops kind most room old new bytes fault gives is ended = record { bytes = bytes; gives = gives; is = is; ended = ended }
@@ -285,7 +285,7 @@ response_whole room bytes headers spans size (h, at) within =
       omega (arith, size, count, length-take spans.headers headers),
     )
 
-pub whole_head : (kind : Kind) (most room : ℕ) (head items : List ℕ) (byte : ℕ) → items ≡ head ++ byte ∷ []
+pub whole_head : (kind : HeadKind) (most room : ℕ) (head items : List ℕ) (byte : ℕ) → items ≡ head ++ byte ∷ []
     → HasNoHead kind head → HasHead kind room items × (length items ≤ most) → IsHeadWithin kind most room items
 whole_head kind most room head items byte e none ((text, rest, lines, is, same, few), fits) =
     let sizes : length head + 1 ≡ length text + length rest =
@@ -295,13 +295,13 @@ whole_head kind most room head items byte e none ((text, rest, lines, is, same, 
     let exact : items ≡ text = same ∙ ap (λ (r : List ℕ). text ++ r) (no_element rest all) ∙ append-nil text in
     record { lines = lines; head = subst (λ (t : List ℕ). IsHead kind t lines) (sym exact) is; short = fits; few = few }
 
-pub whole_step : (kind : Kind) (most room : ℕ) (bytes : List ℕ) (step : Step) → step ≡ cond (nat_le (length bytes) most) Whole Long
-    → HasHead kind room bytes → IsStep kind most room bytes step
-whole_step kind most room bytes step e has =
+pub whole_state : (kind : HeadKind) (most room : ℕ) (bytes : List ℕ) (state : HeadState) → state ≡ cond (nat_le (length bytes) most) Whole Long
+    → HasHead kind room bytes → IsHeadState kind most room bytes state
+whole_state kind most room bytes state e has =
     whole_by (leb_tells (length bytes) most)
   where
     whole_by : ((nat_le (length bytes) most ≡ true) × (length bytes ≤ most)) ⊎ ((nat_le (length bytes) most ≡ false) × (most < length bytes))
-        → IsStep kind most room bytes step
+        → IsHeadState kind most room bytes state
     whole_by (inl (t, le)) = rw (e, t) (has, le)
     whole_by (inr (f, lt)) = rw (e, f) (inl (lt, inr (has.0, has.1, has.2, has.3, has.4)))
 
@@ -313,7 +313,7 @@ takes_byte old mid new head items found byte taken next is e =
     rw e (gives_more old mid new head (byte ∷ []) taken last)
 
 -- memory ran out for a byte that was given
-pub byte_lost : (kind : Kind) (old mid new : GivenBytes) (head : List ℕ) (found : Option ℕ) (byte : ℕ) → Gives old mid head
+pub byte_lost : (kind : HeadKind) (old mid new : GivenBytes) (head : List ℕ) (found : Option ℕ) (byte : ℕ) → Gives old mid head
     → IfSome found (λ b. Gives mid new (b ∷ [])) → found ≡ Some byte → HasNoHead kind head → GivesWhat old new (HasNoShorterHead kind)
 byte_lost kind old mid new head found byte taken next is none =
     (head ++ byte ∷ [], takes_byte old mid new head (head ++ byte ∷ []) found byte taken next is refl, none_shorter kind head byte none)

@@ -4,7 +4,7 @@ use Rattle.httparse.specs.Grammar.{ResponseHead, ReadsResponse, print_response, 
 use Rattle.httparse.proofs.GrammarLemmas.{response_unique}
 use Rattle.lra_http.specs.declared.fault.Fault.{Fault}
 use Rattle.lra_http.specs.declared.fault.Fault.TheVariants.{Cut, ReadFault, WriteFault, HeadTooLong, BodyTooLong, BadHead, LengthNeeded, NotOffered, NoMemory}
-use Rattle.lra_http.specs.declared.head.Kind.TheVariants.{Response}
+use Rattle.lra_http.specs.declared.head.HeadKind.TheVariants.{Response}
 use Rattle.lra_http.specs.Heads.{HasNoHead, HasNoShorterHead, RefusesHead}
 use Rattle.lra_http.specs.Responses.{Room, head_room, is_interim, is_switch, Skips, bytes_of, lines_of, Behind, Begins, HasFinal, HasNoFinal, IsOfHeads, IsUnfinished, IsHopeless, IsSwitched, IsOver, RefusesHeads}
 use Rattle.lra_http.proofs.Heads.{nothing}

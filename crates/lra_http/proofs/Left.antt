@@ -8,8 +8,8 @@ use Rattle.lra_http.specs.declared.message.Request.{Request as Question}
 use Rattle.lra_http.specs.ByteResponses.{Response as Answer}
 use Rattle.lra_http.specs.Faults.{Stops}
 use Rattle.lra_http.specs.Streams.{GivenBytes, GivesWhat}
-use Rattle.lra_http.specs.Requests.{HasHead, IsRequest, IsMessage as IsQuestion, Refuses as RefusesRequest, Shows as ShowsRequest}
-use Rattle.lra_http.specs.Responses.{head_room, HasFinal, IsResponse, IsMessage as IsAnswer, Refuses as RefusesResponse, Shows as ShowsResponse}
+use Rattle.lra_http.specs.Requests.{HasHead, IsRequest, IsRequestMessage, RefusesRequest, ShowsNoRequest}
+use Rattle.lra_http.specs.Responses.{head_room, HasFinal, IsResponse, IsResponseMessage, RefusesResponse, ShowsNoResponse}
 use Rattle.lra_http.proofs.Cuts.{final_more}
 use Rattle.lra_http.proofs.Messages.{no_fault as no_response_fault}
 use Rattle.lra_http.proofs.Questions.{no_fault as no_request_fault}
@@ -22,10 +22,10 @@ told Refuses None after bytes fault taken shown ended = tt
 told Refuses (Some input) None bytes fault taken shown ended = absurd taken
 told Refuses (Some input) (Some more) bytes fault taken shown ended = subst (λ (l : List ℕ). Refuses l fault) (sym taken) (shown more ended)
 
-pub request_refused : (limit : ℕ) (old new : GivenBytes) (fault : Fault) → Stops old new (ShowsRequest limit) fault → IfSome old.left (λ input. RefusesRequest limit input fault)
+pub request_refused : (limit : ℕ) (old new : GivenBytes) (fault : Fault) → Stops old new (ShowsNoRequest limit) fault → IfSome old.left (λ input. RefusesRequest limit input fault)
 request_refused limit old new fault s = told (RefusesRequest limit) old.left new.left s.bytes fault s.gives.left s.is.shown (λ e. (s.ended e).1)
 
-pub response_refused : (limit : ℕ) (old new : GivenBytes) (fault : Fault) → Stops old new (ShowsResponse limit) fault → IfSome old.left (λ input. RefusesResponse head_room limit input fault)
+pub response_refused : (limit : ℕ) (old new : GivenBytes) (fault : Fault) → Stops old new (ShowsNoResponse limit) fault → IfSome old.left (λ input. RefusesResponse head_room limit input fault)
 response_refused limit old new fault s = told (RefusesResponse head_room limit) old.left new.left s.bytes fault s.gives.left s.is.shown (λ e. (s.ended e).1)
 
 -- ---- a whole message is taken
@@ -34,12 +34,12 @@ weaker : (left : Option (List ℕ)) (P Q : List ℕ → Type 0) → ((input : Li
 weaker None P Q f h = tt
 weaker (Some input) P Q f h = f input h
 
-pub request_found : (limit : ℕ) (old new : GivenBytes) (fault : Fault) → Stops old new (ShowsRequest limit) fault
+pub request_found : (limit : ℕ) (old new : GivenBytes) (fault : Fault) → Stops old new (ShowsNoRequest limit) fault
     → IfSome old.left (λ input. (h : RequestHead) (body rest : List ℕ) → IsRequest limit input h body rest → (fault ≡ ReadFault) ⊎ (fault ≡ NoMemory))
 request_found limit old new fault s =
     weaker old.left _ _ (λ input refuses h body rest whole. no_request_fault limit input fault h body rest refuses whole) (request_refused limit old new fault s)
 
-pub response_found : (limit : ℕ) (old new : GivenBytes) (fault : Fault) → Stops old new (ShowsResponse limit) fault
+pub response_found : (limit : ℕ) (old new : GivenBytes) (fault : Fault) → Stops old new (ShowsNoResponse limit) fault
     → IfSome old.left (λ input. (h : ResponseHead) (body rest : List ℕ) → IsResponse head_room limit input h body rest → (fault ≡ ReadFault) ⊎ (fault ≡ NoMemory))
 response_found limit old new fault s =
     weaker old.left _ _ (λ input refuses h body rest whole. no_response_fault limit input fault h body rest refuses whole) (response_refused limit old new fault s)
@@ -63,13 +63,13 @@ request_more bytes body rest h has = record {
   lines = has.lines;
 }
 
-pub request_taken : (limit : ℕ) (old new : GivenBytes) (question : Question) → GivesWhat old new (λ bytes. IsQuestion limit bytes question)
+pub request_taken : (limit : ℕ) (old new : GivenBytes) (question : Question) → GivesWhat old new (λ bytes. IsRequestMessage limit bytes question)
     → IfSome old.left (λ input. (rest : List ℕ) × ((h : RequestHead) × IsRequest limit input h question.body rest) × (new.left ≡ Some rest))
 request_taken limit old new question (bytes, gives, is) =
     taken_off (λ input rest. (h : RequestHead) × IsRequest limit input h question.body rest) old.left new.left bytes gives.left
     (λ rest. (is.head, (request_more bytes question.body rest is.head is.whole.0, is.whole.1)))
 
-pub response_taken : (limit : ℕ) (old new : GivenBytes) (answer : Answer) → GivesWhat old new (λ bytes. IsAnswer limit bytes answer)
+pub response_taken : (limit : ℕ) (old new : GivenBytes) (answer : Answer) → GivesWhat old new (λ bytes. IsResponseMessage limit bytes answer)
     → IfSome old.left (λ input. (rest : List ℕ) × ((h : ResponseHead) × IsResponse head_room limit input h answer.body rest) × (new.left ≡ Some rest))
 response_taken limit old new answer (bytes, gives, is) =
     taken_off (λ input rest. (h : ResponseHead) × IsResponse head_room limit input h answer.body rest) old.left new.left bytes gives.left

@@ -11,11 +11,11 @@ use Rattle.lra_http.specs.declared.fault.Fault.{Fault}
 use Rattle.lra_http.specs.declared.fault.Fault.TheVariants.{Cut, ReadFault, WriteFault, HeadTooLong, BodyTooLong, BadHead, LengthNeeded, NotOffered, NoMemory}
 use Rattle.lra_http.specs.ByteResponses.{Response as Answer}
 use Rattle.lra_http.specs.Bodies.{RefusesBody}
-use Rattle.lra_http.specs.Faults.{Stops, Shows as ShowsPart}
+use Rattle.lra_http.specs.Faults.{Stops, Shows}
 use Rattle.lra_http.specs.Streams.{GivenBytes, Gives, GivesWhat}
 use Rattle.lra_http.proofs.Known.{gives_more}
 use Rattle.lra_http.specs.HeadFields.{field_bytes, values, is_number, is_bare, without_body, stated_length, response_length}
-use Rattle.lra_http.specs.Responses.{Room, head_room, is_interim, is_switch, Skips, bytes_of, lines_of, Behind, Begins, HasFinal, HasNoFinal, stated, IsResponse, HasNoResponse, IsHopeless, IsSwitched, RefusesHeads, HasFault, Refuses, IsHeadRead, IsMessage, IsOfHeads, IsFaultyHead, Shows, ShowsNoHead, Spends, ArePartsOf, IsFinalRead}
+use Rattle.lra_http.specs.Responses.{Room, head_room, is_interim, is_switch, Skips, bytes_of, lines_of, Behind, Begins, HasFinal, HasNoFinal, stated, IsResponse, HasNoResponse, IsHopeless, IsSwitched, RefusesHeads, HasFault, RefusesResponse, IsHeadRead, IsResponseMessage, IsOfHeads, IsFaultyHead, ShowsNoResponse, ShowsNoHead, Spends, ArePartsOfResponse, IsFinalRead}
 use Rattle.lra_http.proofs.Interims.{not_both, Interim, final_less, front_of}
 
 -- ---- an input has one final head
@@ -150,7 +150,7 @@ field_fault limit code fields fault e =
     let any : IfErr (response_length limit code fields) IsFieldFault = field_fault_of limit (is_bare code) (values (codes "content-length") fields) _ _ in
     subst (λ (r : Result ℕ Fault). IfErr r IsFieldFault) e any
 
-refuses_fields : (limit : ℕ) (input : List ℕ) (fault : Fault) → IsFieldFault fault → HasFault head_room limit input fault → Refuses head_room limit input fault
+refuses_fields : (limit : ℕ) (input : List ℕ) (fault : Fault) → IsFieldFault fault → HasFault head_room limit input fault → RefusesResponse head_room limit input fault
 refuses_fields limit input NotOffered f h = h
 refuses_fields limit input BadHead f h = inr h
 refuses_fields limit input BodyTooLong f h = h
@@ -163,7 +163,7 @@ refuses_fields limit input WriteFault f h = absurd f
 
 -- ---- faults of the heads and of the body
 
-pub refuses_heads : (limit : ℕ) (input : List ℕ) (fault : Fault) → RefusesHeads head_room input fault → Refuses head_room limit input fault
+pub refuses_heads : (limit : ℕ) (input : List ℕ) (fault : Fault) → RefusesHeads head_room input fault → RefusesResponse head_room limit input fault
 refuses_heads limit input Cut (none, b) = (λ h body rest whole. none h (body ++ rest) whole.0, inl b)
 refuses_heads limit input BadHead h = inl h
 refuses_heads limit input HeadTooLong h = h
@@ -184,7 +184,7 @@ cut_body limit input h rest size has is short k body more whole =
     omega (arith, size_is, long, short)
 
 refuses_body : (limit : ℕ) (input : List ℕ) (h : ResponseHead) (rest : List ℕ) (size : ℕ) (fault : Fault) → HasFinal head_room input h rest
-    → stated limit h ≡ Ok size → RefusesBody size rest fault → Refuses head_room limit input fault
+    → stated limit h ≡ Ok size → RefusesBody size rest fault → RefusesResponse head_room limit input fault
 refuses_body limit input h rest size Cut has is f = (cut_body limit input h rest size has is f, inr (h, rest, size, has, is, f))
 refuses_body limit input h rest size ReadFault has is f = tt
 refuses_body limit input h rest size NoMemory has is f = tt
@@ -206,7 +206,7 @@ record Final (limit : ℕ) (given bytes : List ℕ) (headers : List HeaderSpan) 
   fields : map (header_bytes bytes) (take spans.headers headers) ≡ map name_and_value head.fields
 
 final_parts : (limit : ℕ) (given bytes : List ℕ) (headers : List HeaderSpan) (spans : ResponseSpans)
-    → IsFinalRead given bytes → ArePartsOf bytes headers spans → Final limit given bytes headers spans
+    → IsFinalRead given bytes → ArePartsOfResponse bytes headers spans → Final limit given bytes headers spans
 final_parts limit given bytes headers spans f p =
     let h = p.head in
     let same = response_unique bytes f.head h [] (drop spans.len bytes) (f.valid, f.whole ∙ sym (append-nil (print_response f.head))) p.at.reads in
@@ -232,7 +232,7 @@ heads_spent limit bytes NotOffered h short = absurd h
 heads_spent limit bytes WriteFault h short = absurd h
 
 pub exit_heads : (limit : ℕ) (old new : GivenBytes) (fault : Fault)
-    → Stops old new (ShowsPart 16385 (RefusesHeads head_room)) fault → Stops old new (Shows limit) fault
+    → Stops old new (Shows 16385 (RefusesHeads head_room)) fault → Stops old new (ShowsNoResponse limit) fault
 exit_heads limit old new fault s = record {
   bytes = s.bytes;
   gives = s.gives;
@@ -260,10 +260,10 @@ fields_spent limit bytes NoMemory f short faulty = absurd f
 fields_spent limit bytes WriteFault f short faulty = absurd f
 
 pub exit_fields : (limit : ℕ) (old new : GivenBytes) (bytes looked : List ℕ) (headers : List HeaderSpan) (spans : ResponseSpans) (fault : Fault)
-    → GivesWhat old new (λ given. IsFinalRead given bytes) → looked ≡ bytes → ArePartsOf looked headers spans
-    → response_length limit spans.code (map (header_bytes bytes) (take spans.headers headers)) ≡ Err fault → Stops old new (Shows limit) fault
+    → GivesWhat old new (λ given. IsFinalRead given bytes) → looked ≡ bytes → ArePartsOfResponse looked headers spans
+    → response_length limit spans.code (map (header_bytes bytes) (take spans.headers headers)) ≡ Err fault → Stops old new (ShowsNoResponse limit) fault
 exit_fields limit old new bytes looked headers spans fault (given, gives, f) same p e =
-    let final = final_parts limit given bytes headers spans f (subst (λ (b : List ℕ). ArePartsOf b headers spans) same p) in
+    let final = final_parts limit given bytes headers spans f (subst (λ (b : List ℕ). ArePartsOfResponse b headers spans) same p) in
     let is = field_fault limit spans.code (map (header_bytes bytes) (take spans.headers headers)) fault e in
     record {
       bytes = given;
@@ -291,17 +291,17 @@ body_spent limit size bytes rest NotOffered h short few fits = absurd h
 body_spent limit size bytes rest WriteFault h short few fits = absurd h
 
 pub exit_body : (limit : ℕ) (old mid new : GivenBytes) (bytes looked : List ℕ) (headers : List HeaderSpan) (spans : ResponseSpans) (size : ℕ) (fault : Fault)
-    → GivesWhat old mid (λ given. IsFinalRead given bytes) → looked ≡ bytes → ArePartsOf looked headers spans
+    → GivesWhat old mid (λ given. IsFinalRead given bytes) → looked ≡ bytes → ArePartsOfResponse looked headers spans
     → response_length limit spans.code (map (header_bytes bytes) (take spans.headers headers)) ≡ Ok size → size ≤ limit
-    → Stops mid new (ShowsPart size (RefusesBody size)) fault → Stops old new (Shows limit) fault
+    → Stops mid new (Shows size (RefusesBody size)) fault → Stops old new (ShowsNoResponse limit) fault
 exit_body limit old mid new bytes looked headers spans size fault (given, gives, f) same p e fits s =
-    let final = final_parts limit given bytes headers spans f (subst (λ (b : List ℕ). ArePartsOf b headers spans) same p) in
+    let final = final_parts limit given bytes headers spans f (subst (λ (b : List ℕ). ArePartsOfResponse b headers spans) same p) in
     record {
       bytes = given ++ s.bytes;
       gives = gives_more old mid new given s.bytes gives s.gives;
       is = record {
         shown = λ more nothing.
-            subst (λ (l : List ℕ). Refuses head_room limit l fault) (sym (append_assoc given s.bytes more))
+            subst (λ (l : List ℕ). RefusesResponse head_room limit l fault) (sym (append_assoc given s.bytes more))
             (refuses_body limit (given ++ (s.bytes ++ more)) final.head (s.bytes ++ more) size fault (final.has (s.bytes ++ more)) (final.stated_is ∙ e) (s.is.shown more nothing));
         spent = body_spent limit size given s.bytes fault (s.is.shown [] (λ cut. refl)) f.short s.is.short fits;
       };
@@ -311,7 +311,7 @@ exit_body limit old mid new bytes looked headers spans size fault (given, gives,
 -- where memory runs out behind the body
 pub exit_memory : (limit : ℕ) (old mid new : GivenBytes) (bytes items : List ℕ) (size : ℕ) (fault : Fault)
     → GivesWhat old mid (λ given. IsFinalRead given bytes) → size ≤ limit
-    → (length items ≡ size) × Gives mid new items → fault ≡ NoMemory → Stops old new (Shows limit) fault
+    → (length items ≡ size) × Gives mid new items → fault ≡ NoMemory → Stops old new (ShowsNoResponse limit) fault
 exit_memory limit old mid new bytes items size fault (given, gives, f) fits (size_is, body) memory =
     rw memory (record {
       bytes = given ++ items;
@@ -324,12 +324,12 @@ exit_memory limit old mid new bytes items size fault (given, gives, f) fits (siz
     })
 
 pub exit_taken : (limit : ℕ) (old mid new : GivenBytes) (bytes looked : List ℕ) (headers : List HeaderSpan) (spans : ResponseSpans) (size : ℕ) (answer : Answer) (items : List ℕ)
-    → GivesWhat old mid (λ given. IsFinalRead given bytes) → looked ≡ bytes → ArePartsOf looked headers spans
+    → GivesWhat old mid (λ given. IsFinalRead given bytes) → looked ≡ bytes → ArePartsOfResponse looked headers spans
     → response_length limit spans.code (map (header_bytes bytes) (take spans.headers headers)) ≡ Ok size
     → answer.body ≡ items → length items ≡ size → Gives mid new items → answer.status ≡ spans.code
-    → map field_bytes answer.fields ≡ map (header_bytes bytes) (take spans.headers headers) → GivesWhat old new (λ whole. IsMessage limit whole answer)
+    → map field_bytes answer.fields ≡ map (header_bytes bytes) (take spans.headers headers) → GivesWhat old new (λ whole. IsResponseMessage limit whole answer)
 exit_taken limit old mid new bytes looked headers spans size answer items (given, gives, f) same p e body size_is taken code fields =
-    let final = final_parts limit given bytes headers spans f (subst (λ (b : List ℕ). ArePartsOf b headers spans) same p) in (
+    let final = final_parts limit given bytes headers spans f (subst (λ (b : List ℕ). ArePartsOfResponse b headers spans) same p) in (
       given ++ items,
       gives_more old mid new given items gives taken,
       record {
@@ -345,17 +345,17 @@ exit_taken limit old mid new bytes looked headers spans size answer items (given
 
 -- the heads alone
 pub exit_head : (limit : ℕ) (old new : GivenBytes) (bytes looked : List ℕ) (headers : List HeaderSpan) (spans : ResponseSpans) (size code : ℕ)
-    → GivesWhat old new (λ given. IsFinalRead given bytes) → looked ≡ bytes → ArePartsOf looked headers spans
+    → GivesWhat old new (λ given. IsFinalRead given bytes) → looked ≡ bytes → ArePartsOfResponse looked headers spans
     → response_length limit spans.code (map (header_bytes bytes) (take spans.headers headers)) ≡ Ok size → code ≡ spans.code
     → GivesWhat old new (λ given. IsHeadRead limit given code size)
 exit_head limit old new bytes looked headers spans size code (given, gives, f) same p e is =
-    let final = final_parts limit given bytes headers spans f (subst (λ (b : List ℕ). ArePartsOf b headers spans) same p) in (
+    let final = final_parts limit given bytes headers spans f (subst (λ (b : List ℕ). ArePartsOfResponse b headers spans) same p) in (
       given,
       gives,
       record { head = final.head; first = final.has; states = final.stated_is ∙ e; status = is ∙ final.code; short = f.short },
     )
 
-heads_show : (limit : ℕ) (bytes : List ℕ) (fault : Fault) → ShowsPart 16385 (RefusesHeads head_room) bytes fault → Shows limit bytes fault
+heads_show : (limit : ℕ) (bytes : List ℕ) (fault : Fault) → Shows 16385 (RefusesHeads head_room) bytes fault → ShowsNoResponse limit bytes fault
 heads_show limit bytes fault is = record {
   shown = λ more nothing. refuses_heads limit (bytes ++ more) fault (is.shown more nothing);
   spent = heads_spent limit bytes fault (is.shown [] (λ e. refl)) is.short;
@@ -382,7 +382,7 @@ of_heads bytes WriteFault r lost memory = absurd r
 of_given : (old new : GivenBytes) (bytes : List ℕ) (Is : List ℕ → Type 0) → Gives old new bytes → GivesWhat old new Is → Is bytes
 of_given old new bytes Is p (given, q, is) = subst Is (append_cancel_left old.given given bytes (sym q.given ∙ p.given)) is
 
-pub exit_no_head : (limit : ℕ) (old new : GivenBytes) (fault : Fault) → Stops old new (ShowsPart 16385 (RefusesHeads head_room)) fault
+pub exit_no_head : (limit : ℕ) (old new : GivenBytes) (fault : Fault) → Stops old new (Shows 16385 (RefusesHeads head_room)) fault
     → (fault ≡ ReadFault → GivesWhat old new (HasNoFinal head_room)) → (fault ≡ NoMemory → GivesWhat old new (IsOfHeads head_room))
     → Stops old new (ShowsNoHead limit) fault
 exit_no_head limit old new fault s lost memory =
@@ -409,7 +409,7 @@ just_heads given bytes f = λ h rest has.
     sym (unique_final head_room given f.head [] h rest whole has).1
 
 pub exit_bad_fields : (limit : ℕ) (old new : GivenBytes) (bytes looked : List ℕ) (headers : List HeaderSpan) (spans : ResponseSpans) (fault : Fault)
-    → GivesWhat old new (λ given. IsFinalRead given bytes) → looked ≡ bytes → ArePartsOf looked headers spans
+    → GivesWhat old new (λ given. IsFinalRead given bytes) → looked ≡ bytes → ArePartsOfResponse looked headers spans
     → response_length limit spans.code (map (header_bytes bytes) (take spans.headers headers)) ≡ Err fault → Stops old new (ShowsNoHead limit) fault
 exit_bad_fields limit old new bytes looked headers spans fault read same p e =
     let is = field_fault limit spans.code (map (header_bytes bytes) (take spans.headers headers)) fault e in
@@ -437,7 +437,7 @@ no_field_fault limit input fault h body rest (k, p, has, is) whole =
     let clash : Err fault ≡ Ok (length body) = sym is ∙ ap (stated limit) same.0 ∙ whole.1 in
     absurd (cc)
 
-pub no_fault : (limit : ℕ) (input : List ℕ) (fault : Fault) (h : ResponseHead) (body rest : List ℕ) → Refuses head_room limit input fault
+pub no_fault : (limit : ℕ) (input : List ℕ) (fault : Fault) (h : ResponseHead) (body rest : List ℕ) → RefusesResponse head_room limit input fault
     → IsResponse head_room limit input h body rest → (fault ≡ ReadFault) ⊎ (fault ≡ NoMemory)
 no_fault limit input Cut h body rest (none, b) whole = absurd (none h body rest whole)
 no_fault limit input BadHead h body rest (inl (inl b)) whole = absurd (not_hopeless head_room input h (body ++ rest) b whole.0)

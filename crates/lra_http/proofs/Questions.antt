@@ -7,19 +7,19 @@ use Rattle.httparse.specs.declared.spans.RequestSpans.{RequestSpans}
 use Rattle.httparse.proofs.GrammarLemmas.{request_unique}
 use Rattle.lra_http.specs.declared.fault.Fault.{Fault}
 use Rattle.lra_http.specs.declared.fault.Fault.TheVariants.{Cut, ReadFault, WriteFault, HeadTooLong, BodyTooLong, BadHead, LengthNeeded, NotOffered, NoMemory}
-use Rattle.lra_http.specs.declared.head.Kind.TheVariants.{Request}
+use Rattle.lra_http.specs.declared.head.HeadKind.TheVariants.{Request}
 use Rattle.lra_http.specs.declared.message.Request.{Request as Question}
 use Rattle.lra_http.specs.Bodies.{RefusesBody}
 use Rattle.lra_http.specs.HeadFields.{field_bytes, values, is_number, asked_length, request_length}
-use Rattle.lra_http.specs.Faults.{Stops, Shows as ShowsPart}
+use Rattle.lra_http.specs.Faults.{Stops, Shows}
 use Rattle.lra_http.specs.Heads.{IsHead, IsHeadWithin, RefusesHead}
 use Rattle.lra_http.specs.Streams.{GivenBytes, Gives, GivesWhat}
 use Rattle.lra_http.proofs.Known.{gives_more}
-use Rattle.lra_http.specs.Requests.{stated, HasHead, HasFault, HasNoRequest, IsRequest, IsMessage, IsFaultyHead, Refuses, Shows, Spends, ArePartsOf}
+use Rattle.lra_http.specs.Requests.{stated, HasHead, HasFault, HasNoRequest, IsRequest, IsRequestMessage, IsFaultyHead, RefusesRequest, ShowsNoRequest, Spends, ArePartsOfRequest}
 
 -- the parser's spans of bytes that are a head
 pub parts_are : (bytes : List ℕ) (headers : List HeaderSpan) (spans : RequestSpans) (lines : ℕ) → IsHead Request bytes lines
-    → IsRequestOf bytes headers spans → IsRequestWithin bytes headers spans → ArePartsOf bytes headers spans
+    → IsRequestOf bytes headers spans → IsRequestWithin bytes headers spans → ArePartsOfRequest bytes headers spans
 parts_are bytes headers spans lines (k, valid, e, count) (h, at) within =
     let same = request_unique bytes k h [] (drop spans.len bytes) (valid, e ∙ sym (append-nil (print_request k))) at.reads in
     record { head = h; at = at; within = within; whole = e ∙ ap print_request same.0 }
@@ -59,7 +59,7 @@ field_fault limit minor fields fault e =
     let any : IfErr (request_length limit minor fields) IsFieldFault = field_fault_of limit (values (codes "content-length") fields) _ _ in
     subst (λ (r : Result ℕ Fault). IfErr r IsFieldFault) e any
 
-refuses_fields : (limit : ℕ) (input : List ℕ) (fault : Fault) → IsFieldFault fault → HasFault limit input fault → Refuses limit input fault
+refuses_fields : (limit : ℕ) (input : List ℕ) (fault : Fault) → IsFieldFault fault → HasFault limit input fault → RefusesRequest limit input fault
 refuses_fields limit input NotOffered f h = h
 refuses_fields limit input BadHead f h = inr h
 refuses_fields limit input BodyTooLong f h = h
@@ -70,7 +70,7 @@ refuses_fields limit input HeadTooLong f h = absurd f
 refuses_fields limit input NoMemory f h = absurd f
 refuses_fields limit input WriteFault f h = absurd f
 
-refuses_head : (limit : ℕ) (input : List ℕ) (fault : Fault) → RefusesHead Request 16384 64 input fault → Refuses limit input fault
+refuses_head : (limit : ℕ) (input : List ℕ) (fault : Fault) → RefusesHead Request 16384 64 input fault → RefusesRequest limit input fault
 refuses_head limit input Cut (none, may, short) = (λ h body rest whole. none h (body ++ rest) whole.0.reads, inl (none, may, short))
 refuses_head limit input BadHead h = inl h
 refuses_head limit input HeadTooLong h = h
@@ -91,7 +91,7 @@ cut_body limit input h rest size has is short k body more whole =
     omega (arith, size_is, long, short)
 
 refuses_body : (limit : ℕ) (input : List ℕ) (h : RequestHead) (rest : List ℕ) (size : ℕ) (fault : Fault) → HasHead input h rest
-    → stated limit h ≡ Ok size → RefusesBody size rest fault → Refuses limit input fault
+    → stated limit h ≡ Ok size → RefusesBody size rest fault → RefusesRequest limit input fault
 refuses_body limit input h rest size Cut has is f = (cut_body limit input h rest size has is f, inr (h, rest, size, has, is, f))
 refuses_body limit input h rest size ReadFault has is f = tt
 refuses_body limit input h rest size NoMemory has is f = tt
@@ -114,7 +114,7 @@ record First (limit : ℕ) (bytes more : List ℕ) (headers : List HeaderSpan) (
   fields : map (header_bytes bytes) (take spans.headers headers) ≡ map name_and_value head.fields
 
 first_parts : (limit : ℕ) (bytes more : List ℕ) (headers : List HeaderSpan) (spans : RequestSpans)
-    → IsHeadWithin Request 16384 64 bytes → ArePartsOf bytes headers spans → First limit bytes more headers spans
+    → IsHeadWithin Request 16384 64 bytes → ArePartsOfRequest bytes headers spans → First limit bytes more headers spans
 first_parts limit bytes more headers spans read p =
     let h = p.head in
     let k = read.head.0 in
@@ -157,7 +157,7 @@ cut_short bytes fault h e =
     let short = cut.2 in omega (arith, short, length-append bytes [])
 
 pub exit_head : (limit : ℕ) (old new : GivenBytes) (fault : Fault)
-    → Stops old new (ShowsPart 16385 (RefusesHead Request 16384 64)) fault → Stops old new (Shows limit) fault
+    → Stops old new (Shows 16385 (RefusesHead Request 16384 64)) fault → Stops old new (ShowsNoRequest limit) fault
 exit_head limit old new fault s =
     let first = s.is.shown [] (λ e. refl) in
     record {
@@ -189,10 +189,10 @@ fields_spent limit bytes NoMemory f faulty = absurd f
 fields_spent limit bytes WriteFault f faulty = absurd f
 
 pub exit_fields : (limit : ℕ) (old new : GivenBytes) (bytes looked : List ℕ) (headers : List HeaderSpan) (spans : RequestSpans) (fault : Fault)
-    → Gives old new bytes × IsHeadWithin Request 16384 64 bytes → looked ≡ bytes → ArePartsOf looked headers spans
-    → request_length limit spans.version (map (header_bytes bytes) (take spans.headers headers)) ≡ Err fault → Stops old new (Shows limit) fault
+    → Gives old new bytes × IsHeadWithin Request 16384 64 bytes → looked ≡ bytes → ArePartsOfRequest looked headers spans
+    → request_length limit spans.version (map (header_bytes bytes) (take spans.headers headers)) ≡ Err fault → Stops old new (ShowsNoRequest limit) fault
 exit_fields limit old new bytes looked headers spans fault (gives, read) same p e =
-    let parts = subst (λ (b : List ℕ). ArePartsOf b headers spans) same p in
+    let parts = subst (λ (b : List ℕ). ArePartsOfRequest b headers spans) same p in
     let is = field_fault limit spans.version (map (header_bytes bytes) (take spans.headers headers)) fault e in
     let alone = first_parts limit bytes [] headers spans read parts in
     record {
@@ -223,18 +223,18 @@ body_spent limit size bytes rest NotOffered h short few fits = absurd h
 body_spent limit size bytes rest WriteFault h short few fits = absurd h
 
 pub exit_body : (limit : ℕ) (old mid new : GivenBytes) (bytes looked : List ℕ) (headers : List HeaderSpan) (spans : RequestSpans) (size : ℕ) (fault : Fault)
-    → Gives old mid bytes × IsHeadWithin Request 16384 64 bytes → looked ≡ bytes → ArePartsOf looked headers spans
+    → Gives old mid bytes × IsHeadWithin Request 16384 64 bytes → looked ≡ bytes → ArePartsOfRequest looked headers spans
     → request_length limit spans.version (map (header_bytes bytes) (take spans.headers headers)) ≡ Ok size → size ≤ limit
-    → Stops mid new (ShowsPart size (RefusesBody size)) fault → Stops old new (Shows limit) fault
+    → Stops mid new (Shows size (RefusesBody size)) fault → Stops old new (ShowsNoRequest limit) fault
 exit_body limit old mid new bytes looked headers spans size fault (gives, read) same p e fits s =
-    let parts = subst (λ (b : List ℕ). ArePartsOf b headers spans) same p in
+    let parts = subst (λ (b : List ℕ). ArePartsOfRequest b headers spans) same p in
     record {
       bytes = bytes ++ s.bytes;
       gives = gives_more old mid new bytes s.bytes gives s.gives;
       is = record {
         shown = λ more nothing.
             let first = first_parts limit bytes (s.bytes ++ more) headers spans read parts in
-            subst (λ (l : List ℕ). Refuses limit l fault) (sym (append_assoc bytes s.bytes more))
+            subst (λ (l : List ℕ). RefusesRequest limit l fault) (sym (append_assoc bytes s.bytes more))
             (refuses_body limit (bytes ++ (s.bytes ++ more)) first.head (s.bytes ++ more) size fault first.has (first.stated_is ∙ e) (s.is.shown more nothing));
         spent = body_spent limit size bytes s.bytes fault (s.is.shown [] (λ cut. refl)) read.short s.is.short fits;
       };
@@ -244,7 +244,7 @@ exit_body limit old mid new bytes looked headers spans size fault (gives, read) 
 -- where memory runs out behind the body
 pub exit_memory : (limit : ℕ) (old mid new : GivenBytes) (bytes items : List ℕ) (size : ℕ) (fault : Fault)
     → Gives old mid bytes × IsHeadWithin Request 16384 64 bytes → size ≤ limit
-    → (length items ≡ size) × Gives mid new items → fault ≡ NoMemory → Stops old new (Shows limit) fault
+    → (length items ≡ size) × Gives mid new items → fault ≡ NoMemory → Stops old new (ShowsNoRequest limit) fault
 exit_memory limit old mid new bytes items size fault (gives, read) fits (size_is, body) memory =
     rw memory (record {
       bytes = bytes ++ items;
@@ -257,14 +257,14 @@ exit_memory limit old mid new bytes items size fault (gives, read) fits (size_is
     })
 
 pub exit_taken : (limit : ℕ) (old mid new : GivenBytes) (bytes looked : List ℕ) (headers : List HeaderSpan) (spans : RequestSpans) (size : ℕ) (question : Question) (items : List ℕ)
-    → Gives old mid bytes × IsHeadWithin Request 16384 64 bytes → looked ≡ bytes → ArePartsOf looked headers spans
+    → Gives old mid bytes × IsHeadWithin Request 16384 64 bytes → looked ≡ bytes → ArePartsOfRequest looked headers spans
     → request_length limit spans.version (map (header_bytes bytes) (take spans.headers headers)) ≡ Ok size
     → question.body ≡ items → length items ≡ size → Gives mid new items
     → question.method ≡ span_bytes bytes spans.method → question.target ≡ span_bytes bytes spans.path
     → map field_bytes question.fields ≡ map (header_bytes bytes) (take spans.headers headers)
-    → GivesWhat old new (λ whole. IsMessage limit whole question)
+    → GivesWhat old new (λ whole. IsRequestMessage limit whole question)
 exit_taken limit old mid new bytes looked headers spans size question items (gives, read) same p e body size_is taken method target fields =
-    let first = first_parts limit bytes items headers spans read (subst (λ (b : List ℕ). ArePartsOf b headers spans) same p) in (
+    let first = first_parts limit bytes items headers spans read (subst (λ (b : List ℕ). ArePartsOfRequest b headers spans) same p) in (
       bytes ++ items,
       gives_more old mid new bytes items gives taken,
       record {
@@ -287,7 +287,7 @@ clash limit input fault h body rest (k, more, has, is) whole =
     let both : Err fault ≡ Ok (length body) = sym is ∙ ap (stated limit) same.0 ∙ whole.1 in
     absurd (cc)
 
-pub no_fault : (limit : ℕ) (input : List ℕ) (fault : Fault) (h : RequestHead) (body rest : List ℕ) → Refuses limit input fault
+pub no_fault : (limit : ℕ) (input : List ℕ) (fault : Fault) (h : RequestHead) (body rest : List ℕ) → RefusesRequest limit input fault
     → IsRequest limit input h body rest → (fault ≡ ReadFault) ⊎ (fault ≡ NoMemory)
 no_fault limit input Cut h body rest (none, b) whole = absurd (none h body rest whole)
 no_fault limit input BadHead h body rest (inl n) whole =

@@ -4,10 +4,10 @@ use Rattle.httparse.specs.Grammar.{RequestHead, ReadsRequest, NeverHasRequest, M
 use Rattle.httparse.proofs.GrammarLemmas.{request_unique}
 use Rattle.lra_http.specs.declared.fault.Fault.{Fault}
 use Rattle.lra_http.specs.declared.fault.Fault.TheVariants.{Cut, ReadFault, WriteFault, HeadTooLong, BodyTooLong, BadHead, LengthNeeded, NotOffered, NoMemory}
-use Rattle.lra_http.specs.declared.head.Kind.TheVariants.{Request}
+use Rattle.lra_http.specs.declared.head.HeadKind.TheVariants.{Request}
 use Rattle.lra_http.specs.Faults.{IsOfBytes}
 use Rattle.lra_http.specs.Heads.{IsNoHead, IsLong, Exceeds, HasNoHeadWithin, RefusesHead}
-use Rattle.lra_http.specs.Requests.{stated, HasHead, IsTextSoFar, Refuses}
+use Rattle.lra_http.specs.Requests.{stated, HasHead, IsTextSoFar, RefusesRequest}
 use Rattle.lra_http.proofs.Stops.{shorter}
 use Rattle.lra_http.proofs.ResponseVerdicts.{Answers, one_answer}
 
@@ -98,7 +98,7 @@ by_answer : (limit : ℕ) (input : List ℕ) (fault : Fault) (h : RequestHead) (
     → stated limit h ≡ answer → Answers answer fault → Reason limit input fault
 by_answer limit input fault h rest answer has e is = final h rest has (subst (λ (r : Result ℕ Fault). Answers r fault) (sym e) is)
 
-reason_of : (limit : ℕ) (input : List ℕ) → (Exceeds Request 64 input → ⊥) → (fault : Fault) → IsOfBytes fault → Refuses limit input fault → Reason limit input fault
+reason_of : (limit : ℕ) (input : List ℕ) → (Exceeds Request 64 input → ⊥) → (fault : Fault) → IsOfBytes fault → RefusesRequest limit input fault → Reason limit input fault
 reason_of limit input few Cut of (none, inl u) = unfinished refl u
 reason_of limit input few Cut of (none, inr (h, rest, size, has, is, short)) = by_answer limit input Cut h rest (Ok size) has is refl
 reason_of limit input few BadHead of (inl n) = hopeless refl n
@@ -113,6 +113,6 @@ reason_of limit input few ReadFault of refuses = absurd (of.0 refl)
 reason_of limit input few NoMemory of refuses = absurd (of.1 refl)
 
 pub one_fault : (limit : ℕ) (input : List ℕ) (a b : Fault) → IsOfBytes a → IsOfBytes b → (Exceeds Request 64 input → ⊥) → IsTextSoFar input
-    → Refuses limit input a → Refuses limit input b → a ≡ b
+    → RefusesRequest limit input a → RefusesRequest limit input b → a ≡ b
 one_fault limit input a b ofa ofb few text p q =
     one_reason limit input a b text (reason_of limit input few a ofa p) (reason_of limit input few b ofb q)

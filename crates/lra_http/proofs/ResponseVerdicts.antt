@@ -6,7 +6,7 @@ use Rattle.httparse.proofs.GrammarLemmas.{response_unique}
 use Rattle.lra_http.specs.declared.fault.Fault.{Fault}
 use Rattle.lra_http.specs.declared.fault.Fault.TheVariants.{Cut, ReadFault, WriteFault, HeadTooLong, BodyTooLong, BadHead, LengthNeeded, NotOffered, NoMemory}
 use Rattle.lra_http.specs.Faults.{IsOfBytes}
-use Rattle.lra_http.specs.Responses.{Room, head_room, is_interim, is_switch, Behind, Begins, HasFinal, stated, IsUnfinished, IsHopeless, IsSwitched, IsOver, IsCrowded, Refuses}
+use Rattle.lra_http.specs.Responses.{Room, head_room, is_interim, is_switch, Behind, Begins, HasFinal, stated, IsUnfinished, IsHopeless, IsSwitched, IsOver, IsCrowded, RefusesResponse}
 use Rattle.lra_http.proofs.Messages.{unique_final}
 use Rattle.lra_http.proofs.Stops.{Halts, one_place, IsLengthy, unfinished_halts, hopeless_halts, switched_halts, lengthy_halts, final_halts, never_at, long_at, unfinished_or_hopeless, unfinished_or_lengthy, hopeless_or_lengthy}
 
@@ -131,7 +131,7 @@ by_answer : (limit : ℕ) (input : List ℕ) (fault : Fault) (h : ResponseHead) 
     → stated limit h ≡ answer → Answers answer fault → Reason limit input fault
 by_answer limit input fault h rest answer has e is = final h rest has (subst (λ (r : Result ℕ Fault). Answers r fault) (sym e) is)
 
-reason_of : (limit : ℕ) (input : List ℕ) → (Behind head_room IsCrowded input → ⊥) → (fault : Fault) → IsOfBytes fault → Refuses head_room limit input fault
+reason_of : (limit : ℕ) (input : List ℕ) → (Behind head_room IsCrowded input → ⊥) → (fault : Fault) → IsOfBytes fault → RefusesResponse head_room limit input fault
     → Reason limit input fault
 reason_of limit input few Cut of (none, inl u) = unfinished refl u
 reason_of limit input few Cut of (none, inr (h, rest, size, has, is, short)) = by_answer limit input Cut h rest (Ok size) has is refl
@@ -147,5 +147,5 @@ reason_of limit input few ReadFault of refuses = absurd (of.0 refl)
 reason_of limit input few NoMemory of refuses = absurd (of.1 refl)
 
 pub one_fault : (limit : ℕ) (input : List ℕ) (a b : Fault) → IsOfBytes a → IsOfBytes b → (Behind head_room IsCrowded input → ⊥)
-    → Refuses head_room limit input a → Refuses head_room limit input b → a ≡ b
+    → RefusesResponse head_room limit input a → RefusesResponse head_room limit input b → a ≡ b
 one_fault limit input a b ofa ofb few p q = one_reason limit input a b (reason_of limit input few a ofa p) (reason_of limit input few b ofb q)

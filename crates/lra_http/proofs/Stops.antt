@@ -4,7 +4,7 @@ use Rattle.std.proofs.Math.Seq.{take-append_seam}
 use Rattle.std.proofs.lemmas.List.{take-append-le, take-append-drop}
 use Rattle.httparse.specs.Grammar.{ResponseHead, ReadsResponse, print_response, status_code}
 use Rattle.httparse.proofs.GrammarLemmas.{response_unique}
-use Rattle.lra_http.specs.declared.head.Kind.TheVariants.{Response}
+use Rattle.lra_http.specs.declared.head.HeadKind.TheVariants.{Response}
 use Rattle.lra_http.specs.Heads.{IsLong}
 use Rattle.lra_http.specs.Responses.{Room, is_interim, is_switch, Skips, bytes_of, lines_of, Behind, Begins, IsUnfinished, IsHopeless, IsSwitched}
 use Rattle.lra_http.proofs.Interims.{not_both}

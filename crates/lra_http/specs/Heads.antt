@@ -5,10 +5,10 @@ use Rattle.httparse.specs.Grammar.{RequestHead, ResponseHead, IsRequestHead, IsR
 use Rattle.httparse.specs.Spans.{RequestExceeds, RequestOverflows, ResponseExceeds, ResponseOverflows}
 use Rattle.lra_http.specs.declared.fault.Fault.{Fault}
 use Rattle.lra_http.specs.declared.fault.Fault.TheVariants.{Cut, ReadFault, WriteFault, HeadTooLong, BodyTooLong, BadHead, LengthNeeded, NotOffered, NoMemory}
-use Rattle.lra_http.specs.declared.head.Kind.{Kind}
-use Rattle.lra_http.specs.declared.head.Kind.TheVariants.{Request, Response}
-use Rattle.lra_http.specs.declared.head.Step.{Step}
-use Rattle.lra_http.specs.declared.head.Step.TheVariants.{More, Whole, Bad, Long}
+use Rattle.lra_http.specs.declared.head.HeadKind.{HeadKind}
+use Rattle.lra_http.specs.declared.head.HeadKind.TheVariants.{Request, Response}
+use Rattle.lra_http.specs.declared.head.HeadState.{HeadState}
+use Rattle.lra_http.specs.declared.head.HeadState.TheVariants.{More, Whole, Bad, Long}
 
 -- the most bytes and field lines of a message's heads
 abbrev pub max_head_bytes : ℕ
@@ -18,61 +18,61 @@ abbrev pub max_head_lines : ℕ
 max_head_lines = 64
 
 -- the text is a head of this kind, with so many field lines
-abbrev pub IsHead : Kind → List ℕ → ℕ → Type 0
+abbrev pub IsHead : HeadKind → List ℕ → ℕ → Type 0
 IsHead Request text lines = (h : RequestHead) × IsRequestHead h × (text ≡ print_request h) × (lines ≡ length h.fields)
 IsHead Response text lines = (h : ResponseHead) × IsResponseHead h × (text ≡ print_response h) × (lines ≡ length h.fields)
 
 -- no prefix of the bytes is a head
-abbrev pub HasNoHead : Kind → List ℕ → Type 0
+abbrev pub HasNoHead : HeadKind → List ℕ → Type 0
 HasNoHead Request bytes = HasNoRequest bytes
 HasNoHead Response bytes = HasNoResponse bytes
 
 -- no prefix of the bytes is a head, save all of them
-abbrev pub HasNoShorterHead : Kind → List ℕ → Type 0
+abbrev pub HasNoShorterHead : HeadKind → List ℕ → Type 0
 HasNoShorterHead kind bytes =
     (text rest : List ℕ) (lines : ℕ) → IsHead kind text lines → bytes ≡ text ++ rest → rest ≡ []
 
 -- no bytes can follow that make a prefix a head
-abbrev pub NeverHasHead : Kind → List ℕ → Type 0
+abbrev pub NeverHasHead : HeadKind → List ℕ → Type 0
 NeverHasHead Request bytes = NeverHasRequest bytes
 NeverHasHead Response bytes = NeverHasResponse bytes
 
 -- some bytes can follow that make these a head (or they end in a request's target, whose text is tested at its end)
-abbrev pub MayBecomeHead : Kind → List ℕ → Type 0
+abbrev pub MayBecomeHead : HeadKind → List ℕ → Type 0
 MayBecomeHead Request bytes = MayBecomeRequest bytes
 MayBecomeHead Response bytes = MayBecomeResponse bytes
 
 -- more than so many field lines have come
-abbrev pub Exceeds : Kind → ℕ → List ℕ → Type 0
+abbrev pub Exceeds : HeadKind → ℕ → List ℕ → Type 0
 Exceeds Request room bytes = RequestExceeds room bytes
 Exceeds Response room bytes = ResponseExceeds room bytes
 
 -- each head that the bytes begin has more than so many field lines
-abbrev pub Overflows : Kind → ℕ → List ℕ → Type 0
+abbrev pub Overflows : HeadKind → ℕ → List ℕ → Type 0
 Overflows Request room bytes = RequestOverflows room bytes
 Overflows Response room bytes = ResponseOverflows room bytes
 
 -- a prefix of the bytes is a head with at most so many field lines
-abbrev pub HasHead : Kind → ℕ → List ℕ → Type 0
+abbrev pub HasHead : HeadKind → ℕ → List ℕ → Type 0
 HasHead kind room bytes =
     (text rest : List ℕ) × (lines : ℕ) × IsHead kind text lines × (bytes ≡ text ++ rest) × (lines ≤ room)
 
 -- no prefix of the bytes is a head within the limits
-abbrev pub HasNoHeadWithin : Kind → ℕ → ℕ → List ℕ → Type 0
+abbrev pub HasNoHeadWithin : HeadKind → ℕ → ℕ → List ℕ → Type 0
 HasNoHeadWithin kind most room bytes =
     (text rest : List ℕ) (lines : ℕ) → IsHead kind text lines → bytes ≡ text ++ rest → length text ≤ most → ¬ (lines ≤ room)
 
 -- a prefix of the bytes is a head, or they may become one
-abbrev pub IsOpen : Kind → List ℕ → Type 0
+abbrev pub IsOpen : HeadKind → List ℕ → Type 0
 IsOpen kind bytes =
     MayBecomeHead kind bytes ⊎ ((text rest : List ℕ) × (lines : ℕ) × IsHead kind text lines × (bytes ≡ text ++ rest))
 
 -- what the bytes of a head so far are
-abbrev pub IsStep : Kind → ℕ → ℕ → List ℕ → Step → Type 0
-IsStep kind most room bytes More = HasNoHead kind bytes × MayBecomeHead kind bytes × (length bytes ≤ most)
-IsStep kind most room bytes Whole = HasHead kind room bytes × (length bytes ≤ most)
-IsStep kind most room bytes Bad = NeverHasHead kind bytes
-IsStep kind most room bytes Long =
+abbrev pub IsHeadState : HeadKind → ℕ → ℕ → List ℕ → HeadState → Type 0
+IsHeadState kind most room bytes More = HasNoHead kind bytes × MayBecomeHead kind bytes × (length bytes ≤ most)
+IsHeadState kind most room bytes Whole = HasHead kind room bytes × (length bytes ≤ most)
+IsHeadState kind most room bytes Bad = NeverHasHead kind bytes
+IsHeadState kind most room bytes Long =
     ((most < length bytes) × IsOpen kind bytes) ⊎ (Exceeds kind room bytes × Overflows kind room bytes)
 
 -- a byte after which the parser isn't asked ends no line of a head that has a space, and is within the limit
@@ -81,14 +81,14 @@ MayLack spaced byte size most true = Unit {0}
 MayLack spaced byte size most false = (IsTrue spaced → byte ≢ line_feed) × (size ≤ most)
 
 -- the bytes that were taken are a head within the limits
-pub record IsHeadWithin (kind : Kind) (most room : ℕ) (bytes : List ℕ) : Type 0 where
+pub record IsHeadWithin (kind : HeadKind) (most room : ℕ) (bytes : List ℕ) : Type 0 where
   pub lines : ℕ
   pub head : IsHead kind bytes lines
   pub short : length bytes ≤ most
   pub few : lines ≤ room
 
 -- a prefix of the input, at most one byte longer than a head may be, that no bytes can make a head
-pub record IsNoHead (kind : Kind) (most : ℕ) (input : List ℕ) : Type 0 where
+pub record IsNoHead (kind : HeadKind) (most : ℕ) (input : List ℕ) : Type 0 where
   pub prefix : List ℕ
   pub rest : List ℕ
   pub whole : input ≡ prefix ++ rest
@@ -96,7 +96,7 @@ pub record IsNoHead (kind : Kind) (most : ℕ) (input : List ℕ) : Type 0 where
   pub never : NeverHasHead kind prefix
 
 -- the input goes on for one byte more than a head may have, and so far could be a head
-pub record IsLong (kind : Kind) (most : ℕ) (input : List ℕ) : Type 0 where
+pub record IsLong (kind : HeadKind) (most : ℕ) (input : List ℕ) : Type 0 where
   pub prefix : List ℕ
   pub rest : List ℕ
   pub whole : input ≡ prefix ++ rest
@@ -104,12 +104,12 @@ pub record IsLong (kind : Kind) (most : ℕ) (input : List ℕ) : Type 0 where
   pub may : MayBecomeHead kind prefix
 
 -- no head within the limits, and more bytes or field lines than they allow
-abbrev pub IsHeadTooLong : Kind → ℕ → ℕ → List ℕ → Type 0
+abbrev pub IsHeadTooLong : HeadKind → ℕ → ℕ → List ℕ → Type 0
 IsHeadTooLong kind most room input =
     (IsLong kind most input ⊎ Exceeds kind room input) × HasNoHeadWithin kind most room input
 
 -- where each fault of a head comes
-abbrev pub RefusesHead : Kind → ℕ → ℕ → List ℕ → Fault → Type 0
+abbrev pub RefusesHead : HeadKind → ℕ → ℕ → List ℕ → Fault → Type 0
 RefusesHead kind most room input Cut = HasNoHead kind input × MayBecomeHead kind input × (length input ≤ most)
 RefusesHead kind most room input BadHead = IsNoHead kind most input
 RefusesHead kind most room input HeadTooLong = IsHeadTooLong kind most room input

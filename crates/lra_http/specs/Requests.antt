@@ -6,7 +6,7 @@ use Rattle.httparse.specs.declared.spans.HeaderSpan.{HeaderSpan}
 use Rattle.httparse.specs.declared.spans.RequestSpans.{RequestSpans}
 use Rattle.lra_http.specs.declared.fault.Fault.{Fault}
 use Rattle.lra_http.specs.declared.fault.Fault.TheVariants.{Cut, ReadFault, WriteFault, HeadTooLong, BodyTooLong, BadHead, LengthNeeded, NotOffered, NoMemory}
-use Rattle.lra_http.specs.declared.head.Kind.TheVariants.{Request}
+use Rattle.lra_http.specs.declared.head.HeadKind.TheVariants.{Request}
 use Rattle.lra_http.specs.declared.message.Request.{Request as Question}
 use Rattle.lra_http.specs.Heads.{RefusesHead, max_head_bytes, max_head_lines}
 use Rattle.lra_http.specs.HeadFields.{field_bytes, request_length}
@@ -39,23 +39,23 @@ IsCutInBody limit input =
     (h : RequestHead) × (rest : List ℕ) × (size : ℕ) × HasHead input h rest × (stated limit h ≡ Ok size) × (length rest < size)
 
 -- where each fault comes
-abbrev pub Refuses : ℕ → List ℕ → Fault → Type 0
-Refuses limit input Cut = HasNoRequest limit input × (RefusesHead Request max_head_bytes max_head_lines input Cut ⊎ IsCutInBody limit input)
-Refuses limit input BadHead = RefusesHead Request max_head_bytes max_head_lines input BadHead ⊎ HasFault limit input BadHead
-Refuses limit input HeadTooLong = RefusesHead Request max_head_bytes max_head_lines input HeadTooLong
-Refuses limit input BodyTooLong = HasFault limit input BodyTooLong
-Refuses limit input NotOffered = HasFault limit input NotOffered
-Refuses limit input LengthNeeded = ⊥
-Refuses limit input WriteFault = ⊥
-Refuses limit input ReadFault = Unit {0}
-Refuses limit input NoMemory = Unit {0}
+abbrev pub RefusesRequest : ℕ → List ℕ → Fault → Type 0
+RefusesRequest limit input Cut = HasNoRequest limit input × (RefusesHead Request max_head_bytes max_head_lines input Cut ⊎ IsCutInBody limit input)
+RefusesRequest limit input BadHead = RefusesHead Request max_head_bytes max_head_lines input BadHead ⊎ HasFault limit input BadHead
+RefusesRequest limit input HeadTooLong = RefusesHead Request max_head_bytes max_head_lines input HeadTooLong
+RefusesRequest limit input BodyTooLong = HasFault limit input BodyTooLong
+RefusesRequest limit input NotOffered = HasFault limit input NotOffered
+RefusesRequest limit input LengthNeeded = ⊥
+RefusesRequest limit input WriteFault = ⊥
+RefusesRequest limit input ReadFault = Unit {0}
+RefusesRequest limit input NoMemory = Unit {0}
 
 -- what came of a target so far can still be a text
 abbrev pub IsTextSoFar : List ℕ → Type 0
 IsTextSoFar input = (prefix rest : List ℕ) → input ≡ prefix ++ rest → EndsInTarget prefix → ¬ (NeverHasRequest prefix)
 
 -- the bytes are this whole request, and no byte more
-pub record IsMessage (limit : ℕ) (bytes : List ℕ) (question : Question) : Type 0 where
+pub record IsRequestMessage (limit : ℕ) (bytes : List ℕ) (question : Question) : Type 0 where
   pub head : RequestHead
   pub whole : IsRequest limit bytes head question.body []
   pub method : question.method ≡ head.method
@@ -79,12 +79,12 @@ Spends limit bytes LengthNeeded = ⊥
 Spends limit bytes WriteFault = ⊥
 
 -- the bytes show the fault, whatever follows them, and are no more than it takes; behind a cut nothing follows
-pub record Shows (limit : ℕ) (bytes : List ℕ) (fault : Fault) : Type 0 where
-  pub shown : (more : List ℕ) → (fault ≡ Cut → more ≡ []) → Refuses limit (bytes ++ more) fault
+pub record ShowsNoRequest (limit : ℕ) (bytes : List ℕ) (fault : Fault) : Type 0 where
+  pub shown : (more : List ℕ) → (fault ≡ Cut → more ≡ []) → RefusesRequest limit (bytes ++ more) fault
   pub spent : Spends limit bytes fault
 
 -- the bytes are a head, whose parts the spans cover
-pub record ArePartsOf (bytes : List ℕ) (headers : List HeaderSpan) (spans : RequestSpans) : Type 0 where
+pub record ArePartsOfRequest (bytes : List ℕ) (headers : List HeaderSpan) (spans : RequestSpans) : Type 0 where
   pub head : RequestHead
   pub at : IsRequestAt bytes headers spans head
   pub within : IsRequestWithin bytes headers spans

@@ -6,7 +6,7 @@ use Rattle.httparse.specs.declared.spans.HeaderSpan.{HeaderSpan}
 use Rattle.httparse.specs.declared.spans.ResponseSpans.{ResponseSpans}
 use Rattle.lra_http.specs.declared.fault.Fault.{Fault}
 use Rattle.lra_http.specs.declared.fault.Fault.TheVariants.{Cut, ReadFault, WriteFault, HeadTooLong, BodyTooLong, BadHead, LengthNeeded, NotOffered, NoMemory}
-use Rattle.lra_http.specs.declared.head.Kind.TheVariants.{Response}
+use Rattle.lra_http.specs.declared.head.HeadKind.TheVariants.{Response}
 use Rattle.lra_http.specs.ByteResponses.{Response as Answer}
 use Rattle.lra_http.specs.Heads.{HasNoHead, IsNoHead, IsLong, Exceeds, max_head_bytes, max_head_lines}
 use Rattle.lra_http.specs.HeadFields.{field_bytes, response_length}
@@ -128,20 +128,20 @@ IsCutInBody room limit input =
     × HasFinal room input h rest × (stated limit h ≡ Ok size) × (length rest < size)
 
 -- where each fault comes
-abbrev pub Refuses : Room → ℕ → List ℕ → Fault → Type 0
-Refuses room limit input Cut =
+abbrev pub RefusesResponse : Room → ℕ → List ℕ → Fault → Type 0
+RefusesResponse room limit input Cut =
     HasNoResponse room limit input × (Behind room IsUnfinished input ⊎ IsCutInBody room limit input)
-Refuses room limit input BadHead = RefusesHeads room input BadHead ⊎ HasFault room limit input BadHead
-Refuses room limit input HeadTooLong = RefusesHeads room input HeadTooLong
-Refuses room limit input BodyTooLong = HasFault room limit input BodyTooLong
-Refuses room limit input NotOffered = HasFault room limit input NotOffered
-Refuses room limit input LengthNeeded = HasFault room limit input LengthNeeded
-Refuses room limit input WriteFault = ⊥
-Refuses room limit input ReadFault = Unit {0}
-Refuses room limit input NoMemory = Unit {0}
+RefusesResponse room limit input BadHead = RefusesHeads room input BadHead ⊎ HasFault room limit input BadHead
+RefusesResponse room limit input HeadTooLong = RefusesHeads room input HeadTooLong
+RefusesResponse room limit input BodyTooLong = HasFault room limit input BodyTooLong
+RefusesResponse room limit input NotOffered = HasFault room limit input NotOffered
+RefusesResponse room limit input LengthNeeded = HasFault room limit input LengthNeeded
+RefusesResponse room limit input WriteFault = ⊥
+RefusesResponse room limit input ReadFault = Unit {0}
+RefusesResponse room limit input NoMemory = Unit {0}
 
 -- the bytes are this whole response, and no byte more
-pub record IsMessage (limit : ℕ) (bytes : List ℕ) (answer : Answer) : Type 0 where
+pub record IsResponseMessage (limit : ℕ) (bytes : List ℕ) (answer : Answer) : Type 0 where
   pub head : ResponseHead
   pub whole : IsResponse head_room limit bytes head answer.body []
   pub status : answer.status ≡ status_code head
@@ -164,14 +164,14 @@ Spends limit bytes NoMemory = length bytes ≤ max_head_bytes + 1 + limit
 Spends limit bytes WriteFault = ⊥
 
 -- the bytes show the fault, whatever follows them, and are no more than it takes; behind a cut nothing follows
-pub record Shows (limit : ℕ) (bytes : List ℕ) (fault : Fault) : Type 0 where
-  pub shown : (more : List ℕ) → (fault ≡ Cut → more ≡ []) → Refuses head_room limit (bytes ++ more) fault
+pub record ShowsNoResponse (limit : ℕ) (bytes : List ℕ) (fault : Fault) : Type 0 where
+  pub shown : (more : List ℕ) → (fault ≡ Cut → more ≡ []) → RefusesResponse head_room limit (bytes ++ more) fault
   pub spent : Spends limit bytes fault
 
 -- ---- what the reader's parts give
 
 -- the bytes are a head, whose parts the spans cover
-pub record ArePartsOf (bytes : List ℕ) (headers : List HeaderSpan) (spans : ResponseSpans) : Type 0 where
+pub record ArePartsOfResponse (bytes : List ℕ) (headers : List HeaderSpan) (spans : ResponseSpans) : Type 0 where
   pub head : ResponseHead
   pub at : IsResponseAt bytes headers spans head
   pub within : IsResponseWithin bytes headers spans
@@ -198,7 +198,7 @@ pub record IsHeadRead (limit : ℕ) (given : List ℕ) (code size : ℕ) : Type 
 -- the bytes, none of which stands behind a final head, show why no final head that states a body stands there; where they ended or
 -- a read failed, no final head had come
 pub record ShowsNoHead (limit : ℕ) (bytes : List ℕ) (fault : Fault) : Type 0 where
-  pub shows : Shows limit bytes fault
+  pub shows : ShowsNoResponse limit bytes fault
   pub short : length bytes ≤ max_head_bytes + 1
   pub heads : IsOfHeads head_room bytes
   pub unfinished : fault ≡ Cut → HasNoFinal head_room bytes

@@ -3,7 +3,7 @@ ghost use Rattle.std.specs.Prelude.{◌≡◌, ◌≢◌, ◌+◌, ◌<◌, ◌�
 ghost use Rattle.httparse.specs.Ascii.{space};
 ghost use Rattle.lra_http.specs.Streams.{AllWell, Gives, GivesWhat, Reads, too_many_interrupted};
 ghost use Rattle.lra_http.specs.Faults.{Shows, Stops};
-ghost use Rattle.lra_http.specs.Heads.{IsStep, HasNoHead, HasNoShorterHead, MayLack, IsHeadWithin, RefusesHead, max_head_bytes};
+ghost use Rattle.lra_http.specs.Heads.{IsHeadState, HasNoHead, HasNoShorterHead, MayLack, IsHeadWithin, RefusesHead, max_head_bytes};
 ghost use Rattle.lra_http.specs.declared.fault.Fault.TheVariants.{NoMemory, ReadFault, WriteFault};
 
 use crate::{Fault, Source, read_byte};
@@ -19,59 +19,59 @@ pub const MAX_HEAD_LINES: usize = 64;
 
 /// The two kinds of message.
 #[derive(Clone, Copy, Debug, PartialEq, Eq)]
-pub enum Kind {
+pub enum HeadKind {
     Request,
     Response,
 }
 
 /// What the bytes of a head so far are.
 #[derive(Clone, Copy, Debug, PartialEq, Eq)]
-pub enum Step {
+pub enum HeadState {
     More,
     Whole,
     Bad,
     Long,
 }
 
-/// This step, where the limit on bytes is met.
-fn if_within(within: bool, step: Step) -> Step
-    ensures { result ≡ (if within then step else Step.Long) }
+/// This state, where the limit on bytes is met.
+fn if_within(within: bool, state: HeadState) -> HeadState
+    ensures { result ≡ (if within then state else HeadState.Long) }
 {
-    if within { step } else { Step::Long }
+    if within { state } else { HeadState::Long }
 }
 
 /// What these bytes of a request's head are.
-fn look_at_request(bytes: &[u8], headers: &mut [HeaderSpan], most: usize) -> Step
-    ensures { IsStep Kind.Request most (length headers.old) bytes.now result }
+fn look_at_request(bytes: &[u8], headers: &mut [HeaderSpan], most: usize) -> HeadState
+    ensures { IsHeadState HeadKind.Request most (length headers.old) bytes.now result }
 {
     match parse_request(bytes, headers) {
-        Err(Error::TooManyHeaders) => Step::Long,
-        Err(_) => Step::Bad,
-        Ok(Status::Complete(_)) => if_within(bytes.len() <= most, Step::Whole),
-        Ok(Status::Partial) => if_within(bytes.len() <= most, Step::More),
+        Err(Error::TooManyHeaders) => HeadState::Long,
+        Err(_) => HeadState::Bad,
+        Ok(Status::Complete(_)) => if_within(bytes.len() <= most, HeadState::Whole),
+        Ok(Status::Partial) => if_within(bytes.len() <= most, HeadState::More),
     }
 }
 
 /// What these bytes of a response's head are.
-fn look_at_response(bytes: &[u8], headers: &mut [HeaderSpan], most: usize) -> Step
-    ensures { IsStep Kind.Response most (length headers.old) bytes.now result }
+fn look_at_response(bytes: &[u8], headers: &mut [HeaderSpan], most: usize) -> HeadState
+    ensures { IsHeadState HeadKind.Response most (length headers.old) bytes.now result }
 {
     match parse_response(bytes, headers) {
-        Err(Error::TooManyHeaders) => Step::Long,
-        Err(_) => Step::Bad,
-        Ok(Status::Complete(_)) => if_within(bytes.len() <= most, Step::Whole),
-        Ok(Status::Partial) => if_within(bytes.len() <= most, Step::More),
+        Err(Error::TooManyHeaders) => HeadState::Long,
+        Err(_) => HeadState::Bad,
+        Ok(Status::Complete(_)) => if_within(bytes.len() <= most, HeadState::Whole),
+        Ok(Status::Partial) => if_within(bytes.len() <= most, HeadState::More),
     }
 }
 
 /// What these bytes of a head are, which may have `most` bytes and as many field lines as there are
 /// headers.
-fn look(kind: Kind, bytes: &[u8], headers: &mut [HeaderSpan], most: usize) -> Step
-    ensures { IsStep kind most (length headers.old) bytes.now result }
+fn look(kind: HeadKind, bytes: &[u8], headers: &mut [HeaderSpan], most: usize) -> HeadState
+    ensures { IsHeadState kind most (length headers.old) bytes.now result }
 {
     match kind {
-        Kind::Request => look_at_request(bytes, headers, most),
-        Kind::Response => look_at_response(bytes, headers, most),
+        HeadKind::Request => look_at_request(bytes, headers, most),
+        HeadKind::Response => look_at_response(bytes, headers, most),
     }
 }
 
@@ -95,7 +95,7 @@ fn is_due(spaced: bool, byte: u8, size: usize, most: usize) -> bool
 }
 
 /// What is wrong where the input ends behind these bytes, and none of their fronts is a head.
-fn fault_at_end(kind: Kind, bytes: &[u8], headers: &mut [HeaderSpan], most: usize) -> Fault
+fn fault_at_end(kind: HeadKind, bytes: &[u8], headers: &mut [HeaderSpan], most: usize) -> Fault
     requires none { HasNoHead kind bytes.now }
     requires most { length bytes.now ≤ most }
     ensures shown { Shows (most + 1) (RefusesHead kind most (length headers.old)) bytes.now result }
@@ -104,8 +104,8 @@ fn fault_at_end(kind: Kind, bytes: &[u8], headers: &mut [HeaderSpan], most: usiz
     ensures memory { result ≢ NoMemory }
 {
     match look(kind, bytes, headers, most) {
-        Step::Bad => Fault::BadHead,
-        Step::Long => Fault::HeadTooLong,
+        HeadState::Bad => Fault::BadHead,
+        HeadState::Long => Fault::HeadTooLong,
         _ => Fault::Cut,
     }
 }
@@ -115,7 +115,7 @@ fn fault_at_end(kind: Kind, bytes: &[u8], headers: &mut [HeaderSpan], most: usiz
 pub fn read_head<S: Source>(
     alloc: Global,
     source: &mut S,
-    kind: Kind,
+    kind: HeadKind,
     headers: &mut [HeaderSpan],
     most: usize,
     interrupted: &mut u16,
@@ -150,10 +150,10 @@ pub fn read_head<S: Source>(
         spaced = is_spaced(spaced, byte);
         if is_due(spaced, byte, head.len(), most) {
             match look(kind, &head, headers, most) {
-                Step::More => {}
-                Step::Whole => return Ok(head),
-                Step::Bad => return Err(Fault::BadHead),
-                Step::Long => return Err(Fault::HeadTooLong),
+                HeadState::More => {}
+                HeadState::Whole => return Ok(head),
+                HeadState::Bad => return Err(Fault::BadHead),
+                HeadState::Long => return Err(Fault::HeadTooLong),
             }
         }
     }

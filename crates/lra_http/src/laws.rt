@@ -5,14 +5,14 @@ ghost use Rattle.httparse.specs.Spans.{name_and_value};
 ghost use Rattle.lra_http.specs.Faults.{IsOfBytes, Stops};
 ghost use Rattle.lra_http.specs.HeadFields.{field_bytes};
 ghost use Rattle.lra_http.specs.Heads.{Exceeds, max_head_lines};
-ghost use Rattle.lra_http.specs.Requests.{IsMessage as IsRequestRead, IsRequest, IsTextSoFar, Refuses as RefusesRequest, Shows as ShowsRequest};
-ghost use Rattle.lra_http.specs.Responses.{Behind, HasNoResponse, IsCrowded, IsMessage as IsResponseRead, IsResponse, Refuses as RefusesResponse, Shows as ShowsResponse, head_room};
+ghost use Rattle.lra_http.specs.Requests.{IsRequestMessage, IsRequest, IsTextSoFar, RefusesRequest, ShowsNoRequest};
+ghost use Rattle.lra_http.specs.Responses.{Behind, HasNoResponse, IsCrowded, IsResponseMessage, IsResponse, RefusesResponse, ShowsNoResponse, head_room};
 ghost use Rattle.lra_http.specs.MessageTexts.{request_text, response_text};
 ghost use Rattle.lra_http.specs.WholeMessages.{IsSound, IsSoundCall, host_field};
 ghost use Rattle.lra_http.specs.Streams.{GivenBytes, GivesWhat};
 ghost use Rattle.lra_http.specs.declared.fault.Fault.{Fault as TheFault};
 ghost use Rattle.lra_http.specs.declared.fault.Fault.TheVariants.{NoMemory, ReadFault};
-ghost use Rattle.lra_http.specs.declared.head.Kind.TheVariants.{Request as OfRequest};
+ghost use Rattle.lra_http.specs.declared.head.HeadKind.TheVariants.{Request as OfRequest};
 ghost use Rattle.lra_http.specs.declared.message.CallRequest.{CallRequest as TheCall};
 ghost use Rattle.lra_http.specs.declared.message.Request.{Request as TheRequest};
 ghost use Rattle.lra_http.specs.ByteResponses.{Response as TheResponse};
@@ -62,14 +62,14 @@ pub fn a_written_response_is_whole()
 /// was behind it is left.
 pub fn a_request_is_taken_off()
     ensures { (limit : ℕ) (old new : GivenBytes) (r : TheRequest) → GivesWhat old new
-        (λ bytes. IsRequestRead limit bytes r) → IfSome old.left (λ input. (rest : List ℕ)
+        (λ bytes. IsRequestMessage limit bytes r) → IfSome old.left (λ input. (rest : List ℕ)
         × ((h : RequestHead) × IsRequest limit input h r.body rest) × (new.left ≡ Some rest)) }
 {}
 
 /// Where they are known, a fault is one of theirs.
 pub fn a_fault_is_of_the_request()
     ensures { (limit : ℕ) (old new : GivenBytes) (fault : TheFault) →
-        Stops old new (ShowsRequest limit) fault →
+        Stops old new (ShowsNoRequest limit) fault →
         IfSome old.left (λ input. RefusesRequest limit input fault) }
 {}
 
@@ -77,7 +77,7 @@ pub fn a_fault_is_of_the_request()
 /// runs out.
 pub fn a_whole_request_is_read()
     ensures { (limit : ℕ) (old new : GivenBytes) (fault : TheFault) →
-        Stops old new (ShowsRequest limit) fault →
+        Stops old new (ShowsNoRequest limit) fault →
         IfSome old.left (λ input. (h : RequestHead) (body rest : List ℕ) →
         IsRequest limit input h body rest → (fault ≡ ReadFault) ⊎ (fault ≡ NoMemory)) }
 {}
@@ -85,7 +85,7 @@ pub fn a_whole_request_is_read()
 /// The same of a response that is read.
 pub fn a_response_is_taken_off()
     ensures { (limit : ℕ) (old new : GivenBytes) (r : TheResponse) →
-        GivesWhat old new (λ bytes. IsResponseRead limit bytes r) →
+        GivesWhat old new (λ bytes. IsResponseMessage limit bytes r) →
         IfSome old.left (λ input. (rest : List ℕ) × ((h : ResponseHead)
         × IsResponse head_room limit input h r.body rest) × (new.left ≡ Some rest)) }
 {}
@@ -93,14 +93,14 @@ pub fn a_response_is_taken_off()
 /// The same of the faults of a response.
 pub fn a_fault_is_of_the_response()
     ensures { (limit : ℕ) (old new : GivenBytes) (fault : TheFault) →
-        Stops old new (ShowsResponse limit) fault →
+        Stops old new (ShowsNoResponse limit) fault →
         IfSome old.left (λ input. RefusesResponse head_room limit input fault) }
 {}
 
 /// The same of a whole response.
 pub fn a_whole_response_is_read()
     ensures { (limit : ℕ) (old new : GivenBytes) (fault : TheFault) →
-        Stops old new (ShowsResponse limit) fault →
+        Stops old new (ShowsNoResponse limit) fault →
         IfSome old.left (λ input. (h : ResponseHead) (body rest : List ℕ) →
         IsResponse head_room limit input h body rest → (fault ≡ ReadFault) ⊎ (fault ≡ NoMemory)) }
 {}

@@ -5,13 +5,13 @@ ghost use Rattle.lra_http.specs.Streams.{GivesWhat, Reads};
 ghost use Rattle.lra_http.specs.Faults.{Stops};
 ghost use Rattle.lra_http.specs.HeadFields.{field_bytes, first_value};
 ghost use Rattle.lra_http.specs.Heads.{IsHead, max_head_bytes};
-ghost use Rattle.lra_http.specs.Requests.{IsMessage, Shows, ArePartsOf};
+ghost use Rattle.lra_http.specs.Requests.{IsRequestMessage, ShowsNoRequest, ArePartsOfRequest};
 ghost use Rattle.lra_http.specs.declared.fault.Fault.TheVariants.{NoMemory};
-ghost use Rattle.lra_http.specs.declared.head.Kind.TheVariants.{Request as OfRequest};
+ghost use Rattle.lra_http.specs.declared.head.HeadKind.TheVariants.{Request as OfRequest};
 
 use crate::body::read_body;
 use crate::fields::{fields_of, request_size};
-use crate::head::{Kind, MAX_HEAD_BYTES, MAX_HEAD_LINES, read_head};
+use crate::head::{HeadKind, MAX_HEAD_BYTES, MAX_HEAD_LINES, read_head};
 use crate::{Bytes, Fault, Request, Source, Text};
 use http::Method;
 use http::method::MethodError;
@@ -32,7 +32,7 @@ impl Request {
 
 fn parts_of(head: &[u8], headers: &mut [HeaderSpan]) -> RequestSpans
     requires { (lines : ℕ) × IsHead OfRequest head.now lines × (lines ≤ length headers.old) }
-    ensures { ArePartsOf head.now headers.new result }
+    ensures { ArePartsOfRequest head.now headers.new result }
 {
     match parse_request(head, headers) {
         Ok(Status::Complete(spans)) => spans,
@@ -76,9 +76,9 @@ pub fn read_request<S: Source>(
     requires limit { limit < 2 ^ 31 }
     // What is given is one whole request, and no byte more.
     ensures message { IfOk result (λ request. GivesWhat (S.stream source.old) (S.stream source.new)
-        (λ bytes. IsMessage limit bytes request)) }
+        (λ bytes. IsRequestMessage limit bytes request)) }
     // What is given before each fault shows it, whatever follows.
-    ensures fault { IfErr result (Stops (S.stream source.old) (S.stream source.new) (Shows limit)) }
+    ensures fault { IfErr result (Stops (S.stream source.old) (S.stream source.new) (ShowsNoRequest limit)) }
     // A read fault has its cause, no call follows one that failed, and there are at most so many.
     ensures streams { Reads
         (max_head_bytes + 1 + limit) 0 (S.calls source.old) (S.calls source.new) result }
@@ -88,7 +88,7 @@ pub fn read_request<S: Source>(
     let head = read_head(
         alloc,
         source,
-        Kind::Request,
+        HeadKind::Request,
         &mut headers,
         MAX_HEAD_BYTES,
         &mut interrupted,

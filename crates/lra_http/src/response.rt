@@ -2,15 +2,15 @@
 ghost use Rattle.std.specs.Prelude.{◌≡◌, ℕ, ◌+◌, ◌<◌, ◌≤◌, ◌^◌, length, IfOk, IfErr, OnOk};
 ghost use Rattle.http.specs.StatusCode.{IsStatusCode};
 ghost use Rattle.lra_http.specs.Streams.{GivesWhat, Reads, too_many_interrupted};
-ghost use Rattle.lra_http.specs.Faults.{Stops, Shows as ShowsPart};
+ghost use Rattle.lra_http.specs.Faults.{Stops, Shows};
 ghost use Rattle.lra_http.specs.Heads.{IsHead, max_head_bytes};
-ghost use Rattle.lra_http.specs.Responses.{head_room, is_interim, HasNoFinal, IsHeadRead, IsMessage, IsOfHeads, RefusesHeads, Shows, ShowsNoHead, ArePartsOf, IsFinalRead};
+ghost use Rattle.lra_http.specs.Responses.{head_room, is_interim, HasNoFinal, IsHeadRead, IsResponseMessage, IsOfHeads, RefusesHeads, ShowsNoResponse, ShowsNoHead, ArePartsOfResponse, IsFinalRead};
 ghost use Rattle.lra_http.specs.declared.fault.Fault.TheVariants.{NoMemory, ReadFault};
-ghost use Rattle.lra_http.specs.declared.head.Kind.TheVariants.{Response as OfResponse};
+ghost use Rattle.lra_http.specs.declared.head.HeadKind.TheVariants.{Response as OfResponse};
 
 use crate::body::read_body;
 use crate::fields::{fields_of, response_size};
-use crate::head::{Kind, MAX_HEAD_BYTES, MAX_HEAD_LINES, read_head};
+use crate::head::{HeadKind, MAX_HEAD_BYTES, MAX_HEAD_LINES, read_head};
 use crate::{Bytes, Fault, Response, Source};
 use http::StatusCode;
 use httparse::Status;
@@ -19,7 +19,7 @@ use std::alloc::Global;
 
 fn parts_of(head: &[u8], headers: &mut [HeaderSpan]) -> ResponseSpans
     requires { (lines : ℕ) × IsHead OfResponse head.now lines × (lines ≤ length headers.old) }
-    ensures { ArePartsOf head.now headers.new result }
+    ensures { ArePartsOfResponse head.now headers.new result }
 {
     match parse_response(head, headers) {
         Ok(Status::Complete(spans)) => spans,
@@ -54,7 +54,7 @@ fn read_final_head<S: Source>(
     ensures head { IfOk result (λ head. GivesWhat (S.stream source.old) (S.stream source.new)
         (λ given. IsFinalRead given head.items)) }
     ensures fault { IfErr result (Stops (S.stream source.old)
-        (S.stream source.new) (ShowsPart (max_head_bytes + 1) (RefusesHeads head_room))) }
+        (S.stream source.new) (Shows (max_head_bytes + 1) (RefusesHeads head_room))) }
     // Where a read failed no final head had come, and where memory ran out nothing behind one.
     ensures unread { IfErr result (λ fault. fault ≡ ReadFault
         → GivesWhat (S.stream source.old) (S.stream source.new) (HasNoFinal head_room)) }
@@ -73,7 +73,7 @@ fn read_final_head<S: Source>(
         let head = read_head(
             alloc,
             source,
-            Kind::Response,
+            HeadKind::Response,
             &mut headers[..lines],
             most,
             interrupted,
@@ -147,9 +147,9 @@ pub fn read_response<S: Source>(
     requires limit { limit < 2 ^ 31 }
     // What is given is one whole response, and no byte more.
     ensures message { IfOk result (λ response. GivesWhat (S.stream source.old) (S.stream source.new)
-        (λ bytes. IsMessage limit bytes response)) }
+        (λ bytes. IsResponseMessage limit bytes response)) }
     // What is given before each fault shows it, whatever follows.
-    ensures fault { IfErr result (Stops (S.stream source.old) (S.stream source.new) (Shows limit)) }
+    ensures fault { IfErr result (Stops (S.stream source.old) (S.stream source.new) (ShowsNoResponse limit)) }
     // A read fault has its cause, no call follows one that failed, and there are at most so many.
     ensures streams { Reads
         (max_head_bytes + 1 + limit) 0 (S.calls source.old) (S.calls source.new) result }

@@ -13,7 +13,7 @@ use Rattle.lra_delta.specs.declared.input.Stop.TheVariants.{Fault as FaultAt, Cu
 use Rattle.lra_delta.proofs.FrameCodes.{frame_again}
 use Rattle.lra_delta.specs.Encoding.{encoding_as}
 use Rattle.lra_http.specs.Faults.{Stops}
-use Rattle.lra_http.specs.Responses.{HasFinal, IsHeadRead, IsResponse, Shows, ShowsNoHead, head_room, stated}
+use Rattle.lra_http.specs.Responses.{HasFinal, IsHeadRead, IsResponse, ShowsNoResponse, ShowsNoHead, head_room, stated}
 use Rattle.lra_http.specs.Streams.{AllWell, Calls, GivenBytes, GivesWhat, IsFlushed, IsLost, IsSent, OnReadFault, OnWriteFault, TakenBytes, Takes, TakesPart, Writes}
 use Rattle.lra_http.specs.declared.fault.Fault.{Fault as HttpFault}
 use Rattle.lra_http.specs.declared.fault.Fault.TheVariants.{Cut, ReadFault, WriteFault, HeadTooLong, BodyTooLong, BadHead, LengthNeeded, NotOffered, NoMemory}
@@ -228,7 +228,7 @@ module _ {R : Type 0} (stream : R → GivenBytes) (calls : R → Calls) (r0 r1 r
 
 -- ---- where the heads tell why there is no delta
 
-shown : (old new : GivenBytes) (fault : HttpFault) → Stops old new (ShowsNoHead max_frame_bytes) fault → Stops old new (Shows max_frame_bytes) fault
+shown : (old new : GivenBytes) (fault : HttpFault) → Stops old new (ShowsNoHead max_frame_bytes) fault → Stops old new (ShowsNoResponse max_frame_bytes) fault
 shown old new fault s = record { bytes = s.bytes; gives = s.gives; is = s.is.shows; ended = s.ended }
 
 pub head_error : (old new : GivenBytes) (before after : Calls) (fault : HttpFault) → Stops old new (ShowsNoHead max_frame_bytes) fault

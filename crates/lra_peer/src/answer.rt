@@ -56,7 +56,7 @@ fn delta_of<R: Source>(alloc: Global, reader: &mut R, head: FinalHead) -> Result
 }
 
 /// The delta that the next response tells.
-pub fn answered<R: Source>(alloc: Global, reader: &mut R) -> Result<Delta, PullError>
+pub fn read_answer<R: Source>(alloc: Global, reader: &mut R) -> Result<Delta, PullError>
     ensures message { IfOk result (TellsDelta (R.stream reader.old)
         (R.stream reader.new) (R.calls reader.old) (R.calls reader.new)) }
     ensures error { IfErr result (StopsPull (R.stream reader.old)

@@ -86,7 +86,7 @@ fn front_in(nodes: usize, bytes: &[u8]) -> Result<Front, Refusal>
     Ok(front)
 }
 
-fn asked(nodes: usize, body: &[u8]) -> Result<Front, Refusal>
+fn front_of_body(nodes: usize, body: &[u8]) -> Result<Front, Refusal>
     requires some { 1 ≤ nodes }
     requires few { nodes ≤ 8 }
     ensures value { result ≡ asked nodes body.now }
@@ -118,5 +118,5 @@ pub fn front_of_pull(nodes: usize, body: &[u8]) -> Result<Front, Refusal>
     ensures only { (front : List ℕ) →
         IsAsked nodes front → body.now ≡ pull_body front → result ≡ Ok front }
 {
-    asked(nodes, body)
+    front_of_body(nodes, body)
 }

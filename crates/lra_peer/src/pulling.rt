@@ -9,7 +9,7 @@ ghost use Rattle.lra_peer.specs.Texts.{pull_text};
 ghost use Rattle.lra_http.specs.Streams.{IsSent};
 
 use crate::PullError;
-use crate::answer::answered;
+use crate::answer::read_answer;
 use crate::asking::pull_request;
 use lra_delta::Delta;
 use lra_http::{Fault, Sink, Source, write_request};
@@ -17,7 +17,7 @@ use lra_id::Front;
 use std::alloc::Global;
 
 /// Writes the request.
-fn ask<W: Sink>(alloc: Global, writer: &mut W, front: &Front) -> Result<(), Fault>
+fn write_pull_request<W: Sink>(alloc: Global, writer: &mut W, front: &Front) -> Result<(), Fault>
     ensures sent { OnOk result (IsSent (W.stream writer.old)
         (W.stream writer.new) (W.calls writer.old) (W.calls writer.new) (pull_text front.now)) }
     ensures unsent { IfErr result (IsUnsent (W.stream writer.old) (W.stream writer.new)
@@ -65,8 +65,8 @@ pub fn pull<R: Source, W: Sink>(
         IsDeltaAs version frame → IsAnswer bytes 200 (encoding_as version frame) →
         MatchResult result (λ delta. delta ≡ frame) IsOfStreams) }
 {
-    match ask(alloc, writer, front) {
-        Ok(()) => answered(alloc, reader),
+    match write_pull_request(alloc, writer, front) {
+        Ok(()) => read_answer(alloc, reader),
         Err(fault) => Err(PullError::Fault(fault)),
     }
 }

@@ -55,8 +55,6 @@ pub fn serve_pull(alloc: Global, body: &[u8], replica: &Replica) -> Result<Delta
     ensures grammar { (h : History) (w : List ℕ) → IsLawful h → IsClosed h w →
         StandsFor (facts h w) (view_of replica.now) → IfOk result (λ delta. IsOfGrammar delta) }
 {
-    match front_of_pull(replica.front().nodes(), body) {
-        Ok(front) => since_both(alloc, replica, &front),
-        Err(refusal) => Err(refusal),
-    }
+    let front = front_of_pull(replica.front().nodes(), body)?;
+    since_both(alloc, replica, &front)
 }

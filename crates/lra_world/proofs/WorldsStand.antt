@@ -1,5 +1,6 @@
 -- What a world stands for when one of its replicas is changed.
-use Rattle.std.proofs.Common.{◌≡◌, inl, inr, ◌≤◌, ◌<◌, ◌-◌, ℕ, List, [], refl, sym, ap, subst, ◌∙◌, arith, Some, get_or-set_other, get_or-set_same, length, slice_get, slice_set}
+use Rattle.std.proofs.Common.{◌≡◌, inl, inr, ◌≤◌, ◌<◌, ◌-◌, ℕ, List, [], refl, sym, ap, subst, ◌∙◌, arith, Result, Ok, Err, Some, get_or-set_other, get_or-set_same, length, slice_get, slice_set}
+use Rattle.std.specs.Prelude.{OnErr}
 use Rattle.std.proofs.lemmas.List.{length-set}
 use Rattle.std.proofs.lemmas.Option.{slice_get_within}
 use Rattle.lra_facts.specs.declared.fact.Fact.{Fact}
@@ -71,6 +72,11 @@ changed_world s t old new node w kept sent is others c =
           subst (λ (v : List ℕ). IsViewOf t.history v (view_of k)) (sym (others n some other))
           (view_still s.history t.history (front_of s n) (view_of k) kept.grown (w.world.current n some node_there).closed (w.views n k some was))
     ]
+
+-- what holds anyway holds where there is an error
+pub on_err : {T E P : Type 0} (r : Result T E) → P → OnErr r P
+on_err (Ok x) p = tt
+on_err (Err e) p = p
 
 -- a world whose views are the same stands for the same state
 pub still_world : (s : State) (old new : Machine) (node : ℕ) → IsWorldOf s old → IsNode s node → IsChanged old new node (λ was now. view_of now ≡ view_of was) → IsWorldOf s new

@@ -106,7 +106,7 @@ pub fn take_bytes(
 }
 
 /// The bytes that encode what a node tells, in a version.
-fn encoded(alloc: Global, told: &Delta, version: Version) -> Result<Vec<u8>, Refusal>
+fn encode_as(alloc: Global, told: &Delta, version: Version) -> Result<Vec<u8>, Refusal>
     ensures text { IfOk result (λ bytes. (needs_later version told.now ≡ false)
         × (bytes.items ≡ encoding_as version told.now)) }
     ensures rules { IsOfGrammar told.now → IfOk result (λ _. IsDeltaAs version told.now) }
@@ -140,7 +140,7 @@ pub fn bytes_since(
         × (needs_later version (frame_of (view_of replica.now) base.now) ≡ true)))) }
 {
     let told = Delta::since(alloc, replica, base)?;
-    encoded(alloc, &told, version)
+    encode_as(alloc, &told, version)
 }
 
 /// A node starts again from the bytes of its own frame since the front of zeros, which has all that
@@ -159,14 +159,10 @@ pub fn restart(alloc: Global, replica: &mut Replica) -> Result<Reply, AllocError
     let Ok(mut fresh) = Replica::new(alloc, nodes) else {
         return Err(AllocError);
     };
-    match take_bytes(alloc, &mut fresh, &bytes, bytes.len()) {
-        Ok(reply) => {
-            if reply != Reply::Took {
-                return Ok(reply);
-            }
-            *replica = fresh;
-            Ok(Reply::Restarted)
-        }
-        Err(error) => Err(error),
+    let reply = take_bytes(alloc, &mut fresh, &bytes, bytes.len())?;
+    if reply != Reply::Took {
+        return Ok(reply);
     }
+    *replica = fresh;
+    Ok(Reply::Restarted)
 }

@@ -19,7 +19,7 @@ use crate::node::{act, bytes_since, restart, take_bytes};
 use crate::{Event, Reply, Stopped};
 use lra_delta::Version;
 use lra_facts::{Command, CommandReply, Refusal};
-use lra_id::{Front, LraId, LraStatus, MemberStatus, NodeId, Verdict};
+use lra_id::{Front, LraId, LraStatus, MAX_NODES, MemberStatus, NodeId, Verdict};
 use lra_replica::Replica;
 use std::alloc::{AllocError, Global};
 use std::marker::Model;
@@ -49,7 +49,7 @@ impl World {
         ensures refused { result ≡ Err BadText ↔ ((nodes < 1) ⊎ (8 < nodes)) }
         ensures cause { IfErr result (λ refusal. (refusal ≡ BadText) ⊎ (refusal ≡ NoMemory)) }
     {
-        if nodes < 1 || nodes > 8 {
+        if nodes < 1 || nodes > MAX_NODES as usize {
             return Err(Refusal::BadText);
         }
         match empty_replicas(alloc, nodes) {
@@ -192,10 +192,8 @@ impl World {
         if !self.has(node) {
             return Ok(Reply::Refused(Refusal::BadText));
         }
-        match self.act_at(alloc, node, command) {
-            Ok(reply) => Ok(Reply::Answered(reply)),
-            Err(error) => Err(error),
-        }
+        let reply = self.act_at(alloc, node, command)?;
+        Ok(Reply::Answered(reply))
     }
 
     /// A frame comes to a node, or the first so many bytes of it.
@@ -213,10 +211,7 @@ impl World {
         if !self.has(node) || !self.was_sent(frame) {
             return Ok(Reply::Refused(Refusal::BadText));
         }
-        match self.deliver_at(alloc, frame - 1, node, kept) {
-            Ok(reply) => Ok(reply),
-            Err(error) => Err(error),
-        }
+        self.deliver_at(alloc, frame - 1, node, kept)
     }
 
     /// A node starts again.
@@ -228,10 +223,7 @@ impl World {
         if !self.has(node) {
             return Ok(Reply::Refused(Refusal::BadText));
         }
-        match self.restart_at(alloc, node) {
-            Ok(reply) => Ok(reply),
-            Err(error) => Err(error),
-        }
+        self.restart_at(alloc, node)
     }
 
     /// One event happens. Running out of memory leaves the world as it was.
@@ -328,10 +320,8 @@ impl World {
         let verdict = Verdict::Cancel;
         // A node's number is at least 1: only a call of a `NodeId` tells.
         let _ = node.number();
-        match self.act_at(alloc, node, Command::Decide { id, verdict }) {
-            Ok(reply) => Ok(expired(id, reply)),
-            Err(error) => Err(error),
-        }
+        let reply = self.act_at(alloc, node, Command::Decide { id, verdict })?;
+        Ok(reply_of_expiry(id, reply))
     }
 
     /// A node sends what it has since a base, in the given version of frames.
@@ -409,7 +399,7 @@ fn empty_replicas(alloc: Global, nodes: usize) -> Result<Vec<Replica>, AllocErro
     Ok(replicas)
 }
 
-fn expired(id: LraId, reply: CommandReply) -> Reply
+fn reply_of_expiry(id: LraId, reply: CommandReply) -> Reply
     ensures { result ≡ expired id reply }
 {
     match reply {
@@ -425,13 +415,6 @@ fn keep<T: Drop>(items: &mut Vec<T>, item: Result<T, AllocError>) -> Result<(), 
     ensures ok { IfOk item (λ one. IsOk result × (items.new.items ≡ items.old.items ++ one ∷ [])) }
     ensures err { OnErr item (IsErr result × (items.new.items ≡ items.old.items)) }
 {
-    match item {
-        Ok(item) => {
-            let Ok(()) = items.push(item) else {
-                unreachable!();
-            };
-            Ok(())
-        }
-        Err(error) => Err(error),
-    }
+    items.push_reserved(item?);
+    Ok(())
 }

@@ -1,6 +1,6 @@
 use Rattle.std.proofs.Common.{◌≡◌, ◌∙◌, ◌++◌, ◌∷◌, ℕ, List, [], OnOk, ap, codes, length, subst}
 use Rattle.std.specs.Fmt.{decimal}
-use Rattle.lra_callback.specs.declared.request.FieldName.TheVariants.{ContentType, ContentLength}
+use Rattle.lra_callback.specs.declared.request.RequestField.TheVariants.{ContentType, ContentLength}
 use Rattle.lra_callback.specs.CallRequests.{body_of, field}
 use Rattle.lra_callback.proofs.WholeCalls.{both_added}
 use Rattle.lra_callback.proofs.request.add_body.Goals as goal

@@ -2,7 +2,7 @@ use Rattle.std.proofs.Common.{◌≡◌, ◌∙◌, ◌++◌, ◌∷◌, [], Err
 use Rattle.lra_forest.specs.declared.record.Record.{Record}
 use Rattle.lra_delta.specs.declared.order.Last.{Last}
 use Rattle.lra_delta.specs.Rules.{Context, after, start, told_context}
-use Rattle.lra_delta.specs.Reading.{record_at}
+use Rattle.lra_delta.specs.Reading.{read_record_at}
 use Rattle.lra_delta.specs.Order.{AreInOrder, Follows, lists}
 use Rattle.std.proofs.lemmas.Result.{err_from_is_err_and}
 use Rattle.lra_delta.proofs.AtHomes.{home_of_next, last_of_home, put_next, reads_as_before}
@@ -22,7 +22,7 @@ returns-in_err-kept g c =
     let p = err_from_is_err_and c.from_residual.result c.from_residual.ensures.1 in
     let held : lists c.as_slice.result.now ≡ lists c.args.homes.now.items = ap lists c.as_slice.ensures.value ∙ inv.put.held in
     let read = reads_as_before (seen c.records.input) (seen c.record_of.new.input) (Err c.in_err-kept.field-0.0) c.args.version c.args.base.now c.args.front.now c.args.homes.now.items c.as_slice.result.now c.records.last held c.in_err-kept.ensures.gives in
-    rw (p.1, p.2) (inv.done, ends (record_at k) after c.args.count start (seen c.args.input.now) inv.done c.records.counter c.records.last (seen c.records.input) (seen c.record_of.new.input) c.in_err-kept.field-0.0 c.records-test.true inv.so_far read, tt)
+    rw (p.1, p.2) (inv.done, ends (read_record_at k) after c.args.count start (seen c.args.input.now) inv.done c.records.counter c.records.last (seen c.records.input) (seen c.record_of.new.input) c.in_err-kept.field-0.0 c.records-test.true inv.so_far read, tt)
 
 pub put_home-requires-clause-there : goal.put_home-requires-clause-there
 put_home-requires-clause-there g c =
@@ -47,7 +47,7 @@ records-preserved g c =
     let read = reads_as_before (seen c.records.input) (seen c.record_of.new.input) (Ok kept) c.args.version c.args.base.now c.args.front.now c.args.homes.now.items c.as_slice.result.now c.records.last held c.in_ok-kept.ensures.gives in
     rw c.after-last.ensures (record {
       done = inv.done ++ kept ∷ [];
-      so_far = goes_on (record_at k) after c.args.count start (seen c.args.input.now) inv.done c.records.counter c.records.last (seen c.records.input) (seen c.record_of.new.input) (λ (x : Record). x) kept c.records-test.true inv.so_far read;
+      so_far = goes_on (read_record_at k) after c.args.count start (seen c.args.input.now) inv.done c.records.counter c.records.last (seen c.records.input) (seen c.record_of.new.input) (λ (x : Record). x) kept c.records-test.true inv.so_far read;
       few = few_more c.records.last kept c.records.counter inv.few;
       last = ap (λ (last : Last). after last kept) inv.last ∙ sym (last_more start inv.done kept);
       order = order;
@@ -60,6 +60,6 @@ returns g c =
     let k : Context = told_context c.args.version c.args.base.now c.args.front.now c.args.homes.now.items in
     let inv = c.records.invariant in (
       inv.done,
-      is_done (record_at k) after c.args.count start (seen c.args.input.now) c.records.counter c.records.last (seen c.records.input) (λ (u : Unit {0}). inv.done) tt c.records-test.false inv.so_far,
+      is_done (read_record_at k) after c.args.count start (seen c.args.input.now) c.records.counter c.records.last (seen c.records.input) (λ (u : Unit {0}). inv.done) tt c.records-test.false inv.so_far,
       inv.put,
     )

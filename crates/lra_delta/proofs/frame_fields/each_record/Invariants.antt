@@ -1,7 +1,7 @@
 use Rattle.std.proofs.Common.{◌≡◌, ◌-◌, ◌≤◌, List, length}
 use Rattle.lra_forest.specs.declared.record.Record.{Record}
 use Rattle.lra_delta.specs.Rules.{after, start, told_context}
-use Rattle.lra_delta.specs.Reading.{record_at}
+use Rattle.lra_delta.specs.Reading.{read_record_at}
 use Rattle.lra_delta.specs.Order.{AreInOrder, ArePut}
 use Rattle.lra_delta.proofs.Loop.{SoFar}
 use Rattle.lra_delta.proofs.ToldLists.{last_of}
@@ -11,7 +11,7 @@ use Rattle.lra_delta.proofs.frame_fields.each_record.Given as goal
 abbrev pub invariant-records : goal.invariant-records
 invariant-records g l = let seen = g.I.Input.seen in record {
   done : List Record;
-  so_far : SoFar (record_at (told_context l.version l.base l.front l.fn.homes.items)) after l.count start (seen l.fn.input) done (l.count - l.counter) l.last (seen l.input);
+  so_far : SoFar (read_record_at (told_context l.version l.base l.front l.fn.homes.items)) after l.count start (seen l.fn.input) done (l.count - l.counter) l.last (seen l.input);
   few : l.last.count ≤ l.counter;
   last : l.last ≡ last_of start done;
   order : AreInOrder (length l.front) start done;

@@ -1,11 +1,11 @@
 use Rattle.std.proofs.Common.{rules, []}
-use Rattle.lra_delta.specs.Reading.{records_at}
+use Rattle.lra_delta.specs.Reading.{read_records_at}
 use Rattle.lra_delta.proofs.frame_fields.records_of.Goals as goal
 
 pub returns-in_err-count : goal.returns-in_err-count
-unfolding records_at
+unfolding read_records_at
 returns-in_err-count g c = ([], search rules, search rules)
 
 pub returns-then-not-count-nodes : goal.returns-then-not-count-nodes
-unfolding records_at
+unfolding read_records_at
 returns-then-not-count-nodes g c = ([], search rules, search rules)

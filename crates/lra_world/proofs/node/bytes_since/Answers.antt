@@ -13,19 +13,19 @@ returns-clause-sent c h v lawful closed view =
     let told = c.in_ok-told.ensures.frame in
     let version = c.args.version in
     let below : IsBelow c.args.base.now v = subst (λ (u : List ℕ). IsBelow c.args.base.now u) view.counts told.1 in
-    IfOk-weaker c.encoded.result _ _
+    IfOk-weaker c.encode_as.result _ _
     (λ bytes written.
     let moved =
     subst (λ (f : Frame). (needs_later version f ≡ false) × IsDeltaAs version f × (bytes.items ≡ encoding_as version f)) told.0 written in
     (below, moved.0, moved.1, moved.2))
-    (written_both c.encoded.result c.in_ok-told.told c.args.version c.encoded.ensures.text (c.encoded.ensures.rules (c.in_ok-told.ensures.grammar h v lawful closed view.stands)))
+    (written_both c.encode_as.result c.in_ok-told.told c.args.version c.encode_as.ensures.text (c.encode_as.ensures.rules (c.in_ok-told.ensures.grammar h v lawful closed view.stands)))
 
 pub returns-clause-refused : goal.returns-clause-refused
 returns-clause-refused c =
     let told = c.in_ok-told.ensures.frame in
-    IfErr-weaker c.encoded.result _ _
+    IfErr-weaker c.encode_as.result _ _
     (λ refusal cause. elim cause [
       | inl none ↦ inl none
       | inr needs ↦ inr (inr (needs.0, told.1, subst (λ (f : Frame). needs_later c.args.version f ≡ true) told.0 needs.1))
     ])
-    c.encoded.ensures.refused
+    c.encode_as.ensures.refused

@@ -6,14 +6,14 @@ use Rattle.lra_world.proofs.node.restart.Goals as goal
 
 pub returns-then-ne-clause-same : goal.returns-then-ne-clause-same
 returns-then-ne-clause-same c h v lawful closed stands front =
-    let took = retaken c.zero.result c.in-Ok.bytes.items c.deref.result.now c.front.result (view_of c.args.replica.now) (view_of c.in-Ok-new.fresh) (view_of c.take_bytes.new.replica) c.nodes-nodes.result c.len.result _ c.in-Ok-take_bytes.reply
-    c.in-Ok.ensures.sent c.nodes-nodes.ensures.value c.front.ensures c.zero.ensures c.in-Ok-new.ensures.empty c.deref.ensures.value c.deref.ensures.len c.len.ensures c.in-Ok-take_bytes.ensures.taken h v lawful closed stands front in
-    let other : c.in-Ok-take_bytes.reply ≡ Took → ⊥ = search rules in
+    let took = retaken c.zero.result c.in-Ok.bytes.items c.deref.result.now c.front.result (view_of c.args.replica.now) (view_of c.in-Ok-new.fresh) (view_of c.take_bytes.new.replica) c.nodes-nodes.result c.len.result _ c.in_ok-reply.reply
+    c.in-Ok.ensures.sent c.nodes-nodes.ensures.value c.front.ensures c.zero.ensures c.in-Ok-new.ensures.empty c.deref.ensures.value c.deref.ensures.len c.len.ensures c.in_ok-reply.ensures.taken h v lawful closed stands front in
+    let other : c.in_ok-reply.reply ≡ Took → ⊥ = search rules in
     absurd (other took.0)
 
-pub returns-in-Ok-take_bytes-clause-same : goal.returns-in-Ok-take_bytes-clause-same
-returns-in-Ok-take_bytes-clause-same c h v lawful closed stands front = (
+pub returns-clause-same : goal.returns-clause-same
+returns-clause-same c h v lawful closed stands front = (
   refl,
-  (retaken c.zero.result c.in-Ok.bytes.items c.deref.result.now c.front.result (view_of c.args.replica.now) (view_of c.in-Ok-new.fresh) (view_of c.take_bytes.new.replica) c.nodes-nodes.result c.len.result _ c.in-Ok-take_bytes.reply
-      c.in-Ok.ensures.sent c.nodes-nodes.ensures.value c.front.ensures c.zero.ensures c.in-Ok-new.ensures.empty c.deref.ensures.value c.deref.ensures.len c.len.ensures c.in-Ok-take_bytes.ensures.taken h v lawful closed stands front).1,
+  (retaken c.zero.result c.in-Ok.bytes.items c.deref.result.now c.front.result (view_of c.args.replica.now) (view_of c.in-Ok-new.fresh) (view_of c.take_bytes.new.replica) c.nodes-nodes.result c.len.result _ c.in_ok-reply.reply
+      c.in-Ok.ensures.sent c.nodes-nodes.ensures.value c.front.ensures c.zero.ensures c.in-Ok-new.ensures.empty c.deref.ensures.value c.deref.ensures.len c.len.ensures c.in_ok-reply.ensures.taken h v lawful closed stands front).1,
 )

@@ -2,7 +2,7 @@ use Rattle.std.proofs.Common.{◌≡◌, ◌+◌, ◌≤◌, ℕ, List, length, 
 use Rattle.lra_delta.specs.FrameFields.{cells_at}
 use Rattle.lra_delta.specs.Seen.{Begins, GoesWell, rest_in, of_slice}
 use Rattle.lra_delta.proofs.Grown.{filled}
-use Rattle.lra_delta.proofs.bytes.BytesInput.fill.Goals as goal
+use Rattle.lra_delta.proofs.slice.SliceInput.fill.Goals as goal
 
 filled_slice : (all got : List ℕ) (first place limit width : ℕ) → got ≡ take width (drop place all) → place + width ≤ limit → limit ≤ length all
     → (whole : List ℕ) → Begins (take (place + width) all) whole → Begins (take place all) whole × (cells_at first width (rest_in whole (of_slice all place limit)) ≡ Ok (got, rest_in whole (of_slice all (place + width) limit)))

@@ -1,5 +1,5 @@
 use Rattle.lra_peer.proofs.Pulled.{sent_of, unsent_of}
-use Rattle.lra_peer.proofs.pulling.ask.Goals as goal
+use Rattle.lra_peer.proofs.pulling.write_pull_request.Goals as goal
 
 pub returns-clause-sent : goal.returns-clause-sent
 returns-clause-sent g c =

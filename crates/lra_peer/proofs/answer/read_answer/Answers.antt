@@ -1,5 +1,5 @@
 use Rattle.lra_peer.proofs.Pulled.{answer_error, answer_found, answer_message, found_head, head_error}
-use Rattle.lra_peer.proofs.answer.answered.Goals as goal
+use Rattle.lra_peer.proofs.answer.read_answer.Goals as goal
 
 pub returns-in-Ok-clause-message : goal.returns-in-Ok-clause-message
 returns-in-Ok-clause-message g c =

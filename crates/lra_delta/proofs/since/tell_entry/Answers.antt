@@ -10,7 +10,7 @@ use Rattle.lra_delta.specs.Telling.{homes_told, told_too}
 use Rattle.lra_delta.proofs.ToldLists.{on_three}
 use Rattle.lra_delta.proofs.ToldSince.{number_there, order_there, told_there}
 use Rattle.lra_delta.proofs.ToldToo.{told_at}
-use Rattle.lra_delta.proofs.since.tell.Goals as goal
+use Rattle.lra_delta.proofs.since.tell_entry.Goals as goal
 
 -- the home of the entry, as it is told and as it is kept
 told_home : (c : goal.After-index-homes-place) → slice_get c.args.told.now.items (c.from-place.result - 1) ≡ Some c.index_mut.result.now

@@ -6,7 +6,7 @@ use crate::input::{Input, Stop};
 
 /// The bytes of a slice.
 #[derive(Drop)]
-pub struct Bytes<'a> {
+pub struct Slice<'a> {
     all: &'a [u8],
     place: usize,
     limit: usize,
@@ -14,12 +14,12 @@ pub struct Bytes<'a> {
     ghost there: { limit ≤ length all.now },
 }
 
-impl<'a> Bytes<'a> {
+impl<'a> Slice<'a> {
     /// None of the bytes was taken yet.
-    pub fn new(bytes: &'a [u8]) -> Bytes<'a>
-        ensures { ⟦<Bytes<'a> as Input>⟧.seen result ≡ of_slice bytes.now 0 (length bytes.now) }
+    pub fn new(bytes: &'a [u8]) -> Slice<'a>
+        ensures { ⟦<Slice<'a> as Input>⟧.seen result ≡ of_slice bytes.now 0 (length bytes.now) }
     {
-        Bytes {
+        Slice {
             all: bytes,
             place: 0,
             limit: bytes.len(),
@@ -27,7 +27,7 @@ impl<'a> Bytes<'a> {
     }
 }
 
-impl<'a> Input for Bytes<'a> {
+impl<'a> Input for Slice<'a> {
     ghost seen = { λ s. of_slice s.all.now s.place s.limit };
 
     fn place(&self) -> u64 {

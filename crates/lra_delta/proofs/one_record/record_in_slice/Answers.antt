@@ -2,7 +2,7 @@ use Rattle.std.proofs.Common.{Ok, Err}
 use Rattle.lra_delta.specs.declared.input.Stop.TheVariants.{Fault}
 use Rattle.lra_delta.specs.OneRecord.{alone_at}
 use Rattle.lra_delta.proofs.Slices.{slice_read}
-use Rattle.lra_delta.proofs.one_record.alone.Goals as goal
+use Rattle.lra_delta.proofs.one_record.record_in_slice.Goals as goal
 
 pub returns-in-Ok : goal.returns-in-Ok
 returns-in-Ok c =
