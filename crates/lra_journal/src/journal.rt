@@ -18,7 +18,7 @@ ghost use Rattle.lra_journal.specs.Tables.{IsJournal};
 ghost use Rattle.lra_replica.specs.Replicas.{view_of};
 
 use crate::first::First;
-use crate::open::{opened, refusal_of};
+use crate::open::{read_or_make_replica, refusal_of};
 use crate::store::write_patch;
 use lra_facts::Refusal;
 use lra_id::NodeId;
@@ -121,7 +121,7 @@ impl<S: Alter> Journal<S> {
             (MayLeaveOpened (state S.Store connection) me nodes)) }
     {
         let first = First::of(&connection);
-        match opened(alloc, &mut connection, me, nodes) {
+        match read_or_make_replica(alloc, &mut connection, me, nodes) {
             Ok(replica) => Ok((
                 Journal {
                     connection,

@@ -3,6 +3,7 @@ ghost use Rattle.std.specs.Prelude.{◌≡◌, ◌≤◌, length, IfOk, OnErr, s
 ghost use Rattle.lra_facts.specs.declared.refusal.Refusal.TheVariants.{NoMemory};
 ghost use Rattle.lra_world.specs.Machines.{IsWorldOf};
 ghost use Rattle.lra_world.specs.Worlds.{State};
+ghost use Rattle.lra_world.specs.declared.event.Event.TheVariants.{Send as SendEvent};
 ghost use Rattle.lra_script.specs.declared.asking.Ask.TheVariants.{Deliver};
 ghost use Rattle.lra_script.specs.Asks.{IsInRange};
 ghost use Rattle.lra_script.specs.Scripts.{HasHappened, WasAnswered, WasDone, refused};
@@ -11,11 +12,11 @@ ghost use Rattle.lra_script.specs.NodeHoldings.{AreComing};
 use crate::asking::{Ask, ask_of};
 use crate::calls::{hear_answer, show_duties};
 use crate::line::MAX_LINE_BYTES;
-use crate::showing::{held, id_line, show, show_front, show_member, show_same, text_line};
+use crate::showing::{id_line, replica_at, show, show_front, show_member, show_same, text_line};
 use crate::telling::{Room, refusal_line, tell};
 use lra_delta::Version;
 use lra_facts::{CommandReply, Refusal};
-use lra_id::NodeId;
+use lra_id::{Front, NodeId};
 use lra_world::{Event, World};
 use std::alloc::{AllocError, Global};
 
@@ -56,30 +57,8 @@ fn obey(alloc: Global, world: &mut World, ask: Ask) -> Result<String, AllocError
     match ask {
         Ask::Enter { node, command } => happen(alloc, world, Event::Act { node, command }),
         Ask::Tick { node, now } => happen(alloc, world, Event::Tick { node, now }),
-        Ask::Send { node, base } => {
-            let version = Version::Two;
-            happen(
-                alloc,
-                world,
-                Event::Send {
-                    node,
-                    base,
-                    version,
-                },
-            )
-        }
-        Ask::SendOld { node, base } => {
-            let version = Version::One;
-            happen(
-                alloc,
-                world,
-                Event::Send {
-                    node,
-                    base,
-                    version,
-                },
-            )
-        }
+        Ask::Send { node, base } => send(alloc, world, node, base, Version::Two),
+        Ask::SendOld { node, base } => send(alloc, world, node, base, Version::One),
         Ask::Deliver { frame, node, kept } => deliver(alloc, world, frame, node, kept),
         Ask::Restart { node } => happen(alloc, world, Event::Restart { node }),
         Ask::Hear {
@@ -91,9 +70,13 @@ fn obey(alloc: Global, world: &mut World, ask: Ask) -> Result<String, AllocError
         } => hear_answer(alloc, world, node, id, member, kind, &answer),
         Ask::Show { node, id } => show(alloc, world, node, id),
         Ask::Member { node, id, member } => show_member(alloc, world, node, id, member),
-        Ask::Duties { node } => show_duties(alloc, held(world, node), node),
-        Ask::Front { node } => show_front(alloc, held(world, node)),
-        Ask::Same { node, other } => show_same(alloc, held(world, node), held(world, other)),
+        Ask::Duties { node } => show_duties(alloc, replica_at(world, node), node),
+        Ask::Front { node } => show_front(alloc, replica_at(world, node)),
+        Ask::Same { node, other } => show_same(
+            alloc,
+            replica_at(world, node),
+            replica_at(world, other),
+        ),
         Ask::Text(id) => text_line(alloc, id),
         Ask::Read(id) => id_line(alloc, id),
     }
@@ -108,10 +91,28 @@ fn happen(alloc: Global, world: &mut World, event: Event) -> Result<String, Allo
     // `Reply`.
     let _ = CommandReply::Refused(Refusal::NoMemory);
     let room = Room::new(alloc)?;
-    match world.step(alloc, event) {
-        Ok(reply) => tell(alloc, room, reply),
-        Err(error) => Err(error),
-    }
+    let reply = world.step(alloc, event)?;
+    tell(alloc, room, reply)
+}
+
+/// Has a node send what it has since a base, in a version of frames.
+fn send(
+    alloc: Global,
+    world: &mut World,
+    node: NodeId,
+    base: Front,
+    version: Version,
+) -> Result<String, AllocError>
+    ensures ok { (s : State) → IsWorldOf s world.old → IfOk result
+        (λ text. HasHappened s (SendEvent node base version) (string_bytes text) world.new) }
+    ensures err { (s : State) → IsWorldOf s world.old → OnErr result (IsWorldOf s world.new) }
+{
+    let event = Event::Send {
+        node,
+        base,
+        version,
+    };
+    happen(alloc, world, event)
 }
 
 /// Has a frame come to a node, or the first so many bytes of it.

@@ -110,13 +110,18 @@ pub fn ask_of(alloc: Global, line: &[u8], nodes: u8) -> Result<Option<Ask>, Allo
         return Ok(None);
     };
     match Verb::from_name(word) {
-        Some(verb) => asked(alloc, verb, words, nodes),
+        Some(verb) => ask_by_verb(alloc, verb, words, nodes),
         None => Ok(None),
     }
 }
 
 /// What the words after a verb ask.
-fn asked(alloc: Global, verb: Verb, words: Words<'_>, nodes: u8) -> Result<Option<Ask>, AllocError>
+fn ask_by_verb(
+    alloc: Global,
+    verb: Verb,
+    words: Words<'_>,
+    nodes: u8,
+) -> Result<Option<Ask>, AllocError>
     requires { nodes ≤ 8 }
     ensures { IfOk result (ReadsArguments nodes (verb_name verb) words.entry) }
 {

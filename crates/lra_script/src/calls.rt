@@ -14,7 +14,7 @@ ghost use Rattle.lra_script.specs.CallLines.{act_asked, act_demanded, act_where,
 ghost use Rattle.lra_script.specs.Scripts.{IsNothing, after_answer, after_heard, answer_line, heard_line, heard_reply_line, printed};
 ghost use Rattle.lra_script.specs.NodeHoldings.{Holds};
 
-use crate::showing::held;
+use crate::showing::replica_at;
 use crate::telling::{Room, refusal_line, tell};
 use lra_callback::{Answer, Duty, Heard, Kind, act_wanted, hear, pick};
 use lra_facts::{Command, CommandReply, Refusal};
@@ -89,7 +89,7 @@ pub fn hear_answer(
         (act_asked (set_of s node) (front_of s node) kind id member)) world.new) }
     ensures err { (s : State) → IsWorldOf s world.old → OnErr result (IsWorldOf s world.new) }
 {
-    match act_asked(held(world, node), kind, id, member) {
+    match act_asked(replica_at(world, node), kind, id, member) {
         Ok(act) => {
             let heard = hear(act, kind, answer);
             enter_heard(alloc, world, node, heard, heard.command(id, member, act))
@@ -116,20 +116,16 @@ fn act_of_status(replica: &Replica, id: LraId, member: u8) -> Result<Act, Refusa
     ensures { (S : List Fact) (front : List ℕ) → Holds S front replica.now → result
         ≡ act_where (member_shown S front id member) (act_demanded (act_wanted (want S id))) }
 {
-    match replica.member(id, member) {
-        Ok(_) => act_demanded(replica, id),
-        Err(refusal) => Err(refusal),
-    }
+    replica.member(id, member)?;
+    act_demanded(replica, id)
 }
 
 fn act_demanded(replica: &Replica, id: LraId) -> Result<Act, Refusal>
     ensures { (S : List Fact) (front : List ℕ) → Holds S front replica.now →
         is_held S id ≡ true → result ≡ act_demanded (act_wanted (want S id)) }
 {
-    match replica.want(id) {
-        Ok(want) => act_wanted(want).ok_or(Refusal::NotDue(LraStatus::Active)),
-        Err(refusal) => Err(refusal),
-    }
+    let want = replica.want(id)?;
+    act_wanted(want).ok_or(Refusal::NotDue(LraStatus::Active))
 }
 
 fn enter_heard(
@@ -153,10 +149,8 @@ fn enter_heard(
     let Some(command) = command else {
         return Ok(heard_word_line(room, heard, ""));
     };
-    match world.step(alloc, Event::Act { node, command }) {
-        Ok(reply) => tell_heard(alloc, room, heard, reply),
-        Err(error) => Err(error),
-    }
+    let reply = world.step(alloc, Event::Act { node, command })?;
+    tell_heard(alloc, room, heard, reply)
 }
 
 fn tell_heard(alloc: Global, room: Room, heard: Heard, reply: Reply) -> Result<String, AllocError>

@@ -88,12 +88,12 @@ fn print_line<W: Sink>(
     ensures streams { LineCalls (W.calls writer.old) (W.calls writer.new) result }
 {
     match answer(alloc, world, line, nodes) {
-        Ok(text) => put(writer, text.as_bytes()),
-        Err(_) => put(writer, b"refused E17 NoMemory\n"),
+        Ok(text) => write_out(writer, text.as_bytes()),
+        Err(_) => write_out(writer, b"refused E17 NoMemory\n"),
     }
 }
 
-fn put<W: Sink>(writer: &mut W, text: &[u8]) -> Result<(), WriteFault>
+fn write_out<W: Sink>(writer: &mut W, text: &[u8]) -> Result<(), WriteFault>
     ensures ok { OnOk result (IsPut (W.stream writer.old) (W.stream writer.new) text.now) }
     ensures part { OnErr result (TakesPart (W.stream writer.old) (W.stream writer.new) text.now) }
     ensures streams { LineCalls (W.calls writer.old) (W.calls writer.new) result }

@@ -19,7 +19,7 @@ use std::str;
 
 /// What a node holds. It lends the replica with a clause over all that this `Holds`, so each
 /// question is a function of a `&Replica`, and takes one line where it is asked.
-pub fn held(world: &World, node: NodeId) -> &Replica
+pub fn replica_at(world: &World, node: NodeId) -> &Replica
     requires { IsNodeOf (length world.now.replicas) node }
     ensures holds { (s : State) →
         IsWorldOf s world.now → Holds (set_of s node) (front_of s node) result.now }

@@ -182,9 +182,7 @@ pub fn node_of(word: &[u8], nodes: u8) -> Option<NodeId>
     ensures { MatchOption result ((node : ℕ) → IsNodeOf nodes node →
         word.now ≡ decimal node → ⊥) (λ node. IsNodeOf nodes node × (word.now ≡ decimal node)) }
 {
-    let Some(number) = number_of(word) else {
-        return None;
-    };
+    let number = number_of(word)?;
     if number > u64::from(nodes) {
         return None;
     }
@@ -199,9 +197,7 @@ pub fn member_number_of(word: &[u8]) -> Option<u8>
     ensures { MatchOption result ((m : ℕ) → IsMemberNumber m →
         word.now ≡ decimal m → ⊥) (λ m. IsMemberNumber m × (word.now ≡ decimal m)) }
 {
-    let Some(number) = number_of(word) else {
-        return None;
-    };
+    let number = number_of(word)?;
     if number == 0 || number > MAX_MEMBERS as u64 {
         return None;
     }
@@ -213,9 +209,7 @@ pub fn code_of(word: &[u8]) -> Option<u16>
     ensures { MatchOption result ((n : ℕ) → n < 2 ^ 16 → word.now ≡ decimal n → ⊥)
         (λ n. word.now ≡ decimal n) }
 {
-    let Some(number) = number_of(word) else {
-        return None;
-    };
+    let number = number_of(word)?;
     if number > u64::from(u16::MAX) {
         return None;
     }

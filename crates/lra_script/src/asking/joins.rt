@@ -74,10 +74,10 @@ fn links_of(alloc: Global, words: &Words<'_>) -> Result<Option<Links>, AllocErro
     let Some(after) = text_given(words, LinkName::After) else {
         return Ok(None);
     };
-    kept(alloc, complete, compensate, status, forget, after)
+    links_from_texts(alloc, complete, compensate, status, forget, after)
 }
 
-fn kept(
+fn links_from_texts(
     alloc: Global,
     complete: Option<&str>,
     compensate: Option<&str>,

@@ -23,7 +23,7 @@ pub returns-in-Duties-clause-ok : goal.returns-in-Duties-clause-ok
 returns-in-Duties-clause-ok c s w =
     let node = c.in-Duties.node in
     rw c.in-Duties.is
-    (IfOk-weaker c.show_duties.result _ _ (λ text h. (s, (h.0, h.1, h.2, refl), w)) (c.show_duties.ensures (set_of s node) (front_of s node) (c.held.ensures.holds s w)))
+    (IfOk-weaker c.show_duties.result _ _ (λ text h. (s, (h.0, h.1, h.2, refl), w)) (c.show_duties.ensures (set_of s node) (front_of s node) (c.replica_at.ensures.holds s w)))
 
 pub returns-in-Same-clause-ok : goal.returns-in-Same-clause-ok
 returns-in-Same-clause-ok c s w =
@@ -31,5 +31,5 @@ returns-in-Same-clause-ok c s w =
     let other = c.in-Same.other in
     rw c.in-Same.is
     (IfOk-weaker c.show_same.result _ _
-    (λ text told. (s, (same_told s node other c.held-in-Same.result.now c.held-in-Same-2.result.now (string_bytes text) (c.held-in-Same.ensures.holds s w) (c.held-in-Same-2.ensures.holds s w) told, refl), w))
+    (λ text told. (s, (same_told s node other c.replica_at-in-Same.result.now c.replica_at-in-Same-2.result.now (string_bytes text) (c.replica_at-in-Same.ensures.holds s w) (c.replica_at-in-Same-2.ensures.holds s w) told, refl), w))
     c.show_same.ensures)

@@ -4,7 +4,7 @@ use Rattle.lra_script.proofs.words.code_of.Goals as goal
 
 pub returns-then-number-from : goal.returns-then-number-from
 returns-then-number-from c = λ n small e.
-    let number : c.in-Some.number < 2 ^ 64 = omega arith in
+    let number : c.in_ok-number.number < 2 ^ 64 = omega arith in
     let wide : n < 2 ^ 64 = omega (arith, small) in
-    let same = one_number c.args.word.now c.in-Some.number n number wide c.in-Some.ensures e in
+    let same = one_number c.args.word.now c.in_ok-number.number n number wide c.in_ok-number.ensures e in
     absurd (omega (arith, same, small))

@@ -1,4 +1,4 @@
-use Rattle.lra_script.proofs.asking.asked.Goals as goal
+use Rattle.lra_script.proofs.asking.ask_by_verb.Goals as goal
 
 pub returns-in-Read : goal.returns-in-Read
 returns-in-Read c = rw c.in-Read.is (c.read_of.ensures c.args.nodes)
