@@ -413,7 +413,10 @@ where
     let Ok(all) = nodes_of(alloc, nodes, port) else {
         return close(rt, Err(Trouble::Run(1)));
     };
-    close(rt, serve_these(rt, log, host, alloc, 1, &all, stores, input))
+    close(
+        rt,
+        serve_these(rt, log, host, alloc, 1, &all, stores, input),
+    )
 }
 
 /// Runs some nodes of a group, 1 to 8, whose journals lie in these stores. They pull from the
@@ -440,5 +443,8 @@ where
     let Ok(all) = nodes_of_members(alloc, members) else {
         return close(rt, Err(Trouble::Run(first)));
     };
-    close(rt, serve_these(rt, log, host, alloc, first, &all, stores, input))
+    close(
+        rt,
+        serve_these(rt, log, host, alloc, first, &all, stores, input),
+    )
 }

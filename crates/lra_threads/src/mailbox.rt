@@ -312,9 +312,12 @@ impl Mailbox {
 
     /// Waits so long, or until the program is to end. It says whether it is to end.
     pub(crate) fn sleep<R: Wait + Clock>(&self, rt: &R, time: Duration) -> bool {
-        let (held, _) = self
-            .changed
-            .wait_timeout_while(rt, self.held.lock(rt), time, |held| !held.state.has_ended());
+        let (held, _) = self.changed.wait_timeout_while(
+            rt,
+            self.held.lock(rt),
+            time,
+            |held| !held.state.has_ended(),
+        );
         held.state.has_ended()
     }
 }
