@@ -17,6 +17,7 @@ LAYERS = [
     ("lra_node", "lra_member", "lra_play", "the programs"),
     ("lra_server", "the server over its journals"),
     ("lra_threads", "threads and sockets"),
+    ("lra_mailbox", "what is done next"),
     ("lra_heard", "what was heard of others"),
     ("lra_turns", "whom to call next"),
     ("lra_work", "a worker"),
