@@ -105,13 +105,13 @@ fn has_room_for(trail: &[Entry], call: &Call) -> bool
 #[derive(Drop)]
 struct Ready {
     entry: Entry,
-    copy: Told,
+    copy: CallAndReply,
     patch: Option<Patch>,
 }
 
 /// What a receipt says of a call.
 #[derive(Drop)]
-struct Told {
+struct CallAndReply {
     call: Call,
     reply: Reply,
 }
@@ -142,7 +142,7 @@ fn make_ready(
             moment: now,
             reply: step.reply,
         },
-        copy: Told {
+        copy: CallAndReply {
             call: second,
             reply,
         },
@@ -154,16 +154,6 @@ fn twice(call: &Call) -> Result<(Call, Call), AllocError>
     ensures { IfOk result (λ copies. (copies.0 ≡ call.now) × (copies.1 ≡ call.now)) }
 {
     Ok((call.clone()?, call.clone()?))
-}
-
-fn put(trail: &mut Vec<Entry>, entry: Entry)
-    requires { length trail.old.items < vec_capacity trail.old }
-    ensures items { trail.new.items ≡ trail.old.items ++ entry ∷ [] }
-    ensures room { vec_capacity trail.old ≤ vec_capacity trail.new }
-{
-    let Ok(()) = trail.push(entry) else {
-        unreachable!();
-    };
 }
 
 /// Whether a receipt says what an entry says.
@@ -381,7 +371,7 @@ impl<S: Alter> Book<S> {
             return Err(refusal);
         }
         let index = self.trail.len() as u64;
-        put(&mut self.trail, entry);
+        self.trail.push_reserved(entry);
         pass.seen = index + 1;
         Ok(Receipt {
             index,

@@ -3,7 +3,7 @@ ghost use Rattle.std.specs.Prelude.{◌≡◌, ◌<◌, [], IfErr, IsSome, OnOk,
 ghost use Rattle.lra_book.specs.Clerks.{BookCalled, DeskCalled, IsEnteredBy, IsRefusedBy, last_reply};
 
 use crate::desk::{Desk, DeskPass, Run};
-use crate::receipts::{make_room, put_last, reply_of_last};
+use crate::receipts::{make_room, reply_of_last};
 use crate::{Book, Call, Pass, Receipt, Reply};
 use lra_facts::Refusal;
 use sqlite::Alter;
@@ -106,7 +106,7 @@ impl<S: Alter> BookClerk<S> {
             Ok(receipt) => receipt,
             Err(refusal) => return Err(refusal),
         };
-        put_last(&mut self.receipts, receipt);
+        self.receipts.push_reserved(receipt);
         Ok(())
     }
 }

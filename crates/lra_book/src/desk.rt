@@ -9,7 +9,7 @@ ghost use Rattle.lra_book.specs.Desks.{AreNew, AreSeen, HasTrail, IsCalled, IsLo
 ghost use Rattle.lra_book.specs.Trails.{LeadsTo};
 
 use crate::book::{stands, tells};
-use crate::receipts::{make_room, put_last};
+use crate::receipts::make_room;
 use crate::{Book, Call, Entry, Pass, Receipt};
 use lra_facts::Refusal;
 use sqlite::Alter;
@@ -155,7 +155,7 @@ fn passes<J: Run>(
     Ok(made)
 }
 
-fn merged<J: Run>(mut passes: Vec<DeskPass<J>>) -> Option<Share<J>>
+fn merge_shares<J: Run>(mut passes: Vec<DeskPass<J>>) -> Option<Share<J>>
     ensures some { IfSome result (λ s. (s.parts ≡ vec_len passes)
         × (s.amount ≡ sum_by (λ p. p.share) passes.items)) }
     ensures none { IfNone result (vec_len passes ≡ 0) }
@@ -331,7 +331,7 @@ impl<J: Run, S: Alter> Desk<J, S> {
             Ok(receipt) => receipt,
             Err(refusal) => return Err(refusal),
         };
-        put_last(receipts, receipt);
+        receipts.push_reserved(receipt);
         Ok(())
     }
 
@@ -357,7 +357,7 @@ impl<J: Run, S: Alter> Desk<J, S> {
         } = locked.into_inner();
         let trail = book.end_run();
         let found = compare(trail.as_slice(), passes.as_slice());
-        if let Some(mut all) = merged(passes) {
+        if let Some(mut all) = merge_shares(passes) {
             calls.audit(&mut all);
         }
         (book, trail, found)

@@ -176,7 +176,7 @@ fn statuses(
 }
 
 /// What is held of an LRA that shows this, and whose purge would be replied so.
-fn held(
+fn holding_of(
     alloc: Global,
     replica: &Replica,
     id: LraId,
@@ -213,10 +213,8 @@ pub fn hold(alloc: Global, replica: &mut Replica, me: NodeId, id: LraId) -> Resu
         Ok(status) => status,
         Err(refusal) => return Ok(Reply::Refused(refusal)),
     };
-    match act(alloc, replica, me, Command::Purge { root: id }) {
-        Ok(act) => held(alloc, replica, id, status, act.reply),
-        Err(refusal) => Err(refusal),
-    }
+    let act = act(alloc, replica, me, Command::Purge { root: id })?;
+    holding_of(alloc, replica, id, status, act.reply)
 }
 
 fn in_short(row: &Row, record: Option<&Record>) -> Summary

@@ -31,7 +31,7 @@ use std::alloc::Global;
 
 /// What a call comes to: the reply, and what it changes, if anything.
 #[derive(Drop)]
-pub struct Step {
+pub struct PreparedCall {
     pub reply: Reply,
     pub patch: Option<Patch>,
 }
@@ -65,7 +65,7 @@ pub fn act(
     }
 }
 
-fn take(alloc: Global, replica: &mut Replica, delta: Delta) -> Result<Step, Refusal>
+fn take(alloc: Global, replica: &mut Replica, delta: Delta) -> Result<PreparedCall, Refusal>
     ensures view { view_of replica.new ≡ view_of replica.old }
     ensures room { IfOk result (λ step. IfSome step.patch (λ change. Fits change replica.new)) }
     ensures next { IfOk result (λ step. IsTakeReply
@@ -73,7 +73,7 @@ fn take(alloc: Global, replica: &mut Replica, delta: Delta) -> Result<Step, Refu
     ensures cause { IfErr result (λ refusal. refusal ≡ NoMemory) }
 {
     match lra_delta::prepare(alloc, replica, delta) {
-        Ok(patch) => Ok(Step {
+        Ok(patch) => Ok(PreparedCall {
             reply: Reply::Took,
             patch: Some(patch),
         }),
@@ -81,7 +81,7 @@ fn take(alloc: Global, replica: &mut Replica, delta: Delta) -> Result<Step, Refu
             if refusal == Refusal::NoMemory {
                 return Err(Refusal::NoMemory);
             }
-            Ok(Step {
+            Ok(PreparedCall {
                 reply: Reply::Refused(refusal),
                 patch: None,
             })
@@ -142,7 +142,7 @@ fn duties(alloc: Global, replica: &Replica, me: NodeId) -> Result<Reply, Refusal
 }
 
 /// The reply where an LRA was to be cancelled since its deadline had passed.
-fn expired(id: LraId, reply: CommandReply) -> Reply
+fn reply_of_expiry(id: LraId, reply: CommandReply) -> Reply
     ensures { result ≡ expired id reply }
 {
     match reply {
@@ -151,7 +151,12 @@ fn expired(id: LraId, reply: CommandReply) -> Reply
     }
 }
 
-fn expire(alloc: Global, replica: &mut Replica, me: NodeId, now: u64) -> Result<Step, Refusal>
+fn expire(
+    alloc: Global,
+    replica: &mut Replica,
+    me: NodeId,
+    now: u64,
+) -> Result<PreparedCall, Refusal>
     requires { me ≤ length replica.old.front }
     ensures view { view_of replica.new ≡ view_of replica.old }
     ensures room { IfOk result (λ step. IfSome step.patch (λ change. Fits change replica.new)) }
@@ -162,7 +167,7 @@ fn expire(alloc: Global, replica: &mut Replica, me: NodeId, now: u64) -> Result<
     ensures cause { IfErr result (λ refusal. refusal ≡ NoMemory) }
 {
     let Some(id) = replica.expire(me, now) else {
-        return Ok(Step {
+        return Ok(PreparedCall {
             reply: Reply::Quiet,
             patch: None,
         });
@@ -171,23 +176,19 @@ fn expire(alloc: Global, replica: &mut Replica, me: NodeId, now: u64) -> Result<
         id,
         verdict: Verdict::Cancel,
     };
-    match act(alloc, replica, me, cancel) {
-        Ok(act) => Ok(Step {
-            reply: expired(id, act.reply),
-            patch: act.patch,
-        }),
-        Err(refusal) => Err(refusal),
-    }
+    let act = act(alloc, replica, me, cancel)?;
+    Ok(PreparedCall {
+        reply: reply_of_expiry(id, act.reply),
+        patch: act.patch,
+    })
 }
 
-fn answer(reply: Result<Reply, Refusal>) -> Result<Step, Refusal>
+fn answer(reply: Result<Reply, Refusal>) -> Result<PreparedCall, Refusal>
     ensures ok { IfOk result (λ step. (reply ≡ Ok step.reply) × (step.patch ≡ None)) }
     ensures err { IfErr result (λ refusal. reply ≡ Err refusal) }
 {
-    match reply {
-        Ok(reply) => Ok(Step { reply, patch: None }),
-        Err(refusal) => Err(refusal),
-    }
+    let reply = reply?;
+    Ok(PreparedCall { reply, patch: None })
 }
 
 /// Prepares a call of a node at a moment: its reply, and what it changes, if anything. Only memory
@@ -198,7 +199,7 @@ pub fn prepare(
     me: NodeId,
     call: Call,
     now: u64,
-) -> Result<Step, Refusal>
+) -> Result<PreparedCall, Refusal>
     requires { me ≤ length replica.old.front }
     ensures view { view_of replica.new ≡ view_of replica.old }
     ensures room { IfOk result (λ step. IfSome step.patch (λ change. Fits change replica.new)) }
@@ -207,13 +208,13 @@ pub fn prepare(
     ensures cause { IfErr result (λ refusal. refusal ≡ NoMemory) }
 {
     match call {
-        Call::Command(command) => match act(alloc, replica, me, command) {
-            Ok(act) => Ok(Step {
+        Call::Command(command) => {
+            let act = act(alloc, replica, me, command)?;
+            Ok(PreparedCall {
                 reply: Reply::Command(act.reply),
                 patch: act.patch,
-            }),
-            Err(refusal) => Err(refusal),
-        },
+            })
+        }
         Call::Take(delta) => take(alloc, replica, delta),
         Call::Pull(body) => answer(give(alloc, replica, &body)),
         Call::Status(id) => answer(Ok(show(replica, id))),
@@ -292,11 +293,7 @@ pub fn carry_out<S: Alter>(
     ensures opened { journal.new.opened ≡ journal.old.opened }
     ensures cause { IfErr result (IsStoreFault journal.old journal.new) }
 {
-    match store(alloc, journal, &patch) {
-        Ok(()) => {
-            change(replica, patch);
-            Ok(())
-        }
-        Err(refusal) => Err(refusal),
-    }
+    store(alloc, journal, &patch)?;
+    change(replica, patch);
+    Ok(())
 }

@@ -20,7 +20,7 @@ use std::marker::Model;
 
 /// A participant that is to be called: what for, at which link, and the parent of its LRA, if it is
 /// nested.
-#[derive(Clone, Debug, PartialEq, Drop)]
+#[derive(Debug, PartialEq, Drop)]
 pub struct Duty {
     /// What the call is.
     pub kind: Kind,
@@ -40,7 +40,7 @@ pub struct Duty {
 }
 
 /// The participants that are to be called, in order.
-#[derive(Clone, Debug, Drop)]
+#[derive(Debug, Drop)]
 pub struct Duties {
     list: Vec<Duty>,
 }
@@ -67,6 +67,36 @@ impl Duties {
         ensures { result.items ≡ self }
     {
         self.list
+    }
+}
+
+impl Clone for Duty {
+    ghost use Rattle.std.specs.Prelude.{◌≡◌};
+
+    ghost is_clone = { λ x y. y ≡ x };
+
+    fn clone(&self) -> Result<Duty, AllocError> {
+        Ok(Duty {
+            kind: self.kind,
+            act: self.act,
+            id: self.id,
+            member: self.member,
+            link: self.link.clone()?,
+            parent: self.parent,
+            shows: self.shows,
+        })
+    }
+}
+
+impl Clone for Duties {
+    ghost use Rattle.std.specs.Prelude.{◌≡◌};
+
+    ghost is_clone = { λ x y. y ≡ x };
+
+    fn clone(&self) -> Result<Duties, AllocError> {
+        Ok(Duties {
+            list: self.list.clone()?,
+        })
     }
 }
 

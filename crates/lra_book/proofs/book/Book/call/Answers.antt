@@ -33,14 +33,14 @@ invariant_of-self-2 g c =
     let is : view_of c.carry_out.new.replica ≡ with_patch c.in-Ok.ready.patch (view_of c.self.inside.replica) = c.in_default-carry_out.ensures.view ∙ ap (with_patch c.in-Ok.ready.patch) c.in-Ok.ensures.view in
     let next = subst (λ (v : View). IsNext c.self.inside.me (view_of c.self.inside.replica) c.args.call c.args.now reply v) (sym is) c.in-Ok.ensures.next in
     let nodes = c.in_default-carry_out.ensures.nodes ∙ ap (λ (v : View). length v.front) c.in-Ok.ensures.view in
-    let more = c.put.ensures.items ∙ ap (λ (e : Entry). c.self.inside.trail.items ++ e ∷ []) c.in-Ok.ensures.entry in
+    let more = c.push_reserved.ensures.items ∙ ap (λ (e : Entry). c.self.inside.trail.items ++ e ∷ []) c.in-Ok.ensures.entry in
     let count : length c.self.inside.trail.items ≡ length c.args.self.now.trail = ap (λ (b : BookState g.row.S.Denot). length b.trail) c.self.view_is in
     let few = has_room c.args.self.now c.args.pass.now c.args.call free in
     let room : length c.self.inside.trail.items < 1024 = omega (arith, count, few) in
     let before = subst (λ (v : View). Keeps g.S.Store c.self.inside.me c.self.inside.journal v) (sym c.in-Ok.ensures.view) c.self.invariant.0.stored in
     let keeps = c.carry_out.ensures.keeps c.self.inside.me before in
-    let kept = with_entry g.S.Store old (view_of c.carry_out.new.replica) c.carry_out.new.journal c.put.new.trail.items (entry c.args.call c.args.now reply) c.self.invariant.0 next nodes more room keeps in
-    (kept, λ run. let wide = c.self.invariant.1 run in omega (arith, wide, c.put.ensures.room))
+    let kept = with_entry g.S.Store old (view_of c.carry_out.new.replica) c.carry_out.new.journal c.push_reserved.new.self.items (entry c.args.call c.args.now reply) c.self.invariant.0 next nodes more room keeps in
+    (kept, λ run. let wide = c.self.invariant.1 run in omega (arith, wide, c.push_reserved.ensures.capacity))
 
 pub returns-clause-legal : goal.returns-clause-legal
 returns-clause-legal g c =
@@ -50,13 +50,13 @@ returns-clause-legal g c =
     let is : view_of c.carry_out.new.replica ≡ with_patch c.in-Ok.ready.patch (view_of c.self.inside.replica) = c.in_default-carry_out.ensures.view ∙ ap (with_patch c.in-Ok.ready.patch) c.in-Ok.ensures.view in
     let next = subst (λ (v : View). IsNext c.self.inside.me (view_of c.self.inside.replica) c.args.call c.args.now reply v) (sym is) c.in-Ok.ensures.next in
     let nodes = c.in_default-carry_out.ensures.nodes ∙ ap (λ (v : View). length v.front) c.in-Ok.ensures.view in
-    let more = c.put.ensures.items ∙ ap (λ (e : Entry). c.self.inside.trail.items ++ e ∷ []) c.in-Ok.ensures.entry in
+    let more = c.push_reserved.ensures.items ∙ ap (λ (e : Entry). c.self.inside.trail.items ++ e ∷ []) c.in-Ok.ensures.entry in
     let count : length c.self.inside.trail.items ≡ length c.args.self.now.trail = ap (λ (b : BookState g.row.S.Denot). length b.trail) c.self.view_is in
     let few = has_room c.args.self.now c.args.pass.now c.args.call free in
     let room : length c.self.inside.trail.items < 1024 = omega (arith, count, few) in
     let before = subst (λ (v : View). Keeps g.S.Store c.self.inside.me c.self.inside.journal v) (sym c.in-Ok.ensures.view) c.self.invariant.0.stored in
     let keeps = c.carry_out.ensures.keeps c.self.inside.me before in
-    let kept = with_entry g.S.Store old (view_of c.carry_out.new.replica) c.carry_out.new.journal c.put.new.trail.items (entry c.args.call c.args.now reply) c.self.invariant.0 next nodes more room keeps in
+    let kept = with_entry g.S.Store old (view_of c.carry_out.new.replica) c.carry_out.new.journal c.push_reserved.new.self.items (entry c.args.call c.args.now reply) c.self.invariant.0 next nodes more room keeps in
     kept.legal
 
 pub returns-in-Some-clause-rows : goal.returns-in-Some-clause-rows
