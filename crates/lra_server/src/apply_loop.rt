@@ -17,10 +17,9 @@ use lra_heard::{Letter, Telling};
 use lra_id::{Front, LAST_NUMBER};
 use lra_mailbox::Task;
 use lra_peer::pull_body;
-use lra_threads::{Node, unix_millis};
+use lra_threads::{Node, Sockets, unix_millis};
 use lra_work::ending_by;
 use std::alloc::{AllocError, Global};
-use std::net::{Net, TcpListener, TcpStream};
 use std::sync::Wait;
 use std::thread;
 use std::time::{Clock, Duration};
@@ -238,11 +237,7 @@ fn attend<R: Wait + Clock, C: Clerk>(
 }
 
 /// Ends the run where a refusal does, and rests for a moment where memory runs out.
-fn rest<R: Wait + Clock + Net<Listener = TcpListener, Stream = TcpStream>>(
-    rt: &R,
-    node: &Node,
-    refusal: Refusal,
-) {
+fn rest<R: Wait + Clock + Sockets>(rt: &R, node: &Node, refusal: Refusal) {
     match ending_by(refusal) {
         Some(refusal) => node.end_run(rt, stop_reason_of(refusal)),
         None => thread::sleep(rt, Duration::from_millis(REST_MS)),
@@ -251,10 +246,13 @@ fn rest<R: Wait + Clock + Net<Listener = TcpListener, Stream = TcpStream>>(
 
 /// Enters what the threads that call and pull hear, looks for deadlines, sweeps, and makes the
 /// calls that operators want, until the run is over. It gives the clerk back.
-pub fn enter_all<
-    R: Wait + Clock + Net<Listener = TcpListener, Stream = TcpStream>,
-    C: Clerk + Drop,
->(rt: &R, alloc: Global, node: &Node, errands: &Errands, mut clerk: C) -> C {
+pub fn enter_all<R: Wait + Clock + Sockets, C: Clerk + Drop>(
+    rt: &R,
+    alloc: Global,
+    node: &Node,
+    errands: &Errands,
+    mut clerk: C,
+) -> C {
     for _ in rt.forever() {
         node.pass_on(rt);
         node.end_if_spent(rt);

@@ -3,11 +3,11 @@ ghost use Rattle.std.specs.Prelude.{⊤};
 
 use lra_threads::{
     BufferedSocket, Cutoff, Node, PendingConnection, REQUEST_MS, Readiness, SharedSocket,
-    SocketReader, SocketWriter, Times, unix_millis,
+    SocketReader, SocketWriter, Sockets, Times, unix_millis,
 };
 use lra_work::{Arrivals, Connection};
 use std::alloc::Global;
-use std::net::{Net, TcpListener, TcpStream};
+use std::net::TcpStream;
 use std::rc::Rc;
 use std::sync::Wait;
 use std::time::{Clock, Duration};
@@ -169,8 +169,7 @@ impl<'a, R: Wait + Clock> Connections<'a, R> {
     }
 }
 
-impl<'a, R: Wait + Clock + Net<Listener = TcpListener, Stream = TcpStream>> Arrivals
-    for Connections<'a, R> {
+impl<'a, R: Wait + Clock + Sockets> Arrivals for Connections<'a, R> {
     type Reader = SocketReader<'a, R>;
 
     type Writer = SocketWriter<'a, R>;

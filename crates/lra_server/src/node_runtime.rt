@@ -17,12 +17,12 @@ use lra_api::Paths;
 use lra_book::Book;
 use lra_facts::Refusal;
 use lra_id::NodeId;
-use lra_threads::{Node, StopReason, accept, call_out, follow, now, pull_in_turn, watch};
+use lra_threads::{Node, Sockets, StopReason, accept, call_out, follow, now, pull_in_turn, watch};
 use lra_work::{Open, work};
 use sqlite::Alter;
 use std::alloc::Global;
 use std::io::ErrorKind;
-use std::net::{Net, SocketAddr, TcpListener, TcpStream};
+use std::net::{SocketAddr, TcpListener};
 use std::sync::Wait;
 use std::thread;
 use std::thread::{Scope, Threads};
@@ -105,7 +105,7 @@ fn close_some<R: Wait>(rt: &R, node: &Node) {
 }
 
 /// Answers what comes while the journal is closed: E19, for so long or until the program is to end.
-fn refuse_for<R: Wait + Clock + Net<Listener = TcpListener, Stream = TcpStream>>(
+fn refuse_for<R: Wait + Clock + Sockets>(
     rt: &R,
     alloc: Global,
     node: &Node,
@@ -143,7 +143,7 @@ fn reopened<R, L: Log, S: Stores>(
     backoff: &mut Backoff,
 ) -> Result<Option<Book<S::Store>>, Failure>
 where
-    R: Wait + Clock + Net<Listener = TcpListener, Stream = TcpStream>,
+    R: Wait + Clock + Sockets,
     ensures { IfOk result (λ next. IfSome next (λ b. b.opening ≡ None)) }
 {
     node.note_shut(true);
@@ -221,7 +221,7 @@ fn next_book<R, L: Log, S: Stores>(
     backoff: &mut Backoff,
 ) -> Result<Option<Book<S::Store>>, Failure>
 where
-    R: Wait + Clock + Net<Listener = TcpListener, Stream = TcpStream>,
+    R: Wait + Clock + Sockets,
     requires { IfSome book (λ b. b.opening ≡ None) }
     ensures { IfOk result (λ next. IfSome next (λ b. b.opening ≡ None)) }
 {
@@ -307,7 +307,7 @@ fn next_run<R, L: Log, S: Stores>(
     backoff: &mut Backoff,
 ) -> Result<Option<Begun<S::Store>>, Failure>
 where
-    R: Wait + Clock + Net<Listener = TcpListener, Stream = TcpStream>,
+    R: Wait + Clock + Sockets,
     requires { IfSome book (λ b. b.opening ≡ None) }
 {
     if node.tally.has_stored() {
@@ -355,7 +355,7 @@ fn run_on<R, L, S: Stores>(
     mut begun: Begun<S::Store>,
 ) -> Result<(), Failure>
 where
-    R: Threads + Wait + Clock + Net<Listener = TcpListener, Stream = TcpStream> + Sync,
+    R: Threads + Wait + Clock + Sockets + Sync,
     L: Log + Sync,
 {
     let mut backoff = Backoff::new();
@@ -406,7 +406,7 @@ pub struct Listeners {
 }
 
 /// Plays a role, until the program is to end.
-fn help<R: Wait + Clock + Net<Listener = TcpListener, Stream = TcpStream>, L: Log>(
+fn help<R: Wait + Clock + Sockets, L: Log>(
     rt: &R,
     log: &L,
     alloc: Global,
@@ -435,10 +435,7 @@ fn places_of(node: &Node) -> usize {
 }
 
 /// Ends the threads that outlive runs.
-fn end_helpers<R: Wait + Clock + Net<Listener = TcpListener, Stream = TcpStream>>(
-    rt: &R,
-    node: &Node,
-) {
+fn end_helpers<R: Wait + Clock + Sockets>(rt: &R, node: &Node) {
     node.end_run(rt, StopReason::Program);
     node.mailbox.end(rt);
     node.news.end(rt);
@@ -452,10 +449,7 @@ pub struct NodeRuntime<S: Alter + Drop> {
 }
 
 /// The port of an address, bound; or which can't be, and why.
-fn bound<R: Net<Listener = TcpListener, Stream = TcpStream>>(
-    rt: &R,
-    address: SocketAddr,
-) -> Result<TcpListener, (u16, ErrorKind)> {
+fn bound<R: Sockets>(rt: &R, address: SocketAddr) -> Result<TcpListener, (u16, ErrorKind)> {
     match TcpListener::bind(rt, address) {
         Ok(listener) => Ok(listener),
         Err(error) => Err((address.port(), error.kind())),
@@ -463,7 +457,7 @@ fn bound<R: Net<Listener = TcpListener, Stream = TcpStream>>(
 }
 
 /// What a node begins with that has this run, at its ports; or which port can't be bound, and why.
-pub fn runtime_of<R: Net<Listener = TcpListener, Stream = TcpStream>, S: Alter + Drop>(
+pub fn runtime_of<R: Sockets, S: Alter + Drop>(
     rt: &R,
     node: &Node,
     begun: Begun<S>,
@@ -492,7 +486,7 @@ fn start_helper<'s, E, R, L>(
     role: Role,
 ) -> bool
 where
-    R: Threads + Wait + Clock + Net<Listener = TcpListener, Stream = TcpStream> + Sync,
+    R: Threads + Wait + Clock + Sockets + Sync,
     L: Log + Sync,
 {
     scope
@@ -512,7 +506,7 @@ fn start_operator<'s, E, R, L>(
     listener: &'s TcpListener,
 ) -> bool
 where
-    R: Threads + Wait + Clock + Net<Listener = TcpListener, Stream = TcpStream> + Sync,
+    R: Threads + Wait + Clock + Sockets + Sync,
     L: Log + Sync,
 {
     scope
@@ -531,7 +525,7 @@ fn start_helpers<'s, E, R, L>(
     listeners: &'s Listeners,
 ) -> bool
 where
-    R: Threads + Wait + Clock + Net<Listener = TcpListener, Stream = TcpStream> + Sync,
+    R: Threads + Wait + Clock + Sockets + Sync,
     L: Log + Sync,
 {
     for place in 0..places_of(node) {
@@ -562,7 +556,7 @@ pub fn run_node<R, L, S: Stores + Sync>(
     runtime: NodeRuntime<S::Store>,
 ) -> Result<(), Failure>
 where
-    R: Threads + Wait + Clock + Net<Listener = TcpListener, Stream = TcpStream> + Sync,
+    R: Threads + Wait + Clock + Sockets + Sync,
     L: Log + Sync,
 {
     let NodeRuntime { begun, listeners } = runtime;

@@ -13,12 +13,11 @@ use crate::shared::Shared;
 use log::{Log, warn};
 use lra_api::Paths;
 use lra_book::{Book, Desk, DeskClerk, DeskPass, Run};
-use lra_threads::{Node, StopReason};
+use lra_threads::{Node, Sockets, StopReason};
 use lra_work::{Open, work};
 use sqlite::Alter;
 use std::alloc::Global;
 use std::marker::Brand;
-use std::net::{Net, TcpListener, TcpStream};
 use std::sync::Wait;
 use std::sync::ledger::Blank;
 use std::thread;
@@ -29,11 +28,7 @@ use std::time::Clock;
 const PASSES: usize = 5;
 
 /// Serves what waits, until the run is over.
-fn run_worker<
-    R: Wait + Clock + Net<Listener = TcpListener, Stream = TcpStream>,
-    J: Run,
-    S: Alter + Drop,
->(
+fn run_worker<R: Wait + Clock + Sockets, J: Run, S: Alter + Drop>(
     rt: &R,
     alloc: Global,
     node: &Node,
@@ -60,11 +55,7 @@ fn run_worker<
 }
 
 /// Enters what other threads hear, until the run is over.
-fn run_apply_loop<
-    R: Wait + Clock + Net<Listener = TcpListener, Stream = TcpStream>,
-    J: Run,
-    S: Alter + Drop,
->(
+fn run_apply_loop<R: Wait + Clock + Sockets, J: Run, S: Alter + Drop>(
     rt: &R,
     alloc: Global,
     node: &Node,
@@ -89,7 +80,7 @@ fn start_apply_loop<'s, E, J: Run + Send + Sync + 's, S: Alter + Send + Drop + '
     pass: DeskPass<J>,
 ) -> Result<JoinHandle<DeskPass<J>>, DeskPass<J>>
 where
-    R: Threads + Wait + Clock + Net<Listener = TcpListener, Stream = TcpStream> + Sync,
+    R: Threads + Wait + Clock + Sockets + Sync,
 {
     match scope.spawn(move || run_apply_loop(rt, alloc, node, errands, desk, pass)) {
         Ok(thread) => Ok(thread),
@@ -112,7 +103,7 @@ fn start_worker<'s, E, J: Run + Send + Sync + 's, S: Alter + Send + Drop + 's, R
     pass: DeskPass<J>,
 ) -> Result<JoinHandle<DeskPass<J>>, DeskPass<J>>
 where
-    R: Threads + Wait + Clock + Net<Listener = TcpListener, Stream = TcpStream> + Sync,
+    R: Threads + Wait + Clock + Sockets + Sync,
 {
     match scope.spawn(move || run_worker(rt, alloc, node, paths, desk, pass)) {
         Ok(thread) => Ok(thread),
@@ -136,7 +127,7 @@ fn start<'s, E, J: Run + Send + Sync + 's, S: Alter + Send + Drop + 's, R>(
     place: usize,
 ) -> Result<JoinHandle<DeskPass<J>>, DeskPass<J>>
 where
-    R: Threads + Wait + Clock + Net<Listener = TcpListener, Stream = TcpStream> + Sync,
+    R: Threads + Wait + Clock + Sockets + Sync,
 {
     if place == 0 {
         start_apply_loop(scope, rt, alloc, node, &shared.errands, desk, pass)
@@ -158,7 +149,7 @@ fn start_all<'s, E, J: Run + Send + Sync + 's, S: Alter + Send + Drop + 's, R>(
     back: &mut Vec<DeskPass<J>>,
 )
 where
-    R: Threads + Wait + Clock + Net<Listener = TcpListener, Stream = TcpStream> + Sync,
+    R: Threads + Wait + Clock + Sockets + Sync,
 {
     for (place, pass) in passes.into_iter().enumerate() {
         match start(scope, rt, alloc, node, shared, desk, pass, place) {
@@ -193,7 +184,7 @@ fn run_threads<J: Run + Send + Sync, S: Alter + Send + Drop, R>(
     passes: Vec<DeskPass<J>>,
 ) -> Vec<DeskPass<J>>
 where
-    R: Threads + Wait + Clock + Net<Listener = TcpListener, Stream = TcpStream> + Sync,
+    R: Threads + Wait + Clock + Sockets + Sync,
 {
     thread::scope(thread::scope_env(), rt, move |scope| -> Vec<DeskPass<J>> {
         let Some((mut threads, mut back)) = room_for(alloc) else {
@@ -234,7 +225,7 @@ fn run<J: Run + Send + Sync, S: Alter + Send + Drop, R, L>(
     blank: Blank,
 ) -> Option<Book<S>>
 where
-    R: Threads + Wait + Clock + Net<Listener = TcpListener, Stream = TcpStream> + Sync,
+    R: Threads + Wait + Clock + Sockets + Sync,
     L: Log + Sync,
     requires run { (book.opening ≡ Some J.opening.view)
         × (book.me ≡ J.opening.node) × (book.trail ≡ []) }
@@ -269,7 +260,7 @@ pub fn named_run<S: Alter + Send + Drop, R, L>(
     book: Book<S>,
 ) -> Option<Book<S>>
 where
-    R: Threads + Wait + Clock + Net<Listener = TcpListener, Stream = TcpStream> + Sync,
+    R: Threads + Wait + Clock + Sockets + Sync,
     L: Log + Sync,
     requires { IsFresh book }
     ensures { IfSome result (λ b. b.opening ≡ None) }

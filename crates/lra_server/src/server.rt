@@ -7,11 +7,11 @@ use crate::node_runtime::{Failure, NodeRuntime, open_book, run_node, runtime_of}
 use crate::{Stores, Unopened};
 use log::{Log, info};
 use lra_book::{Book, MAX_ENTRIES, MAX_MOVES};
-use lra_threads::{End, Keep, News, Node, Peer, Shutdown, Site, StopReason, Tally, drain};
+use lra_threads::{End, Keep, News, Node, Peer, Shutdown, Site, Sockets, StopReason, Tally, drain};
 use sqlite::Alter;
 use std::alloc::{AllocError, Global};
 use std::io::{ErrorKind, Read};
-use std::net::{Net, SocketAddr, TcpListener, TcpStream};
+use std::net::SocketAddr;
 use std::sync::{Arc, Wait};
 use std::thread;
 use std::thread::{Scope, Threads};
@@ -108,7 +108,7 @@ fn begun_of<S: Alter + Drop>(
 }
 
 /// What all nodes begin with, or the first port that can't be bound.
-fn runtimes_of<R: Net<Listener = TcpListener, Stream = TcpStream>, S: Alter + Drop>(
+fn runtimes_of<R: Sockets, S: Alter + Drop>(
     rt: &R,
     alloc: Global,
     nodes: &[Node],
@@ -230,7 +230,7 @@ fn run_and_tell<R, L, S: Stores + Sync>(
     shutdown: &Shutdown,
 )
 where
-    R: Threads + Wait + Clock + Net<Listener = TcpListener, Stream = TcpStream> + Eprint + Sync,
+    R: Threads + Wait + Clock + Sockets + Eprint + Sync,
     L: Log + Sync,
 {
     if let Err(failure) = run_node(rt, log, alloc, node, stores, runtime) {
@@ -254,7 +254,7 @@ fn start<'s, E, R, L, S: Stores + Sync + 's>(
     shutdown: &'s Shutdown,
 )
 where
-    R: Threads + Wait + Clock + Net<Listener = TcpListener, Stream = TcpStream> + Eprint + Sync,
+    R: Threads + Wait + Clock + Sockets + Eprint + Sync,
     L: Log + Sync,
 {
     if scope
@@ -278,7 +278,7 @@ fn start_all<'s, E, R, L, S: Stores + Sync + 's>(
     shutdown: &'s Shutdown,
 )
 where
-    R: Threads + Wait + Clock + Net<Listener = TcpListener, Stream = TcpStream> + Eprint + Sync,
+    R: Threads + Wait + Clock + Sockets + Eprint + Sync,
     L: Log + Sync,
 {
     for (node, runtime) in nodes.iter().zip(runtimes) {
@@ -297,7 +297,7 @@ fn run_all<R, L, S: Stores + Sync>(
     shutdown: &Shutdown,
 )
 where
-    R: Threads + Wait + Clock + Net<Listener = TcpListener, Stream = TcpStream> + Eprint + Sync,
+    R: Threads + Wait + Clock + Sockets + Eprint + Sync,
     L: Log + Sync,
 {
     thread::scope(thread::scope_env(), rt, move |scope| {
@@ -310,7 +310,7 @@ where
 }
 
 /// Opens all journals, starts all runs, and binds all ports, in this order, by node number.
-fn begin<R: Net<Listener = TcpListener, Stream = TcpStream>, S: Stores>(
+fn begin<R: Sockets, S: Stores>(
     rt: &R,
     alloc: Global,
     nodes: &[Node],
@@ -354,7 +354,7 @@ fn serve_these<R, L, H, S, I>(
     input: I,
 ) -> Result<End, Trouble>
 where
-    R: Threads + Wait + Clock + Net<Listener = TcpListener, Stream = TcpStream> + Eprint + Sync,
+    R: Threads + Wait + Clock + Sockets + Eprint + Sync,
     L: Log + Sync,
     H: Wait + Send + Drop + 'static,
     S: Stores + Sync,
@@ -402,7 +402,7 @@ pub fn serve<R, L, H, S, I>(
     input: I,
 ) -> u8
 where
-    R: Threads + Wait + Clock + Net<Listener = TcpListener, Stream = TcpStream> + Eprint + Sync,
+    R: Threads + Wait + Clock + Sockets + Eprint + Sync,
     L: Log + Sync,
     H: Wait + Send + Drop + 'static,
     S: Stores + Sync,
@@ -431,7 +431,7 @@ pub fn serve_members<R, L, H, S, I>(
     input: I,
 ) -> u8
 where
-    R: Threads + Wait + Clock + Net<Listener = TcpListener, Stream = TcpStream> + Eprint + Sync,
+    R: Threads + Wait + Clock + Sockets + Eprint + Sync,
     L: Log + Sync,
     H: Wait + Send + Drop + 'static,
     S: Stores + Sync,

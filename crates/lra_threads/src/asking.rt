@@ -7,10 +7,11 @@ use crate::counts::Pull;
 use crate::deadline_stream::{Cutoff, SLICE_MS};
 use crate::news::Counts;
 use crate::node::Node;
+use crate::sockets::Sockets;
 use lra_heard::{Telling, ask_for};
 use lra_id::Front;
 use std::alloc::Global;
-use std::net::{Net, TcpListener, TcpStream};
+use std::net::TcpStream;
 use std::sync::Wait;
 use std::time::{Clock, Duration};
 
@@ -69,12 +70,7 @@ fn counted(pulled: Pulled) -> Pull {
 }
 
 /// Pulls from another node, and hands over what is new.
-fn pull_one<R: Wait + Clock + Net<Listener = TcpListener, Stream = TcpStream>>(
-    rt: &R,
-    alloc: Global,
-    node: &Node,
-    other: u8,
-) -> Pulled {
+fn pull_one<R: Wait + Clock + Sockets>(rt: &R, alloc: Global, node: &Node, other: u8) -> Pulled {
     let front = node.mailbox.front(rt);
     let Ok(stream) = node.site.reach(rt, &node.signal, other) else {
         return Pulled::Failed;
@@ -124,11 +120,7 @@ fn next_teller(node: &Node, other: u8, told: &Counts, seen: &Counts) -> u8 {
 /// something new at once, if there was a pause after the last pull; and from each in turn, about
 /// twice a second while that brings anything, every five seconds at rest. `follow` waits for room,
 /// for one other node; this gives up, as it has more to ask.
-pub fn pull_in_turn<R: Wait + Clock + Net<Listener = TcpListener, Stream = TcpStream>>(
-    rt: &R,
-    alloc: Global,
-    node: &Node,
-) {
+pub fn pull_in_turn<R: Wait + Clock + Sockets>(rt: &R, alloc: Global, node: &Node) {
     let mut other = node.number;
     let mut round_ms = SHORT_ROUND_MS;
     let mut seen = Counts::new();

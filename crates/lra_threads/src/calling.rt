@@ -6,13 +6,14 @@ use crate::deadline_stream::{Cutoff, SLICE_MS};
 use crate::node::Node;
 use crate::reaching::connect_to_one;
 use crate::signal::Signal;
+use crate::sockets::Sockets;
 use log::{Log, warn};
 use lra_callback::{Heard, NetCaller};
 use lra_heard::{Letter, Unheard, call_for};
 use lra_turns::{Came, Due, Plight};
 use std::alloc::Global;
 use std::io::{Error, ErrorKind};
-use std::net::{Net, TcpListener, TcpStream, ToSocketAddrs};
+use std::net::{Net, TcpStream, ToSocketAddrs};
 use std::sync::Wait;
 use std::time::{Clock, Duration};
 use std::{io, str};
@@ -67,7 +68,7 @@ fn caller_over<'a, R: Wait + Clock>(
 }
 
 /// Calls a participant, and hears its answer, if there is one that counts.
-fn call_one<R: Wait + Clock + Net<Listener = TcpListener, Stream = TcpStream>>(
+fn call_one<R: Wait + Clock + Sockets>(
     rt: &R,
     alloc: Global,
     node: &Node,
@@ -109,12 +110,7 @@ fn warn_of<L: Log>(log: &L, node: &Node, plight: &Plight) {
 
 /// Calls participants, one after another, until the program is to end. It warns of those that are
 /// called in vain for a minute.
-pub fn call_out<R: Wait + Clock + Net<Listener = TcpListener, Stream = TcpStream>, L: Log>(
-    rt: &R,
-    log: &L,
-    alloc: Global,
-    node: &Node,
-) {
+pub fn call_out<R: Wait + Clock + Sockets, L: Log>(rt: &R, log: &L, alloc: Global, node: &Node) {
     for _ in rt.forever() {
         let Some(due) = node.mailbox.next_duty(rt) else {
             return;

@@ -5,11 +5,11 @@ use crate::asking::pull_over;
 use crate::clock::now;
 use crate::counts::Pull;
 use crate::node::Node;
+use crate::sockets::Sockets;
 use log::{Log, warn};
 use lra_heard::Telling;
 use lra_id::Front;
 use std::alloc::Global;
-use std::net::{Net, TcpListener, TcpStream};
 use std::sync::Wait;
 use std::time::{Clock, Duration};
 
@@ -141,12 +141,7 @@ fn counted(pulled: Pulled) -> Pull {
 }
 
 /// Pulls from another node once, and hands over what is new.
-fn pull_once<R: Wait + Clock + Net<Listener = TcpListener, Stream = TcpStream>>(
-    rt: &R,
-    alloc: Global,
-    node: &Node,
-    other: u8,
-) -> Pulled {
+fn pull_once<R: Wait + Clock + Sockets>(rt: &R, alloc: Global, node: &Node, other: u8) -> Pulled {
     let front = node.mailbox.front(rt);
     let Ok(stream) = node.site.reach(rt, &node.signal, other) else {
         return Pulled::Unreached;
@@ -206,7 +201,7 @@ fn round_after(pulled: Pulled, round_ms: u64) -> u64 {
 /// Pulls from another node, until the program is to end: at once where it is known to have
 /// something new, or is to hear that this one has, if there was a pause after the last pull; else
 /// twice a second while that brings anything, and every five seconds at rest.
-pub fn follow<R: Wait + Clock + Net<Listener = TcpListener, Stream = TcpStream>, L: Log>(
+pub fn follow<R: Wait + Clock + Sockets, L: Log>(
     rt: &R,
     log: &L,
     alloc: Global,

@@ -10,12 +10,13 @@ use crate::news::News;
 use crate::plaints::calls_text;
 use crate::signal::{Signal, StopReason};
 use crate::site::Site;
+use crate::sockets::Sockets;
 use crate::sweep::{Keep, Sweep};
 use crate::tally::Tally;
 use lra_id::Front;
 use std::alloc::{AllocError, Global};
 use std::io::ErrorKind;
-use std::net::{Net, SocketAddr, TcpListener, TcpStream};
+use std::net::{SocketAddr, TcpStream};
 use std::sync::atomic::{AtomicBool, AtomicU64, Ordering};
 use std::sync::{Arc, Wait};
 use std::thread;
@@ -178,11 +179,7 @@ impl Node {
 
     /// Ends the run for this cause: sets the signal, and has the threads of the run look at it; at
     /// the program's end the accepting thread, too.
-    pub fn end_run<R: Wait + Clock + Net<Listener = TcpListener, Stream = TcpStream>>(
-        &self,
-        rt: &R,
-        why: StopReason,
-    ) {
+    pub fn end_run<R: Wait + Clock + Sockets>(&self, rt: &R, why: StopReason) {
         if !self.signal.end(rt, why) && why != StopReason::Program {
             return;
         }
@@ -197,10 +194,7 @@ impl Node {
     }
 
     /// Ends a run that is nearly full.
-    pub fn end_if_spent<R: Wait + Clock + Net<Listener = TcpListener, Stream = TcpStream>>(
-        &self,
-        rt: &R,
-    ) {
+    pub fn end_if_spent<R: Wait + Clock + Sockets>(&self, rt: &R) {
         if self.tally.is_spent() {
             self.end_run(rt, StopReason::Full);
         }
@@ -210,11 +204,7 @@ impl Node {
     // signal. Where the port's queue is full the try ends with its time: that thread has others to
     // take then, and looks after each. Where no socket can be had it tries again: that thread, too,
     // gets none then, and looks each time.
-    fn knock<R: Wait + Clock + Net<Listener = TcpListener, Stream = TcpStream>>(
-        &self,
-        rt: &R,
-        address: SocketAddr,
-    ) {
+    fn knock<R: Wait + Clock + Sockets>(&self, rt: &R, address: SocketAddr) {
         for _turn in 0..MAX_TURNS {
             match TcpStream::connect_timeout(rt, &address, Duration::from_millis(REACH_MS)) {
                 Err(error) if error.kind() != ErrorKind::TimedOut => {}
