@@ -15,7 +15,7 @@ from tools import checks, repo
 def calls_of_code() -> set[tuple[str, str]]:
     """Each path and method of the table."""
     places = re.findall(r'router\.insert\("([^"]+)", Endpoint::(\w+)\)', repo.read("crates/lra_api/src/path.rt"))
-    verbs = re.findall(r"\(Endpoint::(\w+), Verb::(\w+)\) => Some", repo.read("crates/lra_api/src/table.rt"))
+    verbs = re.findall(r"\(Endpoint::(\w+), TableMethod::(\w+)\) => Some", repo.read("crates/lra_api/src/table.rt"))
     return {(path, verb.lower()) for path, place in places for of, verb in verbs if of == place}
 
 

@@ -31,17 +31,17 @@ use Rattle.lra_api.specs.declared.routing.Unrouted.{Unrouted}
 use Rattle.lra_api.specs.declared.routing.Unrouted.TheVariants as unrouted
 use Rattle.lra_api.specs.declared.table.Endpoint.{Endpoint}
 use Rattle.lra_api.specs.declared.table.Endpoint.TheVariants as endpoint
-use Rattle.lra_api.specs.Table.{allowed}
+use Rattle.lra_api.specs.Table.{methods_of}
 use Rattle.lra_api.specs.Wholes.{IsNumbered, IsNumberedCommand, IsWhole}
-use Rattle.lra_api.specs.declared.answers.FieldName.{FieldName}
-use Rattle.lra_api.specs.declared.answers.FieldName.TheVariants.{Allow, Action, Recovery, ContentType, ContentLength, Connection}
+use Rattle.lra_api.specs.declared.answers.AnswerField.{AnswerField}
+use Rattle.lra_api.specs.declared.answers.AnswerField.TheVariants.{Allow, Action, Recovery, ContentType, ContentLength, Connection}
 use Rattle.lra_api.specs.Answers.{answer_of, bare, closing, code_of, command_answer, fault_answer, fault_code, field, field_name, json, of_length, of_type, refusal_answer, unrouted_answer, with_body}
 use Rattle.lra_api.specs.Texts.{join_body, member_body, page_body, recovery_path, refusal_body, status_body, urn}
 
 -- Fields of answers
 
 -- a field of an answer with such a value
-field_plain : (name : FieldName) (value : List ℕ) → AllPass is_visible value → IsPlain (field name value)
+field_plain : (name : AnswerField) (value : List ℕ) → AllPass is_visible value → IsPlain (field name value)
 unfolding is_token_byte
 field_plain Allow value h = plain_visible (field_name Allow) value (omega arith) refl h
 field_plain Action value h = plain_visible (field_name Action) value (omega arith) refl h
@@ -69,7 +69,7 @@ pub record IsCode (code : ℕ) : Type 0 where
   pub short : length (status_line code) ≤ 100
 
 -- a field that may stand before those of the body
-abbrev pub IsFirst : FieldName → Type 0
+abbrev pub IsFirst : AnswerField → Type 0
 IsFirst Allow = Unit {0}
 IsFirst Action = Unit {0}
 IsFirst Recovery = Unit {0}
@@ -99,7 +99,7 @@ sound_with limit code kind body right clear few fits low =
       few = omega arith;
     }
 
-pub sound_behind : (limit code : ℕ) (name : FieldName) (value kind body : List ℕ) → IsFirst name → IsPlain (field name value) → length value ≤ 200
+pub sound_behind : (limit code : ℕ) (name : AnswerField) (value kind body : List ℕ) → IsFirst name → IsPlain (field name value) → length value ≤ 200
     → IsCode code → AllPass is_visible kind → length kind ≤ 100 → length body < 2 ^ 64 → length body ≤ limit
     → IsSound limit (with_body code (field name value ∷ []) kind body)
 sound_behind limit code name value kind body first plain little right clear few fits low =
@@ -114,7 +114,7 @@ sound_behind limit code name value kind body first plain little right clear few 
       few = omega arith;
     }
   where
-    stated_behind : (name : FieldName) → IsFirst name
+    stated_behind : (name : AnswerField) → IsFirst name
         → response_length limit code (map field_bytes (field name value ∷ of_type kind ∷ of_length body ∷ closing ∷ [])) ≡ sized (length body)
     stated_behind Allow f = rw (right.low, right.bodied) (length_is limit (length body) fits low)
     stated_behind Action f = rw (right.low, right.bodied) (length_is limit (length body) fits low)
@@ -123,7 +123,7 @@ sound_behind limit code name value kind body first plain little right clear few 
     stated_behind ContentLength f = absurd f
     stated_behind Connection f = absurd f
 
-    name_short : (name : FieldName) → length (field_name name) + length value ≤ 300
+    name_short : (name : AnswerField) → length (field_name name) + length value ≤ 300
     name_short Allow = omega (arith, little)
     name_short Action = omega (arith, little)
     name_short Recovery = omega (arith, little)
@@ -268,7 +268,7 @@ sound_json : (limit code : ℕ) (body : List ℕ) → IsCode code → limit < 2 
 sound_json limit code body right fits low =
     sound_with limit code (codes "application/json") body right (literal_visible (codes "application/json") refl) (omega arith) (omega (arith, low, fits)) low
 
-sound_first : (limit code : ℕ) (name : FieldName) (value body : List ℕ) → IsFirst name → IsPlain (field name value) → length value ≤ 200 → IsCode code
+sound_first : (limit code : ℕ) (name : AnswerField) (value body : List ℕ) → IsFirst name → IsPlain (field name value) → length value ≤ 200 → IsCode code
     → limit < 2 ^ 64 → length body ≤ limit → IsSound limit (json code (field name value ∷ []) body)
 sound_first limit code name value body first plain few right fits low =
     sound_behind limit code name value (codes "application/json") body first plain few right (literal_visible (codes "application/json") refl) (omega arith)
@@ -323,19 +323,19 @@ listed_plain value passes trimmed = record {
   trimmed = trimmed;
 }
 
-allowed_plain : (p : Endpoint) → IsPlain (field Allow (allowed p))
+allowed_plain : (p : Endpoint) → IsPlain (field Allow (methods_of p))
 unfolding trim_ows
-allowed_plain endpoint.Lras = listed_plain (allowed endpoint.Lras) refl refl
-allowed_plain endpoint.Lra = listed_plain (allowed endpoint.Lra) refl refl
-allowed_plain endpoint.Join = listed_plain (allowed endpoint.Join) refl refl
-allowed_plain endpoint.Close = listed_plain (allowed endpoint.Close) refl refl
-allowed_plain endpoint.Cancel = listed_plain (allowed endpoint.Cancel) refl refl
-allowed_plain endpoint.Member = listed_plain (allowed endpoint.Member) refl refl
-allowed_plain endpoint.Leave = listed_plain (allowed endpoint.Leave) refl refl
-allowed_plain endpoint.Report = listed_plain (allowed endpoint.Report) refl refl
-allowed_plain endpoint.Pull = listed_plain (allowed endpoint.Pull) refl refl
+allowed_plain endpoint.Lras = listed_plain (methods_of endpoint.Lras) refl refl
+allowed_plain endpoint.Lra = listed_plain (methods_of endpoint.Lra) refl refl
+allowed_plain endpoint.Join = listed_plain (methods_of endpoint.Join) refl refl
+allowed_plain endpoint.Close = listed_plain (methods_of endpoint.Close) refl refl
+allowed_plain endpoint.Cancel = listed_plain (methods_of endpoint.Cancel) refl refl
+allowed_plain endpoint.Member = listed_plain (methods_of endpoint.Member) refl refl
+allowed_plain endpoint.Leave = listed_plain (methods_of endpoint.Leave) refl refl
+allowed_plain endpoint.Report = listed_plain (methods_of endpoint.Report) refl refl
+allowed_plain endpoint.Pull = listed_plain (methods_of endpoint.Pull) refl refl
 
-allowed_short : (p : Endpoint) → length (allowed p) ≤ 200
+allowed_short : (p : Endpoint) → length (methods_of p) ≤ 200
 allowed_short endpoint.Lras = omega arith
 allowed_short endpoint.Lra = omega arith
 allowed_short endpoint.Join = omega arith
@@ -349,7 +349,7 @@ allowed_short endpoint.Pull = omega arith
 sound_unrouted : (limit : ℕ) (u : Unrouted) → limit < 2 ^ 64 → length (unrouted_answer u).body ≤ limit → IsSound limit (unrouted_answer u)
 sound_unrouted limit unrouted.NoPath fits low = sound_json limit 404 (refusal_body (codes "NoPath")) code_404 fits low
 sound_unrouted limit (unrouted.NoMethod p) fits low =
-    sound_first limit 405 Allow (allowed p) (refusal_body (codes "NoMethod")) tt (allowed_plain p) (allowed_short p) code_405 fits low
+    sound_first limit 405 Allow (methods_of p) (refusal_body (codes "NoMethod")) tt (allowed_plain p) (allowed_short p) code_405 fits low
 sound_unrouted limit (unrouted.Refused refusal) fits low = sound_refusal limit refusal fits low
 
 pub unrouted_whole : (limit : ℕ) (u : Unrouted) (rest : List ℕ) → limit < 2 ^ 64 → length (unrouted_answer u).body ≤ limit → IsWhole limit (unrouted_answer u) rest

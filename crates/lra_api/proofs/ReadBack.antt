@@ -16,7 +16,7 @@ use Rattle.lra_id.specs.declared.status.MemberStatus.{MemberStatus}
 use Rattle.lra_id.specs.declared.status.MemberStatus.TheVariants as member
 use Rattle.lra_http.specs.declared.message.Field.{Field}
 use Rattle.lra_http.specs.ByteResponses.{Response}
-use Rattle.lra_api.specs.Answers.{begun, found, joined, shown}
+use Rattle.lra_api.specs.Answers.{begun_answer, joined_answer, ok_json, status_answer}
 use Rattle.lra_api.specs.Texts.{member_body, of_lra, of_status, recovery_path, status_body, urn}
 use Rattle.lra_api.proofs.Ids.{id_at_layout}
 use Rattle.lra_api.specs.Names.{id_at}
@@ -135,14 +135,14 @@ abbrev first_value : List Field → List ℕ
 first_value [] = []
 first_value (f ∷ fs) = f.value
 
-pub begun_told : (a b : Id) → IsId a → IsId b → begun a ≡ begun b → a ≡ b
+pub begun_told : (a b : Id) → IsId a → IsId b → begun_answer a ≡ begun_answer b → a ≡ b
 begun_told a b p q e = urn_told a b p q (ap (λ (r : Response). first_value r.fields) e)
 
-pub joined_told : (a b : Id) (m n : ℕ) → IsId a → IsId b → m < 2 ^ 64 → n < 2 ^ 64 → joined a m ≡ joined b n → (a ≡ b) × (m ≡ n)
+pub joined_told : (a b : Id) (m n : ℕ) → IsId a → IsId b → m < 2 ^ 64 → n < 2 ^ 64 → joined_answer a m ≡ joined_answer b n → (a ≡ b) × (m ≡ n)
 joined_told a b m n p q fits small e = path_told a b m n p q fits small (ap (λ (r : Response). first_value r.fields) e)
 
-pub shown_told : (a b : Id) (x y : LraStatus) → IsId a → IsId b → shown a x ≡ shown b y → (a ≡ b) × (x ≡ y)
+pub shown_told : (a b : Id) (x y : LraStatus) → IsId a → IsId b → status_answer a x ≡ status_answer b y → (a ≡ b) × (x ≡ y)
 shown_told a b x y p q e = status_told a b x y p q (ap (λ (r : Response). r.body) e)
 
-pub member_told : (a b : Id) (m : ℕ) (x y : MemberStatus) → IsId a → IsId b → found (member_body a m x) ≡ found (member_body b m y) → (a ≡ b) × (x ≡ y)
+pub member_told : (a b : Id) (m : ℕ) (x y : MemberStatus) → IsId a → IsId b → ok_json (member_body a m x) ≡ ok_json (member_body b m y) → (a ≡ b) × (x ≡ y)
 member_told a b m x y p q e = participant_told a b m x y p q (ap (λ (r : Response). r.body) e)

@@ -1,10 +1,10 @@
 -- The bytes of an answer's body.
 use Rattle.std.specs.Prelude.{ℕ, List}
 use Rattle.lra_delta.specs.Encoding.{encoding}
-use Rattle.lra_api.specs.declared.body.Kind.{Kind}
-use Rattle.lra_api.specs.declared.body.Kind.TheVariants.{Bytes, Frame}
+use Rattle.lra_api.specs.declared.body.BodyKind.{BodyKind}
+use Rattle.lra_api.specs.declared.body.BodyKind.TheVariants.{Bytes, Frame}
 
 -- those of a delta that is lent are its encoding
-abbrev pub bytes_of : Kind → List ℕ
+abbrev pub bytes_of : BodyKind → List ℕ
 bytes_of (Bytes bytes) = bytes
 bytes_of (Frame delta) = encoding delta.now

@@ -17,7 +17,7 @@ use Rattle.lra_api.specs.declared.table.Action.TheVariants as action
 use Rattle.lra_api.specs.Bodies.{act_by, deadline_by, links_by, object_in, outcome_by, parent_by, some_id}
 use Rattle.lra_api.specs.Names.{id_of, member_of}
 use Rattle.lra_api.specs.Paths.{id_part, member_part, path_of, endpoint_of, query_of}
-use Rattle.lra_api.specs.Table.{action_at, verb_of}
+use Rattle.lra_api.specs.Table.{action_at, method_of}
 
 abbrev pub id_in : List ℕ → Option Id
 id_in path = id_of (id_part path)
@@ -121,7 +121,7 @@ by_action now request endpoint (Some a) = or_bad_text (call_of now a request)
 by_action now request endpoint None = Err (NoMethod endpoint)
 
 abbrev pub by_endpoint : ℕ → Request → Option Endpoint → Result Call Unrouted
-by_endpoint now request (Some endpoint) = by_action now request endpoint (action_at endpoint (verb_of request.method))
+by_endpoint now request (Some endpoint) = by_action now request endpoint (action_at endpoint (method_of request.method))
 by_endpoint now request None = Err NoPath
 
 -- the call that a request asks for at a moment: by its path, then by its method, then by its id, number, query and body; or

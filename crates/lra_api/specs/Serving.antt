@@ -26,28 +26,20 @@ WritesNoMemory sink old new =
     ⊎ (Sends sink old new (response_text (refusal_answer NoMemory))
     ⊎ SendsPart sink old new (response_text (refusal_answer NoMemory)))
 
--- what is told behind a whole answer, where a write failed, and where the memory was refused: a clerk's refusal goes before that
-abbrev pub told : Option Refusal → Result ⊤ ServeError
-told None = Ok tt
-told (Some refusal) = Err (Refused refusal)
-
-abbrev pub told_if_lost : Option Refusal → Result ⊤ ServeError
-told_if_lost None = Err WriteFault
-told_if_lost (Some refusal) = Err (Refused refusal)
-
-abbrev pub told_if_starved : Option Refusal → Result ⊤ ServeError
-told_if_starved None = Err (Refused NoMemory)
-told_if_starved (Some refusal) = Err (Refused refusal)
+-- what is told behind an answer: a clerk's refusal goes before how writing ended
+abbrev pub told_first : Option Refusal → Result ⊤ ServeError → Result ⊤ ServeError
+told_first None ended = ended
+told_first (Some refusal) ended = Err (Refused refusal)
 
 -- the memory was refused, and that is written, or a part of it, or nothing
 abbrev pub EndsNoMemory : {W : Type 0} → OfSink W → (old new : W) → Option Refusal → Result ⊤ ServeError → Type 0
-EndsNoMemory sink old new refusal result = (result ≡ told_if_starved refusal) × WritesNoMemory sink old new
+EndsNoMemory sink old new refusal result = (result ≡ told_first refusal (Err (Refused NoMemory))) × WritesNoMemory sink old new
 
 -- the text of an answer was written, or a part of it where a write failed; or the memory was refused
 abbrev pub Ends : {W : Type 0} → OfSink W → (old new : W) → Response → Option Refusal → Result ⊤ ServeError → Type 0
 Ends sink old new response refusal result =
-    ((result ≡ told refusal) × Sends sink old new (response_text response))
-    ⊎ (((result ≡ told_if_lost refusal) × SendsPart sink old new (response_text response))
+    ((result ≡ told_first refusal (Ok tt)) × Sends sink old new (response_text response))
+    ⊎ (((result ≡ told_first refusal (Err WriteFault)) × SendsPart sink old new (response_text response))
     ⊎ EndsNoMemory sink old new refusal result)
 
 -- Serving. `same`: no call is made. `makes`: this call is made, once, and this comes of it

@@ -8,7 +8,7 @@ use std::marker::Model;
 
 /// What the body of an answer is written from.
 #[derive(Drop)]
-pub(crate) enum Kind<'a> {
+pub(crate) enum BodyKind<'a> {
     Bytes(Bytes),
     Frame(&'a Delta),
 }
@@ -17,7 +17,7 @@ pub(crate) enum Kind<'a> {
 /// written.
 #[derive(Drop)]
 pub struct Body<'a> {
-    kind: Kind<'a>,
+    kind: BodyKind<'a>,
 }
 
 impl<'a> Model for Body<'a> {
@@ -35,7 +35,7 @@ impl<'a> Body<'a> {
         ensures { result ≡ bytes.items }
     {
         Body {
-            kind: Kind::Bytes(Bytes::new(bytes)),
+            kind: BodyKind::Bytes(Bytes::new(bytes)),
         }
     }
 
@@ -44,7 +44,7 @@ impl<'a> Body<'a> {
         ensures { result ≡ encoding delta.now }
     {
         Body {
-            kind: Kind::Frame(delta),
+            kind: BodyKind::Frame(delta),
         }
     }
 }
@@ -54,15 +54,15 @@ impl<'a> Part for Body<'a> {
 
     fn length(&self) -> Option<u64> {
         match &self.kind {
-            Kind::Bytes(bytes) => bytes.length(),
-            Kind::Frame(delta) => delta.length(),
+            BodyKind::Bytes(bytes) => bytes.length(),
+            BodyKind::Frame(delta) => delta.length(),
         }
     }
 
     fn write<W: Sink>(&self, sink: &mut W, interrupted: &mut u16) -> Result<(), WriteFault> {
         match &self.kind {
-            Kind::Bytes(bytes) => bytes.write(sink, interrupted),
-            Kind::Frame(delta) => delta.write(sink, interrupted),
+            BodyKind::Bytes(bytes) => bytes.write(sink, interrupted),
+            BodyKind::Frame(delta) => delta.write(sink, interrupted),
         }
     }
 }

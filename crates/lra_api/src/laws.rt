@@ -6,7 +6,7 @@ ghost use Rattle.lra_id.specs.declared.status.MemberStatus.{MemberStatus as TheM
 ghost use Rattle.lra_http.specs.declared.fault.Fault.{Fault as TheFault};
 ghost use Rattle.lra_book.specs.declared.calls.Reply.{Reply as TheReply};
 ghost use Rattle.lra_api.specs.declared.routing.Unrouted.{Unrouted as TheUnrouted};
-ghost use Rattle.lra_api.specs.Answers.{answer_of, begun, fault_answer, found, joined, shown, unrouted_answer};
+ghost use Rattle.lra_api.specs.Answers.{answer_of, begun_answer, fault_answer, joined_answer, ok_json, status_answer, unrouted_answer};
 ghost use Rattle.lra_api.specs.Texts.{member_body};
 ghost use Rattle.lra_api.specs.Wholes.{IsNumbered, IsWhole};
 
@@ -14,13 +14,13 @@ ghost use Rattle.lra_api.specs.Wholes.{IsNumbered, IsWhole};
 /// which LRA it tells, what that shows, and which member number was given. Of a participant it
 /// tells the LRA and what the participant shows, to one that knows for which number it asked.
 pub fn an_answer_tells_its_reply()
-    ensures begun { (a b : Id) → IsId a → IsId b → begun a ≡ begun b → a ≡ b }
+    ensures begun { (a b : Id) → IsId a → IsId b → begun_answer a ≡ begun_answer b → a ≡ b }
     ensures joined { (a b : Id) (m n : ℕ) →
-        IsId a → IsId b → m < 2 ^ 64 → n < 2 ^ 64 → joined a m ≡ joined b n → (a ≡ b) × (m ≡ n) }
+        IsId a → IsId b → m < 2 ^ 64 → n < 2 ^ 64 → joined_answer a m ≡ joined_answer b n → (a ≡ b) × (m ≡ n) }
     ensures shown { (a b : Id) (x y : TheLraStatus) →
-        IsId a → IsId b → shown a x ≡ shown b y → (a ≡ b) × (x ≡ y) }
+        IsId a → IsId b → status_answer a x ≡ status_answer b y → (a ≡ b) × (x ≡ y) }
     ensures member { (a b : Id) (m : ℕ) (x y : TheMemberStatus) → IsId a →
-        IsId b → found (member_body a m x) ≡ found (member_body b m y) → (a ≡ b) × (x ≡ y) }
+        IsId b → ok_json (member_body a m x) ≡ ok_json (member_body b m y) → (a ≡ b) × (x ≡ y) }
 {}
 
 /// The text of each answer is one whole response with its status, fields and body, for any reader

@@ -13,10 +13,10 @@ mod serving;
 mod table;
 mod text;
 
-pub use answers::{Answer, answer, found, refusal_answer, with_body};
+pub use answers::{Answer, answer, ok_json, refusal_answer, with_body};
 pub use body::Body;
 pub use names::{id_of, member_of};
 pub use path::{Paths, id_part, member_part, part_of, path_of, query_of, rest_of};
 pub use routing::{Unrouted, route};
 pub use serving::{ServeError, end, end_refused, serve_fault, serve_one, serve_request};
-pub use table::{Endpoint, Verb, verb_of};
+pub use table::{Endpoint, TableMethod, method_of};

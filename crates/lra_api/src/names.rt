@@ -2,10 +2,8 @@
 ghost use Rattle.std.specs.Prelude.{◌≡◌};
 ghost use Rattle.lra_api.specs.Names.{id_of, member_of};
 
+use lra_forest::MAX_MEMBERS;
 use lra_id::LraId;
-
-/// How many member numbers an LRA gives.
-const MAX_MEMBERS: u8 = 32;
 
 /// The id that a text is, in any of the four forms of a UUID.
 pub fn id_of(text: &str) -> Option<LraId>
@@ -25,7 +23,7 @@ pub fn member_of(text: &str) -> Option<u8>
         [d] if b'1' <= d && d <= b'9' => Some(d - b'0'),
         [t, d] if b'1' <= t && t <= b'3' && b'0' <= d && d <= b'9' => {
             let number = 10 * (t - b'0') + (d - b'0');
-            if number <= MAX_MEMBERS {
+            if number <= MAX_MEMBERS as u8 {
                 Some(number)
             } else {
                 None

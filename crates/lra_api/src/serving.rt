@@ -6,7 +6,7 @@ ghost use Rattle.lra_http.specs.declared.message.Request.{Request as TheRequest}
 ghost use Rattle.lra_http.specs.ByteResponses.{Response as TheResponse};
 ghost use Rattle.lra_api.specs.Answers.{answer_of, fault_answer, refusal_answer, unrouted_answer};
 ghost use Rattle.lra_api.specs.Routes.{routed};
-ghost use Rattle.lra_api.specs.Serving.{Ends, EndsNoMemory, Makes, Serves, ServesCall, ServesFault, ServesRequest, WritesNoMemory, told, told_if_lost, told_if_starved};
+ghost use Rattle.lra_api.specs.Serving.{Ends, EndsNoMemory, Makes, Serves, ServesCall, ServesFault, ServesRequest, WritesNoMemory, told_first};
 ghost use Rattle.lra_api.specs.Streams.{IsReading};
 
 use crate::Paths;
@@ -41,12 +41,13 @@ fn write_no_memory<W: Sink>(alloc: Global, writer: &mut W)
     let _written = write_response(alloc, writer, &response);
 }
 
-fn told_if_starved(refusal: Option<Refusal>) -> Result<(), ServeError>
-    ensures { result ≡ told_if_starved refusal }
+/// What is told behind an answer: the clerk's refusal goes before how writing ended.
+fn told_first(refusal: Option<Refusal>, ended: Result<(), ServeError>) -> Result<(), ServeError>
+    ensures { result ≡ told_first refusal ended }
 {
     match refusal {
         Some(refusal) => Err(ServeError::Refused(refusal)),
-        None => Err(ServeError::Refused(Refusal::NoMemory)),
+        None => ended,
     }
 }
 
@@ -60,25 +61,7 @@ fn end_no_memory<W: Sink>(
     ensures { EndsNoMemory W.Sink writer.old writer.new refusal result }
 {
     write_no_memory(alloc, writer);
-    told_if_starved(refusal)
-}
-
-fn told(refusal: Option<Refusal>) -> Result<(), ServeError>
-    ensures { result ≡ told refusal }
-{
-    match refusal {
-        Some(refusal) => Err(ServeError::Refused(refusal)),
-        None => Ok(()),
-    }
-}
-
-fn told_if_lost(refusal: Option<Refusal>) -> Result<(), ServeError>
-    ensures { result ≡ told_if_lost refusal }
-{
-    match refusal {
-        Some(refusal) => Err(ServeError::Refused(refusal)),
-        None => Err(ServeError::WriteFault),
-    }
+    told_first(refusal, Err(ServeError::Refused(Refusal::NoMemory)))
 }
 
 fn end_with<W: Sink>(
@@ -90,12 +73,12 @@ fn end_with<W: Sink>(
     ensures { Ends W.Sink writer.old writer.new response.now refusal result }
 {
     match write_response(alloc, writer, response) {
-        Ok(()) => told(refusal),
+        Ok(()) => told_first(refusal, Ok(())),
         Err(fault) => {
             if fault == Fault::NoMemory {
                 return end_no_memory(alloc, writer, refusal);
             }
-            told_if_lost(refusal)
+            told_first(refusal, Err(ServeError::WriteFault))
         }
     }
 }

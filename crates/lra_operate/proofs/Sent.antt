@@ -5,7 +5,7 @@ use Rattle.lra_facts.specs.declared.refusal.Refusal.{Refusal}
 use Rattle.lra_http.specs.declared.Sink.{Ghosts as OfSink}
 use Rattle.lra_http.specs.ByteResponses.{Response}
 use Rattle.lra_http.specs.declared.message.Request.{Request}
-use Rattle.lra_api.specs.Answers.{found}
+use Rattle.lra_api.specs.Answers.{ok_json}
 use Rattle.lra_api.specs.Serving.{Ends}
 use Rattle.lra_api.specs.declared.serving.ServeError.{ServeError}
 use Rattle.lra_book.specs.declared.calls.Call.{Call}
@@ -24,10 +24,10 @@ replied w makes sink old new seen reply result made is ends =
 -- an answer that tells of a topic
 some_told : (topic : Topic) → (response : Response) × IsTold topic response
 some_told Page = (page_answer [], ([], refl))
-some_told Health = (found [], ([], refl))
+some_told Health = (ok_json [], ([], refl))
 some_told Ready = (ready_answer None, (None, refl))
 some_told Metrics = (counts_answer [], ([], refl))
-some_told Calls = (found [], ([], refl))
+some_told Calls = (ok_json [], ([], refl))
 
 -- the answer that was made tells of it; if none was, any that does will do
 pub told : {E : Type 0} (topic : Topic) (made : Result Response E) (written : Response → Type 0)

@@ -12,7 +12,7 @@ use Rattle.lra_book.specs.declared.calls.Call.{Call}
 use Rattle.lra_book.specs.declared.calls.Call.TheVariants as call
 use Rattle.lra_book.specs.declared.calls.Reply.{Reply}
 use Rattle.lra_book.specs.declared.calls.Reply.TheVariants.{Held, Surveyed}
-use Rattle.lra_api.specs.Answers.{answer_of, found, refusal_answer, with_body}
+use Rattle.lra_api.specs.Answers.{answer_of, ok_json, refusal_answer, with_body}
 use Rattle.lra_api.specs.Routes.{routed}
 use Rattle.lra_api.specs.Serving.{Ends, ServesFault, ServesRequest, refusal_in}
 use Rattle.lra_api.specs.declared.serving.ServeError.{ServeError}
@@ -37,8 +37,8 @@ call_of Other = None
 
 -- the answer to its reply: a list shows those of its filter, a record all that is held; else the interface's answer
 abbrev pub answer_at : Wanted → Reply → Response
-answer_at (AskList f) (Surveyed s) = found (survey_body f s)
-answer_at (Record id) (Held h) = found (record_body h)
+answer_at (AskList f) (Surveyed s) = ok_json (survey_body f s)
+answer_at (Record id) (Held h) = ok_json (record_body h)
 answer_at w reply = answer_of reply
 
 abbrev pub answer_to : Wanted → Result Reply Refusal → Response
@@ -67,17 +67,17 @@ ready_text None = opened (codes "ready") (truth true) ++ codes "}"
 ready_text (Some cause) = opened (codes "ready") (truth false) ++ (named (codes "cause") (word cause) ++ codes "}")
 
 abbrev pub ready_answer : Option (List ℕ) → Response
-ready_answer None = found (ready_text None)
+ready_answer None = ok_json (ready_text None)
 ready_answer (Some cause) = with_body 503 [] (codes "application/json") (ready_text (Some cause))
 
 -- The answer that tells of a topic: its status, its fields and its type. The text is what the threads know, of which nothing is said,
 -- save how it tells whether the node enters commands.
 abbrev pub IsTold : Topic → Response → Type 0
 IsTold Page response = (text : List ℕ) × (response ≡ page_answer text)
-IsTold Health response = (text : List ℕ) × (response ≡ found text)
+IsTold Health response = (text : List ℕ) × (response ≡ ok_json text)
 IsTold Ready response = (cause : Option (List ℕ)) × (response ≡ ready_answer cause)
 IsTold Metrics response = (text : List ℕ) × (response ≡ counts_answer text)
-IsTold Calls response = (text : List ℕ) × (response ≡ found text)
+IsTold Calls response = (text : List ℕ) × (response ≡ ok_json text)
 
 -- no call is made, and the answer that tells of a topic is written
 abbrev pub Tells : {W : Type 0} → (same : Type 0) → OfSink W → (old new : W) → Topic → Result ⊤ ServeError → Type 0

@@ -5,11 +5,11 @@ use Rattle.lra_id.specs.Ids.{Id}
 use Rattle.lra_http.specs.declared.message.Request.{Request}
 use Rattle.lra_api.specs.Names.{id_of, member_of}
 use Rattle.lra_api.specs.Paths.{id_part, member_part, part_of, path_of, endpoint_of, query_of, rest_of}
-use Rattle.lra_api.specs.Table.{verb_of}
+use Rattle.lra_api.specs.Table.{method_of}
 use Rattle.lra_api.specs.declared.table.Endpoint.{Endpoint}
 use Rattle.lra_api.specs.declared.table.Endpoint.TheVariants as endpoint
-use Rattle.lra_api.specs.declared.table.Verb.{Verb}
-use Rattle.lra_api.specs.declared.table.Verb.TheVariants as verb
+use Rattle.lra_api.specs.declared.table.TableMethod.{TableMethod}
+use Rattle.lra_api.specs.declared.table.TableMethod.TheVariants as method
 use Rattle.lra_operate.specs.declared.filter.Filter.{Filter}
 use Rattle.lra_operate.specs.declared.wanted.Topic.TheVariants.{Page, Health, Ready, Metrics, Calls}
 use Rattle.lra_operate.specs.declared.wanted.Wanted.{Wanted}
@@ -89,11 +89,11 @@ wanted_by_put path =
 
 -- The whole
 
-abbrev pub by_verb : Verb → (path : List ℕ) → (query : Option (List ℕ)) → Wanted
-by_verb verb.Get path query = wanted_by_get path query
-by_verb verb.Put path query = wanted_by_put path
-by_verb _ path query = Other
+abbrev pub by_method : TableMethod → (path : List ℕ) → (query : Option (List ℕ)) → Wanted
+by_method method.Get path query = wanted_by_get path query
+by_method method.Put path query = wanted_by_put path
+by_method _ path query = Other
 
 -- one of the operator's own paths by its own method, else what the interface has
 abbrev pub wanted : Request → Wanted
-wanted request = by_verb (verb_of request.method) (path_of request.target) (query_of request.target)
+wanted request = by_method (method_of request.method) (path_of request.target) (query_of request.target)

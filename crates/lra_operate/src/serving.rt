@@ -16,7 +16,7 @@ use crate::surveys::survey_body;
 use crate::telling::told_answer;
 use crate::{Filter, State, Topic, Wanted, wanted_by};
 use lra_api::{
-    Answer, Paths, ServeError, answer, end, end_refused, found, refusal_answer, serve_fault,
+    Answer, Paths, ServeError, answer, end, end_refused, ok_json, refusal_answer, serve_fault,
     serve_request,
 };
 use lra_book::{Call, Clerk, Reply};
@@ -57,11 +57,11 @@ fn answer_at<'a>(alloc: Global, wanted: &Wanted, reply: &'a Reply) -> Result<Ans
     match (wanted, reply) {
         (Wanted::List(filter), Reply::Surveyed(survey)) => {
             let body = survey_body(alloc, filter, survey)?;
-            found(alloc, body)
+            ok_json(alloc, body)
         }
         (Wanted::Record(_), Reply::Held(holding)) => {
             let body = record_body(alloc, holding)?;
-            found(alloc, body)
+            ok_json(alloc, body)
         }
         _ => answer(alloc, reply),
     }

@@ -7,7 +7,7 @@ use crate::json::{add_word, open_truth, push};
 use crate::page::PAGE;
 use crate::{State, Topic};
 use http::StatusCode;
-use lra_api::{Answer, Body, found, with_body};
+use lra_api::{Answer, Body, ok_json, with_body};
 use lra_http::{Bytes, Field};
 use std::alloc::{AllocError, Global};
 
@@ -36,7 +36,7 @@ fn ready_answer<'a>(alloc: Global, cause: Option<&'static str>) -> Result<Answer
 {
     let text = ready_text(alloc, cause)?;
     match cause {
-        None => found(alloc, text),
+        None => ok_json(alloc, text),
         Some(_) => {
             let status = StatusCode::SERVICE_UNAVAILABLE;
             let body = Body::of_bytes(text);
@@ -97,7 +97,7 @@ pub(crate) fn told_answer<'a, T: State>(
         }
         Topic::Health => {
             let text = state.health(alloc)?;
-            found(alloc, text)
+            ok_json(alloc, text)
         }
         Topic::Ready => ready_answer(alloc, state.unready()),
         Topic::Metrics => {
@@ -106,7 +106,7 @@ pub(crate) fn told_answer<'a, T: State>(
         }
         Topic::Calls => {
             let text = state.calls(alloc)?;
-            found(alloc, text)
+            ok_json(alloc, text)
         }
     }
 }

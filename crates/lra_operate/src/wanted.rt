@@ -6,8 +6,8 @@ ghost use Rattle.lra_operate.specs.Wanted.{forgot_of, is_of_member, last_word, l
 use crate::Filter;
 use crate::filter::filter_in;
 use lra_api::{
-    Endpoint, Paths, Verb, id_of, id_part, member_of, member_part, part_of, path_of, query_of,
-    rest_of, verb_of,
+    Endpoint, Paths, TableMethod, id_of, id_part, member_of, member_part, method_of, part_of,
+    path_of, query_of, rest_of,
 };
 use lra_http::Request;
 use lra_id::LraId;
@@ -145,9 +145,9 @@ pub fn wanted_by(paths: &Paths, request: &Request) -> Wanted
 {
     let target = request.target.as_str();
     let path = path_of(target);
-    match verb_of(&request.method) {
-        Verb::Get => wanted_by_get(paths, path, query_of(target)),
-        Verb::Put => wanted_by_put(path),
+    match method_of(&request.method) {
+        TableMethod::Get => wanted_by_get(paths, path, query_of(target)),
+        TableMethod::Put => wanted_by_put(path),
         _ => Wanted::Other,
     }
 }
