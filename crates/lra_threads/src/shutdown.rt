@@ -48,11 +48,6 @@ impl Shutdown {
             .told
             .wait_while(rt, self.end.lock(rt), |end| end.is_none());
     }
-
-    /// Whether a node couldn't go on.
-    pub fn has_failed<R: Wait>(&self, rt: &R) -> bool {
-        *self.end.lock(rt) == Some(End::Failed)
-    }
 }
 
 /// Reads an input to its end, and tells that.
