@@ -5,7 +5,7 @@ use crate::buffered_socket::{BufferedSocket, Times};
 use crate::clock::now;
 use crate::counts::Pull;
 use crate::deadline_stream::{Cutoff, SLICE_MS};
-use crate::news::Counts;
+use crate::news::NewsCounts;
 use crate::node::Node;
 use crate::sockets::Sockets;
 use lra_heard::{Telling, ask_for};
@@ -49,43 +49,23 @@ pub(crate) fn pull_over<'a, R: Wait + Clock>(
     ask_for(alloc, &mut reader, &mut writer, front).ok()
 }
 
-/// What a pull came to.
-#[derive(Clone, Copy, PartialEq, Eq)]
-enum Pulled {
-    /// Something new is handed over.
-    New,
-    /// Nothing is new.
-    Nothing,
-    /// Nothing could be had, or something waits to be taken already.
-    Failed,
-}
-
-/// What it is counted as.
-fn counted(pulled: Pulled) -> Pull {
-    match pulled {
-        Pulled::New => Pull::New,
-        Pulled::Nothing => Pull::Nothing,
-        Pulled::Failed => Pull::Failed,
-    }
-}
-
 /// Pulls from another node, and hands over what is new.
-fn pull_one<R: Wait + Clock + Sockets>(rt: &R, alloc: Global, node: &Node, other: u8) -> Pulled {
+fn pull_one<R: Wait + Clock + Sockets>(rt: &R, alloc: Global, node: &Node, other: u8) -> Pull {
     let front = node.mailbox.front(rt);
     let Ok(stream) = node.site.reach(rt, &node.signal, other) else {
-        return Pulled::Failed;
+        return Pull::Failed;
     };
     let Some(telling) = pull_over(rt, alloc, node, &front, stream) else {
-        return Pulled::Failed;
+        return Pull::Failed;
     };
     let told = telling.front();
     if told.nodes() != front.nodes() || told.below(&front) {
-        return Pulled::Nothing;
+        return Pull::Nothing;
     }
     if node.mailbox.put_telling(rt, telling) {
-        Pulled::New
+        Pull::New
     } else {
-        Pulled::Failed
+        Pull::Failed
     }
 }
 
@@ -105,7 +85,7 @@ fn next_other(node: &Node, other: u8) -> u8 {
 }
 
 /// The next node in turn that told more than was seen, or else the next one.
-fn next_teller(node: &Node, other: u8, told: &Counts, seen: &Counts) -> u8 {
+fn next_teller(node: &Node, other: u8, told: &NewsCounts, seen: &NewsCounts) -> u8 {
     let mut next = other;
     for _turn in 0..node.nodes {
         next = next_other(node, next);
@@ -123,7 +103,7 @@ fn next_teller(node: &Node, other: u8, told: &Counts, seen: &Counts) -> u8 {
 pub fn pull_in_turn<R: Wait + Clock + Sockets>(rt: &R, alloc: Global, node: &Node) {
     let mut other = node.number;
     let mut round_ms = SHORT_ROUND_MS;
-    let mut seen = Counts::new();
+    let mut seen = NewsCounts::new();
     for _ in rt.forever() {
         if node.mailbox.sleep(rt, Duration::from_millis(PAUSE_MS)) {
             return;
@@ -136,13 +116,13 @@ pub fn pull_in_turn<R: Wait + Clock + Sockets>(rt: &R, alloc: Global, node: &Nod
         };
         other = next_teller(node, other, &told, &seen);
         let pulled = pull_one(rt, alloc, node, other);
-        node.counts.pull(rt, other, counted(pulled), now(rt));
-        if pulled != Pulled::Failed {
+        node.counts.pull(rt, other, pulled, now(rt));
+        if pulled != Pull::Failed {
             seen.set(other, told.of(other));
         }
         round_ms = match pulled {
-            Pulled::New => SHORT_ROUND_MS,
-            Pulled::Nothing | Pulled::Failed => round_ms.saturating_mul(2).min(LONG_ROUND_MS),
+            Pull::New => SHORT_ROUND_MS,
+            Pull::Nothing | Pull::Failed => round_ms.saturating_mul(2).min(LONG_ROUND_MS),
         };
     }
 }

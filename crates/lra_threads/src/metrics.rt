@@ -22,13 +22,13 @@ const STATUSES: [LraStatus; 7] = [
 
 /// A text that grows line by line.
 #[derive(Drop)]
-struct Page {
+struct MetricsPage {
     alloc: Global,
     node: u8,
     text: Vec<u8>,
 }
 
-impl Page {
+impl MetricsPage {
     fn push(&mut self, text: &str) -> Result<(), AllocError> {
         self.text.extend_from_slice(text.as_bytes())
     }
@@ -105,7 +105,7 @@ impl Page {
     }
 }
 
-fn push_refusals(page: &mut Page, numbers: &Numbers) -> Result<(), AllocError> {
+fn push_refusals(page: &mut MetricsPage, numbers: &Numbers) -> Result<(), AllocError> {
     let name = "lra_refused_total";
     page.family(name, "counter", "Calls that were refused.")?;
     for place in 0..REFUSALS {
@@ -119,7 +119,7 @@ fn push_refusals(page: &mut Page, numbers: &Numbers) -> Result<(), AllocError> {
     Ok(())
 }
 
-fn push_callbacks(page: &mut Page, numbers: &Numbers) -> Result<(), AllocError> {
+fn push_callbacks(page: &mut MetricsPage, numbers: &Numbers) -> Result<(), AllocError> {
     let name = "lra_callbacks_total";
     page.family(name, "counter", "Calls of participants, by what was heard.")?;
     for (kind, row) in KINDS.iter().zip(&numbers.callbacks) {
@@ -133,7 +133,7 @@ fn push_callbacks(page: &mut Page, numbers: &Numbers) -> Result<(), AllocError> 
     Ok(())
 }
 
-fn push_pulls_from(page: &mut Page, other: u64, row: &[u64; 3]) -> Result<(), AllocError> {
+fn push_pulls_from(page: &mut MetricsPage, other: u64, row: &[u64; 3]) -> Result<(), AllocError> {
     for (came, value) in PULLS.iter().zip(row) {
         page.open("lra_pulls_total")?;
         page.label_number("from", other)?;
@@ -143,7 +143,7 @@ fn push_pulls_from(page: &mut Page, other: u64, row: &[u64; 3]) -> Result<(), Al
     Ok(())
 }
 
-fn push_pulls(page: &mut Page, node: &Node, numbers: &Numbers) -> Result<(), AllocError> {
+fn push_pulls(page: &mut MetricsPage, node: &Node, numbers: &Numbers) -> Result<(), AllocError> {
     page.family("lra_pulls_total", "counter", "Pulls from other nodes.")?;
     for other in 1..=node.nodes {
         if other != node.number {
@@ -155,7 +155,7 @@ fn push_pulls(page: &mut Page, node: &Node, numbers: &Numbers) -> Result<(), All
 }
 
 fn push_ages(
-    page: &mut Page,
+    page: &mut MetricsPage,
     node: &Node,
     numbers: &Numbers,
     now: Duration,
@@ -178,7 +178,7 @@ fn push_ages(
     Ok(())
 }
 
-fn push_front<R: Wait>(page: &mut Page, rt: &R, node: &Node) -> Result<(), AllocError> {
+fn push_front<R: Wait>(page: &mut MetricsPage, rt: &R, node: &Node) -> Result<(), AllocError> {
     let name = "lra_front";
     page.family(name, "gauge", "Facts of each node that are known here.")?;
     let front = node.mailbox.front(rt);
@@ -192,7 +192,7 @@ fn push_front<R: Wait>(page: &mut Page, rt: &R, node: &Node) -> Result<(), Alloc
     Ok(())
 }
 
-fn push_held<R: Wait>(page: &mut Page, rt: &R, node: &Node) -> Result<(), AllocError> {
+fn push_held<R: Wait>(page: &mut MetricsPage, rt: &R, node: &Node) -> Result<(), AllocError> {
     let name = "lra_held";
     page.family(name, "gauge", "LRAs of the node's home, by what they show.")?;
     let held = node.sweep.held(rt);
@@ -210,7 +210,7 @@ fn push_held<R: Wait>(page: &mut Page, rt: &R, node: &Node) -> Result<(), AllocE
 }
 
 /// The families of calls and runs.
-fn push_calls(page: &mut Page, numbers: &Numbers) -> Result<(), AllocError> {
+fn push_calls(page: &mut MetricsPage, numbers: &Numbers) -> Result<(), AllocError> {
     page.family(
         "lra_calls_total",
         "counter",
@@ -227,7 +227,7 @@ fn push_calls(page: &mut Page, numbers: &Numbers) -> Result<(), AllocError> {
 
 /// The families of participants.
 fn push_participants<R: Wait>(
-    page: &mut Page,
+    page: &mut MetricsPage,
     rt: &R,
     node: &Node,
     numbers: &Numbers,
@@ -250,7 +250,7 @@ fn push_participants<R: Wait>(
 
 /// The families of other nodes and connections.
 fn push_others<R: Wait>(
-    page: &mut Page,
+    page: &mut MetricsPage,
     rt: &R,
     node: &Node,
     numbers: &Numbers,
@@ -288,7 +288,7 @@ pub(crate) fn metrics_of<R: Wait + Clock>(
 ) -> Result<Vec<u8>, AllocError> {
     let now = now(rt);
     let numbers = node.counts.numbers(rt);
-    let mut page = Page {
+    let mut page = MetricsPage {
         alloc,
         node: node.number,
         text: Vec::new(alloc),

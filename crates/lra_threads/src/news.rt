@@ -5,14 +5,14 @@ use std::time::{Clock, Duration};
 
 /// How often each of eight nodes told that it has something new.
 #[derive(Clone, Copy)]
-pub(crate) struct Counts {
+pub(crate) struct NewsCounts {
     each: [u64; 8],
 }
 
-impl Counts {
+impl NewsCounts {
     /// Nobody told anything.
-    pub(crate) fn new() -> Counts {
-        Counts { each: [0; 8] }
+    pub(crate) fn new() -> NewsCounts {
+        NewsCounts { each: [0; 8] }
     }
 
     /// How often a node told it.
@@ -31,7 +31,7 @@ impl Counts {
     }
 
     // Whether another node has told it more often than was seen.
-    fn exceeds(&self, seen: &Counts, me: u8) -> bool {
+    fn exceeds(&self, seen: &NewsCounts, me: u8) -> bool {
         for number in 1..=8u8 {
             if number != me && self.of(number) > seen.of(number) {
                 return true;
@@ -43,8 +43,8 @@ impl Counts {
 
 // What lies under the lock.
 #[derive(Drop)]
-struct Told {
-    counts: Counts,
+struct Board {
+    counts: NewsCounts,
     ended: bool,
 }
 
@@ -52,15 +52,15 @@ struct Told {
 /// pull it at once.
 #[derive(Drop)]
 pub struct News {
-    told: Mutex<Told>,
+    told: Mutex<Board>,
     came: Condvar,
 }
 
 impl News {
     pub fn new() -> News {
         News {
-            told: Mutex::new(Told {
-                counts: Counts::new(),
+            told: Mutex::new(Board {
+                counts: NewsCounts::new(),
                 ended: false,
             }),
             came: Condvar::new(),
@@ -107,9 +107,9 @@ impl News {
         &self,
         rt: &R,
         me: u8,
-        seen: &Counts,
+        seen: &NewsCounts,
         time: Duration,
-    ) -> Option<Counts> {
+    ) -> Option<NewsCounts> {
         let (told, _) = self
             .came
             .wait_timeout_while(rt, self.told.lock(rt), time, |told| {

@@ -66,7 +66,7 @@ impl Standing {
 
 /// An LRA of the home that has ended, and is to be purged.
 #[derive(Drop)]
-struct Ended {
+struct EndedRoot {
     id: LraId,
     /// When it is to be purged; never where it is nested in another.
     until: Option<Duration>,
@@ -81,7 +81,7 @@ struct Ended {
 // What lies under the lock.
 #[derive(Drop)]
 struct Swept {
-    ended: Vec<Ended>,
+    ended: Vec<EndedRoot>,
     /// Beyond which LRA the look goes on; none while there is no look.
     beyond: Option<LraId>,
     looks: bool,
@@ -149,10 +149,10 @@ pub struct Sweep {
     swept: Mutex<Swept>,
 }
 
-impl Ended {
+impl EndedRoot {
     /// One that is to be purged from a moment on.
-    fn new(id: LraId, until: Duration) -> Ended {
-        Ended {
+    fn new(id: LraId, until: Duration) -> EndedRoot {
+        EndedRoot {
             id,
             until: Some(until),
             pause_ms: 0,
@@ -246,7 +246,7 @@ impl Swept {
             }
         }
         let is_full = self.ended.len() as u64 >= PLACES;
-        if is_full || self.ended.push(Ended::new(id, until)).is_err() {
+        if is_full || self.ended.push(EndedRoot::new(id, until)).is_err() {
             self.has_missed = true;
         }
     }

@@ -79,14 +79,14 @@ fn warn_of<L: Log>(log: &L, number: u8, fill: &Fill) {
 
 /// Connections that were closed for want of files, and when that was last told.
 #[derive(Drop)]
-struct Closed {
+struct Dropped {
     count: u64,
     since: Option<Duration>,
 }
 
-impl Closed {
-    fn new() -> Closed {
-        Closed {
+impl Dropped {
+    fn new() -> Dropped {
+        Dropped {
             count: 0,
             since: None,
         }
@@ -115,7 +115,7 @@ impl Closed {
 /// room and a minute is over. It warns of connections that were closed since no file was left, once
 /// a minute at most.
 pub fn watch<R: Wait + Clock, L: Log>(rt: &R, log: &L, node: &Node) {
-    let (mut warned, mut closed) = (Warned::new(), Closed::new());
+    let (mut warned, mut closed) = (Warned::new(), Dropped::new());
     for _ in rt.forever() {
         if node.mailbox.sleep(rt, Duration::from_millis(LOOK_MS)) {
             return;
