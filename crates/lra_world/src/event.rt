@@ -2,9 +2,10 @@
 use lra_delta::Version;
 use lra_facts::{Command, CommandReply, Refusal};
 use lra_id::{Front, LraId, NodeId};
+use std::alloc::AllocError;
 
 /// What may happen next.
-#[derive(Clone, Debug, Drop)]
+#[derive(Debug, Drop)]
 pub enum Event {
     /// A node is asked to enter something.
     Act {
@@ -33,6 +34,40 @@ pub enum Event {
         node: NodeId,
         now: u64,
     },
+}
+
+impl Clone for Event {
+    ghost use Rattle.std.specs.Prelude.{◌≡◌};
+
+    ghost is_clone = { λ x y. y ≡ x };
+
+    fn clone(&self) -> Result<Event, AllocError> {
+        match self {
+            Event::Act { node, command } => Ok(Event::Act {
+                node: *node,
+                command: command.clone()?,
+            }),
+            Event::Send {
+                node,
+                base,
+                version,
+            } => Ok(Event::Send {
+                node: *node,
+                base: *base,
+                version: *version,
+            }),
+            Event::Deliver { frame, node, kept } => Ok(Event::Deliver {
+                frame: *frame,
+                node: *node,
+                kept: *kept,
+            }),
+            Event::Restart { node } => Ok(Event::Restart { node: *node }),
+            Event::Tick { node, now } => Ok(Event::Tick {
+                node: *node,
+                now: *now,
+            }),
+        }
+    }
 }
 
 /// What is replied to an event.

@@ -1,4 +1,4 @@
-use Rattle.std.proofs.Common.{◌≡◌, ◌++◌, ◌∷◌, [], Result, Ok, Err, List, rules, subst}
+use Rattle.std.proofs.Common.{◌≡◌, ◌++◌, ◌∷◌, [], Result, Ok, Err, List, subst}
 use Rattle.std.specs.Prelude.{IfOk, IsErr, IsOk, OnErr, OnOk}
 use Rattle.std.specs.declared.alloc.AllocError.{AllocError}
 use Rattle.lra_world.specs.declared.event.Event.{Event}
@@ -24,7 +24,7 @@ err_kept s m old new (Err e) (Err f) added lost still = (still, lost.1)
 
 pub returns-clause-ok : goal.returns-clause-ok
 returns-clause-ok c s w =
-    let is : c.in_ok-event.event ≡ c.args.event.now = search rules in
+    let is : c.in_ok-event.event ≡ c.args.event.now = c.in_ok-event.ensures.cases in
     let room : c.reserve.new.self.items ≡ c.args.replies.now.items = c.reserve.ensures.items in
     subst (λ (e : Event). OnOk c.keep.result ((one : Reply) × Happens s e one c.step.new.self × (c.keep.new.items.items ≡ c.args.replies.now.items ++ one ∷ []))) is
     (subst (λ (old : List Reply). OnOk c.keep.result ((one : Reply) × Happens s c.in_ok-event.event one c.step.new.self × (c.keep.new.items.items ≡ old ++ one ∷ []))) room
