@@ -22,6 +22,9 @@ from tools.ports import HOST
 PORT = 18600
 NGINX = 18610
 PARTICIPANT = 18611
+LINK = f"http://{HOST}:{PARTICIPANT}/k"
+# How many commits a whole LRA of two participants is: begin, two joins, close, two reports, purge.
+LIFE = 7
 # An nginx that gives a file of the size of a status.
 NGINX_FILE = """worker_processes auto; pid {folder}/nginx.pid; error_log {folder}/nginx.log; daemon off; user root;
 events {{ worker_connections 1024; }}
@@ -88,11 +91,11 @@ def commits(folder: str, clients: int, times: int) -> tuple[list[float], float]:
     return many(clients, times, act)
 
 
-def bare(server: Server, method: str, path: str, node: int = 1) -> bytes:
+def bare(server: Server, method: str, path: str, node: int = 1, body: str = "") -> bytes:
     """The bytes of one answer, over a plain socket: Python's http.client takes longer for a call than the server
     does."""
     while True:
-        text = f"{method} {path} HTTP/1.1\r\nHost: p\r\nContent-Length: 0\r\n\r\n"
+        text = f"{method} {path} HTTP/1.1\r\nHost: p\r\nContent-Length: {len(body)}\r\n\r\n{body}"
         answer = exchange(server.address(node), text.encode())
         if b"E20" not in answer:
             return answer
@@ -117,6 +120,24 @@ def begins_and_closes(server: Server, clients: int, times: int) -> tuple[list[fl
     for lra in ended:
         server.purge(1, lra)
     return spans, rate
+
+
+def lives(server: Server, clients: int, times: int) -> tuple[list[float], float]:
+    """Whole LRAs: each is begun, joined by two participants, closed, shown until it is Closed, and purged. Both answer
+    their calls at once."""
+    links = json.dumps({"compensate": LINK, "complete": LINK})
+
+    def act() -> None:
+        lra = begun(server)
+        for _ in range(2):
+            bare(server, "PUT", f"/lra/{lra}/join", body=links)
+        bare(server, "PUT", f"/lra/{lra}/close")
+        while b'"Closed"' not in bare(server, "GET", f"/lra/{lra}"):
+            time.sleep(0.0005)
+        if not bare(server, "DELETE", f"/lra/{lra}").startswith(b"HTTP/1.1 204 "):
+            raise SystemExit(f"{lra} isn't purged")
+
+    return many(clients, times // clients, act)
 
 
 class Measured(typing.NamedTuple):
@@ -163,17 +184,23 @@ def statuses(server: Server, folder: str) -> None:
 
 
 def durable(server: Server, folder: str) -> None:
-    """Begins and closes beside commits of the C library."""
+    """Begins and closes, and whole LRAs, beside commits of the C library."""
     for clients in (1, 8):
         spans, rate = begins_and_closes(server, clients, 240)  # a home holds 256
         calls = tell_rate("a begin and a close (two commits)", spans, rate, clients) * 2
         spans, rate = commits(folder, clients, 480 // clients)
         tell_rate("one-row commits of the C library", spans, rate, clients)
         print(f"  ratio of commits a second {calls / rate:.2f}")
+    for clients in (1, 8):
+        spans, rate = lives(server, clients, 240)
+        calls = tell_rate("a whole LRA (seven commits)", spans, rate, clients) * LIFE
+        spans, rate = commits(folder, clients, 480 // clients)
+        tell_rate("one-row commits of the C library", spans, rate, clients)
+        print(f"  ratio of commits a second {calls / rate:.2f}")
 
 
 def takes_calls(called: list[float]) -> None:
-    """A participant over plain sockets, which answers each call that it is done, and notes when it came."""
+    """Has a participant over plain sockets answer each call that it is done, and note when it came."""
 
     def run(listener: socket.socket) -> None:
         while True:
@@ -187,12 +214,9 @@ def takes_calls(called: list[float]) -> None:
     threading.Thread(target=run, args=(listener,), daemon=True).start()
 
 
-def delays(server: Server) -> None:
+def delays(server: Server, called: list[float]) -> None:
     """From a close to the participant's call, and from a begin at node 1 to its being shown by node 2."""
-    called: list[float] = []
     to_call, to_other = [], []
-    takes_calls(called)
-    link = f"http://{HOST}:{PARTICIPANT}/k"
     for _ in range(50):
         time.sleep(0.2)
         start = time.perf_counter()
@@ -200,7 +224,7 @@ def delays(server: Server) -> None:
         while not bare(server, "GET", f"/lra/{lra}", 2).startswith(b"HTTP/1.1 200 "):
             time.sleep(0.001)
         to_other.append(time.perf_counter() - start)
-        server.join(1, lra, compensate=link, complete=link)
+        server.join(1, lra, compensate=LINK, complete=LINK)
         time.sleep(0.2)
         called.clear()
         start = time.perf_counter()
@@ -231,6 +255,8 @@ def main() -> int:
         return 2
     Server.program = os.path.abspath(sys.argv[1])
     checks.need(Server)
+    called: list[float] = []
+    takes_calls(called)
     with tempfile.TemporaryDirectory() as place:
         with started(1, f"{place}/a") as server:
             print(f"resident memory, 1 node with nothing {memory_of(server.process, 'VmRSS'):30,.0f} MiB", flush=True)
@@ -238,7 +264,7 @@ def main() -> int:
             statuses(server, place)
             server.end()
         with started(2, f"{place}/b") as server:
-            delays(server)
+            delays(server, called)
             server.end()
         with started(8, f"{place}/c") as server:
             full(server, 8)
