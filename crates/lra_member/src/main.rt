@@ -5,17 +5,24 @@
 mod asked;
 mod words;
 
+ghost use Rattle.std.specs.Prelude.{◌≤◌, vec_len};
+
 use crate::asked::{Asked, asked_by};
 use crate::words::Unasked;
-use log::{Level, Logged};
+use log::{Level, Log, Logged};
 use lra_script::arguments;
-use lra_server::{Folder, serve_members};
+use lra_server::{Folder, Members, Stores, serve_members};
 use lra_threads::{ToLines, lines_of};
 use sqlite::Start;
+use std::alloc::Global;
 use std::env;
 use std::fs::File;
+use std::io::Read;
+use std::net::{Net, TcpListener, TcpStream};
 use std::process::ExitCode;
-use std::time::Duration;
+use std::sync::Wait;
+use std::thread::Threads;
+use std::time::{Clock, Duration};
 
 const USAGE: &str =
     "usage: lra_member I|I-J DIR [listen=IP:PORT] [operate=IP:PORT] [keep=MS] [keep-failed=MS] HOST:PORT..";
@@ -54,9 +61,32 @@ fn main(rt: HostRuntime) -> ExitCode {
     let logged = Logged::new(&rt, Level::Info, to_lines);
     let folder = Folder::new(rt, folder, UnknownFiles);
     let input = rt.reader();
-    let status = serve_members(&rt, &logged, rt, alloc, members, &folder, input);
+    let status = run_members(&rt, &logged, rt, alloc, members, &folder, input);
     lines.wait(&rt, Duration::from_millis(LAST_LINES_MS));
     ExitCode::from(status)
+}
+
+/// Runs the members, as `serve_members` says. Its bounds name the sockets, which the borrow checker
+/// has to find where a host is handed over.
+fn run_members<R, L, H, S, I>(
+    rt: &R,
+    log: &L,
+    host: H,
+    alloc: Global,
+    members: Members,
+    stores: &S,
+    input: I,
+) -> u8
+where
+    R: Threads + Wait + Clock + Net<Listener = TcpListener, Stream = TcpStream> + Eprint + Sync,
+    L: Log + Sync,
+    H: Wait + Send + Drop + 'static,
+    S: Stores + Sync,
+    I: Read + Send + Drop + 'static,
+    requires nodes { (1 ≤ vec_len members.peers) × (vec_len members.peers ≤ 8) }
+    ensures status { result ≤ 1 }
+{
+    serve_members(rt, log, host, alloc, members, stores, input)
 }
 
 /// Opens nothing, so that no connection gets the number of a standard stream that was closed before

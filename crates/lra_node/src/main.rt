@@ -2,18 +2,23 @@
 #![tactic(auto)]
 
 ghost use Rattle.lra_node.specs.Arguments.{AskServer};
-ghost use Rattle.std.specs.Prelude.{ℕ, List, MatchOption, map, string_bytes};
+ghost use Rattle.std.specs.Prelude.{◌≤◌, ℕ, List, MatchOption, map, string_bytes};
 
-use log::{Level, Logged};
+use log::{Level, Log, Logged};
 use lra_http::{OverRead, OverWrite};
 use lra_id::MAX_NODES;
 use lra_script::{Ended, arguments, code_of, node_of, play};
-use lra_server::{Folder, serve};
+use lra_server::{Folder, Stores, serve};
 use lra_threads::{ToLines, lines_of};
 use sqlite::Start;
+use std::alloc::Global;
 use std::fs::File;
+use std::io::Read;
+use std::net::{Net, TcpListener, TcpStream};
 use std::process::ExitCode;
-use std::time::Duration;
+use std::sync::Wait;
+use std::thread::Threads;
+use std::time::{Clock, Duration};
 use std::{env, io};
 
 const USAGE: &str = "usage: lra_node script N | serve N PORT DIR";
@@ -54,9 +59,33 @@ fn main(rt: HostRuntime) -> ExitCode {
     };
     let logged = Logged::new(&rt, Level::Info, to_lines);
     let folder = folder_of(rt, words);
-    let status = serve(&rt, &logged, rt, alloc, nodes, port, &folder, input);
+    let status = run_nodes(&rt, &logged, rt, alloc, nodes, port, &folder, input);
     lines.wait(&rt, Duration::from_millis(LAST_LINES_MS));
     ExitCode::from(status)
+}
+
+/// Runs the nodes, as `serve` says. Its bounds name the sockets, which the borrow checker has to
+/// find where a host is handed over.
+fn run_nodes<R, L, H, S, I>(
+    rt: &R,
+    log: &L,
+    host: H,
+    alloc: Global,
+    nodes: u8,
+    port: u16,
+    stores: &S,
+    input: I,
+) -> u8
+where
+    R: Threads + Wait + Clock + Net<Listener = TcpListener, Stream = TcpStream> + Eprint + Sync,
+    L: Log + Sync,
+    H: Wait + Send + Drop + 'static,
+    S: Stores + Sync,
+    I: Read + Send + Drop + 'static,
+    requires nodes { (1 ≤ nodes) × (nodes ≤ 8) }
+    ensures status { result ≤ 1 }
+{
+    serve(rt, log, host, alloc, nodes, port, stores, input)
 }
 
 /// Plays a script from standard input to standard output.

@@ -2,7 +2,6 @@
 // call, beside one that answers.
 
 use crate::loopback::{address, is_done, needs, take_part};
-use lra_threads::Sockets;
 use std::alloc::Global;
 use std::net::{Net, TcpListener, TcpStream};
 use std::test::Fail;
@@ -45,7 +44,7 @@ fn joins_and_closes<R: Net<Stream = TcpStream>>(
 
 /// Begins LRAs at node 1, whose next fact has this number, and closes them: all but the last wait
 /// for the participant that never answers. The other is called none the less.
-pub(crate) fn visit<R: Sockets + Clock>(
+pub(crate) fn visit<R: Net<Listener = TcpListener, Stream = TcpStream> + Clock>(
     rt: &R,
     alloc: Global,
     node: u16,

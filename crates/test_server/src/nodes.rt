@@ -6,10 +6,10 @@ use crate::{halves, hanging};
 use log::sink::Console;
 use log::{Level, Log, Logged};
 use lra_server::{Members, serve, serve_members};
-use lra_threads::{Keep, Peer, Sockets};
+use lra_threads::{Keep, Peer};
 use std::alloc::Global;
 use std::io::Read;
-use std::net::TcpListener;
+use std::net::{Net, TcpListener, TcpStream};
 use std::sync::atomic::{AtomicU64, Ordering};
 use std::sync::{Arc, Wait};
 use std::test::Fail;
@@ -57,7 +57,7 @@ const GONE: &str =
 
 /// Begins an LRA at node 1, has a participant join, closes it, and waits until node 2 shows it
 /// closed; while four connections say nothing and two have sent half a request.
-fn visit<R: Sockets + Clock>(rt: &R) -> Result<(), Fail> {
+fn visit<R: Net<Listener = TcpListener, Stream = TcpStream> + Clock>(rt: &R) -> Result<(), Fail> {
     let participant = TcpListener::bind(rt, address(PARTICIPANT))?;
     needs(comes_to(rt, PORT, BEGIN, BEGUN)?, "no LRA was begun")?;
     let _silent = (
@@ -81,7 +81,9 @@ fn visit<R: Sockets + Clock>(rt: &R) -> Result<(), Fail> {
 }
 
 /// The same, and then half a request behind which its run ends.
-fn visit_both<R: Sockets + Clock>(rt: &R) -> Result<(), Fail> {
+fn visit_both<R: Net<Listener = TcpListener, Stream = TcpStream> + Clock>(
+    rt: &R,
+) -> Result<(), Fail> {
     visit(rt)?;
     halves::visit(rt, PORT)
 }
@@ -89,7 +91,7 @@ fn visit_both<R: Sockets + Clock>(rt: &R) -> Result<(), Fail> {
 /// Two nodes serve until the visit is over.
 fn two_serve<R, L, H>(rt: &R, log: &L, host: H, clock: H, alloc: Global) -> Result<u8, Fail>
 where
-    R: Threads + Wait + Clock + Sockets + Eprint + Sync,
+    R: Threads + Wait + Clock + Net<Listener = TcpListener, Stream = TcpStream> + Eprint + Sync,
     L: Log + Sync,
     H: Wait + Clock + Send + Drop + 'static,
 {
@@ -125,7 +127,9 @@ fn two_nodes_on_loopback(rt: HostRuntime) -> Result<(), Fail> {
 
 /// Begins an LRA at node 1 of a group, which node 2 shows, and closes it; then it is purged by
 /// itself at both.
-fn visit_group<R: Sockets + Clock>(rt: &R) -> Result<(), Fail> {
+fn visit_group<R: Net<Listener = TcpListener, Stream = TcpStream> + Clock>(
+    rt: &R,
+) -> Result<(), Fail> {
     needs(comes_to(rt, APART, BEGIN, BEGUN)?, "no LRA was begun")?;
     needs(
         comes_to(rt, APART + 1, STATUS, ACTIVE)?,
@@ -181,7 +185,7 @@ fn serve_group<R, L, H, I>(
     input: I,
 ) -> u8
 where
-    R: Threads + Wait + Clock + Sockets + Eprint + Sync,
+    R: Threads + Wait + Clock + Net<Listener = TcpListener, Stream = TcpStream> + Eprint + Sync,
     L: Log + Sync,
     H: Wait + Send + Drop + 'static,
     I: Read + Send + Drop + 'static,
@@ -195,7 +199,7 @@ where
 /// Two nodes of a group serve until the visit is over.
 fn two_members_serve<R, L, H>(rt: &R, log: &L, host: H, clock: H, alloc: Global) -> Result<u8, Fail>
 where
-    R: Threads + Wait + Clock + Sockets + Eprint + Sync,
+    R: Threads + Wait + Clock + Net<Listener = TcpListener, Stream = TcpStream> + Eprint + Sync,
     L: Log + Sync,
     H: Wait + Clock + Send + Drop + 'static,
 {
