@@ -1,5 +1,6 @@
 -- records of which each has its place
-use Rattle.std.proofs.Common.{◌≡◌, ◌⊎◌, inl, inr, ◌<◌, ◌-◌, ◌≤◌, ℕ, zero, suc, List, refl, sym, ap, subst, ◌∙◌, Bool, true, false, cond, arith, Option, Some, None, Bor, is_some, length}
+use Rattle.std.proofs.Common.{◌≡◌, ◌↔◌, ◌⊎◌, inl, inr, ◌<◌, ◌-◌, ◌≤◌, ◌&&◌, ℕ, zero, suc, List, refl, sym, ap, subst, ◌∙◌, Bool, true, false, cond, arith, Option, Some, None, Bor, is_none, is_some, length}
+use mathlib.Core.Bool.{not}
 use Rattle.std.specs.List.{AllByRecursion}
 use Rattle.std.specs.Option.{option_copied, option_or}
 use Rattle.lra_id.specs.Ids.{Id}
@@ -9,11 +10,12 @@ use Rattle.lra_forest.specs.declared.record.Member.TheVariants.{Nested, Particip
 use Rattle.lra_forest.specs.declared.record.Place.{Place}
 use Rattle.lra_forest.specs.declared.record.Record.{Record}
 use Rattle.lra_forest.specs.Forests.{AreOf, is_of}
-use Rattle.lra_forest.specs.RecordMerges.{changed_by}
+use Rattle.lra_forest.specs.RecordMerges.{changed_by, without}
 use Rattle.lra_forest.specs.Shape.{found_at, is_shallow, AreInShape, IsInPlaceAt, IsInPlace}
-use Rattle.lra_forest.proofs.Bools.{all_from, all_in}
-use Rattle.lra_forest.proofs.ChangedRecords.{found_changed, found_kept, found_own, keep, stays}
+use Rattle.lra_forest.proofs.Bools.{all_from, all_in, and_left, and_right}
+use Rattle.lra_forest.proofs.ChangedRecords.{found_after, found_kept, found_own, keep, stays}
 use Rattle.lra_forest.proofs.MembersAndStamps.{find_in}
+use Rattle.lra_forest.proofs.OnlyWhatChanges.{found_self}
 
 -- one that is not there is not shallow
 pub shallow_none : (levels home : ℕ) (records : List Record) (num : ℕ) → None ≡ found_at home records num → is_shallow levels home records num ≡ false
@@ -33,37 +35,96 @@ shallow_nested (suc levels) home records num r p some e above =
     let less : suc levels - 1 ≡ levels = omega arith in
     rw (found, above, less) refl
 
--- what holds of the number of each of these holds of the number of one that is found among them
-of_found : (P : ℕ → Type 0) (home : ℕ) (records : List Record) (num : ℕ) (r : Record) → AllByRecursion (λ (x : Record). P x.num) records → found_at home records num ≡ Some r → P num
-of_found P home records num r h e =
-    subst P (found_own home num records r e).1 (all_in (λ (x : Record). P x.num) records h r (find_in (is_of (record { home = home; num = num })) records r e).0)
+-- where a record is at hand, what holds above it tells
+pub shallow_of_root : (home : ℕ) (records : List Record) (r : Record) → found_at home records r.num ≡ Some r → r.parent ≡ None → true ≡ is_shallow 8 home records r.num
+shallow_of_root home records r found root = sym (shallow_root 8 home records r.num r (omega arith) (sym found) root)
 
--- one that is found once they are changed is one of the changes, or one that was there
-changed_from : (test : Record → Bool) (r : Record) (o own : Option Record) → option_or o (keep test own) ≡ Some r → (o ≡ Some r) ⊎ (own ≡ Some r)
+pub shallow_of_nested : (home : ℕ) (records : List Record) (r : Record) (p : Place) → found_at home records r.num ≡ Some r → r.parent ≡ Some p → is_shallow 7 home records p.number ≡ is_shallow 8 home records r.num
+shallow_of_nested home records r p found above = sym (shallow_nested 8 home records r.num r p (omega arith) (sym found) above)
+
+-- one that is found once they are changed is one of the changes, or one that was there and stays
+changed_from : (test : Record → Bool) (r : Record) (o own : Option Record) → option_or o (keep test own) ≡ Some r → (o ≡ Some r) ⊎ ((is_none o ≡ true) × (own ≡ Some r) × (test r ≡ true))
 changed_from test r (Some x) own e = inl e
 changed_from test r None None e = absurd cc
-changed_from test r None (Some x) e = by (test x) e
+changed_from test r None (Some x) e = let kept = by (test x) refl e in inr (refl, kept.0, kept.1)
   where
-    by : (b : Bool) → cond b (Some x) None ≡ Some r → (None ≡ Some r) ⊎ (Some x ≡ Some r)
-    by true e = inr e
-    by false e = absurd cc
+    by : (b : Bool) → test x ≡ b → cond b (Some x) None ≡ Some r → (Some x ≡ Some r) × (test r ≡ true)
+    by true passes e = let same : x ≡ r = cc in (e, sym (ap test same) ∙ passes)
+    by false passes e = absurd cc
 
--- where each of the records and of the changes has its place, all have
-pub all_fitted : (front : List ℕ) (home : ℕ) (removed : List Id) (changed own : List Record) → AreOf home changed → AreOf home own
-    → AllByRecursion (λ r. IsInPlaceAt front home (changed_by removed changed own) r.num) own
-    → AllByRecursion (λ r. IsInPlaceAt front home (changed_by removed changed own) r.num) changed
+-- the changes have none with the record's number, and don't remove it
+abbrev left_by : (home : ℕ) (removed : List Id) (changed : List Record) → Record → Bool
+left_by home removed changed r = is_none (found_at home changed r.num) && stays removed r
+
+both_true : (a b : Bool) → a ≡ true → b ≡ true → (a && b) ≡ true
+both_true true true e f = refl
+both_true true false e f = absurd cc
+both_true false b e f = absurd cc
+
+none_there : (o : Option Record) → is_none o ≡ true → o ≡ None
+none_there None e = refl
+none_there (Some r) e = absurd cc
+
+-- once they are changed, each of the changes is found
+found_change : (home there : ℕ) (removed : List Id) (changed own : List Record) (r : Record) → there ≡ home → AreOf there changed → AreOf home own → In r changed → found_at home (changed_by removed changed own) r.num ≡ Some r
+found_change home there removed changed own r same h g m =
+    sym (found_after home there removed changed own r.num same h g)
+    ∙ ap (λ o. option_or o (found_at home (without removed own) r.num)) (found_self there changed r h m)
+
+pub all_found : (home there : ℕ) (removed : List Id) (changed own : List Record) → there ≡ home → AreOf there changed → AreOf home own → AllByRecursion (λ r. found_at home (changed_by removed changed own) r.num ≡ Some r) changed
+all_found home there removed changed own same h g =
+    all_from (λ r. found_at home (changed_by removed changed own) r.num ≡ Some r) changed (λ r m. found_change home there removed changed own r same h g m)
+
+-- and so is each that they leave
+pub found_left : (home there : ℕ) (removed : List Id) (changed own : List Record) (r : Record) → there ≡ home → AreOf there changed → AreOf home own → In r own → left_by there removed changed r ≡ true → found_at home (changed_by removed changed own) r.num ≡ Some r
+found_left home there removed changed own r same h g m e =
+    sym (found_after home there removed changed own r.num same h g)
+    ∙ ap (λ o. option_or o (found_at home (without removed own) r.num)) (none_there (found_at there changed r.num) (and_left (is_none (found_at there changed r.num)) (stays removed r) e))
+    ∙ found_kept home removed own r.num g
+    ∙ ap (keep (stays removed)) (found_self home own r g m)
+    ∙ ap (λ b. cond b (Some r) None) (and_right (is_none (found_at there changed r.num)) (stays removed r) e)
+
+-- that a record that is left has its place, by two tests
+pub unless_left : (X : Type 0) (placed left is : Bool) → (is ≡ true → ((placed ≡ true) ↔ X)) → placed ≡ false → left ≡ is → ((not left ≡ true) ↔ (is ≡ true → X))
+unless_left X placed true true h missed e = (λ yes. absurd cc, λ fits. absurd (let placed = (h refl).1 (fits refl) in cc))
+unless_left X placed false false h missed e = (λ yes left. absurd cc, λ fits. refl)
+unless_left X placed true false h missed e = absurd cc
+unless_left X placed false true h missed e = absurd cc
+
+-- what was tested of each
+abbrev pub ChangesFit : (front : List ℕ) (home : ℕ) (removed : List Id) (changed own : List Record) → Type 0
+ChangesFit front home removed changed own = AllByRecursion (λ r. IsInPlace front home (changed_by removed changed own) r.num r) changed
+
+abbrev pub LeftFit : (front : List ℕ) (home there : ℕ) (removed : List Id) (changed own : List Record) → Type 0
+LeftFit front home there removed changed own = AllByRecursion (λ r. left_by there removed changed r ≡ true → IsInPlace front home (changed_by removed changed own) r.num r) own
+
+-- where each that is left and each of the changes has its place, all have
+all_fitted : (front : List ℕ) (home there : ℕ) (removed : List Id) (changed own : List Record) → there ≡ home → AreOf there changed → AreOf home own
+    → LeftFit front home there removed changed own → ChangesFit front home removed changed own
     → (num : ℕ) → IsInPlaceAt front home (changed_by removed changed own) num
-all_fitted front home removed changed own h g mine theirs num r e =
-    let parted = sym (found_changed home removed changed own num h g ∙ ap (option_or (found_at home changed num)) (found_kept home removed own num g)) ∙ e in
-    by (changed_from (stays removed) r (found_at home changed num) (found_at home own num) parted)
+all_fitted front home there removed changed own same h g mine theirs num r e =
+    let parted = ap (option_or (found_at there changed num)) (sym (found_kept home removed own num g)) ∙ found_after home there removed changed own num same h g ∙ e in
+    by (changed_from (stays removed) r (found_at there changed num) (found_at home own num) parted)
   where
-    by : (found_at home changed num ≡ Some r) ⊎ (found_at home own num ≡ Some r) → IsInPlace front home (changed_by removed changed own) num r
-    by (inl found) = of_found (IsInPlaceAt front home (changed_by removed changed own)) home changed num r theirs found r e
-    by (inr found) = of_found (IsInPlaceAt front home (changed_by removed changed own)) home own num r mine found r e
+    by : (found_at there changed num ≡ Some r) ⊎ ((is_none (found_at there changed num) ≡ true) × (found_at home own num ≡ Some r) × (stays removed r ≡ true)) → IsInPlace front home (changed_by removed changed own) num r
+    by (inl found) =
+        let number = (found_own there num changed r found).1 in
+        let inside = (find_in (is_of (record { home = there; num = num })) changed r found).0 in
+        subst (λ n. IsInPlace front home (changed_by removed changed own) n r) number (all_in (λ x. IsInPlace front home (changed_by removed changed own) x.num x) changed theirs r inside)
+    by (inr kept) =
+        let number = (found_own home num own r kept.1).1 in
+        let inside = (find_in (is_of (record { home = home; num = num })) own r kept.1).0 in
+        let left = both_true (is_none (found_at there changed r.num)) (stays removed r) (ap (λ n. is_none (found_at there changed n)) number ∙ kept.0) kept.2 in
+        subst (λ n. IsInPlace front home (changed_by removed changed own) n r) number (all_in (λ x. left_by there removed changed x ≡ true → IsInPlace front home (changed_by removed changed own) x.num x) own mine r inside left)
 
 -- and the other way
-pub each_fits : (front : List ℕ) (home : ℕ) (records xs : List Record) → AreInShape front home records → AllByRecursion (λ r. IsInPlaceAt front home records r.num) xs
-each_fits front home records xs h = all_from (λ r. IsInPlaceAt front home records r.num) xs (λ r m. h.in_place r.num)
+pub each_change : (front : List ℕ) (home there : ℕ) (removed : List Id) (changed own : List Record) → there ≡ home → AreOf there changed → AreOf home own → AreInShape front home (changed_by removed changed own) → ChangesFit front home removed changed own
+each_change front home there removed changed own same h g shape =
+    all_from (λ r. IsInPlace front home (changed_by removed changed own) r.num r) changed (λ r m. shape.in_place r.num r (found_change home there removed changed own r same h g m))
+
+pub each_left : (front : List ℕ) (home there : ℕ) (removed : List Id) (changed own : List Record) → there ≡ home → AreOf there changed → AreOf home own → AreInShape front home (changed_by removed changed own) → LeftFit front home there removed changed own
+each_left front home there removed changed own same h g shape =
+    all_from (λ r. left_by there removed changed r ≡ true → IsInPlace front home (changed_by removed changed own) r.num r) own (λ r m left. shape.in_place r.num r (found_left home there removed changed own r same h g m left))
 
 -- the record of an LRA that is nested as this member is there
 abbrev pub IsThere : (home : ℕ) → List Record → Member → Type 0
@@ -87,11 +148,9 @@ pub copied_some : {X : Type 0} (o : Option (Bor X)) → is_some (option_copied o
 copied_some None = refl
 copied_some (Some r) = refl
 
--- at most 256 of which each has its place are in shape. The home of the changes is given as another's
+-- at most 256 of which each has its place are in shape
 pub shape_from : (front : List ℕ) (home there : ℕ) (removed : List Id) (changed own : List Record) → there ≡ home → AreOf there changed → AreOf home own
-    → length (changed_by removed changed own) ≤ 256
-    → AllByRecursion (λ r. IsInPlaceAt front home (changed_by removed changed own) r.num) own
-    → AllByRecursion (λ r. IsInPlaceAt front home (changed_by removed changed own) r.num) changed
+    → length (changed_by removed changed own) ≤ 256 → LeftFit front home there removed changed own → ChangesFit front home removed changed own
     → AreInShape front home (changed_by removed changed own)
 shape_from front home there removed changed own same h g few mine theirs =
-    record { few = few; in_place = all_fitted front home removed changed own (subst (λ n. AreOf n changed) same h) g mine theirs }
+    record { few = few; in_place = all_fitted front home there removed changed own same h g mine theirs }

@@ -1,5 +1,7 @@
 -- The shape of a home's records: what those of a lawful history keep, whatever they say of their LRAs.
-use Rattle.std.specs.Prelude.{◌≡◌, ◌≤◌, ℕ, zero, suc, Bool, true, false, Option, Some, List, find, is_some, length}
+use Rattle.std.specs.Prelude.{◌≡◌, ◌≤◌, ◌&&◌, ℕ, zero, suc, Bool, true, false, Option, Some, List, find, is_none, is_some, length}
+use mathlib.Core.Bool.{not}
+use Rattle.std.specs.List.{list_any}
 use Rattle.std.specs.Option.{option_map_or}
 use Rattle.lra_id.specs.Fronts.{IsBelow}
 use Rattle.lra_facts.specs.Lists.{In}
@@ -48,3 +50,7 @@ pub record AreInShape (front : List ℕ) (home : ℕ) (records : List Record) : 
 -- the records of a home once they are changed
 abbrev pub records_after : Changes → HomeRecords → List Record
 records_after changes own = changed_by changes.removed.items changes.records.records own.records
+
+-- they leave this record as it is: they have none with its number, and don't remove it
+abbrev pub is_left : Changes → Record → Bool
+is_left changes r = is_none (found_at changes.records.home changes.records.records r.num) && not (list_any (λ l. is_of l r) changes.removed.items)

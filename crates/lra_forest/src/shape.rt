@@ -7,9 +7,9 @@ ghost use Rattle.lra_forest.specs.declared.record.Member.TheVariants.{Nested};
 ghost use Rattle.lra_forest.specs.declared.record.Place.{Place as PlaceRecord};
 ghost use Rattle.lra_forest.specs.Forests.{is_of};
 ghost use Rattle.lra_forest.specs.RecordMerges.{changed_by, without};
-ghost use Rattle.lra_forest.specs.Shape.{found_at, is_shallow, records_after, AreInShape, IsInPlaceAt, IsInPlace, IsNestedAt};
+ghost use Rattle.lra_forest.specs.Shape.{found_at, is_left, is_shallow, records_after, AreInShape, IsInPlace, IsNestedAt};
 
-use crate::{Changes, Forest, MAX_DEPTH, Member, Place, Record, Records};
+use crate::{Changes, Forest, MAX_DEPTH, Member, Place, Record};
 use lra_id::{Front, LraId};
 
 /// The most LRAs of one home that are held.
@@ -24,6 +24,16 @@ fn is_among(ids: &[LraId], kept: &Record) -> bool
         }
     }
     false
+}
+
+/// Whether changes leave a record of the home as it is: they neither replace nor remove it.
+fn is_left(changes: &Changes, kept: &Record) -> bool
+    ensures { result ≡ is_left changes.now kept.now }
+{
+    if changes.records.numbered(kept.num).is_some() {
+        return false;
+    }
+    !is_among(&changes.removed, kept)
 }
 
 impl Forest {
@@ -61,14 +71,14 @@ impl Forest {
         self.kept_at(&changes.removed, num)
     }
 
-    /// Whether an LRA is no deeper than 8 once the records are changed: a root is met so soon on
-    /// the way up.
-    fn is_shallow(&self, changes: &Changes, num: u64) -> bool
+    /// Whether from the LRA with this number up a root is met among the first so many, once the
+    /// records are changed.
+    fn is_shallow_within(&self, changes: &Changes, num: u64, levels: u8) -> bool
         requires { changes.now.records.home ≡ self.now.home }
-        ensures { result ≡ is_shallow 8 self.now.home (records_after changes.now self.now) num }
+        ensures { result ≡ is_shallow levels self.now.home (records_after changes.now self.now) num }
     {
         let mut at = num;
-        for _ in 0..MAX_DEPTH {
+        for _ in 0..levels {
             let Some(record) = self.changed_at(changes, at) else {
                 return false;
             };
@@ -78,6 +88,20 @@ impl Forest {
             at = place.number;
         }
         false
+    }
+
+    /// Whether an LRA is no deeper than 8 once the records are changed. Its record is at hand, so
+    /// that only those above it are looked up.
+    fn is_shallow(&self, changes: &Changes, kept: &Record) -> bool
+        requires { changes.now.records.home ≡ self.now.home }
+        ensures { let after = records_after changes.now self.now
+            in found_at self.now.home after kept.now.num ≡ Some kept.now →
+            result ≡ is_shallow 8 self.now.home after kept.now.num }
+    {
+        match kept.parent {
+            Some(place) => self.is_shallow_within(changes, place.number, MAX_DEPTH - 1),
+            None => true,
+        }
     }
 
     /// Whether the record of the parent is there once the records are changed, and has the LRA with
@@ -125,39 +149,65 @@ impl Forest {
         true
     }
 
-    /// Whether a record has its place among the records once they are changed, under a front.
-    fn is_in_place(&self, changes: &Changes, front: &Front, num: u64, kept: &Record) -> bool
+    /// Whether a record has its place once the records are changed, under a front, if it is one of
+    /// them then. It isn't looked up itself.
+    fn is_in_place(&self, changes: &Changes, front: &Front, kept: &Record) -> bool
         requires { changes.now.records.home ≡ self.now.home }
-        ensures { IsTrue result ↔ IsInPlace front.now self.now.home
-            (records_after changes.now self.now) num kept.now }
+        ensures { let after = records_after changes.now self.now
+            in found_at self.now.home after kept.now.num ≡ Some kept.now →
+            (IsTrue result ↔ IsInPlace front.now self.now.home after kept.now.num kept.now) }
     {
-        self.has_parent(changes, num, kept.parent)
+        self.has_parent(changes, kept.num, kept.parent)
             && self.has_nested(changes, kept.members.as_slice())
-            && self.is_shallow(changes, num)
+            && self.is_shallow(changes, kept)
             && kept.stamps.below(front)
     }
 
-    /// Whether the record of the LRA with this number has its place once the records are changed,
-    /// if there is one.
-    fn is_in_place_at(&self, changes: &Changes, front: &Front, num: u64) -> bool
+    /// Whether each record of the changes has its place once the records are changed.
+    fn are_changes_in_place(&self, changes: &Changes, front: &Front) -> bool
         requires { changes.now.records.home ≡ self.now.home }
-        ensures { IsTrue result ↔ IsInPlaceAt front.now self.now.home
-            (records_after changes.now self.now) num }
+        ensures { let after = records_after changes.now self.now
+            in IsTrue result ↔ AllByRecursion (λ r. IsInPlace front.now self.now.home after r.num r)
+            changes.now.records.records }
     {
-        match self.changed_at(changes, num) {
-            Some(record) => self.is_in_place(changes, front, num, record),
-            None => true,
+        // Calling `records` hands the prover that both are in order.
+        let _ = self.records();
+        let _ = changes.records.records();
+        for record in changes.records.records() {
+            if !self.is_in_place(changes, front, record) {
+                return false;
+            }
         }
+        true
     }
 
-    /// Whether of each of these LRAs the record has its place once the records are changed.
-    fn are_in_place(&self, changes: &Changes, front: &Front, records: Records<'_>) -> bool
-        requires { changes.now.records.home ≡ self.now.home }
-        ensures { IsTrue result ↔ AllByRecursion (λ r. IsInPlaceAt front.now self.now.home
-            (records_after changes.now self.now) r.num) records.entry }
+    /// Whether a record of the home has its place once the records are changed, if they leave it
+    /// as it is. Only one that has no place is looked up among the changes.
+    fn is_fitting(&self, changes: &Changes, front: &Front, kept: &Record) -> bool
+        requires home { changes.now.records.home ≡ self.now.home }
+        requires own { In kept.now self.now.records }
+        ensures { IsTrue result ↔ (is_left changes.now kept.now ≡ true → IsInPlace front.now
+            self.now.home (records_after changes.now self.now) kept.now.num kept.now) }
     {
-        for record in records {
-            if !self.is_in_place_at(changes, front, record.num) {
+        // Calling `records` hands the prover that both are in order.
+        let _ = self.records();
+        let _ = changes.records.records();
+        if self.is_in_place(changes, front, kept) {
+            return true;
+        }
+        !is_left(changes, kept)
+    }
+
+    /// Whether each record of the home that stays as it is has its place once the records are
+    /// changed.
+    fn are_left_in_place(&self, changes: &Changes, front: &Front) -> bool
+        requires { changes.now.records.home ≡ self.now.home }
+        ensures { let after = records_after changes.now self.now
+            in IsTrue result ↔ AllByRecursion (λ r. is_left changes.now r ≡ true →
+            IsInPlace front.now self.now.home after r.num r) self.now.records }
+    {
+        for record in self.records() {
+            if !self.is_fitting(changes, front, record) {
                 return false;
             }
         }
@@ -214,16 +264,19 @@ impl Forest {
     /// most 256, the parent that a record names is there and has it as the member at its place,
     /// each nested LRA is there, none is deeper than 8, and no stamp is beyond the front. The
     /// records stay as they are. For each record it looks up its parents and its nested LRAs: by
-    /// halving, and each time among those that are removed.
+    /// halving, and each time among those that are removed. A record itself is looked up only
+    /// where it has no place.
     pub fn keeps_shape_with(&self, changes: &Changes, front: &Front) -> bool
         requires { changes.now.records.home ≡ self.now.home }
         ensures { IsTrue result ↔ AreInShape front.now self.now.home
             (changed_by changes.now.removed.items changes.now.records.records self.now.records) }
     {
+        // Calling `records` hands the prover that both are in order.
+        let _ = self.records();
+        let _ = changes.records.records();
         if !self.is_few(changes) {
             return false;
         }
-        self.are_in_place(changes, front, self.records())
-            && self.are_in_place(changes, front, changes.records.records())
+        self.are_left_in_place(changes, front) && self.are_changes_in_place(changes, front)
     }
 }

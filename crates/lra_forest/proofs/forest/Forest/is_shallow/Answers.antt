@@ -1,33 +1,13 @@
-use Rattle.std.proofs.Common.{◌≡◌, ◌∙◌, ◌+◌, ◌-◌, ◌<◌, refl, sym, ap, arith}
-use Rattle.lra_forest.specs.Shape.{is_shallow, records_after}
-use Rattle.lra_forest.proofs.ShapeOfAHome.{shallow_none, shallow_root, shallow_nested}
+use Rattle.std.proofs.Common.{◌∙◌}
+use Rattle.lra_forest.specs.Shape.{records_after}
+use Rattle.lra_forest.proofs.ShapeOfAHome.{shallow_of_nested, shallow_of_root}
 use Rattle.lra_forest.proofs.forest.Forest.is_shallow.Goals as goal
 
-pub loop-init : goal.loop-init
-loop-init c = refl
+pub returns-in-Some : goal.returns-in-Some
+returns-in-Some c found =
+    c.is_shallow_within.ensures
+    ∙ shallow_of_nested c.args.self.now.home (records_after c.args.changes.now c.args.self.now) c.args.kept.now c.in-Some.place found c.in-Some.is
 
-pub returns-in_default : goal.returns-in_default
-returns-in_default c =
-    let after = records_after c.args.changes.now c.args.self.now in
-    sym (c.loop.invariant ∙ shallow_none (8 - c.loop.counter) c.args.self.now.home after c.loop.at c.in_default.ensures)
-
-pub returns-in_default-parent : goal.returns-in_default-parent
-returns-in_default-parent c =
-    let after = records_after c.args.changes.now c.args.self.now in
-    let some : 0 < 8 - c.loop.counter = omega (arith, c.loop-test.true) in
-    sym (c.loop.invariant ∙ shallow_root (8 - c.loop.counter) c.args.self.now.home after c.loop.at c.in-Some.record.now some c.in-Some.ensures c.in_default-parent.is)
-
-pub loop-preserved : goal.loop-preserved
-loop-preserved c =
-    let after = records_after c.args.changes.now c.args.self.now in
-    let some : 0 < 8 - c.loop.counter = omega (arith, c.loop-test.true) in
-    let less : (8 - c.loop.counter) - 1 ≡ 8 - (c.loop.counter + 1) = omega arith in
-    c.loop.invariant
-    ∙ shallow_nested (8 - c.loop.counter) c.args.self.now.home after c.loop.at c.in-Some.record.now c.in-Some-parent.place some c.in-Some.ensures c.in-Some-parent.is
-    ∙ ap (λ n. is_shallow n c.args.self.now.home after c.in-Some-parent.place.number) less
-
-pub returns : goal.returns
-returns c =
-    let after = records_after c.args.changes.now c.args.self.now in
-    let done : 8 - c.loop.counter ≡ 0 = omega (arith, c.loop-test.false) in
-    sym (c.loop.invariant ∙ ap (λ n. is_shallow n c.args.self.now.home after c.loop.at) done)
+pub returns-in-None : goal.returns-in-None
+returns-in-None c found =
+    shallow_of_root c.args.self.now.home (records_after c.args.changes.now c.args.self.now) c.args.kept.now found c.in-None.is

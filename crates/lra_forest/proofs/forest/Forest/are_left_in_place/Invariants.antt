@@ -1,0 +1,15 @@
+use Rattle.std.proofs.Common.{◌≡◌, true}
+use Rattle.std.specs.List.{AllByRecursion}
+use Rattle.lra_facts.specs.Lists.{In}
+use Rattle.lra_forest.specs.Shape.{IsInPlace, is_left, records_after}
+use Rattle.lra_forest.proofs.forest.Forest.are_left_in_place.Given as goal
+
+-- all that stay have their place if those have that are left, and only then. Each that is left is one of the home's
+abbrev pub invariant-loop-record : goal.invariant-loop-record
+invariant-loop-record l =
+    let those = AllByRecursion (λ r. is_left l.changes r ≡ true → IsInPlace l.front l.self.home (records_after l.changes l.self) r.num r) in
+    record {
+      own : AllByRecursion (λ r. In r l.self.records) l.record-iterator;
+      all : those l.record-iterator → those l.self.records;
+      left : those l.self.records → those l.record-iterator;
+    }
