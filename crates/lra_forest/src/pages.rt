@@ -1,7 +1,7 @@
 // The records of a home on pages of at most 32.
 ghost use Rattle.std.specs.Prelude.{◌≡◌, ◌+◌, ◌-◌, ◌*◌, ◌≤◌, ◌<◌, ◌==◌, ◌++◌, ◌∷◌, ◌^◌, ℕ, max, List, [], None, Some, true, MatchOption, OnErr, OnOk, drop, filter, get_or, is_some, length, nat_lt, slice_get, vec_capacity, vec_len};
 ghost use mathlib.Core.Bool.{not};
-ghost use Rattle.std.specs.List.{insert, remove};
+ghost use Rattle.std.specs.List.{insert, remove, AllByRecursion};
 ghost use Rattle.std.specs.Iterator.{YieldsFirst, YieldsFirstRef, item_count};
 ghost use Rattle.std.specs.Option.{option_copied};
 ghost use Rattle.lra_forest.specs.Forests.{IsAscending};
@@ -150,6 +150,20 @@ fn add_in(pages: &mut Vec<Page>, added: Record)
 {
     let at = seat(pages, added.num);
     pages[at].put(added);
+}
+
+/// Adds a record behind all others.
+#[tactic(auto, using(crate::proofs::Puts::put_behind))]
+fn push_in(pages: &mut Vec<Page>, added: Record)
+    requires order { IsAscending (records_in pages.old.items) }
+    requires behind { AllByRecursion (λ q. q.num < added.num) (records_in pages.old.items) }
+    requires last { AreEmptyLast pages.old.items }
+    requires spare { 1 ≤ empty_pages pages.old.items }
+    ensures items { records_in pages.new.items ≡ records_in pages.old.items ++ added ∷ [] }
+    ensures last { AreEmptyLast pages.new.items }
+    ensures len { vec_len pages.new ≡ vec_len pages.old }
+{
+    add_in(pages, added);
 }
 
 /// Moves an empty page behind all others.
@@ -462,6 +476,16 @@ impl Pages {
         } else {
             add_in(&mut self.pages, added);
         }
+    }
+
+    /// Puts a record behind all others, which have lesser numbers. There is room for it.
+    pub(crate) fn push_reserved(&mut self, added: Record)
+        requires order { IsAscending self.old.items }
+        requires last { AllByRecursion (λ q. q.num < added.num) self.old.items }
+        requires room { 1 ≤ self.old.spare }
+        ensures { self.new.items ≡ self.old.items ++ added ∷ [] }
+    {
+        push_in(&mut self.pages, added);
     }
 
     /// Puts a record in the place of the one with its number.
