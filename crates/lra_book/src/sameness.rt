@@ -1,83 +1,17 @@
 // Whether calls and replies are the same.
 ghost use Rattle.std.specs.Prelude.{◌≡◌};
-ghost use Rattle.lra_book.specs.Sameness.{same_call, same_command, same_duties, same_holding, same_page, same_reply, same_survey};
+ghost use Rattle.lra_book.specs.Sameness.{same_call, same_duties, same_holding, same_page, same_reply, same_survey};
 
 use crate::{Call, Holding, Reply, Survey};
 use lra_callback::Duties;
-use lra_facts::Command;
 use lra_replica::Page;
-
-fn same_command(a: &Command, b: &Command) -> bool
-    ensures { result ≡ same_command a.now b.now }
-{
-    match (a, b) {
-        (
-            Command::Begin { parent, deadline },
-            Command::Begin {
-                parent: other,
-                deadline: till,
-            },
-        ) => *parent == *other && *deadline == *till,
-        (
-            Command::Join { id, links },
-            Command::Join {
-                id: other,
-                links: others,
-            },
-        ) => *id == *other && *links == *others,
-        (
-            Command::Leave { id, member },
-            Command::Leave {
-                id: other,
-                member: number,
-            },
-        ) => *id == *other && *member == *number,
-        (
-            Command::Decide { id, verdict },
-            Command::Decide {
-                id: other,
-                verdict: decided,
-            },
-        ) => *id == *other && *verdict == *decided,
-        (
-            Command::Report {
-                id,
-                member,
-                act,
-                outcome,
-            },
-            Command::Report {
-                id: other,
-                member: number,
-                act: done,
-                outcome: heard,
-            },
-        ) => *id == *other && (*member == *number && (*act == *done && *outcome == *heard)),
-        (
-            Command::Forgot { id, member },
-            Command::Forgot {
-                id: other,
-                member: number,
-            },
-        ) => *id == *other && *member == *number,
-        (
-            Command::Told { id, member },
-            Command::Told {
-                id: other,
-                member: number,
-            },
-        ) => *id == *other && *member == *number,
-        (Command::Purge { root }, Command::Purge { root: other }) => *root == *other,
-        _ => false,
-    }
-}
 
 /// Whether two calls are the same.
 pub fn same_call(a: &Call, b: &Call) -> bool
     ensures { result ≡ same_call a.now b.now }
 {
     match (a, b) {
-        (Call::Command(a), Call::Command(b)) => same_command(a, b),
+        (Call::Command(a), Call::Command(b)) => *a == *b,
         (Call::Take(a), Call::Take(b)) => a.same(b),
         (Call::Pull(a), Call::Pull(b)) => a.as_slice() == b.as_slice(),
         (Call::Status(a), Call::Status(b)) => *a == *b,

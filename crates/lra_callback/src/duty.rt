@@ -241,8 +241,7 @@ pub fn pick(alloc: Global, replica: &Replica, me: NodeId) -> Result<Duties, Refu
         (λ S. IfOk result (λ duties. AreAll (IsDuty me S) (comes_first S) duties)) }
     ensures cause { IfErr result (λ refusal. refusal ≡ NoMemory) }
 {
-    // A node's number is at least 1: only a call of a `NodeId` tells.
-    let _ = me.number();
+    me.is_a_node();
     let mut list = Vec::new(alloc);
     let dues = replica.complete_duties(alloc, me)?;
     add(replica, Errand::Call(Act::Complete), &dues, &mut list)?;

@@ -151,9 +151,6 @@ module _ (old new : State) (a b c : Value) (has : old.now.schema ≡ journal_sch
   pub lra_made : (count : ℕ) → new.now.schema ≡ journal_schema → Executes put_lra (a ∷ b ∷ c ∷ []) old new (Ok count) → Makes put_lra (a ∷ b ∷ c ∷ []) old.now.trees new.now.trees
   lra_made = made put_lra old new (a ∷ b ∷ c ∷ []) _ _ _ _ has free put_lra_is lra_plain
 
-  pub front_made : (count : ℕ) → new.now.schema ≡ journal_schema → Executes put_front (a ∷ b ∷ c ∷ []) old new (Ok count) → Makes put_front (a ∷ b ∷ c ∷ []) old.now.trees new.now.trees
-  front_made = made put_front old new (a ∷ b ∷ c ∷ []) _ _ _ _ has free put_front_is front_plain
-
   pub lra_refused : (e : Error) → IsTrue old.is_open → ExecutesInside 0 put_lra (a ∷ b ∷ c ∷ []) old new (Err e) → FailsFor e old.faults new.faults (IsRefusedOn put_lra (a ∷ b ∷ c ∷ []) old.now.trees)
   lra_refused e on = refused put_lra old new (a ∷ b ∷ c ∷ []) _ _ _ _ has free put_lra_is lra_plain e on lra_whole
 

@@ -28,7 +28,7 @@ pub struct Row {
 }
 
 /// The next LRAs that are held, and whether more follow.
-#[derive(Debug, Drop)]
+#[derive(Clone, Debug, Drop)]
 pub struct Page {
     rows: Vec<Row>,
     more: bool,
@@ -55,19 +55,6 @@ impl Page {
         ensures { result ≡ self.now.more }
     {
         self.more
-    }
-}
-
-impl Clone for Page {
-    ghost use Rattle.std.specs.Prelude.{◌≡◌};
-
-    ghost is_clone = { λ x y. y ≡ x };
-
-    fn clone(&self) -> Result<Page, AllocError> {
-        Ok(Page {
-            rows: self.rows.clone()?,
-            more: self.more,
-        })
     }
 }
 

@@ -1,6 +1,6 @@
 -- What keeps each participant there once, so that none is called twice at a time.
 use Rattle.std.proofs.Common.{◌≡◌, ◌≤◌, ◌<◌, ◌+◌, ◌&&◌, ◌∙◌, ℕ, Bool, true, false, List, Option, Some, None, ap, arith, cond, length, map, not, refl, rules, slice_set, subst, sym}
-use Rattle.std.proofs.lemmas.Bool.{and_left as and_no, and_right as and_none}
+use Rattle.std.proofs.lemmas.Bool.{and_left as and_no}
 use Rattle.std.proofs.lemmas.List.Sums.{sum_by-cons, sum_by-set}
 use Rattle.std.specs.List.{count_by}
 use Rattle.std.specs.Prelude.{if◌then◌else◌}
@@ -21,7 +21,7 @@ use Rattle.lra_turns.specs.declared.slip.Called.{Called}
 use Rattle.lra_turns.specs.declared.slip.Slip.{Slip}
 use Rattle.lra_turns.specs.declared.slip.Stand.{Stand}
 use Rattle.lra_turns.specs.declared.slip.Stand.TheVariants.{IsCalled, Pauses, Waits}
-use Rattle.lra_turns.proofs.Counts.{called_is, called_self, counts_mapped, filter_below, filter_keeps, found_in, none_counts, sums_alike, sums_below, sums_mapped}
+use Rattle.lra_turns.proofs.Counts.{called_is, called_self, counts_mapped, filter_below, filter_keeps, found_in, sums_alike, sums_below, sums_mapped}
 
 -- as a number
 abbrev pub bit : Bool → ℕ
@@ -56,11 +56,6 @@ begun_other who other f true slip differs e =
     and_no (is_of other (standing IsCalled slip)) (f (standing IsCalled slip)) not_it ∙ sym (and_no (is_of other slip) (f slip) not_it)
 begun_other who other f false slip differs e = refl
 
-begun_waits : (who : Called) (b : Bool) (slip : Slip) → same_called slip.who who ≡ b
-    → (is_of who (if b then standing IsCalled slip else slip) && waits (if b then standing IsCalled slip else slip)) ≡ false
-begun_waits who true slip e = and_none (is_of who slip) false refl
-begun_waits who false slip e = and_no (is_of who slip) (waits slip) e
-
 begun_calls : (who : Called) (b : Bool) (slip : Slip) → same_called slip.who who ≡ b
     → (is_of who (if b then standing IsCalled slip else slip) && is_called (if b then standing IsCalled slip else slip)) ≡ is_of who slip
 begun_calls who true slip e = ap (λ (b : Bool). b && true) e ∙ sym e
@@ -76,11 +71,6 @@ others_begun : (who other : Called) (f : Slip → Bool) (slips : List Slip) → 
     → count_by (λ (slip : Slip). is_of other slip && f slip) (map (begun_to who) slips) ≡ count_by (λ (slip : Slip). is_of other slip && f slip) slips
 others_begun who other f slips differs =
     counts_mapped (λ (slip : Slip). is_of other slip && f slip) (begun_to who) (λ slip. begun_other who other f (same_called slip.who who) slip differs refl) slips
-
-none_waits_begun : (who : Called) (slips : List Slip) → waits_of who (map (begun_to who) slips) ≡ 0
-none_waits_begun who slips =
-    sums_mapped (λ (slip : Slip). bit (is_of who slip && waits slip)) (begun_to who) slips
-    ∙ none_counts (λ (slip : Slip). is_of who (begun_to who slip) && waits (begun_to who slip)) (λ slip. begun_waits who (same_called slip.who who) slip refl) slips
 
 all_called_begun : (who : Called) (slips : List Slip) → calls_of who (map (begun_to who) slips) ≡ slips_of who slips
 all_called_begun who slips =

@@ -244,22 +244,6 @@ puts_one now duty place who old new mid slip r room e =
 abbrev pub IsFirstFew : Called → (all left place : ℕ) → List Slip → Type 0
 IsFirstFew who all left place slips = slips_of who (take place slips) + left ≤ all
 
-pub puts_nothing : (now : Duration) (who : Called) (all : ℕ) (old : Calling) → PutsSome now who all all old old true
-puts_nothing now who all old = record {
-  few = omega arith;
-  slips = λ a h. h;
-  calls = refl;
-  pauses = omega arith;
-  listed = omega arith;
-  hidden = omega arith;
-  stray = omega arith;
-  waits = omega arith;
-  dues = refl;
-  more = omega arith;
-  spare = omega arith;
-  put = λ p a l w c q. absurd (omega arith);
-}
-
 put_by_now : (now : Duration) (who : Called) (all : ℕ) (duty : Duty) (left rest place : ℕ) (old mid new : Calling) (was_whole is_put : Bool) (count : ℕ) → duties_for who (duty ∷ []) ≡ count
     → left ≡ count + rest → PutsSome now who all left old mid was_whole → PutsOne now duty place who mid new is_put → was_whole ≡ true → is_put ≡ true → all ≤ 1 → rest < all
     → waits_of who old.slips ≡ 0 → calls_of who old.slips ≡ 0 → pauses_of now who old.slips ≡ 0 → dues_of who old.now.hosts < dues_of who new.now.hosts

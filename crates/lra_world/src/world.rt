@@ -97,7 +97,7 @@ impl World {
         requires { node ≤ length self.now.replicas }
         ensures { (s : State) → IsWorldOf s self.now → result ≡ shown_at s node id }
     {
-        let _range = node.number();
+        node.is_a_node();
         self.replica(node).status(id)
     }
 
@@ -107,7 +107,7 @@ impl World {
         requires { node ≤ length self.now.replicas }
         ensures { (s : State) → IsWorldOf s self.now → result ≡ member_at s node id member }
     {
-        let _range = node.number();
+        node.is_a_node();
         self.replica(node).member(id, member)
     }
 
@@ -318,8 +318,7 @@ impl World {
         ensures err { (s : State) → IsWorldOf s self.old → OnErr result (IsWorldOf s self.new) }
     {
         let verdict = Verdict::Cancel;
-        // A node's number is at least 1: only a call of a `NodeId` tells.
-        let _ = node.number();
+        node.is_a_node();
         let reply = self.act_at(alloc, node, Command::Decide { id, verdict })?;
         Ok(reply_of_expiry(id, reply))
     }

@@ -6,5 +6,5 @@ use Rattle.lra_world.proofs.world.World.member.Goals as goal
 
 pub returns : goal.returns
 returns c s w =
-    let some : 1 ≤ c.args.node = omega (arith, c.number-range.ensures.range, c.number-range.ensures.value) in
+    let some : 1 ≤ c.args.node = c.is_a_node.ensures.0 in
     of_own s c.args.self.now c.args.node (view_of c.replica.result.now) _ (λ S v. member_shown S v c.args.id c.args.member) w some c.requires (c.replica.ensures.view s w) c.member.ensures.settled
