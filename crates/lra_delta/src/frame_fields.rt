@@ -17,6 +17,7 @@ ghost use Rattle.lra_delta.specs.Order.{AreEmpty, ArePutAs, lists, live_of_place
 use crate::Delta;
 use crate::fields::{byte, four_bytes, number, two_bytes};
 use crate::input::{Input, Stop};
+use crate::links_read::LinksRead;
 use crate::order::Last;
 use crate::record_fields::{at_most, many_of, record_of};
 use crate::version::Version;
@@ -254,6 +255,7 @@ fn each_record<I: Input>(
     front: &Front,
     homes: &mut Vec<Told>,
     count: u16,
+    links: &mut LinksRead,
     input: &mut I,
 ) -> Result<(), Stop>
     requires { AreEmpty (length front.now) homes.old.items }
@@ -267,7 +269,16 @@ fn each_record<I: Input>(
         count: 0,
     };
     'records: for _ in 0..count {
-        let kept = record_of(alloc, version, base, front, homes.as_slice(), last, input)?;
+        let kept = record_of(
+            alloc,
+            version,
+            base,
+            front,
+            homes.as_slice(),
+            last,
+            links,
+            input,
+        )?;
         last = after(last, &kept);
         // straight to its home: a list between would move each record, of some 150 bytes, twice
         put_home(homes, kept)?;
@@ -293,7 +304,8 @@ fn records_of<I: Input>(
     if !(count as usize <= 256 * front.nodes()) {
         return Err(Stop::Fault(place));
     }
-    each_record(alloc, version, base, front, homes, count, input)
+    let mut links = LinksRead::new(alloc);
+    each_record(alloc, version, base, front, homes, count, &mut links, input)
 }
 
 // ---- the frame

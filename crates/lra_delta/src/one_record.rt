@@ -9,6 +9,7 @@ ghost use Rattle.lra_delta.specs.declared.version.Version.TheVariants.{Two};
 
 use crate::buffer::Buffer;
 use crate::input::{Input, Stop};
+use crate::links_read::LinksRead;
 use crate::order::Last;
 use crate::record_encoding::put_record;
 use crate::record_fields::record_of;
@@ -24,6 +25,7 @@ fn alone_of<I: Input>(
     alloc: Global,
     version: Version,
     front: &Front,
+    links: &mut LinksRead,
     input: &mut I,
 ) -> Result<Record, Stop>
     ensures { Answers (I.seen input.old) (I.seen input.new) (λ x. x) result (alone_at version front.now) }
@@ -35,7 +37,7 @@ fn alone_of<I: Input>(
         num: 0,
         count: 0,
     };
-    let kept = record_of(alloc, version, &base, front, &[], last, input)?;
+    let kept = record_of(alloc, version, &base, front, &[], last, links, input)?;
     let place = input.place();
     if !(place == limit) {
         return Err(Stop::Fault(place));
@@ -49,11 +51,12 @@ fn record_in_slice(
     bytes: &[u8],
     front: &Front,
     version: Version,
+    links: &mut LinksRead,
 ) -> Result<Record, Refusal>
     ensures { Decodes result (record_in_as version front.now bytes.now) }
 {
     let mut input = Slice::new(bytes);
-    match alone_of(alloc, version, front, &mut input) {
+    match alone_of(alloc, version, front, links, &mut input) {
         Ok(kept) => Ok(kept),
         Err(Stop::Fault(place)) => Err(Refusal::BadFrame(place)),
         Err(Stop::Cut) => unreachable!(),
@@ -80,7 +83,26 @@ pub fn decode_record(
         IsRecordUnderAs version front.now kept →
         bytes.now ≡ record_text_as version kept → Decodes result (Ok kept) }
 {
-    record_in_slice(alloc, bytes, front, version)
+    decode_record_with(alloc, bytes, front, version, &mut LinksRead::new(alloc))
+}
+
+/// The same, for one of many: each of its links is copied from those that were read lately, where
+/// it is one of them.
+pub fn decode_record_with(
+    alloc: Global,
+    bytes: &[u8],
+    front: &Front,
+    version: Version,
+    links: &mut LinksRead,
+) -> Result<Record, Refusal>
+    ensures exact { Decodes result (record_in_as version front.now bytes.now) }
+    ensures found { IfOk result (λ kept. IsRecordUnderAs version front.now kept
+        × (bytes.now ≡ record_text_as version kept)) }
+    ensures only { (kept : Record) →
+        IsRecordUnderAs version front.now kept →
+        bytes.now ≡ record_text_as version kept → Decodes result (Ok kept) }
+{
+    record_in_slice(alloc, bytes, front, version, links)
 }
 
 /// The bytes that encode a record, in version 2. Under a front where it fits they are read as

@@ -15,6 +15,7 @@ ghost use Rattle.lra_delta.specs.declared.version.Version.TheVariants.{One, Two}
 
 use crate::fields::{byte, number, text};
 use crate::input::{Input, Stop};
+use crate::links_read::LinksRead;
 use crate::marks::marks_of;
 use crate::order::Last;
 use crate::version::Version;
@@ -82,6 +83,7 @@ fn link_of<I: Input>(
     alloc: Global,
     needed: bool,
     allowed: bool,
+    links: &mut LinksRead,
     input: &mut I,
 ) -> Result<Option<Link>, Stop>
     ensures gives { Reads (I.seen input.old) (I.seen input.new)
@@ -97,7 +99,7 @@ fn link_of<I: Input>(
     if text.is_empty() {
         return Ok(None);
     }
-    match Link::from_kept(alloc, &text)? {
+    match links.link(alloc, &text)? {
         Some(link) => Ok(Some(link)),
         None => Err(Stop::Fault(place)),
     }
@@ -109,6 +111,7 @@ fn after_of<I: Input>(
     alloc: Global,
     version: Version,
     needed: bool,
+    links: &mut LinksRead,
     input: &mut I,
 ) -> Result<Option<Link>, Stop>
     ensures gives { Reads (I.seen input.old) (I.seen input.new)
@@ -117,7 +120,7 @@ fn after_of<I: Input>(
 {
     match version {
         Version::One => Ok(None),
-        Version::Two => link_of(alloc, needed, true, input),
+        Version::Two => link_of(alloc, needed, true, links, input),
     }
 }
 
@@ -167,6 +170,7 @@ fn with_after<I: Input>(
     compensate: Option<Link>,
     status: Option<Link>,
     forget: Option<Link>,
+    links: &mut LinksRead,
     input: &mut I,
 ) -> Result<Links, Stop>
     requires compensate { may_be (needs_compensate version complete) true compensate ≡ true }
@@ -175,7 +179,7 @@ fn with_after<I: Input>(
     ensures { Reads (I.seen input.old) (I.seen input.new) (λ x. x) result
         (last_link_at version complete compensate status forget) }
 {
-    match after_of(alloc, version, compensate.is_none(), input) {
+    match after_of(alloc, version, compensate.is_none(), links, input) {
         Ok(after) => Ok(links_of(version, complete, compensate, status, forget, after)),
         Err(stop) => {
             let_go(complete, compensate, status, forget);
@@ -185,28 +189,37 @@ fn with_after<I: Input>(
 }
 
 #[tactic(auto, unfolding(crate::specs::Reading::links_at))]
-fn given_links<I: Input>(alloc: Global, version: Version, input: &mut I) -> Result<Links, Stop>
+fn given_links<I: Input>(
+    alloc: Global,
+    version: Version,
+    links: &mut LinksRead,
+    input: &mut I,
+) -> Result<Links, Stop>
     ensures { Reads (I.seen input.old) (I.seen input.new) (λ x. x) result (links_at version) }
 {
-    let complete = link_of(alloc, false, true, input)?;
-    let compensate = link_of(alloc, needs_compensate(version, &complete), true, input)?;
-    let status = link_of(alloc, false, compensate.is_some(), input)?;
-    let forget = link_of(alloc, false, compensate.is_some(), input)?;
-    with_after(alloc, version, complete, compensate, status, forget, input)
+    let complete = link_of(alloc, false, true, links, input)?;
+    let needed = needs_compensate(version, &complete);
+    let compensate = link_of(alloc, needed, true, links, input)?;
+    let status = link_of(alloc, false, compensate.is_some(), links, input)?;
+    let forget = link_of(alloc, false, compensate.is_some(), links, input)?;
+    with_after(
+        alloc, version, complete, compensate, status, forget, links, input,
+    )
 }
 
 #[tactic(auto, unfolding(crate::specs::Reading::participant_at))]
 fn participant_of<I: Input>(
     alloc: Global,
     version: Version,
+    links: &mut LinksRead,
     input: &mut I,
 ) -> Result<Participant, Stop>
     ensures { Reads (I.seen input.old) (I.seen input.new) (λ x. x) result (participant_at version) }
 {
-    let links = given_links(alloc, version, input)?;
-    let marks = marks_of(version, &links, input)?;
+    let given = given_links(alloc, version, links, input)?;
+    let marks = marks_of(version, &given, input)?;
     Ok(Participant {
-        links,
+        links: given,
         completed: marks.completed,
         compensated: marks.compensated,
         forgotten: marks.forgotten,
@@ -223,6 +236,7 @@ fn member_of<I: Input>(
     version: Version,
     stamp: u64,
     last: u64,
+    links: &mut LinksRead,
     input: &mut I,
 ) -> Result<Member, Stop>
     ensures { Reads (I.seen input.old) (I.seen input.new) (λ x. x) result (member_at version stamp last) }
@@ -237,7 +251,7 @@ fn member_of<I: Input>(
             }
             Ok(Member::Nested(nested))
         }
-        1 => Ok(Member::Participant(participant_of(alloc, version, input)?)),
+        1 => Ok(Member::Participant(participant_of(alloc, version, links, input)?)),
         2 => Ok(Member::Left),
         _ => Err(Stop::Fault(place)),
     }
@@ -259,6 +273,7 @@ fn each_member<I: Input>(
     stamp: u64,
     num: u64,
     count: u8,
+    links: &mut LinksRead,
     input: &mut I,
 ) -> Result<Vec<Member>, Stop>
     ensures gives { Reads (I.seen input.old) (I.seen input.new)
@@ -268,7 +283,7 @@ fn each_member<I: Input>(
     let mut list = Vec::new(alloc);
     let mut last = num;
     'members: for _ in 0..count {
-        let member = member_of(alloc, version, stamp, last, input)?;
+        let member = member_of(alloc, version, stamp, last, links, input)?;
         last = next_nested(last, &member);
         list.push(member)?;
     }
@@ -281,6 +296,7 @@ fn members_of<I: Input>(
     version: Version,
     stamp: u64,
     num: u64,
+    links: &mut LinksRead,
     input: &mut I,
 ) -> Result<Members, Stop>
     ensures { Reads (I.seen input.old) (I.seen input.new) (λ x. x) result (members_at version stamp num) }
@@ -290,7 +306,7 @@ fn members_of<I: Input>(
     if !(count <= 32) {
         return Err(Stop::Fault(place));
     }
-    let list = each_member(alloc, version, stamp, num, count, input)?;
+    let list = each_member(alloc, version, stamp, num, count, links, input)?;
     Ok(Members::from_vec(list))
 }
 
@@ -458,6 +474,7 @@ pub(crate) fn record_of<I: Input>(
     front: &Front,
     homes: &[Told],
     last: Last,
+    links: &mut LinksRead,
     input: &mut I,
 ) -> Result<Record, Stop>
     ensures gives { Reads (I.seen input.old) (I.seen input.new)
@@ -470,7 +487,7 @@ pub(crate) fn record_of<I: Input>(
     let deadline = number(input)?;
     let decision = decision_of(input)?;
     let stamps = stamps_of(base, front, home, num, input)?;
-    let members = members_of(alloc, version, stamps.count(home), num, input)?;
+    let members = members_of(alloc, version, stamps.count(home), num, links, input)?;
     Ok(Record {
         home,
         num,
