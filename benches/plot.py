@@ -82,7 +82,7 @@ def text_at(x: float, y: float, text: str, more: str = "") -> str:
     return f'<text x="{x:.1f}" y="{y:.1f}" {more}>{text}</text>'
 
 
-def frame_of(title: str, floor: int, top: int) -> list[str]:
+def edges_of(title: str, floor: int, top: int) -> list[str]:
     """A drawing's edges, its title, and the powers of ten between."""
     left, right, low, high = EDGE, WIDTH - 12, HEIGHT - 34, 30
     parts = [text_at(left, 18, title, 'font-weight="bold"')]
@@ -105,7 +105,7 @@ def drawn(drawing: Drawing, costs: Costs) -> str:
         up = (math.log10(cost) - floor) / max(top - floor, 1)
         return left + across * (right - left), low - up * (low - high)
 
-    parts = frame_of(drawing.title, floor, top)
+    parts = edges_of(drawing.title, floor, top)
     for size in sizes:
         parts.append(text_at(place(size, min(all_costs))[0], low + 14, str(size), 'text-anchor="middle" fill="#555"'))
     for at, (name, line) in enumerate(costs.items()):
@@ -118,7 +118,7 @@ def drawn(drawing: Drawing, costs: Costs) -> str:
     return "\n".join(parts)
 
 
-def whole(drawings: Sequence[str]) -> str:
+def side_by_side(drawings: Sequence[str]) -> str:
     """The drawings side by side."""
     high = HEIGHT * math.ceil(len(drawings) / COLUMNS)
     parts = [f'<svg xmlns="http://www.w3.org/2000/svg" viewBox="0 0 {WIDTH * COLUMNS} {high}" font-family="sans-serif"'
@@ -137,7 +137,7 @@ def main() -> int:
     missing = [drawing.program for drawing in DRAWINGS if not turns.get(drawing.program)]
     if missing:
         sys.exit(f"the figures lack {', '.join(missing)}")
-    repo.write("benches/figures.svg", whole([drawn(one, costs_of(one, turns[one.program])) for one in DRAWINGS]))
+    repo.write("benches/figures.svg", side_by_side([drawn(one, costs_of(one, turns[one.program])) for one in DRAWINGS]))
     return 0
 
 
