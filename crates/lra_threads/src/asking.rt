@@ -99,8 +99,13 @@ fn next_teller(node: &Node, other: u8, told: &NewsCounts, seen: &NewsCounts) -> 
 /// Pulls from the other nodes, until the program is to end: from one that told that it has
 /// something new at once, if there was a pause after the last pull; and from each in turn, about
 /// twice a second while that brings anything, every five seconds at rest. `follow` waits for room,
-/// for one other node; this gives up, as it has more to ask.
+/// for one other node; this gives up, as it has more to ask. It begins once it is known how many
+/// facts the node has, or each other node would first tell all that there is.
 pub fn pull_in_turn<R: Wait + Clock + Sockets>(rt: &R, alloc: Global, node: &Node) {
+    node.mailbox.want_count(rt);
+    if node.mailbox.wait_for_count(rt) {
+        return;
+    }
     let mut other = node.number;
     let mut round_ms = SHORT_ROUND_MS;
     let mut seen = NewsCounts::new();
