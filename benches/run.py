@@ -78,8 +78,9 @@ def build(kit: str, name: str, folder: str) -> str | None:
 
 
 def run_turns(name: str, folder: str, turns: int) -> None:
-    """Runs a program so often, and what goes with it."""
-    for turn in range(1, turns + 1):
+    """Runs a program so often, and what goes with it. That of the journal makes its files once, so journal.py runs it,
+    in folders of its own."""
+    for turn in range(1, turns + 1 if name != "journal" else 1):
         print(f"== {name}, turn {turn} of {turns}", flush=True)
         subprocess.run([f"{folder}/{name}"], cwd=folder, check=True)
     if name == "journal":
