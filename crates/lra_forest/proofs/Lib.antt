@@ -13,6 +13,7 @@ mod ChangedCounts  -- how many records there are once they are changed
 -- ---- Records on pages
 mod PageOrder  -- where a number stands on pages in order
 mod PageEdits  -- what changes in the list where one page is changed
+mod PageEnds  -- where a record goes that comes behind all others
 mod PageHalves  -- a full page whose upper half is moved to an empty one
 mod PageWeights  -- what pages weigh, and the room that they leave
 -- ---- Records are made of a set's facts

@@ -55,7 +55,7 @@ all_on P [] j d e h = absurd (omega (arith, e))
 all_on P (p ∷ ps) zero d e h = all_left P p (records_in ps) h
 all_on P (p ∷ ps) (suc j) d e h = all_on P ps j d (omega (arith, e)) (all_right P p (records_in ps) h)
 
-none_on : (ps : List (List Record)) (j : ℕ) (d : List Record) → j < length ps → records_in ps ≡ [] → get_or ps j d ≡ []
+pub none_on : (ps : List (List Record)) (j : ℕ) (d : List Record) → j < length ps → records_in ps ≡ [] → get_or ps j d ≡ []
 none_on [] j d e h = absurd (omega (arith, e))
 none_on ([] ∷ ps) zero d e h = refl
 none_on ((r ∷ rs) ∷ ps) j d e h = absurd cc

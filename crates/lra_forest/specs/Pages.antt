@@ -67,6 +67,14 @@ FitsAt num zero (p ∷ ps) = Reaches num p ⊎ (records_in ps ≡ [])
 FitsAt num (suc at) ([] ∷ ps) = ⊥
 FitsAt num (suc at) ((r ∷ rs) ∷ ps) = AllByRecursion (λ (q : Record). q.num < num) (r ∷ rs) × FitsAt num at ps
 
+-- The page at this place has room, each before it has records, and none behind it has any; or it is the next one to be added
+abbrev pub IsLastSeat : ℕ → List (List Record) → Type 0
+IsLastSeat zero [] = Unit {0}
+IsLastSeat zero (p ∷ ps) = (length p < 32) × (records_in ps ≡ [])
+IsLastSeat (suc at) [] = ⊥
+IsLastSeat (suc at) ([] ∷ ps) = ⊥
+IsLastSeat (suc at) ((r ∷ rs) ∷ ps) = IsLastSeat at ps
+
 -- Pages that hold the same records as before, with room for one more at this place, where a record with this number fits. With one
 -- record more there, the room is at most one less
 pub record IsSeat (num at : ℕ) (old new : List (List Record)) : Type 0 where

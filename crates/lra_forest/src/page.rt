@@ -199,6 +199,14 @@ impl Page {
         &records[count_to(records, num)..]
     }
 
+    /// Puts a record behind the others. The page is not full.
+    pub(crate) fn push(&mut self, added: Record)
+        requires { length self.old < 32 }
+        ensures { self.new ≡ self.old ++ added ∷ [] }
+    {
+        self.records.push_reserved(added);
+    }
+
     /// Puts a record in its place. The page is not full.
     pub(crate) fn put(&mut self, added: Record)
         requires order { IsAscending self.old }

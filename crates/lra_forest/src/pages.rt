@@ -1,11 +1,11 @@
 // The records of a home on pages of at most 32.
-ghost use Rattle.std.specs.Prelude.{◌≡◌, ◌+◌, ◌-◌, ◌*◌, ◌≤◌, ◌<◌, ◌==◌, ◌++◌, ◌∷◌, ◌^◌, ℕ, max, List, [], None, Some, true, MatchOption, OnErr, OnOk, drop, filter, get_or, is_some, length, nat_lt, slice_get, vec_capacity, vec_len};
+ghost use Rattle.std.specs.Prelude.{◌≡◌, ◌+◌, ◌-◌, ◌*◌, ◌≤◌, ◌<◌, ◌==◌, ◌++◌, ◌∷◌, ◌^◌, ℕ, max, List, [], None, Some, true, IfOk, MatchOption, OnErr, OnOk, drop, filter, get_or, is_some, length, nat_lt, slice_get, vec_capacity, vec_len};
 ghost use mathlib.Core.Bool.{not};
-ghost use Rattle.std.specs.List.{insert, remove, AllByRecursion};
+ghost use Rattle.std.specs.List.{insert, remove};
 ghost use Rattle.std.specs.Iterator.{YieldsFirst, YieldsFirstRef, item_count};
 ghost use Rattle.std.specs.Option.{option_copied};
 ghost use Rattle.lra_forest.specs.Forests.{IsAscending};
-ghost use Rattle.lra_forest.specs.Pages.{AreEmptyLast, FitsAt, IsPageOf, IsSeat, Reaches, empty_pages, lies_below, records_in, room_in, weight_in};
+ghost use Rattle.lra_forest.specs.Pages.{AreEmptyLast, FitsAt, IsLastSeat, IsPageOf, IsSeat, Reaches, empty_pages, lies_below, records_in, room_in, weight_in};
 ghost use Rattle.lra_forest.specs.Places.{count_below, put_record, with_number};
 
 use crate::Record;
@@ -152,20 +152,6 @@ fn add_in(pages: &mut Vec<Page>, added: Record)
     pages[at].put(added);
 }
 
-/// Adds a record behind all others.
-#[tactic(auto, using(crate::proofs::Puts::put_behind))]
-fn push_in(pages: &mut Vec<Page>, added: Record)
-    requires order { IsAscending (records_in pages.old.items) }
-    requires behind { AllByRecursion (λ q. q.num < added.num) (records_in pages.old.items) }
-    requires last { AreEmptyLast pages.old.items }
-    requires spare { 1 ≤ empty_pages pages.old.items }
-    ensures items { records_in pages.new.items ≡ records_in pages.old.items ++ added ∷ [] }
-    ensures last { AreEmptyLast pages.new.items }
-    ensures len { vec_len pages.new ≡ vec_len pages.old }
-{
-    add_in(pages, added);
-}
-
 /// Moves an empty page behind all others.
 fn move_behind(pages: &mut Vec<Page>, at: usize)
     requires within { at < vec_len pages.old }
@@ -256,6 +242,60 @@ fn add_page(alloc: Global, pages: &mut Vec<Page>) -> Result<(), AllocError>
         return Err(AllocError);
     }
     pages.push(Page::new(alloc)?)?;
+    Ok(())
+}
+
+/// The page for one more record behind all others: the last one with records, or where that is
+/// full the one behind it. It may still have to be added. It halves nothing.
+fn last_seat(pages: &[Page]) -> usize
+    requires { AreEmptyLast pages.now }
+    ensures { IsLastSeat result pages.now }
+{
+    let mut count = pages.len();
+    'down: while count > 0 {
+        let page = &pages[count - 1];
+        if page.is_full() {
+            return count;
+        }
+        if !page.is_empty() {
+            return count - 1;
+        }
+        count -= 1;
+    }
+    0
+}
+
+/// The page for one more record behind all others, which is added if need be.
+fn make_last_seat(pages: &mut Vec<Page>) -> Result<usize, AllocError>
+    requires last { AreEmptyLast pages.old.items }
+    requires few { vec_len pages.old ≤ 2 ^ 32 }
+    ensures items { records_in pages.new.items ≡ records_in pages.old.items }
+    ensures last { AreEmptyLast pages.new.items }
+    ensures few { vec_len pages.new ≤ 2 ^ 32 }
+    ensures seat { IfOk result (λ at. IsLastSeat at pages.new.items) }
+    ensures there { IfOk result (λ at. at < vec_len pages.new) }
+{
+    let at = last_seat(pages);
+    if at < pages.len() {
+        return Ok(at);
+    }
+    let alloc = *pages.allocator();
+    add_page(alloc, pages)?;
+    Ok(at)
+}
+
+/// Adds a record behind all others.
+fn push_in(pages: &mut Vec<Page>, added: Record) -> Result<(), AllocError>
+    requires last { AreEmptyLast pages.old.items }
+    requires few { vec_len pages.old ≤ 2 ^ 32 }
+    ensures ok { OnOk result
+        (records_in pages.new.items ≡ records_in pages.old.items ++ added ∷ []) }
+    ensures err { OnErr result (records_in pages.new.items ≡ records_in pages.old.items) }
+    ensures last { AreEmptyLast pages.new.items }
+    ensures few { vec_len pages.new ≤ 2 ^ 32 }
+{
+    let at = make_last_seat(pages)?;
+    pages[at].push(added);
     Ok(())
 }
 
@@ -478,14 +518,12 @@ impl Pages {
         }
     }
 
-    /// Puts a record behind all others, which have lesser numbers. There is room for it.
-    pub(crate) fn push_reserved(&mut self, added: Record)
-        requires order { IsAscending self.old.items }
-        requires last { AllByRecursion (λ q. q.num < added.num) self.old.items }
-        requires room { 1 ≤ self.old.spare }
-        ensures { self.new.items ≡ self.old.items ++ added ∷ [] }
+    /// Puts a record behind all others.
+    pub(crate) fn push(&mut self, added: Record) -> Result<(), AllocError>
+        ensures ok { OnOk result (self.new.items ≡ self.old.items ++ added ∷ []) }
+        ensures err { OnErr result (self.new.items ≡ self.old.items) }
     {
-        push_in(&mut self.pages, added);
+        push_in(&mut self.pages, added)
     }
 
     /// Puts a record in the place of the one with its number.
