@@ -1,9 +1,13 @@
 -- the members of two records merged, one after the other
-use Rattle.std.proofs.Common.{◌≡◌, ◌+◌, ◌-◌, ◌==◌, ℕ, zero, suc, List, [], ◌∷◌, refl, ap, ◌∙◌, false, cond, arith, Some, None, length, set, slice_get}
+use Rattle.std.proofs.Common.{◌≡◌, ◌+◌, ◌-◌, ◌<◌, ◌==◌, ◌||◌, ℕ, zero, suc, List, [], ◌∷◌, refl, sym, ap, ◌∙◌, Bool, true, false, cond, arith, Option, Some, None, get_or, length, set, slice_get}
 use Rattle.std.proofs.lemmas.Bool.Decides.{nat_tests}
+use Rattle.lra_id.specs.declared.outcome.Outcome.{Outcome}
+use Rattle.lra_id.specs.declared.outcome.Outcome.TheVariants.{Busy, Done, Failed}
+use Rattle.lra_id.specs.States.{greater}
 use Rattle.lra_forest.specs.declared.record.Member.{Member}
 use Rattle.lra_forest.specs.declared.record.Member.TheVariants.{Left}
-use Rattle.lra_forest.specs.RecordMerges.{merged_member, merged_members}
+use Rattle.lra_forest.specs.declared.record.Participant.{Participant as ParticipantRecord}
+use Rattle.lra_forest.specs.RecordMerges.{linked, merged_member, merged_members, merged_participant}
 use Rattle.lra_forest.specs.MembersByNumber.{numbered}
 
 -- the first i members are merged
@@ -40,3 +44,59 @@ numbered_next ys i =
     let some : (i + 1 == 0) ≡ false = grind (arith, nat_tests) in
     let back : i + 1 - 1 ≡ i = omega arith in
     ap (λ b. cond b None (slice_get ys (i + 1 - 1))) some ∙ ap (slice_get ys) back
+
+-- Members of which it is the same which is merged into the other
+
+greater_swaps : (a b : Option Outcome) → greater a b ≡ greater b a
+greater_swaps None None = refl
+greater_swaps None (Some Busy) = refl
+greater_swaps None (Some Done) = refl
+greater_swaps None (Some Failed) = refl
+greater_swaps (Some Busy) None = refl
+greater_swaps (Some Busy) (Some Busy) = refl
+greater_swaps (Some Busy) (Some Done) = refl
+greater_swaps (Some Busy) (Some Failed) = refl
+greater_swaps (Some Done) None = refl
+greater_swaps (Some Done) (Some Busy) = refl
+greater_swaps (Some Done) (Some Done) = refl
+greater_swaps (Some Done) (Some Failed) = refl
+greater_swaps (Some Failed) None = refl
+greater_swaps (Some Failed) (Some Busy) = refl
+greater_swaps (Some Failed) (Some Done) = refl
+greater_swaps (Some Failed) (Some Failed) = refl
+
+either_swaps : (a b : Bool) → (a || b) ≡ (b || a)
+either_swaps true true = refl
+either_swaps true false = refl
+either_swaps false true = refl
+either_swaps false false = refl
+
+pub participants_swap : (p q : ParticipantRecord) → p.links ≡ q.links → merged_participant p q ≡ merged_participant q p
+participants_swap p q same =
+    ap (λ a. linked (record { links = a; completed = greater p.completed q.completed; compensated = greater p.compensated q.compensated; forgotten = p.forgotten || q.forgotten; told = p.told || q.told })) same
+    ∙ ap (λ a. linked (record { links = q.links; completed = a; compensated = greater p.compensated q.compensated; forgotten = p.forgotten || q.forgotten; told = p.told || q.told })) (greater_swaps p.completed q.completed)
+    ∙ ap (λ a. linked (record { links = q.links; completed = greater q.completed p.completed; compensated = a; forgotten = p.forgotten || q.forgotten; told = p.told || q.told })) (greater_swaps p.compensated q.compensated)
+    ∙ ap (λ a. linked (record { links = q.links; completed = greater q.completed p.completed; compensated = greater q.compensated p.compensated; forgotten = a; told = p.told || q.told })) (either_swaps p.forgotten q.forgotten)
+    ∙ ap (λ a. linked (record { links = q.links; completed = greater q.completed p.completed; compensated = greater q.compensated p.compensated; forgotten = q.forgotten || p.forgotten; told = a })) (either_swaps p.told q.told)
+
+abbrev pub Swap : Member → Member → Type 0
+Swap m n = merged_member m (Some n) ≡ merged_member n (Some m)
+
+-- it is so of the first i members
+abbrev pub SwapTo : ℕ → List Member → List Member → Type 0
+SwapTo zero xs ys = Unit {0}
+SwapTo (suc i) [] ys = Unit {0}
+SwapTo (suc i) (x ∷ xs) [] = Unit {0}
+SwapTo (suc i) (x ∷ xs) (y ∷ ys) = Swap x y × SwapTo i xs ys
+
+pub swap_more : (i : ℕ) (xs ys : List Member) (x y : Member) → SwapTo i xs ys → i < length xs → i < length ys → x ≡ get_or xs i x → y ≡ get_or ys i y → Swap x y → SwapTo (suc i) xs ys
+swap_more i [] ys x y so less long is are swap = tt
+swap_more i (a ∷ xs) [] x y so less long is are swap = tt
+swap_more zero (a ∷ xs) (b ∷ ys) x y so less long is are swap = (ap (λ m. merged_member m (Some b)) (sym is) ∙ ap (λ n. merged_member x (Some n)) (sym are) ∙ swap ∙ ap (λ n. merged_member n (Some x)) are ∙ ap (λ m. merged_member b (Some m)) is, tt)
+swap_more (suc i) (a ∷ xs) (b ∷ ys) x y so less long is are swap = (so.0, swap_more i xs ys x y so.1 (omega (arith, less)) (omega (arith, long)) is are swap)
+
+pub swap_all : (xs ys : List Member) → length xs ≡ length ys → SwapTo (length xs) xs ys → merged_members xs ys ≡ merged_members ys xs
+swap_all [] [] same so = refl
+swap_all [] (y ∷ ys) same so = absurd (omega (arith, same))
+swap_all (x ∷ xs) [] same so = absurd (omega (arith, same))
+swap_all (x ∷ xs) (y ∷ ys) same so = ap (λ m. m ∷ merged_members xs ys) so.0 ∙ ap (λ ms. merged_member y (Some x) ∷ ms) (swap_all xs ys (omega (arith, same)) so.1)

@@ -1,5 +1,5 @@
 // What a home's records become when another node's are taken.
-ghost use Rattle.std.specs.Prelude.{◌≡◌, ◌==◌, ℕ, Some, None, false, IfOk, OnOk, if◌then◌else◌, is_some, nat_le};
+ghost use Rattle.std.specs.Prelude.{◌≡◌, ◌==◌, ℕ, Some, None, false, IfOk, IsTrue, OnOk, if◌then◌else◌, is_some, nat_le};
 ghost use Rattle.std.specs.Option.{option_copied};
 ghost use Rattle.lra_forest.specs.Forests.{AreOf, id_of};
 ghost use Rattle.lra_forest.specs.RecordMerges.{brought, changed_by, held_numbers, home_stamp, is_gone, is_unlisted, linked, merged_member, merged_members, merged_participant, merged_record, absorbed};
@@ -93,6 +93,52 @@ fn merge_members(kept: &mut Members, other: &Members)
     }
 }
 
+/// Whether it is the same which of two members is merged into the other.
+fn is_alike(kept: &Member, other: &Member) -> bool
+    ensures { IsTrue result → merged_member kept.now (Some other.now)
+        ≡ merged_member other.now (Some kept.now) }
+{
+    match kept {
+        Member::Participant(kept) => match other {
+            Member::Participant(other) => kept.links == other.links,
+            _ => false,
+        },
+        kept => kept == other,
+    }
+}
+
+/// Whether it is the same which members are merged into the others.
+fn are_alike(kept: &Members, other: &Members) -> bool
+    ensures { IsTrue result → merged_members kept.now other.now
+        ≡ merged_members other.now kept.now }
+{
+    let (kept, other) = (kept.as_slice(), other.as_slice());
+    if kept.len() != other.len() {
+        return false;
+    }
+    for place in 0..kept.len() {
+        if !is_alike(&kept[place], &other[place]) {
+            return false;
+        }
+    }
+    true
+}
+
+/// The own members, with what another record heard of them. They are copied only where they differ
+/// from the other's in more than that.
+fn merged_own(own: &Members, other: Members) -> Result<Members, AllocError>
+    ensures { IfOk result (λ members. members ≡ merged_members own.now other) }
+{
+    if are_alike(own, &other) {
+        let mut members = other;
+        merge_members(&mut members, own);
+        return Ok(members);
+    }
+    let mut members = own.clone()?;
+    merge_members(&mut members, &other);
+    Ok(members)
+}
+
 fn home_stamp(kept: &Record) -> u64
     ensures { result ≡ home_stamp kept.now }
 {
@@ -100,17 +146,14 @@ fn home_stamp(kept: &Record) -> u64
 }
 
 /// Two records of one LRA, made into one. Members, links and the decision are those of the record
-/// that heard more of the home's own facts, and of these the own is copied, while the other's are
-/// moved.
+/// that heard more of the home's own facts.
 pub(crate) fn merge_records(own: &Record, other: Record) -> Result<Record, AllocError>
     ensures { IfOk result (λ r. r ≡ merged_record own.now other) }
 {
     let stamps = own.stamps.join(&other.stamps);
     let is_own_kept = home_stamp(&other) <= home_stamp(own);
     let (decision, members) = if is_own_kept {
-        let mut members = own.members.clone()?;
-        merge_members(&mut members, &other.members);
-        (own.decision, members)
+        (own.decision, merged_own(&own.members, other.members)?)
     } else {
         let mut members = other.members;
         merge_members(&mut members, &own.members);
