@@ -52,5 +52,5 @@ abbrev pub records_after : Changes → HomeRecords → List Record
 records_after changes own = changed_by changes.removed.items changes.records.records own.records
 
 -- they leave this record as it is: they have none with its number, and don't remove it
-abbrev pub is_left : Changes → Record → Bool
-is_left changes r = is_none (found_at changes.records.home changes.records.records r.num) && not (list_any (λ l. is_of l r) changes.removed.items)
+abbrev pub is_untouched : Changes → Record → Bool
+is_untouched changes r = is_none (found_at changes.records.home changes.records.records r.num) && not (list_any (λ l. is_of l r) changes.removed.items)

@@ -7,7 +7,7 @@ ghost use Rattle.lra_forest.specs.declared.record.Member.TheVariants.{Nested};
 ghost use Rattle.lra_forest.specs.declared.record.Place.{Place as PlaceRecord};
 ghost use Rattle.lra_forest.specs.Forests.{is_of};
 ghost use Rattle.lra_forest.specs.RecordMerges.{changed_by, without};
-ghost use Rattle.lra_forest.specs.Shape.{found_at, is_left, is_shallow, records_after, AreInShape, IsInPlace, IsNestedAt};
+ghost use Rattle.lra_forest.specs.Shape.{found_at, is_untouched, is_shallow, records_after, AreInShape, IsInPlace, IsNestedAt};
 
 use crate::{Changes, Forest, MAX_DEPTH, Member, Place, Record};
 use lra_id::{Front, LraId};
@@ -27,8 +27,8 @@ fn is_among(ids: &[LraId], kept: &Record) -> bool
 }
 
 /// Whether changes leave a record of the home as it is: they neither replace nor remove it.
-fn is_left(changes: &Changes, kept: &Record) -> bool
-    ensures { result ≡ is_left changes.now kept.now }
+fn is_untouched(changes: &Changes, kept: &Record) -> bool
+    ensures { result ≡ is_untouched changes.now kept.now }
 {
     if changes.records.numbered(kept.num).is_some() {
         return false;
@@ -183,10 +183,10 @@ impl Forest {
 
     /// Whether a record of the home has its place once the records are changed, if they leave it
     /// as it is. Only one that has no place is looked up among the changes.
-    fn is_fitting(&self, changes: &Changes, front: &Front, kept: &Record) -> bool
+    fn is_in_place_if_untouched(&self, changes: &Changes, front: &Front, kept: &Record) -> bool
         requires home { changes.now.records.home ≡ self.now.home }
         requires own { In kept.now self.now.records }
-        ensures { IsTrue result ↔ (is_left changes.now kept.now ≡ true → IsInPlace front.now
+        ensures { IsTrue result ↔ (is_untouched changes.now kept.now ≡ true → IsInPlace front.now
             self.now.home (records_after changes.now self.now) kept.now.num kept.now) }
     {
         // Calling `records` hands the prover that both are in order.
@@ -195,19 +195,19 @@ impl Forest {
         if self.is_in_place(changes, front, kept) {
             return true;
         }
-        !is_left(changes, kept)
+        !is_untouched(changes, kept)
     }
 
     /// Whether each record of the home that stays as it is has its place once the records are
     /// changed.
-    fn are_left_in_place(&self, changes: &Changes, front: &Front) -> bool
+    fn are_untouched_in_place(&self, changes: &Changes, front: &Front) -> bool
         requires { changes.now.records.home ≡ self.now.home }
         ensures { let after = records_after changes.now self.now
-            in IsTrue result ↔ AllByRecursion (λ r. is_left changes.now r ≡ true →
+            in IsTrue result ↔ AllByRecursion (λ r. is_untouched changes.now r ≡ true →
             IsInPlace front.now self.now.home after r.num r) self.now.records }
     {
         for record in self.records() {
-            if !self.is_fitting(changes, front, record) {
+            if !self.is_in_place_if_untouched(changes, front, record) {
                 return false;
             }
         }
@@ -277,6 +277,6 @@ impl Forest {
         if !self.is_few(changes) {
             return false;
         }
-        self.are_left_in_place(changes, front) && self.are_changes_in_place(changes, front)
+        self.are_untouched_in_place(changes, front) && self.are_changes_in_place(changes, front)
     }
 }
