@@ -1,11 +1,10 @@
-// Numbers and texts of a frame.
-ghost use Rattle.std.specs.Prelude.{◌≤◌, ◌≡◌, ◌+◌, length, IfOk};
+// Numbers of a frame.
+ghost use Rattle.std.specs.Prelude.{◌≡◌, ◌+◌, length, IfOk};
 ghost use Rattle.std.specs.Int.{w8, w16, w32, w64};
-ghost use Rattle.lra_delta.specs.FrameFields.{whole_at, cells_at};
+ghost use Rattle.lra_delta.specs.FrameFields.{whole_at};
 ghost use Rattle.lra_delta.specs.Seen.{Reads};
 
 use crate::input::{Input, Stop};
-use std::alloc::Global;
 
 /// A number of one byte.
 pub fn byte<I: Input>(input: &mut I) -> Result<u8, Stop>
@@ -53,19 +52,4 @@ pub fn number<I: Input>(input: &mut I) -> Result<u64, Stop>
     let place = input.place();
     input.fill(place, &mut buffer)?;
     Ok(u64::from_be_bytes(buffer))
-}
-
-/// So many bytes of the field that began at `first`.
-pub fn text<I: Input>(alloc: Global, first: u64, len: u8, input: &mut I) -> Result<Vec<u8>, Stop>
-    requires short { len ≤ 127 }
-    requires after { length (I.seen input.old).taken ≡ first + 1 }
-    ensures gives { Reads (I.seen input.old) (I.seen input.new)
-        (λ x. x.items) result (cells_at first len) }
-    ensures took { IfOk result (λ _. length (I.seen input.new).taken ≡ first + 1 + len) }
-    ensures long { IfOk result (λ x. length x.items ≡ len) }
-{
-    let mut buffer = [0u8; 127];
-    let field = &mut buffer[..len as usize];
-    input.fill(first, field)?;
-    Ok(Vec::from_slice(alloc, field)?)
 }

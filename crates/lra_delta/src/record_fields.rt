@@ -13,13 +13,13 @@ ghost use Rattle.lra_delta.specs.Reading.{after_at, decision_at, last_link_at, l
 ghost use Rattle.lra_facts.specs.Links.{links_together};
 ghost use Rattle.lra_delta.specs.declared.version.Version.TheVariants.{One, Two};
 
-use crate::fields::{byte, number, text};
+use crate::fields::{byte, number};
 use crate::input::{Input, Stop};
 use crate::links_read::LinksRead;
 use crate::marks::marks_of;
 use crate::order::Last;
 use crate::version::Version;
-use lra_facts::{Link, Links};
+use lra_facts::{Link, Links, MAX_LINK_BYTES};
 use lra_forest::{Member, Members, Participant, Place, Record, Told};
 use lra_id::{Front, NodeId, Verdict};
 use std::alloc::Global;
@@ -95,11 +95,13 @@ fn link_of<I: Input>(
     if !is_length_for(needed, allowed, len) {
         return Err(Stop::Fault(place));
     }
-    let text = text(alloc, place, len, input)?;
+    let mut buffer = [0u8; MAX_LINK_BYTES];
+    let text = &mut buffer[..len as usize];
+    input.fill(place, text)?;
     if text.is_empty() {
         return Ok(None);
     }
-    match links.link(alloc, &text)? {
+    match links.link(alloc, text)? {
         Some(link) => Ok(Some(link)),
         None => Err(Stop::Fault(place)),
     }
