@@ -34,14 +34,16 @@ exit 99
 # What rt prints of a build that takes a moment, and what the program says to words that it doesn't take.
 BUILD = """#!/bin/sh
 echo 'statements std: modules loaded=1 checked=0'
-echo 'rt: chose --jobs 2 for lra_low'
 echo 'so far: 3 of 8 functions checked'
 sleep 0.3
-echo '{last}' >&2
-exit 2
+case "$1 $(basename "$PWD")" in
+'lib {fails}') echo 'error: not proved'; exit 1 ;;
+'run '*) echo '{last}' >&2; exit 2 ;;
+esac
 """
 # An rt that builds the program of its folder, which tells its words and hands on its input.
 BUILD_ANOTHER = """#!/bin/sh
+if [ "$1" = lib ]; then exit; fi
 name=$(basename "$PWD")
 mkdir out
 cat >"out/$name" <<'END'
@@ -176,20 +178,21 @@ class TestWords(checks.Checked):
 
     def test_progress(self) -> None:
         """What is said while the program is proved, and what where it isn't built."""
-        os.makedirs(f"{self.folder}/crates/lra_node")
+        for name in ("lra_node", "lra_low", "lra_lowest"):
+            os.makedirs(f"{self.folder}/crates/{name}")
         listed = "# Crates\nlra_node: lra_low url\nlra_low: lra_lowest\nlra_lowest: uuid\ntest_low: lra_low\n"
         repo.write(f"{self.folder}/crates.txt", listed)
         below = repo.below("lra_node", repo.crates(self.folder))
         self.check("crates come as they are built", below == ["lra_lowest", "lra_low"], below)
-        lasts = [("usage: lra_node script N", True), ("usage: lra_member I", False)]
-        lasts.append(("rt: the library lra_low did not build", False))
-        for last, is_built in lasts:
-            self.write_rt(BUILD.format(last=last))
+        usage, other, refused = "usage: lra_node script N", "usage: lra_member I", "error: not proved"
+        for last, fails, shown in ((usage, "none", ""), (other, "none", other), (usage, "lra_low", refused)):
+            self.write_rt(BUILD.format(last=last, fails=fails))
             ended, errors = self.proved_quickly()
             line = re.search(r"^coordinator: lra_low \(2 of 3\), 3 of 8 functions, \d+ min \d+ s$", errors, re.M)
             self.check("it says which crate is proved", line, errors)
-            is_so = (ended == "", last in errors) == (is_built, not is_built)
-            self.check("it says whether the program was built", is_so, ended + errors)
+            at = "lra_low" if shown == refused else "lra_node"
+            is_so = f"in crates/{at} to see why" in ended and shown in errors if shown else ended == ""
+            self.check("it says whether the program was built, and where it wasn't", is_so, ended + errors)
 
     def proved_quickly(self) -> tuple[str, str]:
         """How a proof of the folder's program ends, and what is said meanwhile, at each tenth of a second."""
@@ -215,6 +218,8 @@ class TestWords(checks.Checked):
         for file in [*files, *(f"crates/{name}/src/main.rt" for name in ("lra_node", "lra_member"))]:
             os.makedirs(os.path.dirname(f"{self.folder}/{file}"), exist_ok=True)
             shutil.copy(f"{TOP}/{file}", f"{self.folder}/{file}")
+        for name in repo.crates():
+            os.makedirs(f"{self.folder}/crates/{name}", exist_ok=True)
 
     def test_builds(self) -> None:
         """A copy of ./coordinator builds the program once for a text, becomes it, and never runs that of another

@@ -16,6 +16,10 @@ from tools.repo import TOP
 PARTS = ("crates.txt", "crates/*/src/**/*.rt", "crates/*/specs/**/*.antt")
 # Seconds from one line on a build to the next.
 EACH = 15
+# A crate is proved by so many jobs at most, where so much memory is free. rt itself takes two for a crate high up: it
+# counts on more memory than they need.
+JOBS = 4
+ROOM = 18 << 30
 
 
 def say(text: str) -> None:
@@ -61,39 +65,52 @@ def need_rt() -> None:
         raise SystemExit(f"coordinator: {why}")
 
 
-def stage(line: str, crates: list[str], now: str) -> str:
-    """What the build is at, by a line of rt: which crate, and how far it is with that."""
-    chosen = re.match(r"rt: chose --jobs \d+ for (\w+)$", line)
-    if chosen and chosen[1] in crates:
-        return f"{chosen[1]} ({crates.index(chosen[1]) + 1} of {len(crates)})"
-    counted = re.match(r"so far: (\d+ of \d+ functions)", line)
-    return f"{now.split(',')[0]}, {counted[1]}" if counted else now
+def jobs() -> list[str]:
+    """The words that have rt share a proof among processors, where there is memory for that."""
+    with open("/proc/meminfo", encoding="ascii") as file:
+        free = re.search(r"^MemAvailable: +(\d+) kB$", file.read(), re.M)
+    if not free or int(free[1]) << 10 < ROOM:
+        return []
+    return ["--jobs", str(min(JOBS, len(os.sched_getaffinity(0))))]
 
 
-def prove(name: str, top: str = TOP) -> None:
-    """Has rt prove and build a program. It is built if it has answered: to words that it doesn't take, with its
-    usage."""
-    say("building. This proves every crate once, which takes about three quarters of an hour on four processors.")
-    crates = [*repo.below(name, repo.crates(top)), name]
-    last, progress = collections.deque[str](maxlen=12), Progress("reading all crates")
-    words = ["rt", "run", "--", "serve", "0", "0", "."]
-    build = subprocess.Popen(words, cwd=f"{top}/crates/{name}", stdin=subprocess.DEVNULL, stdout=subprocess.PIPE,
-                             stderr=subprocess.STDOUT, text=True, errors="replace")
+def run_rt(words: list[str], folder: str, progress: Progress) -> tuple[int, list[str]]:
+    """Runs rt in a crate's folder, and tells how far it is. What comes of it: the status, and the last lines."""
+    last, what = collections.deque[str](maxlen=12), progress.what
+    run = subprocess.Popen(["rt", *words], cwd=folder, stdin=subprocess.DEVNULL, stdout=subprocess.PIPE,
+                           stderr=subprocess.STDOUT, text=True, errors="replace")
 
     def read() -> None:
-        for line in build.stdout or ():
+        for line in run.stdout or ():
             last.append(line)
-            progress.what = stage(line, crates, progress.what)
+            counted = re.match(r"so far: (\d+ of \d+ functions)", line)
+            if counted:
+                progress.what = f"{what}, {counted[1]}"
 
-    with build:
+    with run:
         reader = threading.Thread(target=read)
         reader.start()
         while reader.is_alive():
             reader.join(0.2)
             progress.tick()
-    if not any(line.startswith(f"usage: {name}") for line in last):
-        sys.stderr.writelines(last)
-        raise SystemExit(f"coordinator: the program was not built: run 'rt check' in crates/{name} to see why")
+    return run.returncode, list(last)
+
+
+def prove(name: str, top: str = TOP) -> None:
+    """Has rt prove and build a program, and first each crate below it, the lowest first: else rt would read the
+    sources of all for some minutes before it proves one. The program is built if it has answered: to words that it
+    doesn't take, with its usage."""
+    say("building. This proves every crate once, which takes about three quarters of an hour on four processors.")
+    below = repo.below(name, repo.crates(top))
+    progress = Progress("")
+    for number, crate in enumerate([*below, name], 1):
+        progress.what = f"{crate} ({number} of {len(below) + 1})"
+        words = ["run", *jobs(), "--", "serve", "0", "0", "."] if crate == name else ["lib", *jobs()]
+        status, last = run_rt(words, f"{top}/crates/{crate}", progress)
+        is_built = any(line.startswith(f"usage: {name}") for line in last) if crate == name else status == 0
+        if not is_built:
+            sys.stderr.writelines(last)
+            raise SystemExit(f"coordinator: the program was not built: run 'rt check' in crates/{crate} to see why")
 
 
 def proved(name: str) -> str:
