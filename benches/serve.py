@@ -22,6 +22,7 @@ from tools.ports import HOST
 PORT = 18600
 NGINX = 18610
 PARTICIPANT = 18611
+CLIENT_PARTICIPANT = 18612
 LINK = f"http://{HOST}:{PARTICIPANT}/k"
 # How many commits a whole LRA of two participants is: begin, two joins, close, two reports, purge.
 LIFE = 7
@@ -42,13 +43,18 @@ def started(nodes: int, folder: str) -> Server:
     return Server(nodes, folder, range(PORT, PORT + nodes), stderr=None)
 
 
-def tell_rate(what: str, seconds: list[float], count: float, clients: int) -> float:
-    """A line of the table: how many a second, the median and the 99th percentile in milliseconds."""
-    each = sorted(seconds)
-    middle, late = statistics.median(each) * 1000, each[min(len(each) - 1, len(each) * 99 // 100)] * 1000
-    rate = f"{what:44} {clients} at a time {count:9,.0f}/s"
-    print(f"{rate}   median {middle:7.2f} ms   99% {late:7.2f} ms", flush=True)
-    return count
+class Rate(typing.NamedTuple):
+    """How many a second, and of one the median and the 99th percentile in milliseconds."""
+
+    count: float
+    middle: float
+    late: float
+
+
+def tell_rate(what: str, rate: Rate, clients: int) -> None:
+    """A line of the table."""
+    count = f"{what:44} {clients} at a time {rate.count:9,.0f}/s"
+    print(f"{count}   median {rate.middle:7.2f} ms   99% {rate.late:7.2f} ms", flush=True)
 
 
 def many(clients: int, times: int, act: Callable[[], object]) -> tuple[list[float], float]:
@@ -70,7 +76,7 @@ def many(clients: int, times: int, act: Callable[[], object]) -> tuple[list[floa
     return spans, clients * times / (time.perf_counter() - start)
 
 
-def commits(folder: str, clients: int, times: int) -> tuple[list[float], float]:
+def commits(folder: str, clients: int, times: int) -> Rate:
     """One-row commits by the C library: WAL, synchronous FULL, one connection a client."""
     path = f"{folder}/commits.db"
     local = threading.local()
@@ -88,7 +94,9 @@ def commits(folder: str, clients: int, times: int) -> tuple[list[float], float]:
             local.base = connect()
         local.base.execute("INSERT INTO t (b) VALUES (?)", (b"x" * 100,))
 
-    return many(clients, times, act)
+    spans, count = many(clients, times, act)
+    each = sorted(spans)
+    return Rate(count, statistics.median(each) * 1000, each[len(each) * 99 // 100] * 1000)
 
 
 def bare(server: Server, method: str, path: str, node: int = 1, body: str = "") -> bytes:
@@ -106,38 +114,18 @@ def begun(server: Server) -> str:
     return repo.found(r"urn:uuid:([0-9a-f-]+)", bare(server, "POST", "/lra").decode())[1]
 
 
-def begins_and_closes(server: Server, clients: int, times: int) -> tuple[list[float], float]:
-    """Each pair is two durable calls. What it closed it purges, so that the home doesn't fill."""
-    ended: list[str] = []
-
-    def act() -> None:
-        lra = begun(server)
-        if not bare(server, "PUT", f"/lra/{lra}/close").startswith(b"HTTP/1.1 200 "):
-            raise SystemExit(f"{lra} isn't closed")
-        ended.append(lra)
-
-    spans, rate = many(clients, times // clients, act)
-    for lra in ended:
-        server.purge(1, lra)
-    return spans, rate
+def built_client(folder: str) -> str:
+    """The client of client.c, built."""
+    program = f"{folder}/client"
+    subprocess.run(["cc", "-O2", "-pthread", "-o", program, f"{repo.TOP}/benches/client.c"], check=True)
+    return program
 
 
-def lives(server: Server, clients: int, times: int) -> tuple[list[float], float]:
-    """Whole LRAs: each is begun, joined by two participants, closed, shown until it is Closed, and purged. Both answer
-    their calls at once."""
-    links = json.dumps({"compensate": LINK, "complete": LINK})
-
-    def act() -> None:
-        lra = begun(server)
-        for _ in range(2):
-            bare(server, "PUT", f"/lra/{lra}/join", body=links)
-        bare(server, "PUT", f"/lra/{lra}/close")
-        while b'"Closed"' not in bare(server, "GET", f"/lra/{lra}"):
-            time.sleep(0.0005)
-        if not bare(server, "DELETE", f"/lra/{lra}").startswith(b"HTTP/1.1 204 "):
-            raise SystemExit(f"{lra} isn't purged")
-
-    return many(clients, times // clients, act)
+def lras(client: str, clients: int, what: str) -> Rate:
+    """LRAs by the client of client.c: begun and closed, or whole lives."""
+    words = [client, str(PORT), str(CLIENT_PARTICIPANT), str(clients), "240", what]  # a home holds 256
+    said = subprocess.run(words, stdout=subprocess.PIPE, check=True, text=True).stdout
+    return Rate(*map(float, said.split()))
 
 
 class Measured(typing.NamedTuple):
@@ -183,20 +171,15 @@ def statuses(server: Server, folder: str) -> None:
         nginx.wait()
 
 
-def durable(server: Server, folder: str) -> None:
+def durable(client: str, folder: str) -> None:
     """Begins and closes, and whole LRAs, beside commits of the C library."""
-    for clients in (1, 8):
-        spans, rate = begins_and_closes(server, clients, 240)  # a home holds 256
-        calls = tell_rate("a begin and a close (two commits)", spans, rate, clients) * 2
-        spans, rate = commits(folder, clients, 480 // clients)
-        tell_rate("one-row commits of the C library", spans, rate, clients)
-        print(f"  ratio of commits a second {calls / rate:.2f}")
-    for clients in (1, 8):
-        spans, rate = lives(server, clients, 240)
-        calls = tell_rate("a whole LRA (seven commits)", spans, rate, clients) * LIFE
-        spans, rate = commits(folder, clients, 480 // clients)
-        tell_rate("one-row commits of the C library", spans, rate, clients)
-        print(f"  ratio of commits a second {calls / rate:.2f}")
+    kinds = {"pairs": ("a begin and a close (two commits)", 2), "lives": (f"a whole LRA ({LIFE} commits)", LIFE)}
+    for kind, (what, of_one) in kinds.items():
+        for clients in (1, 8):
+            ours, theirs = lras(client, clients, kind), commits(folder, clients, 480 // clients)
+            tell_rate(what, ours, clients)
+            tell_rate("one-row commits of the C library", theirs, clients)
+            print(f"  ratio of commits a second {ours.count * of_one / theirs.count:.2f}")
 
 
 def takes_calls(called: list[float]) -> None:
@@ -260,7 +243,7 @@ def main() -> int:
     with tempfile.TemporaryDirectory() as place:
         with started(1, f"{place}/a") as server:
             print(f"resident memory, 1 node with nothing {memory_of(server.process, 'VmRSS'):30,.0f} MiB", flush=True)
-            durable(server, place)
+            durable(built_client(place), place)
             statuses(server, place)
             server.end()
         with started(2, f"{place}/b") as server:
