@@ -100,7 +100,7 @@ def prove(name: str, top: str = TOP) -> None:
     """Has rt prove and build a program, and first each crate below it, the lowest first: else rt would read the
     sources of all for some minutes before it proves one. The program is built if it has answered: to words that it
     doesn't take, with its usage."""
-    say("building. This proves every crate once, which takes about three quarters of an hour on four processors.")
+    say("building. This proves every crate once, which takes 45 to 60 minutes on four processors.")
     below = repo.below(name, repo.crates(top))
     progress = Progress("")
     for number, crate in enumerate([*below, name], 1):
