@@ -1,5 +1,5 @@
-// A client and a participant that take next to no time themselves, in place of Python's, which take longer than the
-// server: client PORT PARTICIPANT CLIENTS COUNT pairs|lives. Each of the clients begins and closes LRAs at the server
+// A client and a participant that take next to no time themselves, where in Python they take 1.6 ms for each whole
+// LRA: client PORT PARTICIPANT CLIENTS COUNT pairs|lives. Each of the clients begins and closes LRAs at the server
 // of PORT, one after another and all together COUNT of them. With `pairs` nobody joins them, and they are purged once
 // all are measured. With `lives` each is joined by two participants at the port PARTICIPANT, which answer at once, is
 // shown until it is Closed, and purged. It prints how many there were a second, and of one the median and the 99th
