@@ -17,9 +17,9 @@ PARTS = ("crates.txt", "crates/*/src/**/*.rt", "crates/*/specs/**/*.antt")
 # Seconds from one line on a build to the next.
 EACH = 15
 # A crate is proved by so many jobs at most, where so much memory is free. rt itself takes two for a crate high up: it
-# counts on more memory than they need.
+# counts on more memory than they need. Four took 8.4 GB at most.
 JOBS = 4
-ROOM = 18 << 30
+ROOM = 12 << 30
 
 
 def say(text: str) -> None:
