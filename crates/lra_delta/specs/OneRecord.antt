@@ -1,5 +1,6 @@
 -- One record alone, as a journal keeps it: under a front, with base zero and no live list.
 use Rattle.std.specs.Prelude.{◌≤◌, ◌<◌, ◌^◌, ◌==◌, ℕ, List, [], None, Result, Ok, Err, if◌then◌else◌, length, replicate}
+use Rattle.lra_id.specs.declared.TheConstants.{MAX_NODES}
 use Rattle.lra_id.specs.Fronts.{count}
 use Rattle.lra_forest.specs.declared.record.Record.{Record}
 use Rattle.lra_delta.specs.declared.input.Stop.{Stop}
@@ -16,7 +17,7 @@ under v front = told_context v (replicate (length front) 0) front []
 -- The record keeps the rules under this front, of at most 8 nodes and with numbers of 48 bits: it is of one of the nodes, and
 -- would keep those of a frame with base zero
 pub record KeepsRulesUnder (front : List ℕ) (kept : Record) : Type 0 where
-  pub few : length front ≤ 8
+  pub few : length front ≤ MAX_NODES
   pub small : (node : ℕ) → count front node < 2 ^ 48
   pub some : 1 ≤ kept.home
   pub high : kept.home ≤ length front

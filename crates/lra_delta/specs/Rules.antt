@@ -2,7 +2,10 @@
 use Rattle.std.specs.Prelude.{◌≡◌, ◌+◌, ◌-◌, ◌*◌, ◌^◌, ◌<◌, ◌&&◌, ◌||◌, ◌==◌, ℕ, List, [], ◌∷◌, Bool, true, Option, Some, None, length, is_none, is_some, nat_lt, nat_le, slice_index, filter, map, if◌then◌else◌}
 use mathlib.Core.Bool.{not}
 use Rattle.std.specs.List.{list_any, list_all, AllByRecursion, zip}
+use Rattle.lra_id.specs.declared.TheConstants.{MAX_NODES}
 use Rattle.lra_id.specs.Ids.{last_number}
+use Rattle.lra_forest.specs.declared.record.TheConstants.{MAX_MEMBERS}
+use Rattle.lra_forest.specs.declared.shape.TheConstants.{MAX_HELD}
 use Rattle.lra_forest.specs.declared.record.Place.{Place}
 use Rattle.lra_forest.specs.declared.record.Participant.{Participant as ParticipantRecord}
 use Rattle.lra_forest.specs.declared.record.Member.{Member}
@@ -29,7 +32,7 @@ abbrev pub is_above : ℕ → ℕ → Bool
 is_above num n = nat_le 1 n && nat_lt n num
 
 abbrev pub is_slot : ℕ → Bool
-is_slot s = nat_le 1 s && nat_le s 32
+is_slot s = nat_le 1 s && nat_le s MAX_MEMBERS
 
 pub record IsPlace (num : ℕ) (p : Place) : Type 0 where
   pub number : is_above num p.number ≡ true
@@ -109,12 +112,12 @@ next_nested last (Participant p) = last
 next_nested last Left = last
 
 abbrev pub is_member_count : ℕ → Bool
-is_member_count n = nat_le n 32
+is_member_count n = nat_le n MAX_MEMBERS
 
 -- counts
 
 abbrev pub is_node_count : ℕ → Bool
-is_node_count n = nat_le 1 n && nat_le n 8
+is_node_count n = nat_le 1 n && nat_le n MAX_NODES
 
 abbrev pub are_counts : List ℕ → Bool
 are_counts ns = list_all (λ n. nat_le n last_number) ns
@@ -132,7 +135,7 @@ abbrev pub is_live_mark : ℕ → ℕ → ℕ → Bool
 is_live_mark base purge t = t == (if nat_lt base purge then 1 else 0)
 
 abbrev pub is_live_count : ℕ → Bool
-is_live_count n = nat_le n 256
+is_live_count n = nat_le n MAX_HELD
 
 abbrev pub is_live_number : ℕ → ℕ → ℕ → Bool
 is_live_number count last n = nat_lt last n && nat_le n count
@@ -162,7 +165,7 @@ is_among (Some ns) num = list_any (λ n. n == num) ns
 is_among None num = true
 
 abbrev pub is_next : Last → ℕ → ℕ → Bool
-is_next last home num = if last.home == home then nat_lt last.num num && nat_lt last.count 256 else true
+is_next last home num = if last.home == home then nat_lt last.num num && nat_lt last.count MAX_HELD else true
 
 abbrev pub is_number : Context → Last → ℕ → ℕ → Bool
 is_number k last home num =
@@ -191,7 +194,7 @@ abbrev pub after : Last → Record → Last
 after last r = record { home = r.home; num = r.num; count = (if last.home == r.home then last.count + 1 else 1) }
 
 abbrev pub is_record_count : ℕ → ℕ → Bool
-is_record_count nodes n = nat_le n (256 * nodes)
+is_record_count nodes n = nat_le n (MAX_HELD * nodes)
 
 abbrev pub context : Version → Frame → Context
 context v d = record { version = v; base = d.base; front = d.front; lives = d.live }

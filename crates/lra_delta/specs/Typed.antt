@@ -1,6 +1,7 @@
 -- What the types of a delta say of its numbers and links, which are plain lists here.
 use Rattle.std.specs.Prelude.{◌≡◌, ◌≤◌, ◌<◌, ◌^◌, true, length}
 use Rattle.std.specs.List.{All}
+use Rattle.lra_id.specs.declared.TheConstants.{MAX_NODES}
 use Rattle.lra_facts.specs.Links.{Links, are_links}
 use Rattle.lra_forest.specs.declared.record.Member.{Member}
 use Rattle.lra_forest.specs.declared.record.Member.TheVariants.{Nested, Participant, Left}
@@ -30,5 +31,5 @@ pub record IsTypedRecord (r : Record) : Type 0 where
 -- 1 to 8 nodes
 pub record IsTyped (frame : Frame) : Type 0 where
   pub some : 1 ≤ length frame.front
-  pub few : length frame.front ≤ 8
+  pub few : length frame.front ≤ MAX_NODES
   pub records : All (All IsTypedRecord) frame.records

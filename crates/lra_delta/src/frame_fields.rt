@@ -1,6 +1,7 @@
 // The fields of a frame before and after its records.
 ghost use Rattle.std.specs.Prelude.{[], ◌≡◌, ◌++◌, ◌∷◌, ◌+◌, ◌-◌, ◌*◌, ◌≤◌, ◌<◌, ◌==◌, ℕ, Option, length, slice_index, slice_set, IfOk, OnOk};
 ghost use Rattle.std.specs.Int.{w8, w32, w64};
+ghost use Rattle.lra_id.specs.declared.TheConstants.{MAX_NODES};
 ghost use Rattle.lra_forest.specs.RecordMerges.{held_numbers};
 ghost use Rattle.lra_forest.specs.declared.merging.Told.{Told};
 ghost use Rattle.std.specs.List.{AllByRecursion};
@@ -36,7 +37,7 @@ fn are_counts(ns: &[u64]) -> bool
 #[tactic(auto, unfolding(crate::specs::FrameFields::vector_at))]
 fn base_of<I: Input>(nodes: u8, input: &mut I) -> Result<Front, Stop>
     requires some { 1 ≤ nodes }
-    requires few { nodes ≤ 8 }
+    requires few { nodes ≤ MAX_NODES }
     ensures gives { Reads (I.seen input.old) (I.seen input.new)
         (λ x. x) result (vector_at nodes are_counts) }
     ensures nodes { IfOk result (λ x. length x ≡ nodes) }
@@ -52,7 +53,7 @@ fn base_of<I: Input>(nodes: u8, input: &mut I) -> Result<Front, Stop>
 #[tactic(auto, unfolding(crate::specs::FrameFields::vector_at))]
 fn front_of<I: Input>(nodes: u8, base: &Front, input: &mut I) -> Result<Front, Stop>
     requires some { 1 ≤ nodes }
-    requires few { nodes ≤ 8 }
+    requires few { nodes ≤ MAX_NODES }
     ensures gives { Reads (I.seen input.old) (I.seen input.new)
         (λ x. x) result (vector_at nodes (is_front base.now)) }
     ensures nodes { IfOk result (λ x. length x ≡ nodes) }
@@ -68,7 +69,7 @@ fn front_of<I: Input>(nodes: u8, base: &Front, input: &mut I) -> Result<Front, S
 #[tactic(auto, unfolding(crate::specs::FrameFields::vector_at))]
 fn purges_of<I: Input>(nodes: u8, front: &Front, input: &mut I) -> Result<Front, Stop>
     requires some { 1 ≤ nodes }
-    requires few { nodes ≤ 8 }
+    requires few { nodes ≤ MAX_NODES }
     ensures gives { Reads (I.seen input.old) (I.seen input.new)
         (λ x. x) result (vector_at nodes (at_most front.now)) }
     ensures nodes { IfOk result (λ x. length x ≡ nodes) }
@@ -150,7 +151,7 @@ fn live_of<I: Input>(
 }
 
 fn home_at(place: u8) -> NodeId
-    requires { place < 8 }
+    requires { place < MAX_NODES }
     ensures { result ≡ place + 1 }
 {
     match NodeId::new(place + 1) {
@@ -167,7 +168,7 @@ fn told_of<I: Input>(
     front: &Front,
     input: &mut I,
 ) -> Result<Told, Stop>
-    requires { place < 8 }
+    requires { place < MAX_NODES }
     ensures gives { Reads (I.seen input.old) (I.seen input.new)
         (λ (told : Told). held_numbers told.held) result (read_live_at
         (slice_index base.now place) (slice_index purges.now place) (slice_index front.now place)) }
@@ -191,7 +192,7 @@ fn each_home<I: Input>(
     front: &Front,
     input: &mut I,
 ) -> Result<Vec<Told>, Stop>
-    requires { nodes ≤ 8 }
+    requires { nodes ≤ MAX_NODES }
     ensures gives { Reads (I.seen input.old) (I.seen input.new) (λ x. lists x.items) result
         (each_at (live_of_place base.now purges.now front.now) next_place nodes 0) }
     ensures empty { IfOk result (λ x. AreEmpty nodes x.items) }
@@ -314,7 +315,7 @@ fn nodes_of<I: Input>(input: &mut I) -> Result<u8, Stop>
     ensures gives { Reads (I.seen input.old) (I.seen input.new)
         (λ x. x) result (number_at w8 is_node_count) }
     ensures some { IfOk result (λ x. 1 ≤ x) }
-    ensures few { IfOk result (λ x. x ≤ 8) }
+    ensures few { IfOk result (λ x. x ≤ MAX_NODES) }
 {
     let place = input.place();
     let nodes = byte(input)?;

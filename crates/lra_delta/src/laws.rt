@@ -1,5 +1,6 @@
 // Laws of frames: each function but one does nothing, and its contract is the law.
 ghost use Rattle.std.specs.Prelude.{◌++◌, ◌≡◌, ◌≤◌, ℕ, List, Ok, true, false, length, nat_lt};
+ghost use Rattle.lra_id.specs.declared.TheConstants.{MAX_NODES};
 ghost use Rattle.lra_id.specs.Ids.{Id};
 ghost use Rattle.lra_id.specs.Fronts.{IsBelow, count, join_fronts};
 ghost use Rattle.lra_facts.specs.declared.fact.Fact.{Fact};
@@ -87,7 +88,8 @@ pub fn frames_of_a_history_keep_the_rules()
 #[tactic(auto, using(crate::proofs::FrameSizes::frame_most))]
 pub fn frames_are_not_too_long()
     ensures { (version : Version) (frame : Frame) →
-        IsOfGrammar frame → length frame.front ≤ 8 → IsShort frame → frame_size version frame ≤ 67108855 }
+        IsOfGrammar frame → length frame.front ≤ MAX_NODES → IsShort frame →
+        frame_size version frame ≤ 67108855 }
 {}
 
 /// What keeps the rules that the frames of nodes of a history keep, and has the types of a delta,
@@ -108,7 +110,8 @@ pub fn frames_of_a_history_have_an_encoding()
 pub fn records_of_a_history_have_an_encoding()
     ensures fit { (h : History) (w : List ℕ) (view : View) (home : ℕ) (kept : Record) →
         IsLawful h → IsClosed h w →
-        StandsFor (facts h w) view → length view.front ≤ 8 → 1 ≤ home → home ≤ length view.front →
+        StandsFor (facts h w) view → length view.front ≤ MAX_NODES →
+        1 ≤ home → home ≤ length view.front →
         In kept (records_at view.records home) → KeepsRulesUnder view.front kept }
     ensures rules { (front : List ℕ) (kept : Record) →
         IsTypedRecord kept → KeepsRulesUnder front kept → IsRecordUnder front kept }

@@ -2,6 +2,7 @@
 ghost use Rattle.std.specs.Prelude.{[], ◌≡◌, ◌+◌, ◌-◌, ◌*◌, ◌≤◌, ◌<◌, ◌==◌, ℕ, length, true, false, is_none, is_some, Some, IfOk};
 ghost use Rattle.std.specs.Int.{w8, w64};
 ghost use Rattle.std.specs.List.{list_any};
+ghost use Rattle.lra_id.specs.declared.TheConstants.{MAX_NODES};
 ghost use Rattle.lra_id.specs.Fronts.{count};
 ghost use Rattle.lra_forest.specs.RecordMerges.{held_numbers};
 ghost use Rattle.lra_delta.specs.Order.{Follows};
@@ -317,7 +318,7 @@ fn members_of<I: Input>(
 /// So many numbers, at most as many as there can be nodes.
 fn each_number<I: Input>(count: u8, input: &mut I) -> Result<Front, Stop>
     requires some { 1 ≤ count }
-    requires few { count ≤ 8 }
+    requires few { count ≤ MAX_NODES }
     ensures gives { Reads (I.seen input.old) (I.seen input.new)
         (λ x. x) result (each_at (λ (s : ℕ). whole_at w64) (λ (s x : ℕ). s) count 0) }
     ensures took { IfOk result
@@ -334,7 +335,7 @@ fn each_number<I: Input>(count: u8, input: &mut I) -> Result<Front, Stop>
 #[tactic(auto, unfolding(crate::specs::FrameFields::many_at))]
 pub(crate) fn many_of<I: Input>(count: u8, input: &mut I) -> Result<Front, Stop>
     requires some { 1 ≤ count }
-    requires few { count ≤ 8 }
+    requires few { count ≤ MAX_NODES }
     ensures gives { Reads (I.seen input.old) (I.seen input.new) (λ x. x) result (many_at count) }
     ensures count { IfOk result (λ x. length x ≡ count) }
     ensures took { IfOk result
@@ -399,7 +400,7 @@ fn is_number(front: &Front, homes: &[Told], last: Last, home: NodeId, num: u64) 
 }
 
 fn home_of<I: Input>(nodes: usize, last: u8, input: &mut I) -> Result<NodeId, Stop>
-    requires { nodes ≤ 8 }
+    requires { nodes ≤ MAX_NODES }
     ensures gives { Reads (I.seen input.old) (I.seen input.new)
         (λ x. x) result (number_at w8 (is_home nodes last)) }
     ensures rule { IfOk result (λ home. is_home nodes last home ≡ true) }

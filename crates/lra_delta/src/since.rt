@@ -1,5 +1,6 @@
 // What a replica tells since a base, out of its index by stamp.
 ghost use Rattle.std.specs.Prelude.{◌≡◌, ◌⊎◌, ◌<◌, ℕ, List, Err, None, Some, IfErr, IfOk, OnOk, find, if◌then◌else◌, length, map, nat_lt};
+ghost use Rattle.lra_id.specs.declared.TheConstants.{MAX_NODES};
 ghost use Rattle.lra_id.specs.Fronts.{IsBelow, count};
 ghost use Rattle.lra_id.specs.Ids.{Id, same_id};
 ghost use Rattle.lra_facts.specs.declared.fact.Fact.{Fact};
@@ -150,7 +151,7 @@ fn tell_beyond(
 fn tell_all(told: &mut Vec<Told>, replica: &Replica, base: &Front) -> Result<(), AllocError>
     requires { AreHomes (length replica.now.homes) (homes_told told.old.items) }
     ensures { OnOk result (AreTold
-        (λ l. is_newer_to 8 base.now (stamps_of (view_of replica.now) l))
+        (λ l. is_newer_to MAX_NODES base.now (stamps_of (view_of replica.now) l))
         replica.now.homes told.old.items told.new.items) }
 {
     for place in 0..MAX_NODES {

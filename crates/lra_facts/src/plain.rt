@@ -4,7 +4,7 @@ ghost use Rattle.std.specs.Prelude.{◌≡◌, ◌↔◌, IsTrue, ◌+◌, ◌&&
 ghost use mathlib.Core.Bool.{not};
 ghost use Rattle.std.specs.List.{list_any, AllByRecursion};
 ghost use Rattle.std.specs.Option.{option_copied};
-ghost use Rattle.lra_facts.specs.Sets.{IsNumbered, NamesEarlier, begins, begins_held, is_begun, parent_of, parent_named, links_of, joined_links, member_status, is_participant, demands, is_demanded, gives_number, numbers_given, depth, is_heard, chain, held_at, is_decided, is_decision, want, is_under, is_held, is_purged_root, is_purge, has_left, is_leave, heard, reported, status_by, joined_status, shows, some_shows, shows_now, is_open, status};
+ghost use Rattle.lra_facts.specs.Sets.{IsNumbered, NamesEarlier, begins, begins_held, is_begun, parent_of, parent_named, links_of, joined_links, member_status, demands, is_demanded, gives_number, numbers_given, depth, chain, held_at, is_decided, is_decision, want, is_under, is_held, is_purged_root, is_purge, has_left, is_leave, heard, reported, status_by, joined_status, shows, some_shows, shows_now, is_open, status};
 ghost use Rattle.lra_id.specs.States.{same_member_status, shown};
 
 use crate::{Body, Fact, Links};
@@ -490,13 +490,6 @@ fn links(facts: &[Fact], id: LraId, member: u8) -> Option<&Links>
     None
 }
 
-/// Whether a participant joined with this number and did not leave.
-pub fn is_participant(facts: &[Fact], id: LraId, member: u8) -> bool
-    ensures { result ≡ is_participant facts.now id member }
-{
-    links(facts, id, member).is_some() && !left(facts, id, member)
-}
-
 /// Whether a want demands an act of a participant with these links.
 pub fn demands(want: Option<Verdict>, links: &Links, act: Act) -> bool
     ensures { result ≡ demands want links.now act }
@@ -515,16 +508,6 @@ pub fn is_demanded(facts: &[Fact], id: LraId, member: u8, act: Act) -> bool
 {
     match links(facts, id, member) {
         Some(links) => demands(want_of(facts, id), links, act),
-        None => false,
-    }
-}
-
-/// Whether this outcome of an act of a participant was heard, or a greater one.
-pub fn is_heard(facts: &[Fact], id: LraId, member: u8, act: Act, outcome: Outcome) -> bool
-    ensures { result ≡ is_heard facts.now id member act outcome }
-{
-    match greatest_report(facts, id, member, act) {
-        Some(greatest) => greatest.is_at_least(outcome),
         None => false,
     }
 }

@@ -6,8 +6,8 @@ use lra_id::{Front, LraId, LraStatus, NodeId};
 use std::alloc::AllocError;
 use std::fmt;
 
-/// Why a call was refused, in the order in which refusals are looked for. A refused call changes
-/// nothing.
+/// Why a call was refused. A refused call changes nothing. docs/FORMATS.md has the order in which
+/// they are looked for.
 #[derive(Clone, Copy, Debug, PartialEq, Eq)]
 pub enum Refusal {
     /// E1: a text, link, number or body breaks its grammar.

@@ -4,13 +4,14 @@ use Rattle.lra_id.specs.Ids.{Id}
 use Rattle.lra_facts.specs.declared.fact.Fact.{Fact}
 use Rattle.lra_facts.specs.Sets.{gives_number}
 use Rattle.lra_facts.specs.Lists.{In}
+use Rattle.lra_forest.specs.declared.record.TheConstants.{MAX_MEMBERS}
 use Rattle.lra_forest.specs.Records.{givers}
 use Rattle.lra_forest.specs.Standing.{AreOnce}
 
 -- what is asked of a list of facts for its records to be made: each fact has an origin and a number of its own, and each
 -- LRA has at most 32 members, whose numbers its home gives
 pub record IsRecordable (S : List Fact) : Type 0 where
-  pub few : (l : Id) → length (givers S l) ≤ 32
+  pub few : (l : Id) → length (givers S l) ≤ MAX_MEMBERS
   pub once : AreOnce S
   pub givers : (f : Fact) (l : Id) → In f S → gives_number l f.body ≡ true → f.origin ≡ l.home
 

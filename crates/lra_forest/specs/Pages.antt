@@ -2,6 +2,7 @@
 use Rattle.std.specs.Prelude.{◌≡◌, ◌⊎◌, ◌+◌, ◌-◌, ◌*◌, ◌<◌, ◌≤◌, ℕ, max, zero, suc, List, [], ◌∷◌, ◌++◌, Bool, true, false, get_or, nat_lt, length, set, slice_get}
 use Rattle.std.specs.List.{AllByRecursion}
 use Rattle.std.specs.Option.{option_map_or}
+use Rattle.lra_forest.specs.declared.page.TheConstants.{PAGE_ROOM}
 use Rattle.lra_forest.specs.declared.record.Record.{Record}
 
 -- the records of some pages, and their room: so many more fit without asking for memory
@@ -70,7 +71,7 @@ FitsAt num (suc at) ((r ∷ rs) ∷ ps) = AllByRecursion (λ (q : Record). q.num
 -- The page at this place has room, each before it has records, and none behind it has any; or it is the next one to be added
 abbrev pub IsLastSeat : ℕ → List (List Record) → Type 0
 IsLastSeat zero [] = Unit {0}
-IsLastSeat zero (p ∷ ps) = (length p < 32) × (records_in ps ≡ [])
+IsLastSeat zero (p ∷ ps) = (length p < PAGE_ROOM) × (records_in ps ≡ [])
 IsLastSeat (suc at) [] = ⊥
 IsLastSeat (suc at) ([] ∷ ps) = ⊥
 IsLastSeat (suc at) ((r ∷ rs) ∷ ps) = IsLastSeat at ps
@@ -81,5 +82,5 @@ pub record IsSeat (num at : ℕ) (old new : List (List Record)) : Type 0 where
   pub same : records_in new ≡ records_in old
   pub last : AreEmptyLast new
   pub fits : FitsAt num at new
-  pub room : length (get_or new at []) < 32
+  pub room : length (get_or new at []) < PAGE_ROOM
   pub spare : (q : List Record) → 1 ≤ length q → length q ≤ length (get_or new at []) + 1 → room_in old ≤ room_in (set new at q) + 1

@@ -15,6 +15,7 @@ use Rattle.lra_id.specs.declared.status.MemberStatus.{MemberStatus}
 use Rattle.lra_id.specs.declared.status.MemberStatus.TheVariants.{FailedToComplete, FailedToCompensate}
 use Rattle.lra_facts.specs.Duties.{has_to_forget, wants_cancel}
 use Rattle.lra_facts.specs.Sets.{demands, is_open}
+use Rattle.lra_forest.specs.declared.forest.TheConstants.{MAX_DEPTH}
 use Rattle.lra_forest.specs.declared.duties.Due.{Due}
 use Rattle.lra_forest.specs.declared.record.Member.{Member}
 use Rattle.lra_forest.specs.declared.record.Member.TheVariants.{Nested, Participant, Left}
@@ -49,10 +50,10 @@ wanted_by chain =
 
 -- what the LRA with this number wants: a chain has at most 8, and what is above those is not looked at
 abbrev pub want_at : (ℕ → Option Record) → ℕ → Option Verdict
-want_at at num = wanted_by (records_up 8 at num)
+want_at at num = wanted_by (records_up MAX_DEPTH at num)
 
 abbrev pub depth_at : (ℕ → Option Record) → ℕ → ℕ
-depth_at at num = length (records_up 8 at num)
+depth_at at num = length (records_up MAX_DEPTH at num)
 
 -- the LRA of the home that its record names as its parent, if it names one with a number that a fact can have
 abbrev pub parent_at : ℕ → (ℕ → Option Record) → ℕ → Option Id
@@ -112,11 +113,11 @@ is_root_at at num = option_map_or (λ (r : Record). is_none r.parent) (at num) f
 
 -- a root is met among the first 8 of its chain, and that is ended
 abbrev pub is_over_at : (ℕ → Option Record) → ℕ → Bool
-is_over_at at num = list_any (λ (r : Record). is_none r.parent && is_ended_at at r.num) (records_up 8 at num)
+is_over_at at num = list_any (λ (r : Record). is_none r.parent && is_ended_at at r.num) (records_up MAX_DEPTH at num)
 
 -- the LRA with the first number is met among the first 8 of the chain of the LRA with the second
 abbrev pub is_under_at : (ℕ → Option Record) → (above num : ℕ) → Bool
-is_under_at at above num = list_any (λ (r : Record). r.num == above) (records_up 8 at num)
+is_under_at at above num = list_any (λ (r : Record). r.num == above) (records_up MAX_DEPTH at num)
 
 -- the record's LRA has a number that a fact can have, and is the one with this number or nested in it
 abbrev pub is_below : (ℕ → Option Record) → ℕ → Record → Bool
@@ -144,7 +145,7 @@ is_forgot_at at num m = option_map_or (λ (p : ParticipantRecord). p.forgotten) 
 
 -- a root is met among the first 8 of its chain, and that wants something
 abbrev pub is_root_decided_at : (ℕ → Option Record) → ℕ → Bool
-is_root_decided_at at num = list_any (λ (r : Record). is_none r.parent && is_some (want_at at r.num)) (records_up 8 at num)
+is_root_decided_at at num = list_any (λ (r : Record). is_none r.parent && is_some (want_at at r.num)) (records_up MAX_DEPTH at num)
 
 -- it is ended, and no later decision changes what it shows
 abbrev pub is_at_end_at : (ℕ → Option Record) → ℕ → Bool

@@ -5,6 +5,8 @@ use Rattle.std.specs.List.{list_any}
 use Rattle.std.specs.Option.{option_map_or}
 use Rattle.lra_id.specs.Fronts.{IsBelow}
 use Rattle.lra_facts.specs.Lists.{In}
+use Rattle.lra_forest.specs.declared.forest.TheConstants.{MAX_DEPTH}
+use Rattle.lra_forest.specs.declared.shape.TheConstants.{MAX_HELD}
 use Rattle.lra_forest.specs.declared.record.Member.TheVariants.{Nested}
 use Rattle.lra_forest.specs.declared.record.Place.{Place}
 use Rattle.lra_forest.specs.declared.record.Record.{Record}
@@ -35,7 +37,7 @@ pub record IsNestedAt (home : ℕ) (records : List Record) (num : ℕ) (place : 
 pub record IsInPlace (front : List ℕ) (home : ℕ) (records : List Record) (num : ℕ) (r : Record) : Type 0 where
   pub parent : (place : Place) → r.parent ≡ Some place → IsNestedAt home records num place
   pub nested : (child : ℕ) → In (Nested child) r.members → is_some (found_at home records child) ≡ true
-  pub shallow : is_shallow 8 home records num ≡ true
+  pub shallow : is_shallow MAX_DEPTH home records num ≡ true
   pub stamps : IsBelow r.stamps front
 
 -- of the LRA with this number the record has its place, if there is one
@@ -44,7 +46,7 @@ IsInPlaceAt front home records num = (r : Record) → found_at home records num 
 
 -- there are no more than 256, and each has its place
 pub record AreInShape (front : List ℕ) (home : ℕ) (records : List Record) : Type 0 where
-  pub few : length records ≤ 256
+  pub few : length records ≤ MAX_HELD
   pub in_place : (num : ℕ) → IsInPlaceAt front home records num
 
 -- the records of a home once they are changed

@@ -8,6 +8,7 @@ use Rattle.lra_facts.specs.Links.{Links}
 use Rattle.lra_facts.specs.declared.refusal.Refusal.{Refusal}
 use Rattle.lra_facts.specs.declared.refusal.Refusal.TheVariants.{NotHeld}
 use Rattle.lra_facts.specs.Sets.{is_held, is_begun, parent_of, depth, gives_number, member_number, NamesEarlier}
+use Rattle.lra_forest.specs.declared.forest.TheConstants.{MAX_DEPTH}
 use Rattle.lra_forest.specs.declared.record.Record.{Record}
 use Rattle.lra_forest.specs.Records.{record_of}
 use Rattle.lra_forest.specs.Forests.{is_of}
@@ -40,4 +41,4 @@ pub record IsSeated (S : List Fact) : Type 0 where
 -- no LRA is nested deeper than 8
 pub record IsNested (S : List Fact) : Type 0 where
   pub once : AreOnce S
-  pub shallow : (l : Id) → is_begun S l ≡ true → depth S l ≤ 8
+  pub shallow : (l : Id) → is_begun S l ≡ true → depth S l ≤ MAX_DEPTH

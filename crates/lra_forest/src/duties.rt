@@ -7,6 +7,7 @@ ghost use Rattle.lra_facts.specs.declared.fact.Fact.{Fact};
 ghost use Rattle.lra_facts.specs.declared.refusal.Refusal.TheVariants.{NotHeld};
 ghost use Rattle.lra_facts.specs.Duties.{has_to_compensate, has_to_forget, is_after_duty, is_compensation_due, is_forget_duty, is_pending, wants_cancel};
 ghost use Rattle.lra_facts.specs.Sets.{IsNumbered};
+ghost use Rattle.lra_forest.specs.declared.forest.TheConstants.{MAX_DEPTH};
 ghost use Rattle.lra_forest.specs.declared.record.Record.{Record};
 ghost use Rattle.lra_forest.specs.Dues.{AreAll, IsDueAt, is_before, is_complete_duty, is_topmost_before};
 ghost use Rattle.lra_forest.specs.Forests.{AreOf, is_of};
@@ -305,7 +306,7 @@ impl Forest {
 
     fn root_met(&self, num: u64) -> Option<u64>
         ensures { (passes : ℕ → Bool) → list_any (λ (r : Record). is_none r.parent && passes r.num)
-            (records_up 8 (found_at self.now.home self.now.records) num)
+            (records_up MAX_DEPTH (found_at self.now.home self.now.records) num)
             ≡ option_map_or passes result false }
     {
         let mut at = num;

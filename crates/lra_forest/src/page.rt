@@ -2,6 +2,7 @@
 ghost use Rattle.std.specs.Prelude.{◌≡◌, ◌↔◌, ◌+◌, ◌≤◌, ◌<◌, ◌==◌, ◌++◌, ◌∷◌, [], None, Some, false, true, IfOk, IsTrue, OnOk, drop, filter, is_some, length, nat_lt, slice_get, vec_capacity, vec_len};
 ghost use mathlib.Core.Bool.{not};
 ghost use Rattle.std.specs.Option.{option_copied};
+ghost use Rattle.lra_forest.specs.declared.page.TheConstants.{PAGE_ROOM};
 ghost use Rattle.lra_forest.specs.Forests.{IsAscending};
 ghost use Rattle.lra_forest.specs.Pages.{lies_below};
 ghost use Rattle.lra_forest.specs.Places.{count_below, put_record, with_number};
@@ -22,13 +23,14 @@ pub(crate) struct Page {
 
 impl Model for Page {
     ghost use Rattle.std.specs.Prelude.{◌≤◌, List, vec_capacity, vec_len};
+    ghost use Rattle.lra_forest.specs.declared.page.TheConstants.{PAGE_ROOM};
     ghost use Rattle.lra_forest.specs.declared.record.Record.{Record};
 
     ghost Value = { List Record };
 
     ghost view = { λ p. p.records.items };
 
-    ghost invariant = { λ p. (vec_len p.records ≤ 32) × (32 ≤ vec_capacity p.records) };
+    ghost invariant = { λ p. (vec_len p.records ≤ PAGE_ROOM) × (PAGE_ROOM ≤ vec_capacity p.records) };
 }
 
 fn place_of(records: &[Record], num: u64) -> usize
@@ -136,7 +138,7 @@ impl Page {
     }
 
     fn push_copy(&mut self, kept: &Record) -> Result<(), AllocError>
-        requires { length self.old < 32 }
+        requires { length self.old < PAGE_ROOM }
         ensures { OnOk result (self.new ≡ self.old ++ kept.now ∷ []) }
     {
         self.records.push(kept.clone()?)?;
@@ -146,7 +148,7 @@ impl Page {
     /// The records in order of their numbers.
     pub(crate) fn as_slice(&self) -> &[Record]
         ensures records { result.now ≡ self.now }
-        ensures few { length result.now ≤ 32 }
+        ensures few { length result.now ≤ PAGE_ROOM }
     {
         &self.records
     }
@@ -159,8 +161,8 @@ impl Page {
     }
 
     pub(crate) fn is_full(&self) -> bool
-        ensures full { IsTrue result → length self.now ≡ 32 }
-        ensures room { result ≡ false → length self.now < 32 }
+        ensures full { IsTrue result → length self.now ≡ PAGE_ROOM }
+        ensures room { result ≡ false → length self.now < PAGE_ROOM }
     {
         self.records.len() == PAGE_ROOM
     }
@@ -201,7 +203,7 @@ impl Page {
 
     /// Puts a record behind the others. The page is not full.
     pub(crate) fn push(&mut self, added: Record)
-        requires { length self.old < 32 }
+        requires { length self.old < PAGE_ROOM }
         ensures { self.new ≡ self.old ++ added ∷ [] }
     {
         self.records.push_reserved(added);
@@ -210,7 +212,7 @@ impl Page {
     /// Puts a record in its place. The page is not full.
     pub(crate) fn put(&mut self, added: Record)
         requires order { IsAscending self.old }
-        requires room { length self.old < 32 }
+        requires room { length self.old < PAGE_ROOM }
         ensures records { self.new ≡ put_record added self.old }
         ensures len { length self.new ≤ length self.old + 1 }
     {
@@ -241,7 +243,7 @@ impl Page {
 
     /// Moves all but the first 16 records to an empty page.
     pub(crate) fn part(&mut self, upper: &mut Page)
-        requires full { length self.old ≡ 32 }
+        requires full { length self.old ≡ PAGE_ROOM }
         requires empty { upper.old ≡ [] }
         ensures records { self.new ++ upper.new ≡ self.old }
         ensures lower { length self.new ≡ 16 }
@@ -253,9 +255,9 @@ impl Page {
 
 /// Moves all but the first 16 of 32 records.
 fn part_records(lower: &mut Vec<Record>, upper: &mut Vec<Record>)
-    requires full { vec_len lower.old ≡ 32 }
+    requires full { vec_len lower.old ≡ PAGE_ROOM }
     requires empty { vec_len upper.old ≡ 0 }
-    requires room { 32 ≤ vec_capacity upper.old }
+    requires room { PAGE_ROOM ≤ vec_capacity upper.old }
     ensures items { lower.new.items ++ upper.new.items ≡ lower.old.items }
     ensures lower { vec_len lower.new ≡ 16 }
     ensures upper { vec_len upper.new ≡ 16 }

@@ -4,6 +4,7 @@ ghost use mathlib.Core.Bool.{not};
 ghost use Rattle.std.specs.List.{insert, remove};
 ghost use Rattle.std.specs.Iterator.{YieldsFirst, YieldsFirstRef, item_count};
 ghost use Rattle.std.specs.Option.{option_copied};
+ghost use Rattle.lra_forest.specs.declared.page.TheConstants.{PAGE_ROOM};
 ghost use Rattle.lra_forest.specs.Forests.{IsAscending};
 ghost use Rattle.lra_forest.specs.Pages.{AreEmptyLast, FitsAt, IsLastSeat, IsPageOf, IsSeat, Reaches, empty_pages, lies_below, records_in, room_in, weight_in};
 ghost use Rattle.lra_forest.specs.Places.{count_below, put_record, with_number};
@@ -96,7 +97,7 @@ fn seat_on_half(pages: &mut Vec<Page>, at: usize, num: u64) -> usize
     requires last { AreEmptyLast pages.old.items }
     requires spare { 1 ≤ empty_pages pages.old.items }
     requires fits { FitsAt num at pages.old.items }
-    requires full { length (get_or pages.old.items at []) ≡ 32 }
+    requires full { length (get_or pages.old.items at []) ≡ PAGE_ROOM }
     requires reached { Reaches num (get_or pages.old.items at []) }
     requires order { IsAscending (records_in pages.old.items) }
     ensures len { vec_len pages.new ≡ vec_len pages.old }

@@ -2,6 +2,7 @@
 ghost use Rattle.std.specs.Prelude.{◌≡◌, ◌+◌, ◌<◌, ◌≤◌, ◌&&◌, ◌==◌, ◌^◌, IfOk, Some, None, map, find, nat_lt, if◌then◌else◌};
 ghost use Rattle.std.specs.List.{AllByRecursion};
 ghost use Rattle.std.specs.Option.{option_copied};
+ghost use Rattle.lra_id.specs.declared.TheConstants.{MAX_NODES};
 ghost use Rattle.lra_id.specs.Ids.{Id};
 ghost use Rattle.lra_facts.specs.Sets.{begins, begins_held, begun_by, gives_number, is_begin, member_number, parent_of, IsNumbered, NamesEarlier};
 ghost use Rattle.lra_facts.specs.Duties.{has_forgot, has_told, is_forgot, is_told_of};
@@ -243,7 +244,7 @@ fn members(alloc: Global, facts: &[Fact], id: LraId) -> Result<Members, AllocErr
 
 fn stamps(facts: &[Fact], id: LraId, nodes: usize) -> Front
     requires some { 1 ≤ nodes }
-    requires few { nodes ≤ 8 }
+    requires few { nodes ≤ MAX_NODES }
     ensures { result ≡ map (stamp facts.now id) (nodes_to nodes) }
 {
     let mut front = Front::zero(nodes);
@@ -264,7 +265,7 @@ pub fn record_of(
     nodes: usize,
 ) -> Result<Record, AllocError>
     requires some { 1 ≤ nodes }
-    requires few { nodes ≤ 8 }
+    requires few { nodes ≤ MAX_NODES }
     requires numbered { AllByRecursion IsNumbered facts.now }
     ensures home { IfOk result (λ entry. entry.home ≡ id.home) }
     ensures entry { IsRecordable facts.now →

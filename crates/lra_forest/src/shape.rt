@@ -3,6 +3,8 @@ ghost use Rattle.std.specs.Prelude.{◌≡◌, ◌↔◌, ◌≤◌, ℕ, Some, 
 ghost use Rattle.std.specs.List.{list_any, AllByRecursion};
 ghost use Rattle.std.specs.Option.{option_copied};
 ghost use Rattle.lra_facts.specs.Lists.{In};
+ghost use Rattle.lra_forest.specs.declared.forest.TheConstants.{MAX_DEPTH};
+ghost use Rattle.lra_forest.specs.declared.shape.TheConstants.{MAX_HELD};
 ghost use Rattle.lra_forest.specs.declared.record.Member.TheVariants.{Nested};
 ghost use Rattle.lra_forest.specs.declared.record.Place.{Place as PlaceRecord};
 ghost use Rattle.lra_forest.specs.Forests.{is_of};
@@ -96,7 +98,7 @@ impl Forest {
         requires { changes.now.records.home ≡ self.now.home }
         ensures { let after = records_after changes.now self.now
             in found_at self.now.home after kept.now.num ≡ Some kept.now →
-            result ≡ is_shallow 8 self.now.home after kept.now.num }
+            result ≡ is_shallow MAX_DEPTH self.now.home after kept.now.num }
     {
         match kept.parent {
             Some(place) => self.is_shallow_within(changes, place.number, MAX_DEPTH - 1),
@@ -247,7 +249,7 @@ impl Forest {
     /// are added.
     fn is_few(&self, changes: &Changes) -> bool
         requires { changes.now.records.home ≡ self.now.home }
-        ensures { IsTrue result ↔ length (records_after changes.now self.now) ≤ 256 }
+        ensures { IsTrue result ↔ length (records_after changes.now self.now) ≤ MAX_HELD }
     {
         // Calling `records` hands the prover that both are in order.
         let _ = self.records();

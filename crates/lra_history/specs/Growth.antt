@@ -12,6 +12,8 @@ use Rattle.lra_facts.specs.declared.fact.Fact.{Fact}
 use Rattle.lra_facts.specs.Links.{Links}
 use Rattle.lra_facts.specs.Sets.{IsNumbered, depth, is_begun, is_purge, numbers_given}
 use Rattle.lra_facts.specs.Lists.{In}
+use Rattle.lra_forest.specs.declared.forest.TheConstants.{MAX_DEPTH}
+use Rattle.lra_forest.specs.declared.record.TheConstants.{MAX_MEMBERS}
 use Rattle.lra_forest.specs.declared.record.Member.{Member}
 use Rattle.lra_forest.specs.declared.record.Member.TheVariants.{Nested, Participant, Left}
 use Rattle.lra_forest.specs.declared.record.Place.{Place}
@@ -40,8 +42,8 @@ names_member l m _ = false
 pub record IsSettled (S : List Fact) : Type 0 where
   pub whole : IsWhole S
   pub seated : IsSeated S
-  pub shallow : (l : Id) → is_begun S l ≡ true → depth S l ≤ 8
-  pub few : (l : Id) → numbers_given S l ≤ 32
+  pub shallow : (l : Id) → is_begun S l ≡ true → depth S l ≤ MAX_DEPTH
+  pub few : (l : Id) → numbers_given S l ≤ MAX_MEMBERS
   pub numbered : (f : Fact) → In f S → IsNumbered f
   pub named : (f : Fact) (l : Id) → In f S → is_named l f.body ≡ true → is_begun S l ≡ true
   pub purged : (f : Fact) (l : Id) → In f S → is_purge l f.body ≡ true → is_begun S l ≡ true

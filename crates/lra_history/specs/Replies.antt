@@ -17,6 +17,9 @@ use Rattle.lra_facts.specs.declared.refusal.Refusal.TheVariants.{DepthFull, Lras
 use Rattle.lra_facts.specs.Duties.{has_forgot, has_told, is_after_duty, is_forget_duty, is_untold}
 use Rattle.lra_facts.specs.Refusals.{unless, first, unknown, away, spent}
 use Rattle.lra_facts.specs.Sets.{begun_by, depth, held_at, is_demanded, is_ended, is_heard, is_held, is_participant, is_root, member_status, numbers_given, shows_now, want}
+use Rattle.lra_forest.specs.declared.forest.TheConstants.{MAX_DEPTH}
+use Rattle.lra_forest.specs.declared.record.TheConstants.{MAX_MEMBERS}
+use Rattle.lra_forest.specs.declared.shape.TheConstants.{MAX_HELD}
 use Rattle.lra_forest.specs.declared.duties.Due.{Due}
 use Rattle.lra_forest.specs.Dues.{least_due}
 use Rattle.lra_facts.specs.declared.command.Command.{Command}
@@ -93,15 +96,15 @@ unasked_by t l m act = unless (t.demanded l m act) (NotDue (t.shows l))
 
 -- it gave its last member number
 abbrev pub full_by : Reading → Id → Option Refusal
-full_by t l = unless (nat_lt (t.numbers l) 32) MembersFull
+full_by t l = unless (nat_lt (t.numbers l) MAX_MEMBERS) MembersFull
 
 -- nothing may be nested in it, as deep as it is
 abbrev pub deep_by : Reading → Id → Option Refusal
-deep_by t l = unless (nat_lt (t.depth l) 8) DepthFull
+deep_by t l = unless (nat_lt (t.depth l) MAX_DEPTH) DepthFull
 
 -- the node holds as many LRAs of its own as it may
 abbrev pub crowded_by : Reading → ℕ → Option Refusal
-crowded_by t node = unless (nat_lt (t.held_at node) 256) LrasFull
+crowded_by t node = unless (nat_lt (t.held_at node) MAX_HELD) LrasFull
 
 -- it is not to be told to forget, and was not told
 abbrev pub unowed_by : Reading → Id → ℕ → Option Refusal

@@ -2,6 +2,7 @@
 use Rattle.std.specs.Prelude.{◌≡◌, ◌≤◌, ◌<◌, ◌+◌, ◌*◌, ◌^◌, ℕ, Bool, ◌==◌, ◌&&◌, nat_le, nat_lt, List, ◌++◌, Some, length, take, replicate, codes}
 use Rattle.std.specs.Int.{to_be_bytes, w16, w64}
 use Rattle.std.specs.Fmt.{decimal}
+use Rattle.lra_id.specs.declared.TheConstants.{MAX_NODES}
 use Rattle.uuid.specs.Text.{parsed, hyphenated_text, lower}
 
 -- a home, and the number of a begin there
@@ -11,7 +12,7 @@ pub record Id : Type 0 where
 
 -- there are at most eight nodes, numbered from 1
 abbrev pub IsNodeNumber : ℕ → Type 0
-IsNodeNumber n = (1 ≤ n) × (n ≤ 8)
+IsNodeNumber n = (1 ≤ n) × (n ≤ MAX_NODES)
 
 -- the greatest number of a fact, 2 ^ 48 - 1
 -- (proofs reckon with 2 ^ 48: `IsFactNumber`)

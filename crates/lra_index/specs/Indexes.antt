@@ -1,5 +1,6 @@
 -- What an index holds.
 use Rattle.std.specs.Prelude.{◌≡◌, ◌↔◌, ◌≤◌, ◌<◌, ◌+◌, ◌-◌, ◌^◌, ◌==◌, ℕ, IfSome, Option, Some, None, List, [], ◌∷◌, length, map, min, nat_lt, slice_index_or, if◌then◌else◌}
+use Rattle.lra_id.specs.declared.TheConstants.{MAX_NODES}
 use Rattle.lra_id.specs.Ids.{Id, same_id}
 use Rattle.lra_id.specs.Fronts.{count}
 use Rattle.lra_index.specs.declared.entry.Entry.{Entry}
@@ -42,7 +43,7 @@ entries_at origins origin = slice_index_or origins (origin - 1) []
 -- at each origin that there is, and the stamps are of at most eight nodes
 pub record AreIndexesOf (origins : List (List Entry)) (stamps : Id → Option (List ℕ)) : Type 0 where
   pub each : (origin : ℕ) → 1 ≤ origin → origin ≤ length origins → IsIndexOf origin (entries_at origins origin) stamps
-  pub few : (l : Id) → IfSome (stamps l) (λ v. length v ≤ 8)
+  pub few : (l : Id) → IfSome (stamps l) (λ v. length v ≤ MAX_NODES)
 
 -- what is known, with these stamps of one LRA
 abbrev pub with_stamps : Id → Option (List ℕ) → (Id → Option (List ℕ)) → Id → Option (List ℕ)

@@ -1,5 +1,6 @@
 // The index of what is known, by stamp.
 ghost use Rattle.std.specs.Prelude.{◌≡◌, ◌+◌, ◌≤◌, ◌<◌, ◌↔◌, ℕ, List, [], IfOk, IfSome, IsSome, None, Option, OnOk, filter, length, nat_lt, replicate};
+ghost use Rattle.lra_id.specs.declared.TheConstants.{MAX_NODES};
 ghost use Rattle.lra_id.specs.Ids.{Id};
 ghost use Rattle.lra_index.specs.declared.entry.Entry.{Entry as Fields};
 ghost use Rattle.lra_index.specs.Entries.{In, id_of};
@@ -54,7 +55,7 @@ fn stamp_at(stamps: &Option<Front>, place: usize) -> u64
 
 /// A front counts at most eight nodes.
 fn are_few(stamps: &Option<Front>)
-    ensures { IfSome stamps.now (λ v. length v ≤ 8) }
+    ensures { IfSome stamps.now (λ v. length v ≤ MAX_NODES) }
 {
     if let Some(front) = stamps {
         let _ = front.nodes();

@@ -1,6 +1,7 @@
 // The body of a pull.
 ghost use Rattle.std.specs.Prelude.{◌≡◌, ◌++◌, ◌≤◌, ◌*◌, ℕ, List, Ok, IfErr, IfOk, OnOk, length};
 ghost use Rattle.std.specs.Int.{from_be_bytes, w64};
+ghost use Rattle.lra_id.specs.declared.TheConstants.{MAX_NODES};
 ghost use Rattle.lra_facts.specs.declared.refusal.Refusal.TheVariants.{BadFrame};
 ghost use Rattle.lra_delta.specs.Rules.{are_counts};
 ghost use Rattle.lra_delta.specs.Encoding.{vector};
@@ -44,7 +45,7 @@ fn number_in(bytes: &[u8]) -> u64
 /// So many numbers of 8 bytes each, from the start of the bytes.
 fn counts_in(nodes: usize, bytes: &[u8]) -> Front
     requires some { 1 ≤ nodes }
-    requires few { nodes ≤ 8 }
+    requires few { nodes ≤ MAX_NODES }
     requires there { 8 * nodes ≤ length bytes.now }
     ensures value { result ≡ counts_in nodes bytes.now }
     ensures nodes { length result ≡ nodes }
@@ -68,7 +69,7 @@ fn are_counts(counts: &[u64]) -> bool
 /// The front that all of the bytes encode, behind the count of nodes.
 fn front_in(nodes: usize, bytes: &[u8]) -> Result<Front, Refusal>
     requires some { 1 ≤ nodes }
-    requires few { nodes ≤ 8 }
+    requires few { nodes ≤ MAX_NODES }
     ensures value { result ≡ front_in nodes bytes.now }
     ensures nodes { IfOk result (λ front. length front ≡ nodes) }
     ensures cause { IfErr result (λ refusal. (place : ℕ) × (refusal ≡ BadFrame place)) }
@@ -88,7 +89,7 @@ fn front_in(nodes: usize, bytes: &[u8]) -> Result<Front, Refusal>
 
 fn front_of_body(nodes: usize, body: &[u8]) -> Result<Front, Refusal>
     requires some { 1 ≤ nodes }
-    requires few { nodes ≤ 8 }
+    requires few { nodes ≤ MAX_NODES }
     ensures value { result ≡ asked nodes body.now }
     ensures nodes { IfOk result (λ front. length front ≡ nodes) }
     ensures cause { IfErr result (λ refusal. (place : ℕ) × (refusal ≡ BadFrame place)) }
@@ -107,7 +108,7 @@ fn front_of_body(nodes: usize, body: &[u8]) -> Result<Front, Refusal>
 /// whole or has a count of more than 48 bits, and just past the front where bytes are left over.
 pub fn front_of_pull(nodes: usize, body: &[u8]) -> Result<Front, Refusal>
     requires some { 1 ≤ nodes }
-    requires few { nodes ≤ 8 }
+    requires few { nodes ≤ MAX_NODES }
     // Which front, or which place, it is.
     ensures exact { result ≡ asked nodes body.now }
     // It is a place, whatever else refusals may be.

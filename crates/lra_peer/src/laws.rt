@@ -1,6 +1,7 @@
 // Laws of pulls: each function does nothing, and its contract is the law.
 ghost use Rattle.std.specs.Prelude.{◌≡◌, ◌++◌, ◌≤◌, ℕ, List, Ok, codes, length};
 ghost use Rattle.httparse.specs.Grammar.{RequestHead};
+ghost use Rattle.lra_id.specs.declared.TheConstants.{MAX_NODES};
 ghost use Rattle.lra_id.specs.Fronts.{IsBelow, join_fronts};
 ghost use Rattle.lra_history.specs.Histories.{History, IsClosed, IsLawful, facts};
 ghost use Rattle.lra_history.specs.ViewShape.{HasShape};
@@ -25,13 +26,13 @@ pub fn a_pull_is_the_union()
     ensures some { (h : History) (v w front : List ℕ) (own other : View) (frame : Frame) →
         IsLawful h → IsClosed h v → IsClosed h w → StandsFor (facts h v) own →
         StandsFor (facts h w) other → length own.front ≡ length other.front →
-        length own.front ≤ 8 → IsAsked (length own.front) front → IsBelow front own.front →
+        length own.front ≤ MAX_NODES → IsAsked (length own.front) front → IsBelow front own.front →
         Serves other (asked (length other.front) (pull_body front)) (Ok frame) →
         IsBelow frame.base own.front × ((taken : View) × IsTaken own frame taken × HasShape taken) }
     ensures union { (h : History) (v w front : List ℕ) (own other taken : View) (frame : Frame) →
         IsLawful h → IsClosed h v → IsClosed h w → StandsFor (facts h v) own →
         StandsFor (facts h w) other → length own.front ≡ length other.front →
-        length own.front ≤ 8 → IsAsked (length own.front) front → IsBelow front own.front →
+        length own.front ≤ MAX_NODES → IsAsked (length own.front) front → IsBelow front own.front →
         Serves other (asked (length other.front) (pull_body front)) (Ok frame) →
         IsTaken own frame taken → StandsFor (facts h (join_fronts v w)) taken }
 {}
@@ -39,7 +40,7 @@ pub fn a_pull_is_the_union()
 /// The text of a pull from a front of 1 to 8 nodes is one whole request, with the front as its
 /// body, for a reader whose limit is at least 65 bytes.
 pub fn a_pull_is_a_whole_request()
-    ensures { (limit : ℕ) (front rest : List ℕ) → 65 ≤ limit → length front ≤ 8 →
+    ensures { (limit : ℕ) (front rest : List ℕ) → 65 ≤ limit → length front ≤ MAX_NODES →
         (h : RequestHead) × IsRequest limit (pull_text front ++ rest) h (pull_body front) rest
         × (h.method ≡ codes "POST") × (h.target ≡ codes "/peer/pull") }
 {}

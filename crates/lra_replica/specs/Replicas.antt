@@ -2,6 +2,7 @@
 use Rattle.std.specs.Prelude.{◌≡◌, ◌≤◌, ◌+◌, ◌-◌, ◌==◌, ℕ, Option, List, [], ◌∷◌, length, map, filter, find, replicate, slice_get}
 use Rattle.std.specs.List.{AllByRecursion}
 use Rattle.std.specs.Option.{option_map, option_map_or}
+use Rattle.lra_id.specs.declared.TheConstants.{MAX_NODES}
 use Rattle.lra_id.specs.Ids.{Id}
 use Rattle.lra_forest.specs.declared.record.Record.{Record}
 use Rattle.lra_forest.specs.Forests.{AreOf, HomeRecords, is_of}
@@ -50,7 +51,7 @@ pub record IsReplicaState (kept : ReplicaState) : Type 0 where
   pub homes : length kept.homes ≡ length kept.front
   pub numbered : AreHomesFrom 1 kept.homes
   pub ordered : AllByRecursion (λ (home : HomeRecords). AreOf home.home home.records) kept.homes
-  pub origins : length kept.index.origins ≡ 8
+  pub origins : length kept.index.origins ≡ MAX_NODES
   pub indexed : AreIndexesOf kept.index.origins (stamps_of (view_of kept))
 
 -- how many records there is room for at a home

@@ -1,5 +1,6 @@
 // Pages of what a node holds.
 ghost use Rattle.std.specs.Prelude.{◌≡◌, ◌≤◌, ◌∷◌, [], List, None, Some, IfErr, IfOk, if◌then◌else◌, length};
+ghost use Rattle.lra_id.specs.declared.TheConstants.{MAX_NODES};
 ghost use Rattle.lra_id.specs.Ids.{is_fact_number};
 ghost use Rattle.lra_facts.specs.declared.refusal.Refusal.TheVariants.{NoMemory};
 ghost use Rattle.lra_forest.specs.declared.record.Record.{Record};
@@ -82,7 +83,7 @@ impl Replica {
 
     fn nodes(&self) -> usize
         ensures count { result ≡ length self.now.front }
-        ensures few { result ≤ 8 }
+        ensures few { result ≤ MAX_NODES }
         ensures state { IsReplicaState self.now }
     {
         // Calling `homes` hands the prover what holds of every replica's state.
