@@ -1,6 +1,7 @@
 -- What is asked of the tables and of a view, so that rows that stand for it are never refused.
 use Rattle.std.specs.Prelude.{◌≤◌, ◌<◌, ◌^◌, ℕ, length}
 use Rattle.sqlite.specs.Tree.{Trees, IsTable}
+use Rattle.lra_id.specs.declared.TheConstants.{MAX_NODES}
 use Rattle.lra_id.specs.Fronts.{count}
 use Rattle.lra_forest.specs.declared.record.Record.{Record}
 use Rattle.lra_history.specs.Views.{View}
@@ -20,7 +21,7 @@ pub record AreTables (db : Trees) : Type 0 where
 -- The view keeps the rules by which rows of a version are read: it is of at most 8 nodes and has counts of 48 bits, each of its
 -- records keeps those of records under its front, and it has the shape
 pub record KeepsRulesAs (v : Version) (view : View) : Type 0 where
-  pub few : length view.front ≤ 8
+  pub few : length view.front ≤ MAX_NODES
   pub small : (node : ℕ) → count view.front node < 2 ^ 48
   pub records : (r : Record) → IsHeld view r → IsRecordUnderAs v view.front r
   pub shape : HasShape view

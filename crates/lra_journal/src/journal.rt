@@ -4,6 +4,7 @@ ghost use Rattle.sqlite.specs.Held.{state};
 ghost use Rattle.sqlite.specs.State.{HasCleanDisk, Survives};
 ghost use Rattle.sqlite_disk.specs.Disk.{MoreFaults};
 ghost use Rattle.sqlite.specs.Tree.{Trees};
+ghost use Rattle.lra_id.specs.declared.TheConstants.{MAX_NODES};
 ghost use Rattle.lra_facts.specs.declared.refusal.Refusal.TheVariants.{BadFrame, JournalFailed, NoMemory};
 ghost use Rattle.lra_history.specs.Changes.{patched};
 ghost use Rattle.lra_history.specs.Views.{View, empty_view};
@@ -66,7 +67,7 @@ impl<S: Alter> Journal<S> {
         nodes: usize,
     ) -> Result<(Journal<S>, Replica), (Refusal, Connection<S>)>
         requires some { 1 ≤ nodes }
-        requires few { nodes ≤ 8 }
+        requires few { nodes ≤ MAX_NODES }
         ensures begins { IfOk result (λ r. (r.0.opened ≡ connection) × (r.0.refusals ≡ 0)) }
         ensures counted { IfOk result (λ r. length r.1.front ≡ nodes) }
         // A new store gets the rows of a view of no facts, and the replica has none.

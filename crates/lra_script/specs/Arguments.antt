@@ -1,6 +1,7 @@
 -- What the arguments of a program that plays scripts ask for, and how that ended.
 use Rattle.std.specs.Prelude.{◌≡◌, ◌⊎◌, ℕ, List, [], ◌∷◌, codes}
 use Rattle.std.specs.Fmt.{decimal}
+use Rattle.lra_id.specs.declared.TheConstants.{MAX_NODES}
 use Rattle.lra_http.specs.Streams.{Calls, GivenBytes, TakenBytes}
 use Rattle.lra_script.specs.declared.course.ScriptFault.TheVariants.{Read}
 use Rattle.lra_script.specs.declared.playing.Ended.{Ended}
@@ -14,7 +15,7 @@ asked_words nodes = codes "script" ∷ decimal nodes ∷ []
 
 -- words ask for a script of so many nodes, 1 to 8
 abbrev pub AskScript : List (List ℕ) → ℕ → Type 0
-AskScript words nodes = IsNodeOf 8 nodes × (words ≡ asked_words nodes)
+AskScript words nodes = IsNodeOf MAX_NODES nodes × (words ≡ asked_words nodes)
 
 -- the exit status of a program that ended so
 abbrev pub exit_status : Ended → ℕ

@@ -3,6 +3,7 @@ use Rattle.std.specs.Prelude.{◌≡◌, ◌≤◌, ◌<◌, ◌^◌, ℕ, List,
 use Rattle.std.specs.Fmt.{decimal}
 use Rattle.lra_id.specs.Ids.{Id, IsId, IsTextOf, id_text}
 use Rattle.lra_id.specs.Names.{verdict_name, act_name, outcome_name}
+use Rattle.lra_forest.specs.declared.record.TheConstants.{MAX_MEMBERS}
 use Rattle.lra_callback.specs.CallWords.{kind_name}
 use Rattle.lra_script.specs.declared.asking.Ask.{Ask}
 use Rattle.lra_script.specs.declared.asking.Ask.TheVariants.{Enter, Tick, Send, SendOld, Deliver, Restart, Show, Member, Duties, Hear, Front, Same, Text, Read}
@@ -18,7 +19,7 @@ IsNodeOf nodes n = (1 ≤ n) × (n ≤ nodes)
 
 -- an LRA gives at most 32 member numbers, from 1
 abbrev pub IsMemberNumber : ℕ → Type 0
-IsMemberNumber m = (1 ≤ m) × (m ≤ 32)
+IsMemberNumber m = (1 ≤ m) × (m ≤ MAX_MEMBERS)
 
 -- numbers in a line are below 2^64
 abbrev pub IsNumber : ℕ → Type 0

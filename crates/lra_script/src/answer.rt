@@ -1,5 +1,6 @@
 // What a line prints, and what it does to the world.
 ghost use Rattle.std.specs.Prelude.{◌≡◌, ◌≤◌, length, IfOk, OnErr, string_bytes};
+ghost use Rattle.lra_id.specs.declared.TheConstants.{MAX_NODES};
 ghost use Rattle.lra_facts.specs.declared.refusal.Refusal.TheVariants.{NoMemory};
 ghost use Rattle.lra_world.specs.Machines.{IsWorldOf};
 ghost use Rattle.lra_world.specs.Worlds.{State};
@@ -28,7 +29,7 @@ pub fn answer(
     line: &[u8],
     nodes: u8,
 ) -> Result<String, AllocError>
-    requires few { nodes ≤ 8 }
+    requires few { nodes ≤ MAX_NODES }
     requires nodes { length world.old.replicas ≡ nodes }
     ensures ok { (s : State) → IsWorldOf s world.old →
         IfOk result (λ text. WasAnswered nodes s line.now (string_bytes text) world.new) }

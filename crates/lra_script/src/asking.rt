@@ -1,6 +1,7 @@
 // What a line asks, and how it is read. Here stands the choice by the verb, in words.rt what one
 // word is, in asking/ the words of each command: each has one definition beside it.
 ghost use Rattle.std.specs.Prelude.{◌≤◌, IfOk, MatchOption};
+ghost use Rattle.lra_id.specs.declared.TheConstants.{MAX_NODES};
 ghost use Rattle.lra_script.specs.declared.asking.Ask.{Ask};
 ghost use Rattle.lra_script.specs.Asks.{ReadsArguments, Spells};
 ghost use Rattle.lra_script.specs.Verbs.{verb_name};
@@ -101,7 +102,7 @@ pub enum Ask {
 /// What a line asks of a world of so many nodes. Only the links of a join and the body of an answer
 /// take memory.
 pub fn ask_of(alloc: Global, line: &[u8], nodes: u8) -> Result<Option<Ask>, AllocError>
-    requires { nodes ≤ 8 }
+    requires { nodes ≤ MAX_NODES }
     ensures { IfOk result (λ found.
         MatchOption found ((ask : Ask) → Spells nodes line.now ask → ⊥) (Spells nodes line.now)) }
 {
@@ -122,7 +123,7 @@ fn ask_by_verb(
     words: Words<'_>,
     nodes: u8,
 ) -> Result<Option<Ask>, AllocError>
-    requires { nodes ≤ 8 }
+    requires { nodes ≤ MAX_NODES }
     ensures { IfOk result (ReadsArguments nodes (verb_name verb) words.entry) }
 {
     match verb {

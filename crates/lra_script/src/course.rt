@@ -1,5 +1,6 @@
 // The course of a script, over any source and sink.
 ghost use Rattle.std.specs.Prelude.{◌≡◌, ◌≤◌, length, IfErr, OnOk, OnErr};
+ghost use Rattle.lra_id.specs.declared.TheConstants.{MAX_NODES};
 ghost use Rattle.lra_http.specs.Streams.{TakesPart};
 ghost use Rattle.lra_world.specs.Machines.{IsWorldOf};
 ghost use Rattle.lra_world.specs.Worlds.{State};
@@ -33,7 +34,7 @@ pub fn script<R: Source, W: Sink>(
     nodes: u8,
 ) -> Result<(), ScriptFault>
     requires some { 1 ≤ nodes }
-    requires few { nodes ≤ 8 }
+    requires few { nodes ≤ MAX_NODES }
 
     // What was written and passed on is the text of what was given, to its end. The states that its
     // lines lead through are those of one run of the world, and the headline holds from each to
@@ -79,7 +80,7 @@ fn print_line<W: Sink>(
     nodes: u8,
     writer: &mut W,
 ) -> Result<(), WriteFault>
-    requires few { nodes ≤ 8 }
+    requires few { nodes ≤ MAX_NODES }
     requires nodes { length world.old.replicas ≡ nodes }
     ensures ok { (s : State) → IsWorldOf s world.old → OnOk result
         (Prints nodes s line.now world.new (IsPut (W.stream writer.old) (W.stream writer.new))) }

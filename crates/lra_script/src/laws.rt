@@ -1,5 +1,6 @@
 // Laws of the definitions: each function does nothing, and its contract is the law.
 ghost use Rattle.std.specs.Prelude.{◌≡◌, ◌≤◌, ◌∷◌, ℕ, List, IfSome};
+ghost use Rattle.lra_id.specs.declared.TheConstants.{MAX_NODES};
 ghost use Rattle.lra_http.specs.Streams.{Calls, GivenBytes, TakenBytes, TakesPart};
 ghost use Rattle.lra_world.specs.Worlds.{IsWorld, State, nodes_of};
 ghost use Rattle.lra_script.specs.declared.asking.Ask.{Ask};
@@ -11,14 +12,14 @@ ghost use Rattle.lra_script.specs.Scripts.{AreOneRun, Plays, ScriptText, TextInR
 /// A line spells at most one ask.
 pub fn a_line_spells_one_ask()
     ensures { (nodes : ℕ) (line : List ℕ) (a b : Ask) →
-        nodes ≤ 8 → Spells nodes line a → Spells nodes line b → a ≡ b }
+        nodes ≤ MAX_NODES → Spells nodes line a → Spells nodes line b → a ≡ b }
 {}
 
 /// A script has one text but for lack of memory: two texts of the same lines from the same state,
 /// in neither of which a line met it, are equal, and so are the states that they lead through.
 pub fn a_script_has_one_text()
     ensures one { (nodes : ℕ) (s : State) (lines : List (List ℕ)) (a b : List ℕ)
-        (states others : List State) → nodes ≤ 8 → TextInRoom nodes s lines a states →
+        (states others : List State) → nodes ≤ MAX_NODES → TextInRoom nodes s lines a states →
         TextInRoom nodes s lines b others → (a ≡ b) × (states ≡ others) }
     ensures text { (nodes : ℕ)
         (s : State) (lines : List (List ℕ)) (a : List ℕ) (states : List State) →

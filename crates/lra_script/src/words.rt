@@ -1,5 +1,6 @@
 // The words of a line: the verb that it begins with, and what the others spell.
 ghost use Rattle.std.specs.Prelude.{◌≡◌, [], ◌∷◌, ◌↔◌, IsTrue, MatchOption, ◌≢◌, ◌+◌, ◌<◌, ◌≤◌, ◌^◌, ℕ, length, slice_index};
+ghost use Rattle.lra_id.specs.declared.TheConstants.{MAX_NODES};
 ghost use Rattle.lra_script.specs.CallLines.{IsRestOf};
 ghost use Rattle.lra_script.specs.LineParts.{words_of};
 ghost use Rattle.lra_script.specs.declared.words.Verb.{Verb as TheVerb};
@@ -178,7 +179,7 @@ fn is_canonical(word: &[u8]) -> bool
 
 /// The node, of so many, that a word spells.
 pub fn node_of(word: &[u8], nodes: u8) -> Option<NodeId>
-    requires { nodes ≤ 8 }
+    requires { nodes ≤ MAX_NODES }
     ensures { MatchOption result ((node : ℕ) → IsNodeOf nodes node →
         word.now ≡ decimal node → ⊥) (λ node. IsNodeOf nodes node × (word.now ≡ decimal node)) }
 {

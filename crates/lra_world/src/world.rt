@@ -1,5 +1,6 @@
 // The world: a replica for each node, and the frames that were sent.
 ghost use Rattle.std.specs.Prelude.{◌≡◌, ◌≤◌, ◌<◌, ◌+◌, ◌↔◌, ◌⊎◌, ◌∷◌, ◌++◌, ◌==◌, ◌-◌, ℕ, List, [], Some, None, Err, if◌then◌else◌, IfErr, IfOk, IsErr, IsOk, IsTrue, OnOk, OnErr, length, nat_le, option_map, slice_get, vec_capacity};
+ghost use Rattle.lra_id.specs.declared.TheConstants.{MAX_NODES};
 ghost use Rattle.lra_facts.specs.declared.fact.Fact.{Fact};
 ghost use Rattle.lra_forest.specs.Overdue.{IsLeastOverdue};
 ghost use Rattle.lra_history.specs.Growth.{IsSettled};
@@ -46,7 +47,7 @@ impl World {
     /// A world of so many nodes, 1 to 8, that has no facts. Another count of nodes is E1.
     pub fn new(alloc: Global, nodes: usize) -> Result<World, Refusal>
         ensures start { IfOk result (λ world. IsWorldOf (start nodes) world) }
-        ensures refused { result ≡ Err BadText ↔ ((nodes < 1) ⊎ (8 < nodes)) }
+        ensures refused { result ≡ Err BadText ↔ ((nodes < 1) ⊎ (MAX_NODES < nodes)) }
         ensures cause { IfErr result (λ refusal. (refusal ≡ BadText) ⊎ (refusal ≡ NoMemory)) }
     {
         if nodes < 1 || nodes > MAX_NODES as usize {
@@ -385,7 +386,7 @@ impl World {
 }
 
 fn empty_replicas(alloc: Global, nodes: usize) -> Result<Vec<Replica>, AllocError>
-    requires { (1 ≤ nodes) × (nodes ≤ 8) }
+    requires { (1 ≤ nodes) × (nodes ≤ MAX_NODES) }
     ensures { IfOk result (λ replicas. AreEmpty nodes nodes replicas.items) }
 {
     let mut replicas = Vec::new(alloc);

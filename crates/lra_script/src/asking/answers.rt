@@ -1,6 +1,7 @@
 // Reading what a participant answered.
 ghost use Rattle.std.specs.Prelude.{◌≡◌, ◌≤◌, ◌<◌, ℕ, List, ◌∷◌, codes, IfOk, MatchOption};
 ghost use Rattle.std.specs.Fmt.{decimal};
+ghost use Rattle.lra_id.specs.declared.TheConstants.{MAX_NODES};
 ghost use Rattle.lra_id.specs.Ids.{Id, IsId, id_text};
 ghost use Rattle.lra_callback.specs.declared.answer.Answer.{Answer};
 ghost use Rattle.lra_callback.specs.declared.answer.Kind.{Kind};
@@ -17,7 +18,7 @@ use lra_id::{LraId, NodeId};
 use std::alloc::{AllocError, Global};
 
 pub fn hear_of(alloc: Global, mut words: Words<'_>, nodes: u8) -> Result<Option<Ask>, AllocError>
-    requires { nodes ≤ 8 }
+    requires { nodes ≤ MAX_NODES }
     ensures { IfOk result (ReadsArguments nodes (codes "answer") words.entry) }
 {
     let Some((node, id, member, kind)) = next_call(&mut words, nodes) else {
@@ -36,7 +37,7 @@ pub fn hear_of(alloc: Global, mut words: Words<'_>, nodes: u8) -> Result<Option<
 }
 
 fn next_call(words: &mut Words<'_>, nodes: u8) -> Option<(NodeId, LraId, u8, Kind)>
-    requires { nodes ≤ 8 }
+    requires { nodes ≤ MAX_NODES }
     ensures { MatchOption result ((node : ℕ) (id : Id) (m : ℕ)
         (kind : Kind) (rest : List (List ℕ)) → IsNodeOf nodes node → IsId id → IsMemberNumber m →
         words.old ≡ decimal node ∷ id_text id ∷ decimal m ∷ kind_name kind ∷ rest →

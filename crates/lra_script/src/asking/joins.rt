@@ -3,6 +3,7 @@
 ghost use Rattle.std.specs.Prelude.{◌≡◌, ◌≤◌, codes, drop, length, true, IfOk, MatchOption};
 ghost use Rattle.std.specs.List.{list_all, list_any};
 ghost use Rattle.std.specs.Option.{option_copied};
+ghost use Rattle.lra_id.specs.declared.TheConstants.{MAX_NODES};
 ghost use Rattle.lra_facts.specs.Links.{Links, kept_links};
 ghost use Rattle.lra_script.specs.Asks.{ReadsArguments};
 ghost use Rattle.lra_script.specs.Joins.{GivesLinks, IsTextUnder, are_link_words, gives, is_link_word, is_once, mark_of, text_under};
@@ -39,7 +40,7 @@ impl LinkName {
 }
 
 pub fn join_of(alloc: Global, mut words: Words<'_>, nodes: u8) -> Result<Option<Ask>, AllocError>
-    requires { nodes ≤ 8 }
+    requires { nodes ≤ MAX_NODES }
     ensures { IfOk result (ReadsArguments nodes (codes "join") words.entry) }
 {
     let Some((node, id)) = next_node_and_id(&mut words, nodes) else {

@@ -1,6 +1,7 @@
 // Reading what is asked of LRAs.
 ghost use Rattle.std.specs.Prelude.{◌≡◌, ◌≤◌, ℕ, List, [], ◌∷◌, codes, Option, IfSome, MatchOption};
 ghost use Rattle.std.specs.Fmt.{decimal};
+ghost use Rattle.lra_id.specs.declared.TheConstants.{MAX_NODES};
 ghost use Rattle.lra_id.specs.Ids.{Id, IsId, id_text};
 ghost use Rattle.lra_id.specs.Names.{verdict_name};
 ghost use Rattle.lra_script.specs.Asks.{IsNodeOf, ReadsArguments, parent_words};
@@ -11,7 +12,7 @@ use lra_facts::Command;
 use lra_id::{LraId, NodeId, Verdict};
 
 pub fn begin_of(mut words: Words<'_>, nodes: u8) -> Option<Ask>
-    requires { nodes ≤ 8 }
+    requires { nodes ≤ MAX_NODES }
     ensures { ReadsArguments nodes (codes "begin") words.entry result }
 {
     let node = node_of(words.next()?, nodes)?;
@@ -37,7 +38,7 @@ fn parent_of(mut words: Words<'_>) -> Option<Option<LraId>>
 }
 
 pub fn decide_of(words: Words<'_>, nodes: u8, verdict: Verdict) -> Option<Ask>
-    requires { nodes ≤ 8 }
+    requires { nodes ≤ MAX_NODES }
     ensures { ReadsArguments nodes (verdict_name verdict) words.entry result }
 {
     let (node, id) = node_and_id(words, nodes)?;
@@ -46,7 +47,7 @@ pub fn decide_of(words: Words<'_>, nodes: u8, verdict: Verdict) -> Option<Ask>
 }
 
 pub fn purge_of(words: Words<'_>, nodes: u8) -> Option<Ask>
-    requires { nodes ≤ 8 }
+    requires { nodes ≤ MAX_NODES }
     ensures { ReadsArguments nodes (codes "purge") words.entry result }
 {
     let (node, root) = node_and_id(words, nodes)?;
@@ -55,7 +56,7 @@ pub fn purge_of(words: Words<'_>, nodes: u8) -> Option<Ask>
 }
 
 pub fn show_of(words: Words<'_>, nodes: u8) -> Option<Ask>
-    requires { nodes ≤ 8 }
+    requires { nodes ≤ MAX_NODES }
     ensures { ReadsArguments nodes (codes "show") words.entry result }
 {
     let (node, id) = node_and_id(words, nodes)?;
@@ -63,7 +64,7 @@ pub fn show_of(words: Words<'_>, nodes: u8) -> Option<Ask>
 }
 
 fn node_and_id(mut words: Words<'_>, nodes: u8) -> Option<(NodeId, LraId)>
-    requires { nodes ≤ 8 }
+    requires { nodes ≤ MAX_NODES }
     ensures { MatchOption result ((node : ℕ) (id : Id) →
         IsNodeOf nodes node → IsId id → words.entry ≡ decimal node ∷ id_text id ∷ [] →
         ⊥) (λ p. IsNodeOf nodes p.0 × IsId p.1 × (words.entry ≡ decimal p.0 ∷ id_text p.1 ∷ [])) }
@@ -77,7 +78,7 @@ fn node_and_id(mut words: Words<'_>, nodes: u8) -> Option<(NodeId, LraId)>
 
 /// The node and the id that the next two words spell.
 pub fn next_node_and_id(words: &mut Words<'_>, nodes: u8) -> Option<(NodeId, LraId)>
-    requires { nodes ≤ 8 }
+    requires { nodes ≤ MAX_NODES }
     ensures { MatchOption result ((node : ℕ) (id : Id) (rest : List (List ℕ)) →
         IsNodeOf nodes node → IsId id → words.old ≡ decimal node ∷ id_text id ∷ rest → ⊥)
         (λ p. IsNodeOf nodes p.0 × IsId p.1 × (words.old ≡ decimal p.0 ∷ id_text p.1 ∷ words.new)) }

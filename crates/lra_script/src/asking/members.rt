@@ -1,6 +1,7 @@
 // Reading what is asked of participants.
 ghost use Rattle.std.specs.Prelude.{◌≡◌, ◌≤◌, ℕ, List, [], ◌∷◌, codes, MatchOption};
 ghost use Rattle.std.specs.Fmt.{decimal};
+ghost use Rattle.lra_id.specs.declared.TheConstants.{MAX_NODES};
 ghost use Rattle.lra_id.specs.Ids.{Id, IsId, id_text};
 ghost use Rattle.lra_id.specs.declared.outcome.Act.{Act};
 ghost use Rattle.lra_id.specs.declared.outcome.Outcome.{Outcome};
@@ -14,7 +15,7 @@ use lra_facts::Command;
 use lra_id::{Act, LraId, NodeId, Outcome};
 
 pub fn leave_of(words: Words<'_>, nodes: u8) -> Option<Ask>
-    requires { nodes ≤ 8 }
+    requires { nodes ≤ MAX_NODES }
     ensures { ReadsArguments nodes (codes "leave") words.entry result }
 {
     let (node, id, member) = participant_of(words, nodes)?;
@@ -23,7 +24,7 @@ pub fn leave_of(words: Words<'_>, nodes: u8) -> Option<Ask>
 }
 
 pub fn forgot_of(words: Words<'_>, nodes: u8) -> Option<Ask>
-    requires { nodes ≤ 8 }
+    requires { nodes ≤ MAX_NODES }
     ensures { ReadsArguments nodes (codes "forgot") words.entry result }
 {
     let (node, id, member) = participant_of(words, nodes)?;
@@ -32,7 +33,7 @@ pub fn forgot_of(words: Words<'_>, nodes: u8) -> Option<Ask>
 }
 
 pub fn told_of(words: Words<'_>, nodes: u8) -> Option<Ask>
-    requires { nodes ≤ 8 }
+    requires { nodes ≤ MAX_NODES }
     ensures { ReadsArguments nodes (codes "told") words.entry result }
 {
     let (node, id, member) = participant_of(words, nodes)?;
@@ -41,7 +42,7 @@ pub fn told_of(words: Words<'_>, nodes: u8) -> Option<Ask>
 }
 
 pub fn member_of(words: Words<'_>, nodes: u8) -> Option<Ask>
-    requires { nodes ≤ 8 }
+    requires { nodes ≤ MAX_NODES }
     ensures { ReadsArguments nodes (codes "member") words.entry result }
 {
     let (node, id, member) = participant_of(words, nodes)?;
@@ -49,7 +50,7 @@ pub fn member_of(words: Words<'_>, nodes: u8) -> Option<Ask>
 }
 
 pub fn report_of(mut words: Words<'_>, nodes: u8) -> Option<Ask>
-    requires { nodes ≤ 8 }
+    requires { nodes ≤ MAX_NODES }
     ensures { ReadsArguments nodes (codes "report") words.entry result }
 {
     let (node, id, member) = next_participant(&mut words, nodes)?;
@@ -64,7 +65,7 @@ pub fn report_of(mut words: Words<'_>, nodes: u8) -> Option<Ask>
 }
 
 fn participant_of(mut words: Words<'_>, nodes: u8) -> Option<(NodeId, LraId, u8)>
-    requires { nodes ≤ 8 }
+    requires { nodes ≤ MAX_NODES }
     ensures { MatchOption result ((node : ℕ) (id : Id) (m : ℕ) → IsNodeOf nodes node →
         IsId id → IsMemberNumber m → words.entry ≡ decimal node ∷ id_text id ∷ decimal m ∷ [] →
         ⊥) (λ p. IsNodeOf nodes p.0 × IsId p.1
@@ -79,7 +80,7 @@ fn participant_of(mut words: Words<'_>, nodes: u8) -> Option<(NodeId, LraId, u8)
 
 /// The node, the id and the member number that the next three words spell.
 pub fn next_participant(words: &mut Words<'_>, nodes: u8) -> Option<(NodeId, LraId, u8)>
-    requires { nodes ≤ 8 }
+    requires { nodes ≤ MAX_NODES }
     ensures { MatchOption result ((node : ℕ) (id : Id) (m : ℕ) (rest : List (List ℕ)) →
         IsNodeOf nodes node → IsId id → IsMemberNumber m → words.old
         ≡ decimal node ∷ id_text id ∷ decimal m ∷ rest → ⊥) (λ p. IsNodeOf nodes p.0 × IsId p.1

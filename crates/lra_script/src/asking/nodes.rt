@@ -1,6 +1,7 @@
 // Reading what is asked of nodes.
 ghost use Rattle.std.specs.Prelude.{◌≡◌, ◌≤◌, ℕ, List, Option, codes, map, IfSome, MatchOption};
 ghost use Rattle.std.specs.Fmt.{decimal};
+ghost use Rattle.lra_id.specs.declared.TheConstants.{MAX_NODES};
 ghost use Rattle.lra_script.specs.Asks.{IsBaseOf, IsNumber, ReadsArguments, kept_words};
 
 use crate::asking::Ask;
@@ -8,7 +9,7 @@ use crate::words::{Words, node_of, number_of};
 use lra_id::Front;
 
 pub fn front_of(mut words: Words<'_>, nodes: u8) -> Option<Ask>
-    requires { nodes ≤ 8 }
+    requires { nodes ≤ MAX_NODES }
     ensures { ReadsArguments nodes (codes "front") words.entry result }
 {
     let node = node_of(words.next()?, nodes)?;
@@ -19,7 +20,7 @@ pub fn front_of(mut words: Words<'_>, nodes: u8) -> Option<Ask>
 }
 
 pub fn duties_of(mut words: Words<'_>, nodes: u8) -> Option<Ask>
-    requires { nodes ≤ 8 }
+    requires { nodes ≤ MAX_NODES }
     ensures { ReadsArguments nodes (codes "duties") words.entry result }
 {
     let node = node_of(words.next()?, nodes)?;
@@ -30,7 +31,7 @@ pub fn duties_of(mut words: Words<'_>, nodes: u8) -> Option<Ask>
 }
 
 pub fn same_of(mut words: Words<'_>, nodes: u8) -> Option<Ask>
-    requires { nodes ≤ 8 }
+    requires { nodes ≤ MAX_NODES }
     ensures { ReadsArguments nodes (codes "same") words.entry result }
 {
     let node = node_of(words.next()?, nodes)?;
@@ -42,7 +43,7 @@ pub fn same_of(mut words: Words<'_>, nodes: u8) -> Option<Ask>
 }
 
 pub fn tick_of(mut words: Words<'_>, nodes: u8) -> Option<Ask>
-    requires { nodes ≤ 8 }
+    requires { nodes ≤ MAX_NODES }
     ensures { ReadsArguments nodes (codes "tick") words.entry result }
 {
     let node = node_of(words.next()?, nodes)?;
@@ -54,7 +55,7 @@ pub fn tick_of(mut words: Words<'_>, nodes: u8) -> Option<Ask>
 }
 
 pub fn restart_of(mut words: Words<'_>, nodes: u8) -> Option<Ask>
-    requires { nodes ≤ 8 }
+    requires { nodes ≤ MAX_NODES }
     ensures { ReadsArguments nodes (codes "restart") words.entry result }
 {
     let node = node_of(words.next()?, nodes)?;
@@ -65,7 +66,7 @@ pub fn restart_of(mut words: Words<'_>, nodes: u8) -> Option<Ask>
 }
 
 pub fn deliver_of(mut words: Words<'_>, nodes: u8) -> Option<Ask>
-    requires { nodes ≤ 8 }
+    requires { nodes ≤ MAX_NODES }
     ensures { ReadsArguments nodes (codes "deliver") words.entry result }
 {
     let frame = number_of(words.next()?)?;
@@ -90,7 +91,7 @@ fn kept_of(mut words: Words<'_>) -> Option<Option<u64>>
 }
 
 pub fn send_of(mut words: Words<'_>, nodes: u8) -> Option<Ask>
-    requires { nodes ≤ 8 }
+    requires { nodes ≤ MAX_NODES }
     ensures { ReadsArguments nodes (codes "send") words.entry result }
 {
     let node = node_of(words.next()?, nodes)?;
@@ -99,7 +100,7 @@ pub fn send_of(mut words: Words<'_>, nodes: u8) -> Option<Ask>
 }
 
 pub fn send_old_of(mut words: Words<'_>, nodes: u8) -> Option<Ask>
-    requires { nodes ≤ 8 }
+    requires { nodes ≤ MAX_NODES }
     ensures { ReadsArguments nodes (codes "sendold") words.entry result }
 {
     let node = node_of(words.next()?, nodes)?;
@@ -109,7 +110,7 @@ pub fn send_old_of(mut words: Words<'_>, nodes: u8) -> Option<Ask>
 
 fn base_of(mut words: Words<'_>, nodes: u8) -> Option<Front>
     requires some { 1 ≤ nodes }
-    requires few { nodes ≤ 8 }
+    requires few { nodes ≤ MAX_NODES }
     ensures { MatchOption result ((base : List ℕ) → IsBaseOf nodes base → words.entry
         ≡ map decimal base → ⊥) (λ base. IsBaseOf nodes base × (words.entry ≡ map decimal base)) }
 {
