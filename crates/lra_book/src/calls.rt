@@ -72,6 +72,8 @@ pub enum Call {
     Duties,
     /// Cancel an LRA of this node whose deadline has passed.
     Expire,
+    /// Purge the tree of a root, if the root still shows this; else say what it shows.
+    Sweep { root: LraId, seen: LraStatus },
 }
 
 impl Call {

@@ -1,7 +1,7 @@
 // What a call comes to, and carrying it out.
 ghost use Rattle.std.specs.Prelude.{◌≡◌, ◌≤◌, ◌<◌, ℕ, Err, IfErr, IfOk, IfSome, IsTrue, OnErr, OnOk, length};
 ghost use Rattle.lra_facts.specs.declared.refusal.Refusal.TheVariants.{NoMemory};
-ghost use Rattle.lra_facts.specs.declared.command.Command.TheVariants.{Decide};
+ghost use Rattle.lra_facts.specs.declared.command.Command.TheVariants.{Decide, Purge};
 ghost use Rattle.lra_history.specs.Next.{member_shown_on, next_view, overdue_on, reply_on, shown_on};
 ghost use Rattle.lra_history.specs.Views.{View};
 ghost use Rattle.lra_history.specs.Changes.{with_patch};
@@ -15,14 +15,14 @@ ghost use Rattle.sqlite.specs.Held.{state};
 ghost use Rattle.sqlite.specs.State.{HasCleanDisk, Survives};
 ghost use Rattle.lra_book.specs.declared.calls.Reply.TheVariants.{Due};
 ghost use Rattle.lra_book.specs.Books.{IsStoreFault};
-ghost use Rattle.lra_book.specs.Next.{IsListing, IsNext, IsTakeReply, expire_reply, expired, member_reply, pull_reply, status_reply, view_expired};
+ghost use Rattle.lra_book.specs.Next.{IsListing, IsNext, IsTakeReply, expire_reply, expired, member_reply, pull_reply, shows_so, status_reply, sweep_reply, view_expired, view_swept};
 
 use crate::holdings::{hold, survey_beyond};
 use crate::{Call, PullBody, Reply};
 use lra_callback::pick;
 use lra_delta::Delta;
 use lra_facts::{Command, CommandReply, Refusal};
-use lra_id::{LraId, NodeId, Verdict};
+use lra_id::{LraId, LraStatus, NodeId, Verdict};
 use lra_journal::Journal;
 use lra_peer::serve_pull;
 use lra_replica::{Patch, Prepared, Replica};
@@ -183,6 +183,45 @@ fn expire(
     })
 }
 
+/// Whether an LRA shows what was seen.
+fn shows_so(replica: &Replica, id: LraId, seen: LraStatus) -> bool
+    ensures { result ≡ shows_so seen (shown_on (view_of replica.now) id) }
+{
+    match replica.status(id) {
+        Ok(status) => status == seen,
+        Err(_) => false,
+    }
+}
+
+fn sweep(
+    alloc: Global,
+    replica: &mut Replica,
+    me: NodeId,
+    root: LraId,
+    seen: LraStatus,
+) -> Result<PreparedCall, Refusal>
+    requires { me ≤ length replica.old.front }
+    ensures view { view_of replica.new ≡ view_of replica.old }
+    ensures room { IfOk result (λ step. IfSome step.patch (λ change. Fits change replica.new)) }
+    ensures reply { IfOk result (λ step. step.reply ≡ sweep_reply
+        (view_of replica.old) me root (shows_so seen (shown_on (view_of replica.old) root))) }
+    ensures next { IfOk result (λ step. with_patch step.patch (view_of replica.old) ≡ view_swept
+        (view_of replica.old) me root (shows_so seen (shown_on (view_of replica.old) root))) }
+    ensures cause { IfErr result (λ refusal. refusal ≡ NoMemory) }
+{
+    if !shows_so(replica, root, seen) {
+        return Ok(PreparedCall {
+            reply: show(replica, root),
+            patch: None,
+        });
+    }
+    let act = act(alloc, replica, me, Command::Purge { root })?;
+    Ok(PreparedCall {
+        reply: Reply::Command(act.reply),
+        patch: act.patch,
+    })
+}
+
 fn answer(reply: Result<Reply, Refusal>) -> Result<PreparedCall, Refusal>
     ensures ok { IfOk result (λ step. (reply ≡ Ok step.reply) × (step.patch ≡ None)) }
     ensures err { IfErr result (λ refusal. reply ≡ Err refusal) }
@@ -224,6 +263,7 @@ pub fn prepare(
         Call::Survey(after) => answer(survey_beyond(alloc, replica, after)),
         Call::Duties => answer(duties(alloc, replica, me)),
         Call::Expire => expire(alloc, replica, me, now),
+        Call::Sweep { root, seen } => sweep(alloc, replica, me, root, seen),
     }
 }
 

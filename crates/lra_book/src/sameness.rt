@@ -25,6 +25,13 @@ pub fn same_call(a: &Call, b: &Call) -> bool
         (Call::Page(a), Call::Page(b)) => *a == *b,
         (Call::Record(a), Call::Record(b)) => *a == *b,
         (Call::Survey(a), Call::Survey(b)) => *a == *b,
+        (
+            Call::Sweep { root, seen },
+            Call::Sweep {
+                root: other,
+                seen: shown,
+            },
+        ) => *root == *other && *seen == *shown,
         (Call::Duties, Call::Duties) | (Call::Expire, Call::Expire) => true,
         _ => false,
     }

@@ -5,6 +5,7 @@ use Rattle.lra_id.specs.Fronts.{IsBelow, join_fronts, meet_fronts}
 use Rattle.lra_id.specs.Ids.{Id}
 use Rattle.lra_id.proofs.Pairs.{meet_below}
 use Rattle.lra_id.specs.declared.outcome.Verdict.TheVariants.{Cancel}
+use Rattle.lra_id.specs.declared.status.LraStatus.{LraStatus}
 use Rattle.lra_facts.specs.declared.refusal.Refusal.{Refusal}
 use Rattle.lra_facts.specs.declared.refusal.Refusal.TheVariants.{BadFrame}
 use Rattle.lra_facts.specs.Sets.{IsNumbered}
@@ -12,11 +13,11 @@ use Rattle.lra_forest.specs.Overdue.{IsLeastOverdue}
 use Rattle.lra_forest.proofs.Bools.{all_from}
 use Rattle.lra_forest.proofs.Overdue.{overdue_said}
 use Rattle.lra_facts.specs.declared.command.Command.{Command}
-use Rattle.lra_facts.specs.declared.command.Command.TheVariants.{Decide}
+use Rattle.lra_facts.specs.declared.command.Command.TheVariants.{Decide, Purge}
 use Rattle.lra_facts.specs.declared.command.CommandReply.{CommandReply}
 use Rattle.lra_facts.specs.declared.command.CommandReply.TheVariants.{Began, Joined, Left, Decided, Reported, Known, Forgotten, Told, Purged, Refused as NotEntered}
 use Rattle.lra_history.specs.Histories.{IsClosed, facts}
-use Rattle.lra_history.specs.Next.{next_view, overdue_on, reply_on}
+use Rattle.lra_history.specs.Next.{next_view, overdue_on, reply_on, shown_on}
 use Rattle.lra_history.specs.Views.{StandsFor, View, records_at}
 use Rattle.lra_history.proofs.Covered.{nested_settled}
 use Rattle.lra_delta.specs.Frames.{Frame, IsFrame, frame_of}
@@ -34,10 +35,10 @@ use Rattle.lra_world.specs.declared.event.Reply.TheVariants.{Answered, Sent, Exp
 use Rattle.lra_world.specs.Worlds.{Acts, Comes, IsEncoded, IsViewOf, SentFrame, Sends, State, Steps, Ticks, after_command, expired as did_expire, frame_at, front_of, reply_at, set_of, with_front}
 use Rattle.lra_world.proofs.Moving.{frame_in}
 use Rattle.lra_book.specs.declared.calls.Call.{Call}
-use Rattle.lra_book.specs.declared.calls.Call.TheVariants.{Command as Enter, Take, Pull, Status, Member, Page, Record as Show, Survey, Duties, Expire}
+use Rattle.lra_book.specs.declared.calls.Call.TheVariants.{Command as Enter, Take, Pull, Status, Member, Page, Record as Show, Survey, Duties, Expire, Sweep}
 use Rattle.lra_book.specs.declared.calls.Reply.{Reply as BookReply}
 use Rattle.lra_book.specs.declared.calls.Reply.TheVariants.{Command as Entered, Took, Gave}
-use Rattle.lra_book.specs.Next.{IsNext, IsTakeReply, Takes, expire_reply, expired, pull_reply, view_expired}
+use Rattle.lra_book.specs.Next.{IsNext, IsTakeReply, Takes, expire_reply, expired, pull_reply, shows_so, status_reply, sweep_reply, view_expired, view_swept}
 use Rattle.lra_trail.specs.NodeTrails.{Arrival, IsServed, IsTold, IsToldAs, Says, WasSent, event_by, is_accepted, node_of}
 use Rattle.lra_trail.proofs.KeptFrames.{last_numbered}
 use Rattle.lra_trail.proofs.OwnCommands.{Holds, at_node, command_holds, current_of, nodes_in, reply_is, settled_of, there_in, unless_accepted}
@@ -66,6 +67,24 @@ entered_means me s frame now a b c reply served is next =
         (at_node s (after_command s me c) me (Acts s me c (Answered (reply_at s me c)) (after_command s me c)) (Answered (reply_at s me c)) served.node (refl, refl)) refl holds
     by false e =
         Nothing (ap (λ (t : Bool). cond t (Some (Act me c)) None) e) (subst (λ (u : State). Holds me u b) (unless_accepted s me c e) holds)
+
+-- Sweeps
+
+-- the purge of a sweep is that of a command
+as_swept : (me : ℕ) (s : State) (frame : Arrival) (now : ℕ) (b : View) (l : Id) (seen : LraStatus) (r : CommandReply) → Means me s frame now (Enter (Purge l)) (Entered r) b → Means me s frame now (Sweep l seen) (Entered r) b
+as_swept me s frame now b l seen r (Nothing none holds) = Nothing none holds
+as_swept me s frame now b l seen r (Something event is t some node steps says holds) = Something event is t some node steps says holds
+
+told_means : (me : ℕ) (s : State) (frame : Arrival) (now : ℕ) (a b : View) (l : Id) (seen : LraStatus) (shown : Result LraStatus Refusal) → IsServed me s a → b ≡ a
+    → Means me s frame now (Sweep l seen) (status_reply l shown) b
+told_means me s frame now a b l seen (Ok status) served same = Nothing refl (as_it_was me s a b served same)
+told_means me s frame now a b l seen (Err refusal) served same = Nothing refl (as_it_was me s a b served same)
+
+sweep_means : (me : ℕ) (s : State) (frame : Arrival) (now : ℕ) (a b : View) (l : Id) (seen : LraStatus) (shows : Bool) → IsServed me s a → b ≡ view_swept a me l shows
+    → Means me s frame now (Sweep l seen) (sweep_reply a me l shows) b
+sweep_means me s frame now a b l seen true served next =
+    as_swept me s frame now b l seen (reply_on a me (Purge l)) (entered_means me s frame now a b (Purge l) (Entered (reply_on a me (Purge l))) served refl next)
+sweep_means me s frame now a b l seen false served next = told_means me s frame now a b l seen (shown_on a l) served next
 
 -- Deadlines
 
@@ -264,3 +283,5 @@ entry_means me s frame now a b (Survey after) reply served (is, same) sent = Not
 entry_means me s frame now a b Duties reply served (is, same) sent = Nothing refl (as_it_was me s a b served same)
 entry_means me s frame now a b Expire reply served (is, next) sent =
     subst (λ (r : BookReply). Means me s frame now Expire r b) (sym is) (expiry_means me s frame now a b (overdue_on a me now) served (overdue_of me s now a served) next)
+entry_means me s frame now a b (Sweep l seen) reply served (is, next) sent =
+    subst (λ (r : BookReply). Means me s frame now (Sweep l seen) r b) (sym is) (sweep_means me s frame now a b l seen (shows_so seen (shown_on a l)) served next)

@@ -1,5 +1,5 @@
 -- A trail counts what it took, and gives what it counted; so one round makes all servers alike.
-use Rattle.std.proofs.Common.{◌≡◌, inl, inr, ℕ, List, [], ◌∷◌, sym, ap, subst, ◌∙◌, arith, false, Option, Some, None, Result, Ok, Err, ◌+◌, length}
+use Rattle.std.proofs.Common.{◌≡◌, inl, inr, ℕ, List, [], ◌∷◌, sym, ap, subst, ◌∙◌, arith, Bool, true, false, Option, Some, None, Result, Ok, Err, ◌+◌, length}
 use Rattle.std.specs.List.{list_any}
 use Rattle.std.specs.Option.{option_map_or}
 use Rattle.lra_id.specs.Fronts.{IsBelow, meet_fronts}
@@ -12,7 +12,7 @@ use Rattle.lra_facts.specs.declared.command.Command.{Command}
 use Rattle.lra_facts.specs.declared.command.Command.TheVariants.{Begin, Decide, Forgot, Join, Leave, Purge, Report, Told}
 use Rattle.lra_history.specs.Changes.{fresh_record, one_change, two_changes}
 use Rattle.lra_history.specs.Growth.{record_after}
-use Rattle.lra_history.specs.Next.{change_nested, change_on, change_record, changed, judge_on, next_fact_on, next_view, no_change, overdue_on, view_by}
+use Rattle.lra_history.specs.Next.{change_nested, change_on, change_record, changed, judge_on, next_fact_on, next_view, no_change, overdue_on, shown_on, view_by}
 use Rattle.lra_history.specs.Readings.{by_view}
 use Rattle.lra_history.specs.Replies.{Accepted, AlreadyKnown, Denied, Judgement}
 use Rattle.lra_history.specs.Views.{View, record_at}
@@ -24,11 +24,11 @@ use Rattle.lra_world.specs.Headline.{IsNode}
 use Rattle.lra_world.specs.Worlds.{State, front_of}
 use Rattle.lra_world.proofs.Moving.{IsKeptBy, run_keeps}
 use Rattle.lra_book.specs.declared.calls.Call.{Call}
-use Rattle.lra_book.specs.declared.calls.Call.TheVariants.{Command as Enter, Duties, Expire, Member, Page, Pull, Record as Show, Status, Survey, Take}
+use Rattle.lra_book.specs.declared.calls.Call.TheVariants.{Command as Enter, Duties, Expire, Member, Page, Pull, Record as Show, Status, Survey, Sweep, Take}
 use Rattle.lra_book.specs.declared.calls.Entry.{Entry}
 use Rattle.lra_book.specs.declared.calls.Reply.{Reply}
 use Rattle.lra_book.specs.declared.calls.Reply.TheVariants.{Gave, Took}
-use Rattle.lra_book.specs.Next.{IsNext, IsTakeReply, pull_reply, view_expired}
+use Rattle.lra_book.specs.Next.{IsNext, IsTakeReply, pull_reply, shows_so, view_expired, view_swept}
 use Rattle.lra_book.specs.Trails.{LeadsTo, entry}
 use Rattle.lra_progress.specs.Rounds.{all_counted, may_enter}
 use Rattle.lra_progress.proofs.AllCounted.{AllHear, counts_all, took_all}
@@ -86,6 +86,10 @@ expired_above : (a : View) (me : ℕ) (late : Option Id) → IsBelow a.front (vi
 expired_above a me None = itself a.front
 expired_above a me (Some l) = entered_above a me (Decide l Cancel)
 
+swept_above : (a : View) (me : ℕ) (l : Id) (shows : Bool) → IsBelow a.front (view_swept a me l shows).front
+swept_above a me l true = entered_above a me (Purge l)
+swept_above a me l false = itself a.front
+
 took_above : (a : View) (frame : Frame) (reply : Reply) (b : View) → IsTakeReply a frame reply b → IsBelow a.front b.front
 took_above a frame reply b (inl (is, takes)) = subst (IsBelow a.front) (sym takes.taken.front) (below_left a.front frame.front)
 took_above a frame reply b (inr (refusal, is, refuses, same)) = stays a b same
@@ -101,6 +105,7 @@ next_above me a (Show l) now reply b next = stays a b next.1
 next_above me a (Survey after) now reply b next = stays a b next.1
 next_above me a Duties now reply b next = stays a b next.1
 next_above me a Expire now reply b next = subst (λ (view : View). IsBelow a.front view.front) (sym next.1) (expired_above a me (overdue_on a me now))
+next_above me a (Sweep l seen) now reply b next = subst (λ (view : View). IsBelow a.front view.front) (sym next.1) (swept_above a me l (shows_so seen (shown_on a l)))
 
 leads_above : (me : ℕ) (a : View) (trail : List Entry) (b : View) → LeadsTo me a trail b → IsBelow a.front b.front
 leads_above me a [] b legal = stays a b legal
