@@ -2,7 +2,10 @@
 ghost use Rattle.std.specs.Prelude.{◌≡◌, ◌+◌, ◌-◌, ◌<◌, ◌≤◌, ◌==◌, ◌++◌, ◌∷◌, [], None, Some, IfErr, IfNone, IfOk, IfSome, IsTrue, OnErr, OnOk, count_by, flat_map, length, slice_get, sum_by, vec_len};
 ghost use Rattle.lra_facts.specs.declared.refusal.Refusal.TheVariants.{NoMemory};
 ghost use Rattle.sqlite.specs.Held.{state};
+ghost use Rattle.sqlite.specs.State.{HasCleanDisk};
+ghost use Rattle.sqlite.specs.Tree.{Trees};
 ghost use Rattle.lra_journal.specs.Keeping.{IsOwn, Keeps};
+ghost use Rattle.lra_journal.specs.Stands.{Stands};
 ghost use Rattle.lra_book.specs.Clerks.{IsOfClerk};
 ghost use Rattle.lra_book.specs.Looks.{IsRefusedAt};
 ghost use Rattle.lra_book.specs.Desks.{AreNew, AreSeen, HasTrail, IsCalled, IsLostBelow, first_stray, first_strange, names, new_pass, strange_of};
@@ -102,6 +105,12 @@ impl<J: Run, S: Alter> Locked<J, S> {
         ensures kept { OnErr result ((pass.new ≡ pass.old)
             × (share.new.amount ≡ share.old.amount)) }
         ensures lost { AreSeen pass.old receipts.now → IfErr result (IsLostBelow pass.old) }
+        // While the connection is open, a stop leaves only rows for the records.
+        ensures durable { HasCleanDisk (state S.Store self.new.journal.connection) →
+            IsOwn (state S.Store self.new.journal.opened) →
+            IsTrue (state S.Store self.new.journal.connection).is_open → (db : Trees) →
+            (state S.Store self.new.journal.connection).may_leave db →
+            Stands self.new.me db self.new.records }
         // What a look finds, else why the book refuses the call.
         ensures refused { IfErr result
             (IsRefusedAt self.old pass.old receipts.now self.new call) }
