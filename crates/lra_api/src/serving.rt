@@ -1,5 +1,5 @@
 // One request over a connection, from its first byte to the last of its answer.
-ghost use Rattle.std.specs.Prelude.{◌≡◌, ◌≢◌, Result, None, Some, IfOk};
+ghost use Rattle.std.specs.Prelude.{◌≡◌, ◌≢◌, Result, None, Some, IfErr, IfOk};
 ghost use Rattle.lra_http.specs.declared.fault.Fault.{Fault as TheFault};
 ghost use Rattle.lra_http.specs.declared.fault.Fault.TheVariants.{WriteFault as OnWrite};
 ghost use Rattle.lra_http.specs.declared.message.Request.{Request as TheRequest};
@@ -91,8 +91,10 @@ pub fn end<W: Sink>(
     made: Result<Answer<'_>, AllocError>,
     refusal: Option<Refusal>,
 ) -> Result<(), ServeError>
-    ensures { (right : TheResponse) → IfOk made.entry (λ response. response ≡ right) →
+    ensures written { (right : TheResponse) → IfOk made.entry (λ response. response ≡ right) →
         Ends W.Sink writer.old writer.new right refusal result }
+    ensures none { IfErr made.entry
+        (λ _. EndsNoMemory W.Sink writer.old writer.new refusal result) }
 {
     match made {
         Ok(response) => end_with(alloc, writer, &response, refusal),

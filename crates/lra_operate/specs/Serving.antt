@@ -1,5 +1,5 @@
 -- What one request at an operator's port comes to.
-use Rattle.std.specs.Prelude.{◌≡◌, ⊤, ℕ, true, false, List, [], ◌∷◌, ◌++◌, codes, Option, Some, None, Result, Ok, Err}
+use Rattle.std.specs.Prelude.{◌≡◌, ◌⊎◌, ⊤, ℕ, true, false, List, [], ◌∷◌, ◌++◌, codes, Option, Some, None, Result, Ok, Err}
 use Rattle.lra_facts.specs.declared.refusal.Refusal.{Refusal}
 use Rattle.lra_facts.specs.declared.refusal.Refusal.TheVariants.{BadText}
 use Rattle.lra_facts.specs.declared.command.Command.TheVariants as command
@@ -14,12 +14,14 @@ use Rattle.lra_book.specs.declared.calls.Reply.{Reply}
 use Rattle.lra_book.specs.declared.calls.Reply.TheVariants.{Held, Surveyed}
 use Rattle.lra_api.specs.Answers.{answer_of, ok_json, refusal_answer, with_body}
 use Rattle.lra_api.specs.Routes.{routed}
-use Rattle.lra_api.specs.Serving.{Ends, ServesFault, ServesRequest, refusal_in}
+use Rattle.lra_api.specs.Serving.{Ends, EndsNoMemory, ServesFault, ServesRequest, refusal_in}
 use Rattle.lra_api.specs.declared.serving.ServeError.{ServeError}
 use Rattle.lra_operate.specs.Json.{named, opened, truth, word}
 use Rattle.lra_operate.specs.Records.{record_body}
 use Rattle.lra_operate.specs.Surveys.{survey_body}
 use Rattle.lra_operate.specs.Wanted.{wanted}
+use Rattle.lra_operate.specs.declared.page.TheConstants.{PAGE}
+use Rattle.lra_operate.specs.declared.state.State.{Ghosts as OfState}
 use Rattle.lra_operate.specs.declared.wanted.Topic.{Topic}
 use Rattle.lra_operate.specs.declared.wanted.Topic.TheVariants.{Page, Health, Ready, Metrics, Calls}
 use Rattle.lra_operate.specs.declared.wanted.Wanted.{Wanted}
@@ -70,32 +72,36 @@ abbrev pub ready_answer : Option (List ℕ) → Response
 ready_answer None = ok_json (ready_text None)
 ready_answer (Some cause) = with_body 503 [] (codes "application/json") (ready_text (Some cause))
 
--- The answer that tells of a topic: its status, its fields and its type. The text is what the threads know, of which nothing is said,
--- save how it tells whether the node enters commands.
-abbrev pub IsTold : Topic → Response → Type 0
-IsTold Page response = (text : List ℕ) × (response ≡ page_answer text)
-IsTold Health response = (text : List ℕ) × (response ≡ ok_json text)
-IsTold Ready response = (cause : Option (List ℕ)) × (response ≡ ready_answer cause)
-IsTold Metrics response = (text : List ℕ) × (response ≡ counts_answer text)
-IsTold Calls response = (text : List ℕ) × (response ≡ ok_json text)
+-- The answer that tells of a topic: the page, or by what the state tells of it. Of the text of a topic each state says what it may be
+abbrev pub IsTold : {T : Type 0} → OfState T → T → Topic → Response → Type 0
+IsTold of state Page response = response ≡ page_answer PAGE
+IsTold of state Health response = (text : List ℕ) × of.tells state Health text × (response ≡ ok_json text)
+IsTold of state Ready response = (cause : Option (List ℕ)) × of.causes state cause × (response ≡ ready_answer cause)
+IsTold of state Metrics response = (text : List ℕ) × of.tells state Metrics text × (response ≡ counts_answer text)
+IsTold of state Calls response = (text : List ℕ) × of.tells state Calls text × (response ≡ ok_json text)
 
--- no call is made, and the answer that tells of a topic is written
-abbrev pub Tells : {W : Type 0} → (same : Type 0) → OfSink W → (old new : W) → Topic → Result ⊤ ServeError → Type 0
-Tells same sink old new topic result = same × ((response : Response) × IsTold topic response × Ends sink old new response None result)
+-- the answer that is told is written, or the memory was refused
+abbrev pub EndsTold : {W : Type 0} → (told : Response → Type 0) → OfSink W → (old new : W) → Result ⊤ ServeError → Type 0
+EndsTold told sink old new result =
+    ((response : Response) × told response × Ends sink old new response None result) ⊎ EndsNoMemory sink old new None result
 
 -- What is wanted is served where it is no call: what the interface has as it serves it, a topic is told, and else a broken text is E1.
-abbrev pub ServesOther : {W : Type 0} → (same : Type 0) → (makes : Call → Result Reply Refusal → Type 0) → OfSink W → (old new : W) → ℕ → Request → Wanted → Result ⊤ ServeError → Type 0
-ServesOther same makes sink old new now request Other result = ServesRequest same makes sink old new (routed now request) result
-ServesOther same makes sink old new now request (Tell topic) result = Tells same sink old new topic result
-ServesOther same makes sink old new now request _ result = same × Ends sink old new (refusal_answer BadText) None result
+-- `told`: what is told of a topic
+abbrev pub ServesOther : {W : Type 0} → (same : Type 0) → (makes : Call → Result Reply Refusal → Type 0) → (told : Topic → Response → Type 0) → OfSink W → (old new : W) → ℕ → Request → Wanted
+    → Result ⊤ ServeError → Type 0
+ServesOther same makes told sink old new now request Other result = ServesRequest same makes sink old new (routed now request) result
+ServesOther same makes told sink old new now request (Tell topic) result = same × EndsTold (told topic) sink old new result
+ServesOther same makes told sink old new now request _ result = same × Ends sink old new (refusal_answer BadText) None result
 
-abbrev pub ServesWanted : {W : Type 0} → (same : Type 0) → (makes : Call → Result Reply Refusal → Type 0) → OfSink W → (old new : W) → ℕ → Request → Wanted → Option Call → Result ⊤ ServeError → Type 0
-ServesWanted same makes sink old new now request w (Some c) result = ServesCall w (makes c) sink old new result
-ServesWanted same makes sink old new now request w None result = ServesOther same makes sink old new now request w result
+abbrev pub ServesWanted : {W : Type 0} → (same : Type 0) → (makes : Call → Result Reply Refusal → Type 0) → (told : Topic → Response → Type 0) → OfSink W → (old new : W) → ℕ → Request → Wanted
+    → Option Call → Result ⊤ ServeError → Type 0
+ServesWanted same makes told sink old new now request w (Some c) result = ServesCall w (makes c) sink old new result
+ServesWanted same makes told sink old new now request w None result = ServesOther same makes told sink old new now request w result
 
 -- What was read is served: a request by what it wants, and a fault as the interface does. `same`: no call is made. `makes`: this
--- call is made, once, and this comes of it
-abbrev pub Serves : {W : Type 0} → (same : Type 0) → (makes : Call → Result Reply Refusal → Type 0) → OfSink W → (old new : W) → ℕ → Result Request Fault → Result ⊤ ServeError → Type 0
-Serves same makes sink old new now (Ok request) result =
-    ServesWanted same makes sink old new now request (wanted request) (call_of (wanted request)) result
-Serves same makes sink old new now (Err f) result = same × ServesFault sink old new f result
+-- call is made, once, and this comes of it. `told`: what is told of a topic
+abbrev pub Serves : {W : Type 0} → (same : Type 0) → (makes : Call → Result Reply Refusal → Type 0) → (told : Topic → Response → Type 0) → OfSink W → (old new : W) → ℕ → Result Request Fault
+    → Result ⊤ ServeError → Type 0
+Serves same makes told sink old new now (Ok request) result =
+    ServesWanted same makes told sink old new now request (wanted request) (call_of (wanted request)) result
+Serves same makes told sink old new now (Err f) result = same × ServesFault sink old new f result

@@ -2,13 +2,12 @@
 ghost use Rattle.std.specs.Prelude.{◌≡◌, Result, IfOk, None};
 ghost use Rattle.lra_http.specs.declared.fault.Fault.{Fault as TheFault};
 ghost use Rattle.lra_http.specs.declared.message.Request.{Request as TheRequest};
-ghost use Rattle.lra_http.specs.ByteResponses.{Response as TheResponse};
 ghost use Rattle.lra_facts.specs.declared.refusal.Refusal.TheVariants.{BadText};
 ghost use Rattle.lra_book.specs.declared.calls.Call.TheVariants.{Survey};
 ghost use Rattle.lra_api.specs.Answers.{refusal_answer as broken_answer};
 ghost use Rattle.lra_api.specs.Serving.{Ends, Makes};
 ghost use Rattle.lra_api.specs.Streams.{IsReading};
-ghost use Rattle.lra_operate.specs.Serving.{IsTold, Serves, ServesCall, ServesOther, ServesWanted, answer_at, call_of};
+ghost use Rattle.lra_operate.specs.Serving.{EndsTold, IsTold, Serves, ServesCall, ServesOther, ServesWanted, answer_at, call_of};
 ghost use Rattle.lra_operate.specs.Wanted.{wanted};
 
 use crate::records::record_body;
@@ -102,8 +101,8 @@ fn serve_state<W: Sink, T: State>(
     state: &T,
     topic: Topic,
 ) -> Result<(), ServeError>
-    ensures { (response : TheResponse) × IsTold topic response
-        × Ends W.Sink writer.old writer.new response None result }
+    ensures { EndsTold
+        (IsTold T.State state.now topic) W.Sink writer.old writer.new result }
 {
     let made = told_answer(alloc, state, topic);
     end(alloc, writer, made, None)
@@ -128,7 +127,8 @@ fn serve_other<W: Sink, C: Clerk, T: State>(
     now: u64,
     wanted: &Wanted,
 ) -> Result<(), ServeError>
-    ensures { ServesOther (clerk.new ≡ clerk.old) (Makes C.Clerk clerk.old clerk.new now)
+    ensures { ServesOther (clerk.new ≡ clerk.old)
+        (Makes C.Clerk clerk.old clerk.new now) (IsTold T.State state.now)
         W.Sink writer.old writer.new now request.now wanted.now result }
 {
     match wanted {
@@ -148,7 +148,8 @@ fn serve_wanted<W: Sink, C: Clerk, T: State>(
     request: &Request,
     now: u64,
 ) -> Result<(), ServeError>
-    ensures { ServesWanted (clerk.new ≡ clerk.old) (Makes C.Clerk clerk.old clerk.new now)
+    ensures { ServesWanted (clerk.new ≡ clerk.old)
+        (Makes C.Clerk clerk.old clerk.new now) (IsTold T.State state.now)
         W.Sink writer.old writer.new now request.now (wanted request.now) (call_of (wanted request.now)) result }
 {
     let wanted = wanted_by(paths, request);
@@ -173,7 +174,8 @@ pub fn serve_operator<R: Source, W: Sink, C: Clerk, T: State>(
 ) -> Result<(), ServeError>
     ensures served { (read : Result TheRequest TheFault)
         × IsReading R.Source reader.old reader.new read × Serves (clerk.new ≡ clerk.old)
-        (Makes C.Clerk clerk.old clerk.new now) W.Sink writer.old writer.new now read result }
+        (Makes C.Clerk clerk.old clerk.new now) (IsTold T.State state.now)
+        W.Sink writer.old writer.new now read result }
 {
     match read_request(alloc, reader, MAX_BODY_BYTES) {
         Ok(request) => serve_wanted(alloc, paths, state, writer, clerk, &request, now),

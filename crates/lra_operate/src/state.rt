@@ -2,17 +2,34 @@
 
 use std::alloc::{AllocError, Global};
 
-/// What the threads of a node know of it. Nothing is proved of these texts.
+/// What the threads of a node know of it. What they know may change at any moment, so each state
+/// says by relations what it may tell. One that is still says an equation.
 pub trait State {
+    ghost use Rattle.std.specs.Prelude.{ℕ, List, Option, IfOk};
+    ghost use Rattle.std.specs.Option.{option_copied};
+    ghost use Rattle.lra_operate.specs.declared.wanted.Topic.{Topic as TheTopic};
+    ghost use Rattle.lra_operate.specs.declared.wanted.Topic.TheVariants.{Calls, Health, Metrics};
+
+    /// The cause for which it may say that it enters no commands; none where it may say that it
+    /// does.
+    ghost causes: { Self → Option (List ℕ) → Type 0 };
+
+    /// The texts that it may tell of a topic.
+    ghost tells: { Self → TheTopic → List ℕ → Type 0 };
+
     /// Which node it is, of how many, as JSON.
-    fn health(&self, alloc: Global) -> Result<Vec<u8>, AllocError>;
+    fn health(&self, alloc: Global) -> Result<Vec<u8>, AllocError>
+        ensures { IfOk result (λ text. tells self.now Health text.items) };
 
     /// Why it enters no commands now; none where it does.
-    fn unready(&self) -> Option<&'static str>;
+    fn unready(&self) -> Option<&'static str>
+        ensures { causes self.now (option_copied result) };
 
     /// Whom it calls in vain, as JSON.
-    fn calls(&self, alloc: Global) -> Result<Vec<u8>, AllocError>;
+    fn calls(&self, alloc: Global) -> Result<Vec<u8>, AllocError>
+        ensures { IfOk result (λ text. tells self.now Calls text.items) };
 
     /// Its counts, in the text format of Prometheus.
-    fn metrics(&self, alloc: Global) -> Result<Vec<u8>, AllocError>;
+    fn metrics(&self, alloc: Global) -> Result<Vec<u8>, AllocError>
+        ensures { IfOk result (λ text. tells self.now Metrics text.items) };
 }

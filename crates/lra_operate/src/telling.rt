@@ -88,7 +88,7 @@ pub(crate) fn told_answer<'a, T: State>(
     state: &T,
     topic: Topic,
 ) -> Result<Answer<'a>, AllocError>
-    ensures { IfOk result (IsTold topic) }
+    ensures { IfOk result (IsTold T.State state.now topic) }
 {
     match topic {
         Topic::Page => {

@@ -108,7 +108,7 @@ fn told_of(path: &str) -> Wanted
     }
 }
 
-/// The part of a path that stands behind its first slash, and behind its third.
+/// Whether a path is `/lra/ID/member/..`.
 fn is_of_member(path: &str) -> bool
     ensures { result ≡ is_of_member path.now }
 {
