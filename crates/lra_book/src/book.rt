@@ -1,5 +1,6 @@
 // The book: what a node holds, its journal, and the trail of the run that is on.
 ghost use Rattle.std.specs.Prelude.{◌≡◌, ◌≢◌, ◌+◌, ◌<◌, ◌≤◌, ◌⊎◌, ◌↔◌, ◌++◌, ◌∷◌, [], ℕ, None, false, true, IfErr, IfOk, IfSome, IsSome, IsTrue, MatchResult, OnErr, OnOk, length, vec_capacity};
+ghost use Rattle.lra_id.specs.declared.TheConstants.{MAX_NODES};
 ghost use Rattle.lra_facts.specs.declared.refusal.Refusal.TheVariants.{BadFrame, JournalFailed, NoMemory};
 ghost use Rattle.sqlite.specs.Held.{state};
 ghost use Rattle.sqlite.specs.State.{HasCleanDisk, Survives};
@@ -206,7 +207,7 @@ impl<S: Alter> Book<S> {
     ) -> Result<Book<S>, (Refusal, Connection<S>)>
         requires me { me ≤ nodes }
         requires some { 1 ≤ nodes }
-        requires nodes { nodes ≤ 8 }
+        requires nodes { nodes ≤ MAX_NODES }
         ensures opened { IfOk result (λ book. IsOpened me nodes book
             × (book.journal.opened ≡ connection)) }
         ensures rows { IfOk result (λ book. Keeps S.Store me book.journal book.records) }

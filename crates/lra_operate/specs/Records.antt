@@ -12,6 +12,7 @@ use Rattle.lra_forest.specs.declared.record.Member.{Member}
 use Rattle.lra_forest.specs.declared.record.Member.TheVariants as member
 use Rattle.lra_forest.specs.declared.record.Participant.{Participant}
 use Rattle.lra_forest.specs.declared.record.Place.{Place}
+use Rattle.lra_forest.specs.declared.record.TheConstants.{MAX_MEMBERS}
 use Rattle.lra_facts.specs.declared.command.CommandReply.{CommandReply}
 use Rattle.lra_facts.specs.declared.command.CommandReply.TheVariants.{Refused}
 use Rattle.lra_book.specs.declared.holdings.Holding.{Holding}
@@ -94,9 +95,9 @@ abbrev pub rows_to : Holding → ℕ → List ℕ
 rows_to h zero = []
 rows_to h (suc n) = rows_to h n ++ row_at h n
 
--- all of the 32 places that have one
+-- all places that have one
 unfoldable pub rows_text : Holding → List ℕ
-rows_text h = rows_to h 32
+rows_text h = rows_to h MAX_MEMBERS
 
 -- The whole
 

@@ -1,6 +1,7 @@
 // All that is held of an LRA, as JSON.
 ghost use Rattle.std.specs.Prelude.{◌≡◌, ◌++◌, ◌<◌, IfOk, OnOk, codes};
 ghost use Rattle.std.specs.Option.{option_copied};
+ghost use Rattle.lra_forest.specs.declared.record.TheConstants.{MAX_MEMBERS};
 ghost use Rattle.lra_operate.specs.Json.{named, opened};
 ghost use Rattle.lra_operate.specs.Records.{head_text, left_text, link_or_null, links_text, member_text, nested_at, nested_text, outcome_name_of, parent_of, participant_text, purge_text, record_body, row_at, row_text, rows_text, said_text, status_name_of, verdict_name_of};
 
@@ -177,7 +178,7 @@ fn push_row(
     member: &Member,
     status: Option<MemberStatus>,
 ) -> Result<(), AllocError>
-    requires { place < 32 }
+    requires { place < MAX_MEMBERS }
     ensures { OnOk result (body.new.items ≡ body.old.items ++ row_text id place member.now status) }
 {
     push(body, if place == 0 { "" } else { "," })?;
@@ -192,7 +193,7 @@ fn push_row_at(
     holding: &Holding,
     place: usize,
 ) -> Result<(), AllocError>
-    requires { place < 32 }
+    requires { place < MAX_MEMBERS }
     ensures { OnOk result (body.new.items ≡ body.old.items ++ row_at holding.now place) }
 {
     let members = holding.record.members.as_slice();

@@ -2,6 +2,7 @@
 pub mod rounds;
 
 ghost use Rattle.std.specs.Prelude.{◌≡◌, ◌≤◌, ◌⊎◌, ℕ, List, Ok, Some, length};
+ghost use Rattle.lra_id.specs.declared.TheConstants.{MAX_NODES};
 ghost use Rattle.lra_id.specs.Ids.{Id};
 ghost use Rattle.lra_id.specs.declared.status.LraStatus.{LraStatus};
 ghost use Rattle.lra_id.specs.declared.status.MemberStatus.{MemberStatus};
@@ -63,10 +64,10 @@ pub fn a_lost_answer_is_at_most_one_event()
 /// records and there are at most eight nodes; and so does what it holds behind its next call.
 pub fn what_a_node_holds_keeps_the_rules()
     ensures held { (me : ℕ) (s : State) (a : View) →
-        IsServed me s a → length a.front ≤ 8 → AreTyped a → KeepsRules a }
+        IsServed me s a → length a.front ≤ MAX_NODES → AreTyped a → KeepsRules a }
     ensures next { (me now : ℕ) (frame : Arrival) (s : State) (a b : View) (call : Call) (reply : Reply) →
         IsServed me s a → IsNext me a call now reply b → WasSent s frame call reply →
-        length b.front ≤ 8 → AreTyped b → KeepsRules b }
+        length b.front ≤ MAX_NODES → AreTyped b → KeepsRules b }
 {
     views_of_a_history_keep_the_rules();
 }
