@@ -392,6 +392,7 @@ impl<S: Alter> Book<S> {
         // E21 is at a place that the pass has seen, if its receipts are of entries that it has
         // seen.
         ensures lost { AreSeen pass.now receipts.now → IfErr result (IsLostBelow pass.now) }
+        ensures rows { Keeps S.Store self.now.me self.now.journal self.now.records }
     {
         if self.stopped {
             return Err(Refusal::Stopped);
