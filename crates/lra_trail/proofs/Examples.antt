@@ -3,16 +3,16 @@ use Rattle.std.proofs.Common.{◌≡◌, [], ◌∷◌, refl, None}
 use Rattle.std.specs.Prelude.{List, length}
 use Rattle.lra_id.specs.Ids.{Id}
 use Rattle.lra_id.specs.declared.outcome.Verdict.TheVariants.{Close}
-use Rattle.lra_id.specs.declared.status.LraStatus.TheVariants.{Closed}
+use Rattle.lra_id.specs.declared.status.LraStatus.TheVariants.{Cancelled, Closed}
 use Rattle.lra_facts.specs.declared.refusal.Refusal.TheVariants.{NotHeld}
-use Rattle.lra_facts.specs.declared.command.Command.TheVariants.{Begin, Decide}
-use Rattle.lra_facts.specs.declared.command.CommandReply.TheVariants.{Began, Refused as NotEntered}
+use Rattle.lra_facts.specs.declared.command.Command.TheVariants.{Begin, Decide, Purge}
+use Rattle.lra_facts.specs.declared.command.CommandReply.TheVariants.{Began, Purged, Refused as NotEntered}
 use Rattle.lra_delta.specs.Frames.{Frame}
 use Rattle.lra_delta.specs.Encoding.{encoding_as}
 use Rattle.lra_delta.specs.declared.version.Version.TheVariants.{One, Two}
 use Rattle.lra_world.specs.declared.event.Event.TheVariants.{Act, Deliver, Restart, Send, Tick}
 use Rattle.lra_world.specs.declared.event.Reply.TheVariants.{Restarted, Sent}
-use Rattle.lra_book.specs.declared.calls.Call.TheVariants.{Command as Enter, Pull, Status, Take, Expire}
+use Rattle.lra_book.specs.declared.calls.Call.TheVariants.{Command as Enter, Pull, Status, Take, Expire, Sweep}
 use Rattle.lra_book.specs.declared.calls.Reply.TheVariants.{Command as Entered, Gave, Shown, Expired, Quiet, Took}
 use Rattle.lra_book.specs.Trails.{entry}
 use Rattle.lra_trail.specs.NodeTrails.{Arrival, Elsewhere, Here, Item, events_of}
@@ -39,10 +39,12 @@ items =
     ∷ Here (entry Expire 9 (Expired one)) nothing
     ∷ Here (entry (Pull []) 9 (Gave frame)) nothing
     ∷ Here (entry (Status one) 9 (Shown one Closed)) nothing
+    ∷ Here (entry (Sweep one Closed) 9 (Shown one Cancelled)) nothing
+    ∷ Here (entry (Sweep one Cancelled) 9 (Entered Purged)) nothing
     ∷ []
 
 -- what is refused, quiet or a question is no event
-happened : events_of 1 items ≡ Act 1 (Begin None 9) ∷ Restart 2 ∷ Tick 1 9 ∷ Send 1 (0 ∷ 0 ∷ []) Two ∷ []
+happened : events_of 1 items ≡ Act 1 (Begin None 9) ∷ Restart 2 ∷ Tick 1 9 ∷ Send 1 (0 ∷ 0 ∷ []) Two ∷ Act 1 (Purge one) ∷ []
 happened = refl
 
 -- a frame that was sent in version 1 is taken as its bytes of version 1 come, and one in version 2 as those of version 2
