@@ -19,6 +19,11 @@ pub replied : {W : Type 0} (w : Wanted) (makes : Result Reply Refusal → Type 0
 replied w makes sink old new seen reply result made is ends =
     (Ok reply, made, subst (λ (r : Reply). Ends sink old new (answer_at w r) None result) is ends)
 
+-- an answer that is the right one tells of what that does
+pub tells : {E : Type 0} (made : Result Response E) (right : Response) (told : Response → Type 0) → told right → IfOk made (λ (response : Response). response ≡ right) → IfOk made told
+tells (Ok response) right told so is = subst told (sym is) so
+tells (Err e) right told so is = tt
+
 -- the answer that was made is written; if none was, the memory was refused
 pub ended : {E W : Type 0} (told : Response → Type 0) (made : Result Response E) (sink : OfSink W) (old new : W) (result : Result ⊤ ServeError)
     → IfOk made told → ((right : Response) → IfOk made (λ (response : Response). response ≡ right) → Ends sink old new right None result)

@@ -74,7 +74,7 @@ ready_answer (Some cause) = with_body 503 [] (codes "application/json") (ready_t
 
 -- The answer that tells of a topic: the page, or by what the state tells of it. Of the text of a topic each state says what it may be
 abbrev pub IsTold : {T : Type 0} → OfState T → T → Topic → Response → Type 0
-IsTold of state Page response = response ≡ page_answer PAGE
+IsTold of state Page response = response ≡ page_answer PAGE.now
 IsTold of state Health response = (text : List ℕ) × of.tells state Health text × (response ≡ ok_json text)
 IsTold of state Ready response = (cause : Option (List ℕ)) × of.causes state cause × (response ≡ ready_answer cause)
 IsTold of state Metrics response = (text : List ℕ) × of.tells state Metrics text × (response ≡ counts_answer text)
