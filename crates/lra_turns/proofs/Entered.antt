@@ -1,11 +1,12 @@
 -- What comes of a duty of a list, in numbers.
-use Rattle.std.proofs.Common.{◌≡◌, ◌≤◌, ◌+◌, ◌∷◌, [], ◌∙◌, ℕ, Bool, true, false, List, Option, Some, None, ap, arith, cond, not, refl, sym}
+use Rattle.std.proofs.Common.{◌≡◌, ◌≤◌, ◌+◌, ◌∷◌, [], ◌&&◌, ◌∙◌, ℕ, Bool, true, false, List, Option, Some, None, ap, arith, cond, is_none, not, refl, sym}
+use Rattle.std.proofs.lemmas.Bool.{and_left, and_right}
 use Rattle.std.proofs.lemmas.List.Sums.{sum_by-cons, sum_by-set, sum_by_push}
 use Rattle.std.specs.Prelude.{MatchBool}
 use Rattle.std.specs.declared.time.Duration.{Duration}
 use Rattle.lra_callback.specs.declared.duty.Duty.{Duty}
-use Rattle.lra_turns.specs.Entering.{IsEntered, IsMadeToWait, keeping, left, noted}
-use Rattle.lra_turns.specs.Once.{dues_of, duties_for, is_for, is_stray, spare_of}
+use Rattle.lra_turns.specs.Entering.{IsEntered, IsMadeToWait, keeping, noted}
+use Rattle.lra_turns.specs.Once.{dues_of, duties_for, is_current, is_for, is_stray, spare_of}
 use Rattle.lra_turns.specs.Slips.{called_of, is_called, is_called_in, is_over, is_over_in, pauses, pauses_in, waits, waits_in}
 use Rattle.lra_turns.specs.Turns.{AtHost, IsPut, IsPutAt, Turns, changed_at, host_at, is_host_of, listed, newcomer, next_turn, nowhere, with_due}
 use Rattle.lra_turns.specs.Turns.{place_of as host_place}
@@ -87,36 +88,31 @@ over_waits now Waits e = absurd cc
 over_waits now IsCalled e = refl
 over_waits now (Pauses until) e = refl
 
+over_called : (now : Duration) (stand : Stand) → is_over_in now stand ≡ true → is_called_in stand ≡ false
+over_called now Waits e = refl
+over_called now IsCalled e = absurd cc
+over_called now (Pauses until) e = refl
+
+-- one that isn't called, and one of which a list has brought something, isn't called for what the list has
+idle_not_current : (slip : Slip) → is_called slip ≡ false → is_current slip ≡ false
+idle_not_current slip e = and_left (is_called slip) (slip.is_listed && is_none slip.kept) e
+
+kept_not_current : (duty : Duty) (slip : Slip) → slip.kept ≡ Some duty → is_current slip ≡ false
+kept_not_current duty slip e =
+    and_right (is_called slip) (slip.is_listed && is_none slip.kept) (and_right slip.is_listed (is_none slip.kept) (ap (λ (k : Option Duty). is_none k) e))
+
 -- what is entered of a slip of the one for whom the duty is, in numbers
 pub record Enters (now : Duration) (duty : Duty) (old new : Slip) (before after : Turns) (is_put : Bool) : Type 0 where
   pub whose : new.who ≡ old.who
   pub calls : is_called new ≡ is_called old
   pub paused : bit (pauses now new) ≤ bit (pauses now old)
   pub on_list : new.is_listed ≡ true
+  pub current : is_current new ≡ false
   pub strays : bit (is_stray new) ≤ bit (is_stray old)
   pub dues : (who : Called) → dues_of who after.hosts + cond (waits old) (duties_for who (duty ∷ [])) 0 ≡ dues_of who before.hosts + cond (waits new) (duties_for who (duty ∷ [])) 0
   pub more : (who : Called) → dues_of who before.hosts ≤ dues_of who after.hosts
   pub spare : (who : Called) → spare_of who after.hosts ≤ spare_of who before.hosts
   pub put : is_put ≡ true → waits old ≡ false → is_called old ≡ false → pauses now old ≡ false → waits new ≡ true
-
-left_enters : (now : Duration) (duty : Duty) (old new : Slip) (before after : Turns) (is_put : Bool) → is_called old ≡ true
-    → new ≡ left old → after ≡ noted duty before → Enters now duty old new before after is_put
-left_enters now duty old new before after is_put called is noted = record {
-  whose = ap (λ (s : Slip). s.who) is;
-  calls = ap is_called is;
-  paused = omega (arith, ap {B = ℕ} (λ (s : Slip). bit (pauses now s)) is);
-  on_list = ap (λ (s : Slip). s.is_listed) is;
-  strays = omega (arith, ap {B = ℕ} (λ (s : Slip). bit (is_stray s)) is);
-  dues = λ who. omega (
-    arith,
-    ap (λ (t : Turns). dues_of who t.hosts) noted,
-    dues_noted who duty before.hosts (host_place duty before.hosts) refl,
-    ap {B = ℕ} (λ (s : Slip). cond (waits s) (duties_for who (duty ∷ [])) 0) is,
-  );
-  more = λ who. omega (arith, ap (λ (t : Turns). dues_of who t.hosts) noted, dues_noted who duty before.hosts (host_place duty before.hosts) refl);
-  spare = λ who. spare_noted who duty before after noted;
-  put = λ p w c q. absurd (true_false (sym called ∙ c));
-}
 
 kept_enters : (now : Duration) (duty : Duty) (old new : Slip) (before after : Turns) (is_put : Bool) → old.who ≡ called_of duty → is_over now old ≡ false
     → new ≡ keeping duty old → after ≡ noted duty before → Enters now duty old new before after is_put
@@ -125,6 +121,7 @@ kept_enters now duty old new before after is_put its over is noted = record {
   calls = ap is_called is;
   paused = omega (arith, ap {B = ℕ} (λ (s : Slip). bit (pauses now s)) is);
   on_list = ap (λ (s : Slip). s.is_listed) is;
+  current = kept_not_current duty new (ap (λ (s : Slip). s.kept) is);
   strays = omega (arith, ap {B = ℕ} bit (not_stray duty new (ap (λ (s : Slip). s.kept) is) (ap (λ (s : Slip). s.who) is ∙ its)));
   dues = λ who. omega (
     arith,
@@ -137,13 +134,14 @@ kept_enters now duty old new before after is_put its over is noted = record {
   put = λ p w c q. absurd (true_false (sym (free_is_over now old.stand w c q) ∙ over));
 }
 
-waits_enters : (now : Duration) (duty : Duty) (old new : Slip) (before after : Turns) (is_put : Bool) → is_called old ≡ false → is_over now old ≡ true
+waits_enters : (now : Duration) (duty : Duty) (old new : Slip) (before after : Turns) (is_put : Bool) → is_over now old ≡ true
     → IsPut duty before after is_put → IsMadeToWait is_put old new → Enters now duty old new before after is_put
-waits_enters now duty old new before after is_put called over put made = record {
+waits_enters now duty old new before after is_put over put made = record {
   whose = made.who;
-  calls = made.not_called ∙ sym called;
+  calls = made.not_called ∙ sym (over_called now old.stand over);
   paused = omega (arith, ap {B = ℕ} bit (made.not_paused now));
   on_list = made.listed;
+  current = idle_not_current new made.not_called;
   strays = omega (arith, ap {B = ℕ} bit (none_stray new made.kept));
   dues = λ who. omega (
     arith,
@@ -156,15 +154,13 @@ waits_enters now duty old new before after is_put called over put made = record 
   put = λ p w c q. made.waits ∙ p;
 }
 
--- by the two tests
-enters_at : (now : Duration) (duty : Duty) (old new : Slip) (before after : Turns) (is_put called over : Bool) → is_called old ≡ called → is_over now old ≡ over → old.who ≡ called_of duty
-    → MatchBool called ((new ≡ left old) × (after ≡ noted duty before) × (is_put ≡ true))
-    (MatchBool over (IsPut duty before after is_put × IsMadeToWait is_put old new) ((new ≡ keeping duty old) × (after ≡ noted duty before) × (is_put ≡ true)))
+-- by the test
+enters_at : (now : Duration) (duty : Duty) (old new : Slip) (before after : Turns) (is_put over : Bool) → is_over now old ≡ over → old.who ≡ called_of duty
+    → MatchBool over (IsPut duty before after is_put × IsMadeToWait is_put old new) ((new ≡ keeping duty old) × (after ≡ noted duty before) × (is_put ≡ true))
     → Enters now duty old new before after is_put
-enters_at now duty old new before after is_put true over c o its h = left_enters now duty old new before after is_put c h.0 h.1
-enters_at now duty old new before after is_put false true c o its h = waits_enters now duty old new before after is_put c o h.0 h.1
-enters_at now duty old new before after is_put false false c o its h = kept_enters now duty old new before after is_put its o h.0 h.1
+enters_at now duty old new before after is_put true o its h = waits_enters now duty old new before after is_put o h.0 h.1
+enters_at now duty old new before after is_put false o its h = kept_enters now duty old new before after is_put its o h.0 h.1
 
 pub enters : (now : Duration) (duty : Duty) (old new : Slip) (before after : Turns) (is_put : Bool) → old.who ≡ called_of duty → IsEntered now duty old new before after is_put
     → Enters now duty old new before after is_put
-enters now duty old new before after is_put its h = enters_at now duty old new before after is_put (is_called old) (is_over now old) refl refl its h
+enters now duty old new before after is_put its h = enters_at now duty old new before after is_put (is_over now old) refl its h

@@ -1,8 +1,10 @@
+mod Between
 mod Brought
 mod Choices
 mod Counts
 mod Entered
 mod FirstPause
+mod Latest
 mod Lists
 mod Named
 mod Once

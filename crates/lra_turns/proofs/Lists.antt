@@ -8,7 +8,7 @@ use Rattle.std.specs.declared.time.Duration.{Duration}
 use Rattle.lra_callback.specs.declared.duty.Duty.{Duty}
 use Rattle.lra_turns.specs.Calling.{Calling}
 use Rattle.lra_turns.specs.Listing.{PutsSome, recalled_all, remembered}
-use Rattle.lra_turns.specs.Once.{HasEachOnce, MayBeCalled, NamesNobodyTwice, calls_of, dues_of, duties_for, hidden_of, is_of, is_stray, listed_of, pauses_of, slips_of, spare_of, waits_of}
+use Rattle.lra_turns.specs.Once.{HasEachOnce, MayBeCalled, NamesNobodyTwice, calls_of, current_of, dues_of, duties_for, hidden_of, is_current, is_of, is_stray, listed_of, pauses_of, slips_of, spare_of, waits_of}
 use Rattle.lra_turns.specs.Slips.{back, is_called, is_called_in, is_remembered, pauses, pauses_in, taken_back, waits, waits_in}
 use Rattle.lra_turns.specs.Turns.{AtHost, is_kept, recalled}
 use Rattle.lra_turns.specs.declared.slip.Called.{Called}
@@ -42,7 +42,8 @@ record TakesBack (now : Duration) (who : Called) (old : Calling) : Type 0 where
   waits : waits_of who (map taken_back old.slips) ≡ 0
   listed : listed_of who (map taken_back old.slips) ≡ 0
   hidden : hidden_of who (map taken_back old.slips) ≡ 0
-  stray : count_by is_stray (map taken_back old.slips) ≡ count_by is_stray old.slips
+  current : current_of who (map taken_back old.slips) ≡ 0
+  stray : count_by is_stray (map taken_back old.slips) ≡ 0
   dues : dues_of who (map recalled old.now.hosts) ≡ 0
   spare : spare_of who (map recalled old.now.hosts) ≡ 0
 
@@ -58,7 +59,9 @@ takes_back now who old = record {
   listed = none_mapped (λ (slip : Slip). is_of who slip && slip.is_listed) (λ slip. and_none (is_of who slip) false refl) old.slips;
   hidden = none_mapped (λ (slip : Slip). is_of who slip && (waits slip && not slip.is_listed))
       (λ slip. and_none (is_of who slip) (waits (taken_back slip) && true) (ap (λ (b : Bool). b && true) (back_waits slip.stand))) old.slips;
-  stray = counts_mapped is_stray taken_back (λ slip. refl) old.slips;
+  current = none_mapped (λ (slip : Slip). is_of who slip && is_current slip)
+      (λ slip. and_none (is_of who slip) (is_current (taken_back slip)) (and_none (is_called (taken_back slip)) false refl)) old.slips;
+  stray = none_mapped is_stray (λ slip. refl) old.slips;
   dues = sums_mapped (λ (host : AtHost). duties_for who host.due) recalled old.now.hosts ∙ none_summed (λ (host : AtHost). 0) (λ host. refl) old.now.hosts;
   spare = sums_mapped (λ (host : AtHost). cond host.is_listed 0 (duties_for who host.due)) recalled old.now.hosts ∙ none_summed (λ (host : AtHost). 0) (λ host. refl) old.now.hosts;
 }
@@ -132,7 +135,7 @@ lists_once now duties old mid is_whole lists single once = record {
   kept =
       let p = lists.puts (record { id = record { home = 0; num = 0 }; member = 0; of_end = false }) in
       let b = takes_back now (record { id = record { home = 0; num = 0 }; member = 0; of_end = false }) old in
-      omega (arith, filter_below is_stray is_remembered mid.slips, p.stray, b.stray, once.kept);
+      omega (arith, filter_below is_stray is_remembered mid.slips, p.stray, b.stray);
 }
 
 pub lists_called : (now : Duration) (duties : List Duty) (old mid : Calling) (is_whole : Bool) → Lists now duties old mid is_whole → (who : Called) → calls_of who (remembered mid).slips ≡ calls_of who old.slips
@@ -153,3 +156,8 @@ pub lists_forgotten : (now : Duration) (duties : List Duty) (old mid : Calling) 
 lists_forgotten now duties old mid is_whole lists who none free =
     let b = takes_back now who old in let p = lists.puts who in
     omega (arith, left_slips who mid.slips, p.listed, b.listed, none, p.calls, b.calls, free)
+
+pub lists_current : (now : Duration) (duties : List Duty) (old mid : Calling) (is_whole : Bool) → Lists now duties old mid is_whole → (who : Called) → current_of who (remembered mid).slips ≡ 0
+lists_current now duties old mid is_whole lists who =
+    let b = takes_back now who old in let p = lists.puts who in
+    omega (arith, filter_below (λ (slip : Slip). is_of who slip && is_current slip) is_remembered mid.slips, p.current, b.current)

@@ -6,8 +6,9 @@ use Rattle.std.specs.Prelude.{if◌then◌else◌}
 use Rattle.lra_callback.specs.declared.duty.Duty.{Duty}
 use Rattle.lra_turns.specs.Calling.{Calling, IsTakenFrom}
 use Rattle.lra_turns.specs.Named.{AllDue, AllKept, AllNamed, AllWaiting, IsKept, NamesNoOther, Passes}
-use Rattle.lra_turns.specs.Slips.{begun_to, called_of, same_called, standing}
-use Rattle.lra_turns.specs.Turns.{AtHost, Begins, BeginsAt, IsNext, Turns, host_at, next_turn, nowhere}
+use Rattle.lra_turns.specs.Listing.{recalled_all}
+use Rattle.lra_turns.specs.Slips.{begun_to, called_of, same_called, standing, taken_back}
+use Rattle.lra_turns.specs.Turns.{AtHost, Begins, BeginsAt, IsNext, Turns, host_at, next_turn, nowhere, recalled}
 use Rattle.lra_turns.specs.declared.slip.Called.{Called}
 use Rattle.lra_turns.specs.declared.slip.Slip.{Slip}
 use Rattle.lra_turns.specs.declared.slip.Stand.TheVariants.{IsCalled}
@@ -50,3 +51,10 @@ pub taken : (old new : Calling) (duty : Duty) (test : Duty → Bool) → IsTaken
 taken old new duty test is named =
     let both = taken_at test is.hosts.0 duty old.now new.now (next_within old.now is.hosts.0 is.hosts.1) is.hosts.2 named.waiting in
     (both.0, record { waiting = both.1; kept = subst (AllKept test) (sym is.slips) (all_begun test (called_of duty) old.slips named.kept) })
+
+-- where all is taken back, for nothing is somebody to be called
+pub recalled_names : (test : Duty → Bool) (calling : Calling) → AllNamed test (recalled_all calling)
+recalled_names test calling = record {
+  waiting = All-map (AllDue test) recalled calling.now.hosts (λ k d e. All-nil (Passes test));
+  kept = All-map (IsKept test) taken_back calling.slips (λ k d e. tt);
+}

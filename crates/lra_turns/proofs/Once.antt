@@ -3,11 +3,11 @@ use Rattle.std.proofs.Common.{◌≡◌, ◌≤◌, ◌<◌, ◌+◌, ◌&&◌, 
 use Rattle.std.proofs.lemmas.Bool.{and_left as and_no}
 use Rattle.std.proofs.lemmas.List.Sums.{sum_by-cons, sum_by-set}
 use Rattle.std.specs.List.{count_by}
-use Rattle.std.specs.Prelude.{if◌then◌else◌}
+use Rattle.std.specs.Prelude.{MatchBool, if◌then◌else◌}
 use Rattle.lra_callback.specs.declared.duty.Duty.{Duty}
-use Rattle.lra_turns.specs.Calling.{Calling, IsTakenFrom, nothing}
+use Rattle.lra_turns.specs.Calling.{Calling, IsTakenFrom, forgotten, nothing}
 use Rattle.lra_turns.specs.Once.{BeginsOnce, HasEachOnce, IsBeingCalled, LeavesOthers, calls_of, dues_of, duties_for, is_for, is_of, is_stray, slips_of, waits_of}
-use Rattle.lra_turns.specs.Pausing.{IsBusyAt, IsFound, IsMissed, PausesAt, cleared, found, missed, nobody, slip_at}
+use Rattle.lra_turns.specs.Pausing.{IsBusyAt, IsFound, IsMissed, IsMissedAt, PausesAt, cleared, found, missed, newest, nobody, slip_at}
 use Rattle.lra_turns.specs.Slips.{begun_to, called_of, is_called, is_called_in, place_of, same_called, standing, waits, waits_in, without}
 use Rattle.lra_turns.specs.Turns.{AtHost, BeginsAt, IsNext, Turns, changed_at, host_at, is_host_of, nowhere, with_end, with_hosts}
 use Rattle.lra_turns.specs.Turns.{place_of as host_place}
@@ -67,7 +67,7 @@ slips_begun who other slips = counts_mapped (is_of other) (begun_to who) (λ sli
 stray_begun : (who : Called) (slips : List Slip) → count_by is_stray (map (begun_to who) slips) ≡ count_by is_stray slips
 stray_begun who slips = counts_mapped is_stray (begun_to who) (λ slip. begun_stray (same_called slip.who who) slip) slips
 
-others_begun : (who other : Called) (f : Slip → Bool) (slips : List Slip) → same_called who other ≡ false
+pub others_begun : (who other : Called) (f : Slip → Bool) (slips : List Slip) → same_called who other ≡ false
     → count_by (λ (slip : Slip). is_of other slip && f slip) (map (begun_to who) slips) ≡ count_by (λ (slip : Slip). is_of other slip && f slip) slips
 others_begun who other f slips differs =
     counts_mapped (λ (slip : Slip). is_of other slip && f slip) (begun_to who) (λ slip. begun_other who other f (same_called slip.who who) slip differs refl) slips
@@ -150,7 +150,7 @@ pub record PausesOne (who : Called) (place : ℕ) (old new : Calling) : Type 0 w
   pub is : slip.who ≡ who
   pub waits : waits slip ≡ false
   pub called : is_called slip ≡ false
-  pub kept : is_stray slip ≡ false
+  pub kept : bit (is_stray slip) ≤ bit (is_stray (slip_at old.slips place))
   pub slips : new.slips ≡ slice_set old.slips place slip
   pub hosts : new.now ≡ old.now
 
@@ -184,7 +184,7 @@ pub once_paused : (who : Called) (place : ℕ) (old new : Calling) → HasEachOn
 once_paused who place old new once called p = record {
   slips = λ other. omega (arith, paused_slips who other place old new p, once.slips other);
   waits = λ other. paused_waits who other (same_called who other) refl place old new once called p;
-  kept = omega (arith, set_counts is_stray old.slips new.slips place p.slip p.within p.slips, ap {B = ℕ} bit p.kept, once.kept);
+  kept = omega (arith, set_counts is_stray old.slips new.slips place p.slip p.within p.slips, p.kept, once.kept);
 }
 
 pub others_paused : (who : Called) (place : ℕ) (old new : Calling) → PausesOne who place old new
@@ -192,7 +192,7 @@ pub others_paused : (who : Called) (place : ℕ) (old new : Calling) → PausesO
 others_paused who place old new p other differs = paused_other who other is_called place old new differs p
 
 -- the slip that a search for somebody gives is of it
-found_slip : (who : Called) (place : ℕ) (slips : List Slip) → place_of who slips ≡ Some place → (place < length slips) × ((slip_at slips place).who ≡ who)
+pub found_slip : (who : Called) (place : ℕ) (slips : List Slip) → place_of who slips ≡ Some place → (place < length slips) × ((slip_at slips place).who ≡ who)
 found_slip who place slips e =
     let f = found_in (is_of who) 0 place slips nobody e in
     let same : f.behind ≡ place = omega (arith, f.is) in
@@ -206,7 +206,7 @@ not_stray duty slip kept is =
 pub none_stray : (slip : Slip) → slip.kept ≡ None → is_stray slip ≡ false
 none_stray slip kept = ap (λ (k : Option Duty). not (option_map_or (is_for slip.who) k true)) kept
 
-busy_pauses : (who : Called) (now : Duration) (place : ℕ) (old new : Calling) → place_of who old.slips ≡ Some place → PausesAt place now cleared old new → PausesOne who place old new
+pub busy_pauses : (who : Called) (now : Duration) (place : ℕ) (old new : Calling) → place_of who old.slips ≡ Some place → PausesAt place now cleared old new → PausesOne who place old new
 busy_pauses who now place old new e p = let found = found_slip who place old.slips e in record {
   slip = slip_at new.slips place;
   within = found.0;
@@ -214,12 +214,21 @@ busy_pauses who now place old new e p = let found = found_slip who place old.sli
   is = p.paused.who ∙ found.1;
   waits = ap waits_in p.paused.stand;
   called = ap is_called_in p.paused.stand;
-  kept = none_stray (slip_at new.slips place) p.paused.kept;
+  kept = omega (arith, ap {B = ℕ} bit (none_stray (slip_at new.slips place) p.paused.kept));
   slips = p.others;
   hosts = p.hosts;
 }
 
-missed_pauses : (duty : Duty) (vain : Vain) (now : Duration) (place : ℕ) (old new : Calling) → place_of (called_of duty) old.slips ≡ Some place → PausesAt place now (missed duty vain) old new
+-- what a list brought is its own, as it was; and else the duty is
+newest_stray : (duty : Duty) (old new : Slip) (brought : Option Duty) → old.kept ≡ brought → new.kept ≡ Some (newest brought duty) → new.who ≡ old.who → old.who ≡ called_of duty
+    → bit (is_stray new) ≤ bit (is_stray old)
+newest_stray duty old new None was is same its = omega (arith, ap {B = ℕ} bit (not_stray duty new is (same ∙ its)))
+newest_stray duty old new (Some newer) was is same its =
+    let alike : is_stray new ≡ is_stray old =
+    ap (λ (k : Option Duty). not (option_map_or (is_for new.who) k true)) (is ∙ sym was) ∙ ap (λ (w : Called). not (option_map_or (is_for w) old.kept true)) same in
+    omega (arith, ap {B = ℕ} bit alike)
+
+pub missed_pauses : (duty : Duty) (vain : Vain) (now : Duration) (place : ℕ) (old new : Calling) → place_of (called_of duty) old.slips ≡ Some place → PausesAt place now (missed duty vain) old new
     → PausesOne (called_of duty) place old new
 missed_pauses duty vain now place old new e p = let found = found_slip (called_of duty) place old.slips e in record {
   slip = slip_at new.slips place;
@@ -228,7 +237,7 @@ missed_pauses duty vain now place old new e p = let found = found_slip (called_o
   is = p.paused.who ∙ found.1;
   waits = ap waits_in p.paused.stand;
   called = ap is_called_in p.paused.stand;
-  kept = not_stray duty (slip_at new.slips place) p.paused.kept (p.paused.who ∙ found.1);
+  kept = newest_stray duty (slip_at old.slips place) (slip_at new.slips place) (slip_at old.slips place).kept refl p.paused.kept p.paused.who found.1;
   slips = p.others;
   hosts = p.hosts;
 }
@@ -244,19 +253,8 @@ pub busy_once : (who : Called) (now : Duration) (old new : Calling) → IsBusyAt
     → (IsBeingCalled who old → HasEachOnce old → HasEachOnce new) × LeavesOthers who old new
 busy_once who now old new p = busy_at who now old new (place_of who old.slips) refl p
 
-missed_at : (duty : Duty) (came : Came) (now : Duration) (old new : Calling) (plight : Option Plight) (at : Option ℕ) → place_of (called_of duty) old.slips ≡ at → IsMissed at duty came now old new plight
-    → (IsBeingCalled (called_of duty) old → HasEachOnce old → HasEachOnce new) × LeavesOthers (called_of duty) old new
-missed_at duty came now old new plight None e same = ((λ called once. subst HasEachOnce (sym same.0) once), λ other differs. ap (λ (c : Calling). calls_of other c.slips) same.0)
-missed_at duty came now old new plight (Some place) e p =
-    let pauses = missed_pauses duty p.vain now place old new e p.pauses in
-    ((λ called once. once_paused (called_of duty) place old new once called pauses), others_paused (called_of duty) place old new pauses)
-
-pub missed_once : (duty : Duty) (came : Came) (now : Duration) (old new : Calling) (plight : Option Plight) → IsMissed (place_of (called_of duty) old.slips) duty came now old new plight
-    → (IsBeingCalled (called_of duty) old → HasEachOnce old → HasEachOnce new) × LeavesOthers (called_of duty) old new
-missed_once duty came now old new plight p = missed_at duty came now old new plight (place_of (called_of duty) old.slips) refl p
-
 -- who was heard of stands as it stood
-found_counts : (test : Slip → Bool) → ((slip : Slip) → test (found slip) ≡ test slip) → (duty : Duty) (now : Duration) (old new : Calling) (plight : Option Plight) (at : Option ℕ)
+pub found_counts : (test : Slip → Bool) → ((slip : Slip) → test (found slip) ≡ test slip) → (duty : Duty) (now : Duration) (old new : Calling) (plight : Option Plight) (at : Option ℕ)
     → place_of (called_of duty) old.slips ≡ at → IsFound at duty now old new plight → count_by test new.slips ≡ count_by test old.slips
 found_counts test each duty now old new plight None e same = ap (λ (c : Calling). count_by test c.slips) same.0
 found_counts test each duty now old new plight (Some place) e p =
@@ -311,6 +309,27 @@ once_forgotten who calling called once = record {
 
 pub others_left : (who : Called) (slips : List Slip) (other : Called) → same_called who other ≡ false → calls_of other (without who slips) ≡ calls_of other slips
 others_left who slips other differs = other_left who other is_called slips differs
+
+-- one who was called in vain pauses, or is forgotten
+missed_by : (duty : Duty) (came : Came) (now : Duration) (old new : Calling) (plight : Option Plight) (place : ℕ) (is_listed : Bool) → place_of (called_of duty) old.slips ≡ Some place
+    → MatchBool is_listed (IsMissedAt place duty came now old new plight) ((new ≡ forgotten (called_of duty) old) × (plight ≡ None))
+    → (IsBeingCalled (called_of duty) old → HasEachOnce old → HasEachOnce new) × LeavesOthers (called_of duty) old new
+missed_by duty came now old new plight place true e p =
+    let pauses = missed_pauses duty p.vain now place old new e p.pauses in
+    ((λ called once. once_paused (called_of duty) place old new once called pauses), others_paused (called_of duty) place old new pauses)
+missed_by duty came now old new plight place false e p = (
+  (λ called once. subst HasEachOnce (sym p.0) (once_forgotten (called_of duty) old called once)),
+  λ other differs. ap (λ (c : Calling). calls_of other c.slips) p.0 ∙ others_left (called_of duty) old.slips other differs,
+)
+
+missed_at : (duty : Duty) (came : Came) (now : Duration) (old new : Calling) (plight : Option Plight) (at : Option ℕ) → place_of (called_of duty) old.slips ≡ at → IsMissed at duty came now old new plight
+    → (IsBeingCalled (called_of duty) old → HasEachOnce old → HasEachOnce new) × LeavesOthers (called_of duty) old new
+missed_at duty came now old new plight None e same = ((λ called once. subst HasEachOnce (sym same.0) once), λ other differs. ap (λ (c : Calling). calls_of other c.slips) same.0)
+missed_at duty came now old new plight (Some place) e p = missed_by duty came now old new plight place (slip_at old.slips place).is_listed e p
+
+pub missed_once : (duty : Duty) (came : Came) (now : Duration) (old new : Calling) (plight : Option Plight) → IsMissed (place_of (called_of duty) old.slips) duty came now old new plight
+    → (IsBeingCalled (called_of duty) old → HasEachOnce old → HasEachOnce new) × LeavesOthers (called_of duty) old new
+missed_once duty came now old new plight p = missed_at duty came now old new plight (place_of (called_of duty) old.slips) refl p
 
 -- of a call that is over the host has the same duties
 dues_ended : (who : Called) (duty : Duty) (pace : Pace) (hosts : List AtHost) (at : Option ℕ) → host_place duty hosts ≡ at → dues_of who (changed_at at (with_end pace) hosts) ≡ dues_of who hosts

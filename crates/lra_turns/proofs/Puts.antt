@@ -10,7 +10,7 @@ use Rattle.std.specs.declared.time.Duration.{Duration}
 use Rattle.lra_callback.specs.declared.duty.Duty.{Duty}
 use Rattle.lra_turns.specs.Calling.{Calling}
 use Rattle.lra_turns.specs.Listing.{IsBrought, PutsOne, PutsSome}
-use Rattle.lra_turns.specs.Once.{calls_of, dues_of, duties_for, is_for, is_of, is_stray, pauses_of, slips_of, spare_of, waits_of}
+use Rattle.lra_turns.specs.Once.{calls_of, dues_of, duties_for, is_current, is_for, is_of, is_stray, pauses_of, slips_of, spare_of, waits_of}
 use Rattle.lra_turns.specs.Pausing.{nobody, slip_at}
 use Rattle.lra_turns.specs.Slips.{called_of, fresh, is_called, pauses, same_called, waits}
 use Rattle.lra_turns.specs.Turns.{Turns}
@@ -26,7 +26,7 @@ false_true e = cc
 pub fresh_paused : (now : Duration) (who : Called) → pauses now (fresh who) ≡ false
 fresh_paused now who = ap not (le-leb 0 (as_nanos now) (omega arith))
 
-both_below : (a b c : Bool) → bit b ≤ bit c → bit (a && b) ≤ bit (a && c)
+pub both_below : (a b c : Bool) → bit b ≤ bit c → bit (a && b) ≤ bit (a && c)
 both_below true b c h = h
 both_below false b c h = omega arith
 
@@ -108,6 +108,7 @@ puts_none now duty place who old new room hosts brought =
       pauses = omega (arith, brought_same who (pauses now) place duty old.slips new.slips false (fresh_paused now (called_of duty)) brought);
       listed = omega (arith, brought_same who (λ (slip : Slip). slip.is_listed) place duty old.slips new.slips false refl brought);
       hidden = omega (arith, brought_same who (λ (slip : Slip). waits slip && not slip.is_listed) place duty old.slips new.slips false refl brought);
+      current = omega (arith, brought_same who is_current place duty old.slips new.slips false refl brought);
       stray = omega (arith, brought_stray place duty old.slips new.slips false brought);
       waits = omega (arith, waits_same);
       dues = omega (arith, waits_same, dues);
@@ -225,6 +226,12 @@ puts_one now duty place who old new mid slip r room e =
         change (λ (slip : Slip). is_of who slip && (waits slip && not slip.is_listed)),
         both_hidden (is_of who slip) (waits slip) slip.is_listed e.enters.on_list,
       );
+      current = omega (
+        arith,
+        brought_same who is_current place duty old.slips mid true refl e.brought,
+        change (λ (slip : Slip). is_of who slip && is_current slip),
+        ap {B = ℕ} bit (and_none (is_of who slip) (is_current slip) e.enters.current),
+      );
       stray = omega (arith, brought_stray place duty old.slips mid true e.brought, change is_stray, e.enters.strays);
       waits = omega (arith, waits_same, change (λ (slip : Slip). is_of who slip && waits slip), both_left (is_of who slip) (waits slip), one);
       dues = omega (
@@ -271,6 +278,7 @@ puts_next now who all place left rest duty old mid new was_whole is_whole is_put
       pauses = omega (arith, one.pauses, so.pauses);
       listed = omega (arith, one.listed, so.listed, split);
       hidden = omega (arith, one.hidden, so.hidden);
+      current = omega (arith, one.current, so.current);
       stray = omega (arith, one.stray, so.stray);
       waits = omega (arith, one.waits, so.waits, split);
       dues = omega (arith, one.dues, so.dues);

@@ -9,8 +9,8 @@ use Rattle.lra_callback.specs.declared.duty.Duty.{Duty}
 use Rattle.std.specs.Duration.{as_nanos}
 use Rattle.std.specs.Prelude.{nat_lt}
 use Rattle.lra_turns.specs.Calling.{Calling}
-use Rattle.lra_turns.specs.Entering.{IsMadeToWait, keeping, left, noted}
-use Rattle.lra_turns.specs.Once.{HasEachOnce, calls_of, dues_of, is_for, is_of, is_stray}
+use Rattle.lra_turns.specs.Entering.{IsMadeToWait, keeping, noted}
+use Rattle.lra_turns.specs.Once.{BeginsNoCall, HasEachOnce, calls_of, current_of, dues_of, is_current, is_for, is_of, is_stray}
 use Rattle.lra_turns.specs.Pausing.{nobody, slip_at}
 use Rattle.lra_turns.specs.Resuming.{EntersKept, IsFirstPause, IsResumed, ResumesAll, ResumesAt, ResumesFor, ResumesOne, WaitsIfKept, emptied, sooner}
 use Rattle.lra_turns.specs.Slips.{called_of, is_called, is_called_in, is_over, is_over_in, same_called, until_in, waits}
@@ -22,26 +22,19 @@ use Rattle.lra_turns.specs.declared.slip.Stand.TheVariants.{IsCalled, Pauses, Wa
 use Rattle.lra_turns.proofs.Counts.{called_is}
 use Rattle.lra_turns.proofs.Entered.{enters}
 use Rattle.lra_turns.proofs.Once.{bit, set_counts}
-use Rattle.lra_turns.proofs.Puts.{cond_for, read_counts}
-
-over_not_called : (now : Duration) (stand : Stand) → is_over_in now stand ≡ true → is_called_in stand ≡ false
-over_not_called now Waits e = refl
-over_not_called now IsCalled e = absurd cc
-over_not_called now (Pauses until) e = refl
+use Rattle.lra_turns.proofs.Puts.{both_below, cond_for, read_counts}
 
 -- what is entered of one whose pause is over
-made_at : (now : Duration) (duty : Duty) (old new : Slip) (before after : Turns) (is_put called over : Bool) → called ≡ false → over ≡ true
-    → MatchBool called ((new ≡ left old) × (after ≡ noted duty before) × (is_put ≡ true))
-    (MatchBool over (IsPut duty before after is_put × IsMadeToWait is_put old new) ((new ≡ keeping duty old) × (after ≡ noted duty before) × (is_put ≡ true)))
+made_at : (now : Duration) (duty : Duty) (old new : Slip) (before after : Turns) (is_put over : Bool) → over ≡ true
+    → MatchBool over (IsPut duty before after is_put × IsMadeToWait is_put old new) ((new ≡ keeping duty old) × (after ≡ noted duty before) × (is_put ≡ true))
     → IsMadeToWait is_put old new
-made_at now duty old new before after is_put true over c o h = absurd cc
-made_at now duty old new before after is_put false true c o h = h.1
-made_at now duty old new before after is_put false false c o h = absurd cc
+made_at now duty old new before after is_put true o h = h.1
+made_at now duty old new before after is_put false o h = absurd cc
 
 waits_if_kept : (now : Duration) (kept : Option Duty) (old new : Slip) (before after : Turns) → is_over now old ≡ true → EntersKept now kept old new before after → WaitsIfKept kept old new
 waits_if_kept now None old new before after over h = h.0
 waits_if_kept now (Some duty) old new before after over h =
-    (h.0, made_at now duty (emptied old) new before after h.0 (is_called (emptied old)) (is_over now (emptied old)) (over_not_called now old.stand over) over h.1)
+    (h.0, made_at now duty (emptied old) new before after h.0 (is_over now (emptied old)) over h.1)
 
 resumed_at : (now : Duration) (old new : Slip) (before after : Turns) (next result : Option Duration) (over : Bool) → is_over now old ≡ over
     → MatchBool over (EntersKept now old.kept old new before after × (result ≡ next)) ((new ≡ old) × (after ≡ before) × (result ≡ sooner next (until_in old.stand)))
@@ -56,6 +49,7 @@ resumed now old new before after next result h = resumed_at now old new before a
 pub record ChangesSlip (old new : Slip) (before after : Turns) : Type 0 where
   pub whose : new.who ≡ old.who
   pub calls : is_called new ≡ is_called old
+  pub current : bit (is_current new) ≤ bit (is_current old)
   pub strays : is_stray new ≡ false
   pub dues : (who : Called) → dues_of who after.hosts + bit (is_of who old && waits old) ≡ dues_of who before.hosts + bit (is_of who new && waits new)
 
@@ -63,6 +57,7 @@ left_alone : (old new : Slip) (before after : Turns) → is_stray old ≡ false 
 left_alone old new before after own is same = record {
   whose = ap (λ (s : Slip). s.who) is;
   calls = ap is_called is;
+  current = omega (arith, ap {B = ℕ} (λ (s : Slip). bit (is_current s)) is);
   strays = ap is_stray is ∙ own;
   dues = λ who. omega (arith, ap (λ (t : Turns). dues_of who t.hosts) same, ap {B = ℕ} (λ (s : Slip). bit (is_of who s && waits s)) is);
 }
@@ -87,6 +82,7 @@ kept_changes now (Some duty) old new before after k own h =
     record {
       whose = e.whose;
       calls = e.calls;
+      current = omega (arith, ap {B = ℕ} bit e.current);
       strays = bit_no (is_stray new) e.strays;
       dues = λ who. omega (
         arith,
@@ -127,6 +123,13 @@ resumes_next now who fn slips place new start before after next result within h 
         ap {B = ℕ} (λ (b : Bool). bit (b && is_called new)) same,
         ap {B = ℕ} (λ (b : Bool). bit (is_of who s && b)) c.calls,
       );
+      current = omega (
+        arith,
+        so.current,
+        set_counts (λ (slip : Slip). is_of who slip && is_current slip) slips (slice_set slips place new) place new within refl,
+        ap {B = ℕ} (λ (b : Bool). bit (b && is_current new)) same,
+        both_below (is_of who s) (is_current new) (is_current s) c.current,
+      );
       dues = omega (arith, so.dues, set_counts (λ (slip : Slip). is_of who slip && waits slip) slips (slice_set slips place new) place new within refl, c.dues who);
     }
 
@@ -162,3 +165,14 @@ pub resumed_once : (at : Option Duration) (now : Duration) (old new : Calling) (
     → HasEachOnce old → HasEachOnce new × ((who : Called) → calls_of who new.slips ≡ calls_of who old.slips)
 resumed_once None now old new may h once = (subst HasEachOnce (sym h.0) once, λ who. ap (λ (c : Calling). calls_of who c.slips) h.0)
 resumed_once (Some at) now old new may h once = resumed_or_not now old new may (nat_lt (as_nanos now) (as_nanos at)) h once
+
+resumed_begins : (now : Duration) (old new : Calling) (may later : Bool)
+    → MatchBool later ((new ≡ old) × (may ≡ false)) (ResumesAll now old.slips new.slips old.now.hosts new.now.hosts × MayTake new.now may × IsFirstPause now (length old.slips) old.slips new.resumes_at)
+    → HasEachOnce old → BeginsNoCall old new
+resumed_begins now old new may true h once = λ who. omega (arith, ap (λ (c : Calling). current_of who c.slips) h.0)
+resumed_begins now old new may false h once = λ who. (h.0.puts once.kept who).current
+
+-- whose pause is over waits
+pub resumed_no_call : (at : Option Duration) (now : Duration) (old new : Calling) (may : Bool) → ResumesAt at now old new may → HasEachOnce old → BeginsNoCall old new
+resumed_no_call None now old new may h once = λ who. omega (arith, ap (λ (c : Calling). current_of who c.slips) h.0)
+resumed_no_call (Some at) now old new may h once = resumed_begins now old new may (nat_lt (as_nanos now) (as_nanos at)) h once

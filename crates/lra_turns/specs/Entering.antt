@@ -10,11 +10,7 @@ use Rattle.lra_turns.specs.Turns.{IsPut, Turns, changed_at, listed, place_of, wi
 abbrev pub noted : Duty → Turns → Turns
 noted duty now = with_hosts (changed_at (place_of duty now.hosts) listed now.hosts) now
 
--- one who is called now is on the list
-abbrev pub left : Slip → Slip
-left slip = record { who = slip.who; pause = slip.pause; stand = slip.stand; kept = slip.kept; is_listed = true; vain = slip.vain }
-
--- one who pauses is on the list, and is called for this behind the pause
+-- one who is called now or pauses is on the list, and is called for this next
 abbrev pub keeping : Duty → Slip → Slip
 keeping duty slip = record { who = slip.who; pause = slip.pause; stand = slip.stand; kept = Some duty; is_listed = true; vain = slip.vain }
 
@@ -29,12 +25,10 @@ pub record IsMadeToWait (is_put : Bool) (old new : Slip) : Type 0 where
   pub listed : new.is_listed ≡ true
   pub vain : new.vain ≡ old.vain
 
--- A duty of a list is entered. Who is called now is left as it is, and who pauses keeps its pause: of neither is anything put. The duty
+-- A duty of a list is entered. Who is called now is left as it is, and who pauses keeps its pause: each is called next for the duty. That
 -- of another is put at its host, and it waits for a thread.
 abbrev pub IsEntered : Duration → Duty → Slip → Slip → Turns → Turns → Bool → Type 0
 IsEntered now duty old new before after is_put =
-    MatchBool (is_called old)
-    ((new ≡ left old) × (after ≡ noted duty before) × (is_put ≡ true))
-    (MatchBool (is_over now old)
+    MatchBool (is_over now old)
     (IsPut duty before after is_put × IsMadeToWait is_put old new)
-    ((new ≡ keeping duty old) × (after ≡ noted duty before) × (is_put ≡ true)))
+    ((new ≡ keeping duty old) × (after ≡ noted duty before) × (is_put ≡ true))

@@ -1,5 +1,6 @@
 pub mod Calling
 pub mod Entering
+pub mod Latest
 pub mod Links
 pub mod Listing
 pub mod Named

@@ -4,7 +4,7 @@ use Rattle.std.specs.List.{count_by}
 use Rattle.std.specs.declared.time.Duration.{Duration}
 use Rattle.lra_callback.specs.declared.duty.Duty.{Duty}
 use Rattle.lra_turns.specs.Calling.{Calling}
-use Rattle.lra_turns.specs.Once.{calls_of, dues_of, duties_for, hidden_of, is_stray, listed_of, pauses_of, slips_of, spare_of, waits_of}
+use Rattle.lra_turns.specs.Once.{calls_of, current_of, dues_of, duties_for, hidden_of, is_stray, listed_of, pauses_of, slips_of, spare_of, waits_of}
 use Rattle.lra_turns.specs.Pausing.{slip_at}
 use Rattle.lra_turns.specs.Slips.{fresh, is_remembered, taken_back}
 use Rattle.lra_turns.specs.Turns.{is_kept, recalled, with_hosts}
@@ -42,6 +42,7 @@ pub record PutsOne (now : Duration) (duty : Duty) (place : ℕ) (who : Called) (
   pub pauses : pauses_of now who new.slips ≤ pauses_of now who old.slips
   pub listed : listed_of who new.slips ≤ listed_of who old.slips + duties_for who (duty ∷ [])
   pub hidden : hidden_of who new.slips ≤ hidden_of who old.slips
+  pub current : current_of who new.slips ≤ current_of who old.slips
   pub stray : count_by is_stray new.slips ≤ count_by is_stray old.slips
   pub waits : waits_of who new.slips ≤ waits_of who old.slips + duties_for who (duty ∷ [])
   pub dues : dues_of who new.now.hosts + waits_of who old.slips ≡ dues_of who old.now.hosts + waits_of who new.slips
@@ -61,6 +62,7 @@ pub record PutsSome (now : Duration) (who : Called) (all left : ℕ) (old new : 
   pub pauses : pauses_of now who new.slips ≤ pauses_of now who old.slips
   pub listed : listed_of who new.slips + left ≤ listed_of who old.slips + all
   pub hidden : hidden_of who new.slips ≤ hidden_of who old.slips
+  pub current : current_of who new.slips ≤ current_of who old.slips
   pub stray : count_by is_stray new.slips ≤ count_by is_stray old.slips
   pub waits : waits_of who new.slips + left ≤ waits_of who old.slips + all
   pub dues : dues_of who new.now.hosts + waits_of who old.slips ≡ dues_of who old.now.hosts + waits_of who new.slips

@@ -32,3 +32,7 @@ pub record AllNamed (test : Duty → Bool) (calling : Calling) : Type 0 where
 -- Nobody is to be called for anything but what was there, or is among these: a test that all of those pass, all pass.
 abbrev pub NamesNoOther : (old new : Calling) → (added : List Duty) → Type 0
 NamesNoOther old new added = (test : Duty → Bool) → AllNamed test old → All (Passes test) added → AllNamed test new
+
+-- Somebody is to be called only for what is among these: a test that all of these pass, all pass.
+abbrev pub NamesOnly : Calling → List Duty → Type 0
+NamesOnly calling duties = (test : Duty → Bool) → All (Passes test) duties → AllNamed test calling

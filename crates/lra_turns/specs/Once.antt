@@ -1,5 +1,5 @@
 -- Nobody is called twice at a time.
-use Rattle.std.specs.Prelude.{◌≡◌, ◌≤◌, ◌<◌, ◌&&◌, ℕ, Bool, true, false, List, cond, not}
+use Rattle.std.specs.Prelude.{◌≡◌, ◌≤◌, ◌<◌, ◌&&◌, ℕ, Bool, true, false, List, cond, is_none, not}
 use Rattle.std.specs.List.{count_by, sum_by}
 use Rattle.std.specs.Option.{option_map_or}
 use Rattle.std.specs.declared.time.Duration.{Duration}
@@ -37,6 +37,14 @@ listed_of who slips = count_by (λ (slip : Slip). is_of who slip && slip.is_list
 -- how many of them wait, and aren't on the list
 abbrev pub hidden_of : Called → List Slip → ℕ
 hidden_of who slips = count_by (λ (slip : Slip). is_of who slip && (waits slip && not slip.is_listed)) slips
+
+-- whether somebody is called for what the last list has: it is on the list, which was there when the call began
+abbrev pub is_current : Slip → Bool
+is_current slip = is_called slip && (slip.is_listed && is_none slip.kept)
+
+-- how many of its slips are of such a call
+abbrev pub current_of : Called → List Slip → ℕ
+current_of who slips = count_by (λ (slip : Slip). is_of who slip && is_current slip) slips
 
 -- how many duties of a list are for somebody, and how many of those that wait at hosts
 abbrev pub duties_for : Called → List Duty → ℕ
@@ -83,3 +91,7 @@ pub record BeginsOnce (who : Called) (old new : Calling) : Type 0 where
   pub before : calls_of who old.slips ≡ 0
   pub after : calls_of who new.slips ≡ 1
   pub others : LeavesOthers who old new
+
+-- of nobody a call begins for what the last list has
+abbrev pub BeginsNoCall : Calling → Calling → Type 0
+BeginsNoCall old new = (who : Called) → current_of who new.slips ≤ current_of who old.slips

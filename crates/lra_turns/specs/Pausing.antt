@@ -1,11 +1,11 @@
 -- Who is called again after a pause, and what came of the calls before.
-use Rattle.std.specs.Prelude.{◌≡◌, ◌+◌, ◌*◌, ℕ, false, true, List, Option, None, Some, IfNone, IfSome, IsSome, if◌then◌else◌, min, nat_lt, slice_index_or, slice_set}
+use Rattle.std.specs.Prelude.{◌≡◌, ◌+◌, ◌*◌, ℕ, false, true, List, MatchBool, Option, None, Some, IfNone, IfSome, IsSome, if◌then◌else◌, min, nat_lt, slice_index_or, slice_set}
 use Rattle.std.specs.Duration.{as_nanos, max_nanos}
 use Rattle.std.specs.declared.time.Duration.{Duration}
 use Rattle.lra_callback.specs.declared.duty.Duty.{Duty}
-use Rattle.lra_turns.specs.Calling.{Calling}
+use Rattle.lra_turns.specs.Calling.{Calling, forgotten}
 use Rattle.lra_turns.specs.Plights.{Tells, is_told_at, told_at, vain_after}
-use Rattle.lra_turns.specs.Slips.{IsPaused, place_of, until_in}
+use Rattle.lra_turns.specs.Slips.{IsPaused, called_of, place_of, until_in}
 use Rattle.lra_turns.specs.declared.plight.Came.{Came}
 use Rattle.lra_turns.specs.declared.plight.Plight.{Plight}
 use Rattle.lra_turns.specs.declared.plight.Vain.{Vain}
@@ -46,9 +46,14 @@ earlier (Some one) other = if nat_lt (as_nanos other) (as_nanos one) then other 
 abbrev pub cleared : Slip → Slip
 cleared slip = record { who = slip.who; pause = slip.pause; stand = slip.stand; kept = None; is_listed = slip.is_listed; vain = None }
 
--- one that is called again for this duty, after such calls in vain
+-- for what one is called again: what a list has brought meanwhile, or else this
+abbrev pub newest : Option Duty → Duty → Duty
+newest None duty = duty
+newest (Some newer) duty = newer
+
+-- one that is called again so, after such calls in vain for a duty
 abbrev pub missed : Duty → Vain → Slip → Slip
-missed duty vain slip = record { who = slip.who; pause = slip.pause; stand = slip.stand; kept = Some duty; is_listed = slip.is_listed; vain = Some vain }
+missed duty vain slip = record { who = slip.who; pause = slip.pause; stand = slip.stand; kept = Some (newest slip.kept duty); is_listed = slip.is_listed; vain = Some vain }
 
 -- one of whom something was heard
 abbrev pub found : Slip → Slip
@@ -81,9 +86,13 @@ pub record IsMissedAt (place : ℕ) (duty : Duty) (came : Came) (now : Duration)
   pub told : IsTold duty now (vain_after (slip_at old.slips place).vain came now) vain plight
   pub pauses : PausesAt place now (missed duty vain) old new
 
+-- where the last list doesn't name it, it is forgotten that it was called
 abbrev pub IsMissed : Option ℕ → Duty → Came → Duration → Calling → Calling → Option Plight → Type 0
 IsMissed None duty came now old new plight = (new ≡ old) × (plight ≡ None)
-IsMissed (Some place) duty came now old new plight = IsMissedAt place duty came now old new plight
+IsMissed (Some place) duty came now old new plight =
+    MatchBool (slip_at old.slips place).is_listed
+    (IsMissedAt place duty came now old new plight)
+    ((new ≡ forgotten (called_of duty) old) × (plight ≡ None))
 
 -- what is told of the end of calls in vain, if they were told
 abbrev pub TellsEnd : Option Vain → Duty → Duration → Option Plight → Type 0

@@ -6,7 +6,7 @@ use Rattle.std.specs.declared.time.Duration.{Duration}
 use Rattle.lra_callback.specs.declared.duty.Duty.{Duty}
 use Rattle.lra_turns.specs.Calling.{Calling}
 use Rattle.lra_turns.specs.Entering.{IsEntered, IsMadeToWait}
-use Rattle.lra_turns.specs.Once.{calls_of, dues_of, is_stray, slips_of, waits_of}
+use Rattle.lra_turns.specs.Once.{calls_of, current_of, dues_of, is_stray, slips_of, waits_of}
 use Rattle.lra_turns.specs.Pausing.{earlier, slip_at}
 use Rattle.lra_turns.specs.Slips.{is_over, pauses, until_in}
 use Rattle.lra_turns.specs.Turns.{AtHost, MayTake, Turns}
@@ -61,6 +61,7 @@ IsFirstPause now count slips (Some at) = IsFirstPauseAt now count slips at
 pub record ResumesFor (who : Called) (old new : List Slip) (before after : List AtHost) : Type 0 where
   pub slips : slips_of who new ≡ slips_of who old
   pub calls : calls_of who new ≡ calls_of who old
+  pub current : current_of who new ≤ current_of who old
   pub dues : dues_of who after + waits_of who old ≡ dues_of who before + waits_of who new
 
 -- the same of all, where nothing is kept that is another's

@@ -75,14 +75,14 @@ waits_if false = Pauses at_once
 abbrev pub made_to_wait : Bool → Slip → Slip
 made_to_wait is_put slip = record { who = slip.who; pause = slip.pause; stand = waits_if is_put; kept = None; is_listed = slip.is_listed; vain = slip.vain }
 
--- one that no longer waits for a thread, and isn't on the list
+-- one that no longer waits for a thread, and isn't on the list; for nothing is it to be called
 abbrev pub back : Stand → Stand
 back Waits = Pauses at_once
 back IsCalled = IsCalled
 back (Pauses until) = Pauses until
 
 abbrev pub taken_back : Slip → Slip
-taken_back slip = record { who = slip.who; pause = slip.pause; stand = back slip.stand; kept = slip.kept; is_listed = false; vain = slip.vain }
+taken_back slip = record { who = slip.who; pause = slip.pause; stand = back slip.stand; kept = None; is_listed = false; vain = slip.vain }
 
 -- whether it is remembered behind a list: it is on it, or is called
 abbrev pub is_remembered : Slip → Bool
@@ -114,13 +114,13 @@ pub record IsPaused (until : Duration) (old new : Slip) : Type 0 where
   pub listed : new.is_listed ≡ old.is_listed
   pub vain : new.vain ≡ old.vain
 
--- one that no longer waits for a thread, and isn't on the list; what it is called for after a pause stays, and who is called is called
+-- one that no longer waits for a thread, isn't on the list, and is to be called for nothing; who is called is called
 pub record IsRecalled (old new : Slip) : Type 0 where
   pub who : new.who ≡ old.who
   pub pause : new.pause ≡ old.pause
   pub called : is_called new ≡ is_called old
   pub waits : waits new ≡ false
-  pub kept : new.kept ≡ old.kept
+  pub kept : new.kept ≡ None
   pub listed : new.is_listed ≡ false
   pub vain : new.vain ≡ old.vain
 

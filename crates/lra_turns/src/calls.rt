@@ -5,8 +5,8 @@ ghost use Rattle.lra_turns.specs.Calling.{IsTakenFrom};
 ghost use Rattle.lra_turns.specs.Entering.{IsEntered};
 ghost use Rattle.lra_callback.specs.declared.duty.Duty.{Duty};
 ghost use Rattle.lra_turns.specs.Listing.{IsBrought, IsPlaced, PutsOne, PutsSome, recalled_all, remembered};
-ghost use Rattle.lra_turns.specs.Named.{AllKept, AllWaiting, IsKept, NamesNoOther, Passes};
-ghost use Rattle.lra_turns.specs.Once.{HasEachOnce, MayBeCalled, NamesNobodyTwice, calls_of, dues_of, duties_for, slips_of};
+ghost use Rattle.lra_turns.specs.Named.{AllKept, AllWaiting, IsKept, NamesNoOther, NamesOnly, Passes};
+ghost use Rattle.lra_turns.specs.Once.{HasEachOnce, MayBeCalled, NamesNobodyTwice, calls_of, current_of, dues_of, duties_for, slips_of};
 ghost use Rattle.lra_turns.specs.Pausing.{IsBusyAt, IsFound, IsMissed, earlier, next_of, vain_of};
 ghost use Rattle.lra_turns.specs.Resuming.{IsFirstPause, ResumesAll, ResumesAt, ResumesOne};
 ghost use Rattle.lra_turns.specs.Slips.{called_of, is_remembered, place_of, taken_back, without};
@@ -18,23 +18,19 @@ use crate::Pace;
 use crate::hosts::Hosts;
 use crate::plight::{Came, Plight, Vain};
 use crate::slip::{Called, Due, Slip, begin_each, forget_each, place_from, place_of};
-use lra_callback::Duty;
+use lra_callback::{Duties, Duty};
 use std::alloc::Global;
 use std::marker::Model;
 use std::time::Duration;
 
-/// Enters a duty of a list. Who is called now is left as it is, and who pauses keeps its pause; another waits for a thread from now on,
-/// with the duty put at its host. It says whether there was memory for that.
+/// Enters a duty of a list. Of one who is called now, or pauses still, the duty is kept: it is called for that next. Another waits for a
+/// thread from now on, with the duty put at its host. It says whether there was memory for that.
 fn enter(slip: &mut Slip, hosts: &mut Hosts, duty: Duty, now: Duration) -> bool
     ensures entered { IsEntered now duty slip.old slip.new hosts.old hosts.new result }
     ensures named { (test : Duty → Bool) → Passes test duty → IsKept test slip.old → AllWaiting test hosts.old.hosts →
         IsKept test slip.new × AllWaiting test hosts.new.hosts }
 {
     slip.is_listed = true;
-    if slip.is_called() {
-        hosts.note(&duty);
-        return true;
-    }
     if !slip.is_over(now) {
         hosts.note(&duty);
         slip.kept = Some(duty);
@@ -270,20 +266,22 @@ impl Calls {
     }
 
     /// Puts all that are due, in the order of the list, in place of those that no thread has begun with. Who is no longer among them is
-    /// forgotten, unless it is called now. It says whether there was memory for all.
-    pub fn put_all(&mut self, duties: Vec<Duty>, now: Duration) -> bool
-        ensures named { NamesNoOther self.old self.new duties.items }
-        ensures once { NamesNobodyTwice duties.items →
+    /// forgotten, unless it is called now: that is forgotten once its call came to nothing. It says whether there was memory for all.
+    pub fn put_all(&mut self, duties: Duties, now: Duration) -> bool
+        ensures named { NamesNoOther self.old self.new duties }
+        ensures once { NamesNobodyTwice duties →
             HasEachOnce self.old → HasEachOnce self.new }
         ensures called { (who : TheCalled) → calls_of who self.new.slips ≡ calls_of who self.old.slips }
-        ensures put { IsTrue result → NamesNobodyTwice duties.items → (who : TheCalled) →
-            0 < duties_for who duties.items → MayBeCalled now who self.old →
+        ensures put { IsTrue result → NamesNobodyTwice duties → (who : TheCalled) →
+            0 < duties_for who duties → MayBeCalled now who self.old →
             0 < dues_of who self.new.now.hosts }
-        ensures forgotten { (who : TheCalled) → duties_for who duties.items ≡ 0 →
+        ensures forgotten { (who : TheCalled) → duties_for who duties ≡ 0 →
             calls_of who self.old.slips ≡ 0 → slips_of who self.new.slips ≡ 0 }
+        ensures only { NamesOnly self.new duties }
+        ensures outdated { (who : TheCalled) → current_of who self.new.slips ≡ 0 }
     {
         self.recall();
-        let is_whole = self.put_each(duties, now);
+        let is_whole = self.put_each(duties.into_vec(), now);
         self.forget_others();
         is_whole
     }
@@ -342,14 +340,20 @@ impl Calls {
         self.resume_by(until);
     }
 
-    /// Has a participant wait before it is called again for this duty, each time longer: the call came to nothing. It gives what is to
-    /// be told of that: once a minute has passed since the first such call in a row, and again each ten minutes.
-    pub fn vain(&mut self, duty: Duty, came: Came, now: Duration) -> Option<Plight>
-        ensures named { NamesNoOther self.old self.new (duty ∷ []) }
-        ensures missed { IsMissed (place_of (called_of duty) self.old.slips) duty came now
+    /// Has a participant wait before it is called again, each time longer: the call for this duty came to nothing. It is called next for
+    /// what a list has brought meanwhile, or else for this again; where the last list doesn't name it, it is forgotten. It gives what is
+    /// to be told of such calls: once a minute has passed since the first in a row, and again each ten minutes.
+    pub fn vain(&mut self, due: Due, came: Came, now: Duration) -> Option<Plight>
+        ensures named { NamesNoOther self.old self.new (due ∷ []) }
+        ensures missed { IsMissed (place_of (called_of due) self.old.slips) due came now
             self.old self.new result }
     {
+        let duty = due.into_duty();
         let place = place_of(&self.slips, &Called::of(&duty))?;
+        if !self.slips[place].is_listed {
+            self.forget(Called::of(&duty));
+            return None;
+        }
         let mut vain = Vain::after(self.slips[place].vain, came, now);
         let plight = vain.tell(self.alloc, &duty, now);
         let until = self.slips[place].pause_in_vain(duty, vain, now);

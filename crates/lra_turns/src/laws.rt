@@ -1,5 +1,6 @@
 // Laws of the definitions: each function does nothing, and its contract is the law.
-ghost use Rattle.std.specs.Prelude.{◌≡◌, ◌<◌, ◌≤◌, Bool, List, None, Option, Some, ℕ, false, length, true};
+ghost use Rattle.std.specs.Prelude.{[], ◌≡◌, ◌<◌, ◌≤◌, Bool, List, None, Option, Some, ℕ, false, length, true};
+ghost use Rattle.std.specs.List.{All};
 ghost use Rattle.lra_facts.specs.declared.fact.Fact.{Fact};
 ghost use Rattle.lra_forest.specs.Dues.{AreAll};
 ghost use Rattle.lra_history.specs.Growth.{IsSettled};
@@ -8,11 +9,12 @@ ghost use Rattle.lra_callback.specs.ViewDuties.{duties_of};
 ghost use Rattle.lra_callback.specs.CallDuties.{IsDuty, comes_first};
 ghost use Rattle.lra_callback.specs.declared.duty.Duty.{Duty};
 ghost use Rattle.lra_turns.specs.Calling.{Calling, IsTakenFrom, ended, forgotten, nothing};
-ghost use Rattle.lra_turns.specs.Named.{AllNamed, Passes};
-ghost use Rattle.lra_turns.specs.Once.{BeginsOnce, HasEachOnce, IsBeingCalled, LeavesOthers, NamesNobodyTwice, calls_of};
+ghost use Rattle.lra_turns.specs.Latest.{Event, Happen, begun_in};
+ghost use Rattle.lra_turns.specs.Named.{AllNamed, NamesOnly, Passes};
+ghost use Rattle.lra_turns.specs.Once.{BeginsNoCall, BeginsOnce, HasEachOnce, IsBeingCalled, LeavesOthers, NamesNobodyTwice, calls_of, current_of};
 ghost use Rattle.lra_turns.specs.Pausing.{IsBusyAt, IsFound, IsMissed};
 ghost use Rattle.lra_turns.specs.Resuming.{ResumesAt};
-ghost use Rattle.lra_turns.specs.Slips.{called_of, place_of};
+ghost use Rattle.lra_turns.specs.Slips.{called_of, place_of, same_called};
 ghost use Rattle.lra_turns.specs.declared.pace.Pace.{Pace as ThePace};
 ghost use Rattle.lra_turns.specs.declared.plight.Came.{Came as TheCame};
 ghost use Rattle.lra_turns.specs.declared.plight.Plight.{Plight as ThePlight};
@@ -92,4 +94,47 @@ pub fn who_is_called_is_left_alone()
         (IsBeingCalled who old → HasEachOnce old → HasEachOnce (forgotten who old))
         × LeavesOthers who old (forgotten who old) }
     ensures none { HasEachOnce nothing }
+{}
+
+/// A participant is called only for what the last list names. Of a list `put_all` says that all for
+/// which somebody is to be called is of it, and that no call goes on that began behind it. So a call
+/// that began before and comes to nothing is made again only for what the list has, and else
+/// forgotten. One that began behind it is for what was named (`who_is_taken_was_named`), and is made
+/// again for the same. Nothing but a call that begins makes one of the first kind one of the second.
+pub fn only_what_the_last_list_names_is_called()
+    ensures before { (test : Duty → Bool) (duty : Duty) (came : TheCame) (now : Duration)
+        (old new : Calling) (plight : Option ThePlight) →
+        IsMissed (place_of (called_of duty) old.slips) duty came now old new plight →
+        HasEachOnce old → IsBeingCalled (called_of duty) old →
+        current_of (called_of duty) old.slips ≡ 0 → AllNamed test old → AllNamed test new }
+    ensures behind { (test : Duty → Bool) (duty : Duty) (came : TheCame) (now : Duration)
+        (old new : Calling) (plight : Option ThePlight) →
+        IsMissed (place_of (called_of duty) old.slips) duty came now old new plight →
+        Passes test duty → AllNamed test old → AllNamed test new }
+    ensures taken { (who : TheCalled) (old new : Calling) (duty : Duty) →
+        IsTakenFrom old new (Some duty) → same_called (called_of duty) who ≡ false →
+        current_of who new.slips ≡ current_of who old.slips }
+    ensures resumed { (at : Option Duration) (now : Duration) (old new : Calling) (may : Bool) →
+        ResumesAt at now old new may → HasEachOnce old → BeginsNoCall old new }
+    ensures ended { (duty : Duty) (pace : ThePace) (now : Calling) →
+        BeginsNoCall now (ended duty pace now) }
+    ensures found { (duty : Duty) (now : Duration) (old new : Calling) (plight : Option ThePlight) →
+        IsFound (place_of (called_of duty) old.slips) duty now old new plight →
+        BeginsNoCall old new }
+    ensures busy { (who : TheCalled) (now : Duration) (old new : Calling) →
+        IsBusyAt (place_of who old.slips) now old new → BeginsNoCall old new }
+    ensures missed { (duty : Duty) (came : TheCame) (now : Duration)
+        (old new : Calling) (plight : Option ThePlight) →
+        IsMissed (place_of (called_of duty) old.slips) duty came now old new plight →
+        HasEachOnce old → BeginsNoCall old new }
+    ensures forgotten { (who : TheCalled) (old : Calling) →
+        BeginsNoCall old (forgotten who old) }
+{}
+
+/// So whatever happens between two lists, each call that begins is for what the first of them has:
+/// its duty passes each test that all of that list pass.
+pub fn between_two_lists_only_what_the_first_names_is_called()
+    ensures { (list : List Duty) (events : List Event) (old new : Calling) (test : Duty → Bool) →
+        HasEachOnce old → NamesOnly old list → ((who : TheCalled) → current_of who old.slips ≡ 0) →
+        Happen [] events old new → All (Passes test) list → All (Passes test) (begun_in [] events) }
 {}

@@ -2,7 +2,7 @@
 ghost use Rattle.std.specs.Prelude.{◌≡◌, ◌+◌, ◌*◌, ◌<◌, ◌≤◌, IfNone, IfSome, None, Some, length, map, min, take, true};
 ghost use Rattle.std.specs.Duration.{as_nanos, max_nanos};
 ghost use Rattle.lra_turns.specs.Once.{slips_of};
-ghost use Rattle.lra_turns.specs.Pausing.{missed, slip_at};
+ghost use Rattle.lra_turns.specs.Pausing.{missed, newest, slip_at};
 ghost use Rattle.lra_turns.specs.Slips.{IsPaused, IsRecalled, begun_to, called_of, fresh, is_called, is_over, made_to_wait, place_of, same_called, taken_back, until_in, without};
 ghost use Rattle.lra_turns.specs.Entering.{IsMadeToWait};
 
@@ -98,13 +98,23 @@ pub(crate) enum Stand {
     Pauses(Duration),
 }
 
+/// For what one is called again: what a list has brought meanwhile, or else this.
+fn newest(brought: Option<Duty>, duty: Duty) -> Duty
+    ensures { result ≡ newest brought duty }
+{
+    match brought {
+        Some(newer) => newer,
+        None => duty,
+    }
+}
+
 /// What is remembered of one who is to be called, is called, or is called again after a pause.
 #[derive(Drop)]
 pub(crate) struct Slip {
     pub(crate) who: Called,
     pub(crate) pause: u64,
     pub(crate) stand: Stand,
-    /// For what it is called behind the pause.
+    /// For what it is called behind the pause. Of one who is called now, what a list has brought since that began.
     pub(crate) kept: Option<Duty>,
     /// Whether it was to be called when that was last asked.
     pub(crate) is_listed: bool,
@@ -141,16 +151,17 @@ impl Slip {
         until
     }
 
-    /// Has it pause so, before it is called again for this duty, since the last call was in vain. It gives when the pause is over.
+    /// Has it pause so, since the call for this duty was in vain. It is called next for what a list has brought meanwhile, or else for
+    /// this again. It gives when the pause is over.
     pub(crate) fn pause_in_vain(&mut self, duty: Duty, vain: Vain, now: Duration) -> Duration
-        ensures kept { self.new.kept ≡ Some duty }
+        ensures kept { self.new.kept ≡ Some (newest self.old.kept duty) }
         ensures vain { self.new.vain ≡ Some vain }
         ensures who { self.new.who ≡ self.old.who }
         ensures paused { IsPaused result (missed duty vain self.old) self.new }
         ensures time { as_nanos result ≡ min (as_nanos now + self.new.pause * 1_000_000) max_nanos }
     {
         self.vain = Some(vain);
-        self.kept = Some(duty);
+        self.kept = Some(newest(self.kept.take(), duty));
         self.pause_from(now)
     }
 
@@ -204,7 +215,7 @@ impl Slip {
         };
     }
 
-    /// Takes it back from those that wait for a thread. How long it paused is kept.
+    /// Takes it back from those that wait for a thread. How long it paused is kept, and for what it was to be called isn't.
     pub(crate) fn recall(&mut self)
         ensures recalled { IsRecalled self.old self.new }
         ensures exact { self.new ≡ taken_back self.old }
@@ -212,6 +223,7 @@ impl Slip {
         if matches!(self.stand, Stand::Waits) {
             self.stand = Stand::Pauses(Duration::ZERO);
         }
+        self.kept = None;
         self.is_listed = false;
     }
 }

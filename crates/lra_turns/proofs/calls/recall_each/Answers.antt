@@ -15,5 +15,5 @@ loop-slip-preserved c =
       kept = λ test kept.
           let so_far = c.loop-slip.invariant.kept test kept in
           All-set (IsKept test) c.loop-slip.slips c.loop-slip.slip-index c.recall.new.self
-          (subst (λ (k : Option Duty). IfSome k (Passes test)) (sym c.recall.ensures.recalled.kept) (so_far c.loop-slip.slip-index c.slip-item.result bound2)) so_far;
+          (subst (λ (k : Option Duty). IfSome k (Passes test)) (sym c.recall.ensures.recalled.kept) tt) so_far;
     }
