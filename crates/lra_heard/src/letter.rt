@@ -57,7 +57,7 @@ impl Letter {
 /// That nothing was heard which counts of a participant that was to be called for a duty, and why.
 #[derive(Drop)]
 pub struct Unheard {
-    pub duty: Duty,
+    pub due: Due,
     pub came: Came,
 }
 
@@ -72,17 +72,18 @@ fn came_of(answer: &Answer) -> Came
 }
 
 /// What is heard of an answer to a call for a duty, if it counts.
-fn letter_of(duty: Duty, answer: &Answer) -> Result<Letter, Unheard>
-    ensures heard { IfOk result (λ letter. (letter.duty ≡ duty)
-        × (letter.heard ≡ heard_of duty.act duty.kind answer.now)) }
-    ensures unheard { IfErr result (λ unheard. (unheard.duty ≡ duty)
-        × (heard_of duty.act duty.kind answer.now ≡ Again) × (unheard.came ≡ came_of answer.now)) }
+fn letter_of(due: Due, answer: &Answer) -> Result<Letter, Unheard>
+    ensures heard { IfOk result (λ letter. (letter.duty ≡ due)
+        × (letter.heard ≡ heard_of due.act due.kind answer.now)) }
+    ensures unheard { IfErr result (λ unheard. (unheard.due ≡ due)
+        × (heard_of due.act due.kind answer.now ≡ Again) × (unheard.came ≡ came_of answer.now)) }
 {
-    let heard = hear(duty.act, duty.kind, answer);
+    let heard = hear(due.duty().act, due.duty().kind, answer);
     if heard == Heard::Again {
         let came = came_of(answer);
-        return Err(Unheard { duty, came });
+        return Err(Unheard { due, came });
     }
+    let duty = due.into_duty();
     Ok(Letter { duty, heard })
 }
 
@@ -94,19 +95,18 @@ pub fn call_for<C: Caller>(alloc: Global, caller: &mut C, due: Due) -> Result<Le
     ensures heard { IfOk result (IsHeardIn C.Caller caller.old caller.new due) }
     // The answer counts for nothing, and is told; or no memory was there for the request, and
     // nobody was called; or for the answer.
-    ensures unheard { IfErr result (λ unheard. (unheard.duty ≡ due)
+    ensures unheard { IfErr result (λ unheard. (unheard.due ≡ due)
         × IsUnheardIn C.Caller caller.old caller.new due unheard.came) }
 {
-    let duty = due.into_duty();
-    let Ok(request) = request_of(alloc, &duty) else {
+    let Ok(request) = request_of(alloc, due.duty()) else {
         let came = Came::Broken;
-        return Err(Unheard { duty, came });
+        return Err(Unheard { due, came });
     };
     match caller.call(alloc, &request) {
-        Ok(answer) => letter_of(duty, &answer),
+        Ok(answer) => letter_of(due, &answer),
         Err(_) => {
             let came = Came::Broken;
-            Err(Unheard { duty, came })
+            Err(Unheard { due, came })
         }
     }
 }
