@@ -1,1 +1,4 @@
+mod Firsts
+mod Keeping
+mod Unheard
 mod Waiting

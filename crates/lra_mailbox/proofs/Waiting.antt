@@ -2,31 +2,44 @@
 use Rattle.std.proofs.Common.{◌≡◌, ◌≤◌, ◌⊎◌, ◌&&◌, ◌||◌, ◌∙◌, ℕ, Bool, true, false, Option, None, Some, arith, inl, inr, not, refl, subst, sym}
 use Rattle.std.proofs.lemmas.Bool.{leb-true, ltb-false, ltb-true}
 use Rattle.std.specs.Duration.{as_nanos}
-use Rattle.std.specs.Prelude.{if◌then◌else◌, nat_le, nat_lt}
+use Rattle.std.specs.Prelude.{if◌then◌else◌, is_some, length, nat_le, nat_lt}
 use Rattle.std.specs.declared.time.Duration.{Duration}
 use Rattle.lra_turns.specs.Pausing.{earlier}
-use Rattle.lra_mailbox.specs.Mail.{Mail}
+use Rattle.lra_mailbox.specs.Mail.{Mail, is_wanted}
 use Rattle.lra_mailbox.specs.Moments.{earlier_of, is_by}
 use Rattle.lra_mailbox.specs.Resting.{has_task, is_occupied, looks_at, next_at, rests_until, that_or}
-use Rattle.lra_mailbox.specs.Tasks.{has, is_spared}
-use Rattle.lra_mailbox.specs.declared.turn.Turn.TheVariants.{OfCount, OfDeadlines, OfDuties, OfLetters, OfTelling}
+use Rattle.lra_mailbox.specs.Sweeps.{is_chore}
+use Rattle.lra_mailbox.specs.Tasks.{has, is_spared, may_enter}
+use Rattle.lra_mailbox.specs.declared.task.Wanted.{Wanted}
+use Rattle.lra_mailbox.specs.declared.task.Wanted.TheVariants.{Command, Nothing, Question}
+use Rattle.lra_mailbox.specs.declared.turn.Turn.TheVariants.{OfChores, OfCount, OfDeadlines, OfDuties, OfErrand, OfLetters, OfTelling}
 
-abbrev Any : Bool → Bool → Bool → Bool → Bool → Bool
-Any a b c d e = a || (b || (c || (d || e)))
+one_of : (a b c d e f g : Bool) → (a || (b || (c || (d || (e || (f || g)))))) ≡ true
+    → (a ≡ true) ⊎ ((b ≡ true) ⊎ ((c ≡ true) ⊎ ((d ≡ true) ⊎ ((e ≡ true) ⊎ ((f ≡ true) ⊎ (g ≡ true))))))
+one_of true b c d e f g h = inl refl
+one_of false true c d e f g h = inr (inl refl)
+one_of false false true d e f g h = inr (inr (inl refl))
+one_of false false false true e f g h = inr (inr (inr (inl refl)))
+one_of false false false false true f g h = inr (inr (inr (inr (inl refl))))
+one_of false false false false false true g h = inr (inr (inr (inr (inr (inl refl)))))
+one_of false false false false false false g h = inr (inr (inr (inr (inr (inr h)))))
 
-one_of : (a b c d e : Bool) → (a || (b || (c || (d || e)))) ≡ true → (a ≡ true) ⊎ ((b ≡ true) ⊎ ((c ≡ true) ⊎ ((d ≡ true) ⊎ (e ≡ true))))
-one_of true b c d e h = inl refl
-one_of false true c d e h = inr (inl refl)
-one_of false false true d e h = inr (inr (inl refl))
-one_of false false false true e h = inr (inr (inr (inl refl)))
-one_of false false false false e h = inr (inr (inr (inr h)))
+-- none of the last five
+record NoneOf (c d e f g : Bool) : Type 0 where
+  letters : c ≡ false
+  telling : d ≡ false
+  duties : e ≡ false
+  chores : f ≡ false
+  errand : g ≡ false
 
-none_of : (a b c d e : Bool) → (a || (b || (c || (d || e)))) ≡ false → (c ≡ false) × ((d ≡ false) × (e ≡ false))
-none_of true b c d e h = absurd cc
-none_of false true c d e h = absurd cc
-none_of false false true d e h = absurd cc
-none_of false false false true e h = absurd cc
-none_of false false false false e h = (refl, (refl, h))
+none_of : (a b c d e f g : Bool) → (a || (b || (c || (d || (e || (f || g)))))) ≡ false → NoneOf c d e f g
+none_of true b c d e f g h = absurd cc
+none_of false true c d e f g h = absurd cc
+none_of false false true d e f g h = absurd cc
+none_of false false false true e f g h = absurd cc
+none_of false false false false true f g h = absurd cc
+none_of false false false false false true g h = absurd cc
+none_of false false false false false false g h = record { letters = refl; telling = refl; duties = refl; chores = refl; errand = h }
 
 both : (a b : Bool) → (a && b) ≡ true → (a ≡ true) × (b ≡ true)
 both true b h = (refl, h)
@@ -39,10 +52,6 @@ not_true false h = refl
 neither : (a b : Bool) → (a || b) ≡ false → a ≡ false
 neither true b h = absurd cc
 neither false b h = refl
-
-unspared : (s a : Bool) → s ≡ false → (not s && a) ≡ false → a ≡ false
-unspared true a s h = absurd cc
-unspared false a s h = h
 
 no_both : (a : Bool) → a ≡ true → a ≡ false → ⊥
 no_both true t f = cc
@@ -73,44 +82,78 @@ counted : (is_to_count : Bool) (at counts_at later : Duration) → is_to_count �
 counted true at counts_at later is le = let e = (first at counts_at).1 in omega (arith, e, le)
 counted false at counts_at later is le = absurd cc
 
-unheld : (m : Mail) (now later : Duration) → (Any (has now m OfDeadlines) (has now m OfCount) (has now m OfLetters) (has now m OfTelling) (has now m OfDuties)) ≡ false
-    → (Any (has later m OfDeadlines) (has later m OfCount) (has later m OfLetters) (has later m OfTelling) (has later m OfDuties)) ≡ true
-    → as_nanos (if m.known.is_to_count then earlier_of (looks_at m) m.known.counts_at else looks_at m) ≤ as_nanos later
-unheld m now later none some =
-    let none = none_of (has now m OfDeadlines) (has now m OfCount) (has now m OfLetters) (has now m OfTelling) (has now m OfDuties) none in
-    let Goal = as_nanos (if m.known.is_to_count then earlier_of (looks_at m) m.known.counts_at else looks_at m) ≤ as_nanos later in
-    elim (one_of (has later m OfDeadlines) (has later m OfCount) (has later m OfLetters) (has later m OfTelling) (has later m OfDuties) some) as (λ _. Goal) [
+-- where something is entered later that isn't now, the journal is spared now
+not_entered : (is_open spared b : Bool) → is_open ≡ true → spared ≡ false → b ≡ true → ((is_open && not spared) && b) ≡ false → ⊥
+not_entered true false true o s e n = absurd cc
+not_entered true true b o s e n = absurd cc
+not_entered true false false o s e n = absurd cc
+not_entered false spared b o s e n = absurd cc
+
+not_taken : (spared b : Bool) → spared ≡ false → b ≡ true → (not spared && b) ≡ false → ⊥
+not_taken false true s e n = absurd cc
+not_taken true b s e n = absurd cc
+not_taken false false s e n = absurd cc
+
+-- when there is something to do by itself, where the journal isn't spared
+abbrev unheld : Mail → Duration
+unheld m = if m.known.is_to_count then earlier_of (looks_at m) m.known.counts_at else looks_at m
+
+-- where the journal is spared, until it isn't
+next_if : (m : Mail) (later : Duration) (spared : Bool) → is_spared later m ≡ false → (spared ≡ false → as_nanos (unheld m) ≤ as_nanos later)
+    → as_nanos (if spared then m.held_until else unheld m) ≤ as_nanos later
+next_if m later true free or_else = ltb-false (as_nanos later) (as_nanos m.held_until) free
+next_if m later false free or_else = or_else refl
+
+-- of a kind that has to do with what is entered
+entered_by : (m : Mail) (now later : Duration) (b : Bool) → (may_enter now m && b) ≡ false → (may_enter later m && b) ≡ true → as_nanos (next_at now m) ≤ as_nanos later
+entered_by m now later b none some =
+    let h = both (may_enter later m) b some in
+    let may = both m.opening.is_open (not (is_spared later m)) h.0 in
+    next_if m later (is_spared now m) (not_true (is_spared later m) may.1) (λ free. absurd (not_entered m.opening.is_open (is_spared now m) b may.0 free h.1 none))
+
+wanted_by : (m : Mail) (now later : Duration) (wanted : Wanted) → is_wanted (may_enter now m) wanted ≡ false → is_wanted (may_enter later m) wanted ≡ true → as_nanos (next_at now m) ≤ as_nanos later
+wanted_by m now later Nothing none some = absurd cc
+wanted_by m now later Question none some = absurd cc
+wanted_by m now later Command none some =
+    entered_by m now later true (grind (arith, none)) (grind (arith, some))
+
+next_by : (m : Mail) (now later : Duration) → is_chore later m.sweeps ≡ is_chore now m.sweeps → has_task now m ≡ false → has_task later m ≡ true → as_nanos (next_at now m) ≤ as_nanos later
+next_by m now later same none some =
+    let none = none_of (has now m OfDeadlines) (has now m OfCount) (has now m OfLetters) (has now m OfTelling) (has now m OfDuties) (has now m OfChores) (has now m OfErrand) none in
+    let Goal = as_nanos (next_at now m) ≤ as_nanos later in
+    elim (one_of (has later m OfDeadlines) (has later m OfCount) (has later m OfLetters) (has later m OfTelling) (has later m OfDuties) (has later m OfChores) (has later m OfErrand) some) as (λ _. Goal) [
       | inl ticks ↦
-          let h = both m.opening.is_open (is_by later m.asking.ticks_at) ticks in
-          counted_if m.known.is_to_count (looks_at m) m.known.counts_at later (looks m later h.0 (leb-true (as_nanos m.asking.ticks_at) (as_nanos later) h.1))
+          let h = both (may_enter later m) (is_by later m.asking.ticks_at) ticks in
+          let may = both m.opening.is_open (not (is_spared later m)) h.0 in
+          next_if m later (is_spared now m) (not_true (is_spared later m) may.1)
+          (λ free. counted_if m.known.is_to_count (looks_at m) m.known.counts_at later (looks m later may.0 (leb-true (as_nanos m.asking.ticks_at) (as_nanos later) h.1)))
       | inr more ↦ elim more as (λ _. Goal) [
         | inl counts ↦
-            let h = both m.known.is_to_count (is_by later m.known.counts_at) counts in
-            counted m.known.is_to_count (looks_at m) m.known.counts_at later h.0 (leb-true (as_nanos m.known.counts_at) (as_nanos later) h.1)
+            let h = both (not (is_spared later m)) (m.known.is_to_count && is_by later m.known.counts_at) counts in
+            let is = both m.known.is_to_count (is_by later m.known.counts_at) h.1 in
+            next_if m later (is_spared now m) (not_true (is_spared later m) h.0)
+            (λ free. counted m.known.is_to_count (looks_at m) m.known.counts_at later is.0 (leb-true (as_nanos m.known.counts_at) (as_nanos later) is.1))
         | inr more ↦ elim more as (λ _. Goal) [
-          | inl letters ↦ absurd (no_both (has now m OfLetters) letters none.0)
+          | inl letters ↦ entered_by m now later (nat_lt 0 (length m.letters)) none.letters letters
           | inr more ↦ elim more as (λ _. Goal) [
-            | inl telling ↦ absurd (no_both (has now m OfTelling) telling none.1.0)
-            | inr duties ↦ absurd (no_both (has now m OfDuties) duties none.1.1)
+            | inl telling ↦
+                let h = both (not (is_spared later m)) (is_some m.telling) telling in
+                next_if m later (is_spared now m) (not_true (is_spared later m) h.0) (λ free. absurd (not_taken (is_spared now m) (is_some m.telling) free h.1 none.telling))
+            | inr more ↦ elim more as (λ _. Goal) [
+              | inl duties ↦ entered_by m now later m.asking.is_stirred none.duties duties
+              | inr more ↦ elim more as (λ _. Goal) [
+                | inl chores ↦ entered_by m now later (is_chore now m.sweeps) none.chores (subst (λ (b : Bool). (may_enter later m && b) ≡ true) same chores)
+                | inr errand ↦ wanted_by m now later m.wanted none.errand errand
+              ]
+            ]
           ]
         ]
       ]
     ]
 
-next_by : (m : Mail) (now later : Duration) (spared : Bool) → is_spared now m ≡ spared → has_task now m ≡ false → has_task later m ≡ true
-    → as_nanos (if spared then m.held_until else (if m.known.is_to_count then earlier_of (looks_at m) m.known.counts_at else looks_at m)) ≤ as_nanos later
-next_by m now later true is none some =
-    let later_free = not_true (is_spared later m) (both (not (is_spared later m)) (Any (has later m OfDeadlines) (has later m OfCount) (has later m OfLetters) (has later m OfTelling) (has later m OfDuties)) some).0 in
-    ltb-false (as_nanos later) (as_nanos m.held_until) later_free
-next_by m now later false is none some =
-    unheld m now later
-    (unspared (is_spared now m) (Any (has now m OfDeadlines) (has now m OfCount) (has now m OfLetters) (has now m OfTelling) (has now m OfDuties)) is none)
-    (both (not (is_spared later m)) (Any (has later m OfDeadlines) (has later m OfCount) (has later m OfLetters) (has later m OfTelling) (has later m OfDuties)) some).1
-
-pub over_by_then : (m : Mail) (now later : Duration) (is_busy : Bool) → is_occupied now is_busy m ≡ false → as_nanos now ≤ as_nanos later → has_task later m ≡ true
+pub over_by_then : (m : Mail) (now later : Duration) → is_chore later m.sweeps ≡ is_chore now m.sweeps → is_occupied now m ≡ false → as_nanos now ≤ as_nanos later → has_task later m ≡ true
     → as_nanos (rests_until now m) ≤ as_nanos later
-over_by_then m now later is_busy idle le some =
-    let none = neither (has_task now m) (m.is_hurried || (is_busy && (m.opening.is_open && not (is_spared now m)))) idle in
-    let next = next_by m now later (is_spared now m) refl none some in
+over_by_then m now later same idle le some =
+    let next = next_by m now later same (neither (has_task now m) m.is_hurried idle) some in
     let sooner = resumed m.calls.resumes_at (next_at now m) in
     omega (arith, next, sooner)

@@ -15,8 +15,8 @@ use Rattle.lra_delta.specs.Frames.{Frame}
 use Rattle.lra_heard.specs.Letters.{Said}
 use Rattle.lra_heard.specs.declared.letter.Unheard.{Unheard}
 use Rattle.lra_turns.specs.Calling.{Calling, IsTakenFrom, ended, forgotten}
-use Rattle.lra_turns.specs.Named.{NamesNoOther}
-use Rattle.lra_turns.specs.Once.{HasEachOnce, MayBeCalled, NamesNobodyTwice, calls_of, dues_of, duties_for, slips_of}
+use Rattle.lra_turns.specs.Named.{NamesNoOther, NamesOnly}
+use Rattle.lra_turns.specs.Once.{HasEachOnce, MayBeCalled, NamesNobodyTwice, calls_of, current_of, dues_of, duties_for, slips_of}
 use Rattle.lra_turns.specs.Pausing.{IsBusyAt, IsFound, IsMissed}
 use Rattle.lra_turns.specs.Slips.{called_of, place_of}
 use Rattle.lra_turns.specs.declared.pace.Pace.{Pace}
@@ -25,14 +25,16 @@ use Rattle.lra_turns.specs.declared.plight.Plight.{Plight}
 use Rattle.lra_turns.specs.declared.slip.Called.{Called}
 use Rattle.lra_mailbox.specs.Mail.{Mail, after_news, put_off, with_asking, with_calls, with_letters, with_opening, with_telling}
 
--- Those who are to be called are those of a list: nobody else is, and nobody twice; who is called is left alone. With memory each who may
--- be called is put; who is neither on the list nor called is forgotten.
+-- Those who are to be called are those of a list: nobody else is, and nobody twice; who is called is left alone, and no call that goes on
+-- is for what the list has. With memory each who may be called is put; who is neither on the list nor called is forgotten.
 pub record Lists (duties : List Duty) (now : Duration) (old new : Calling) (is_whole : Bool) : Type 0 where
   pub named : NamesNoOther old new duties
   pub once : NamesNobodyTwice duties → HasEachOnce old → HasEachOnce new
   pub called : (who : Called) → calls_of who new.slips ≡ calls_of who old.slips
   pub put : IsTrue is_whole → NamesNobodyTwice duties → (who : Called) → 0 < duties_for who duties → MayBeCalled now who old → 0 < dues_of who new.now.hosts
   pub forgotten : (who : Called) → duties_for who duties ≡ 0 → calls_of who old.slips ≡ 0 → slips_of who new.slips ≡ 0
+  pub only : NamesOnly new duties
+  pub outdated : (who : Called) → current_of who new.slips ≡ 0
 
 -- where memory ran out it is asked again when deadlines are looked at
 pub record IsListed (duties : List Duty) (now : Duration) (old new : Mail) : Type 0 where
@@ -58,7 +60,7 @@ pace_of time = if nat_lt (as_nanos time) 1_000_000_000 then Quick else Slow
 
 -- nothing was heard that counts: the call is over, and the participant pauses
 pub record IsUnheard (time now : Duration) (unheard : Unheard) (old new : Mail) (plight : Option Plight) : Type 0 where
-  pub missed : IsMissed (place_of (called_of unheard.duty) old.calls.slips) unheard.duty unheard.came now (ended unheard.duty (pace_of time) old.calls) new.calls plight
+  pub missed : IsMissed (place_of (called_of unheard.due) old.calls.slips) unheard.due unheard.came now (ended unheard.due (pace_of time) old.calls) new.calls plight
   pub rest : new ≡ with_calls new.calls old
 
 -- something was heard: the call is over, and what was heard is put last

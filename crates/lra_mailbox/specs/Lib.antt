@@ -1,5 +1,9 @@
 pub mod Hearing
+pub mod Kept
+pub mod Looks
 pub mod Mail
 pub mod Moments
+pub mod Noted
 pub mod Resting
+pub mod Sweeps
 pub mod Tasks

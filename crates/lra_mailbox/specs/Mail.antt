@@ -10,15 +10,18 @@ use Rattle.lra_turns.specs.Calling.{Calling}
 use Rattle.lra_turns.specs.Slips.{at_once}
 use Rattle.lra_turns.specs.Turns.{is_due}
 use Rattle.lra_mailbox.specs.Moments.{IsAfter}
+use Rattle.lra_mailbox.specs.Sweeps.{Sweeps}
 use Rattle.lra_mailbox.specs.declared.asking.Asking.{Asking}
 use Rattle.lra_mailbox.specs.declared.known.Known.{Known}
 use Rattle.lra_mailbox.specs.declared.opening.Opening.{Opening}
+use Rattle.lra_mailbox.specs.declared.task.Wanted.{Wanted}
+use Rattle.lra_mailbox.specs.declared.task.Wanted.TheVariants.{Command, Nothing, Question}
 use Rattle.lra_mailbox.specs.declared.turn.Turn.{Turn}
 
 -- Whom to call; what was heard and isn't entered, first that which came first; a frame that waits to be taken; what is known of how
 -- many facts there are; whether commands are entered yet; when deadlines are looked at, and when it is asked who is to be called; until
 -- when nothing is entered, as the journal failed; which kind of task was looked for last; whether the thread that enters is to look
--- whether the run is over; and whether the program is to end
+-- whether the run is over; whether the program is to end; what operators want; and what has ended and is to be purged
 pub record Mail : Type 0 where
   pub calls : Calling
   pub letters : List Said
@@ -30,37 +33,56 @@ pub record Mail : Type 0 where
   pub last : Turn
   pub is_hurried : Bool
   pub has_ended : Bool
+  pub wanted : Wanted
+  pub sweeps : Sweeps
 
 -- with one of these in place of its own
 abbrev pub with_calls : Calling → Mail → Mail
-with_calls calls m = record { calls = calls; letters = m.letters; telling = m.telling; known = m.known; opening = m.opening; asking = m.asking; held_until = m.held_until; last = m.last; is_hurried = m.is_hurried; has_ended = m.has_ended }
+with_calls calls m = record { calls = calls; letters = m.letters; telling = m.telling; known = m.known; opening = m.opening; asking = m.asking; held_until = m.held_until; last = m.last; is_hurried = m.is_hurried; has_ended = m.has_ended; wanted = m.wanted; sweeps = m.sweeps }
 
 abbrev pub with_letters : List Said → Mail → Mail
-with_letters letters m = record { calls = m.calls; letters = letters; telling = m.telling; known = m.known; opening = m.opening; asking = m.asking; held_until = m.held_until; last = m.last; is_hurried = m.is_hurried; has_ended = m.has_ended }
+with_letters letters m = record { calls = m.calls; letters = letters; telling = m.telling; known = m.known; opening = m.opening; asking = m.asking; held_until = m.held_until; last = m.last; is_hurried = m.is_hurried; has_ended = m.has_ended; wanted = m.wanted; sweeps = m.sweeps }
 
 abbrev pub with_telling : Option Frame → Mail → Mail
-with_telling telling m = record { calls = m.calls; letters = m.letters; telling = telling; known = m.known; opening = m.opening; asking = m.asking; held_until = m.held_until; last = m.last; is_hurried = m.is_hurried; has_ended = m.has_ended }
+with_telling telling m = record { calls = m.calls; letters = m.letters; telling = telling; known = m.known; opening = m.opening; asking = m.asking; held_until = m.held_until; last = m.last; is_hurried = m.is_hurried; has_ended = m.has_ended; wanted = m.wanted; sweeps = m.sweeps }
 
 abbrev pub with_known : Known → Mail → Mail
-with_known known m = record { calls = m.calls; letters = m.letters; telling = m.telling; known = known; opening = m.opening; asking = m.asking; held_until = m.held_until; last = m.last; is_hurried = m.is_hurried; has_ended = m.has_ended }
+with_known known m = record { calls = m.calls; letters = m.letters; telling = m.telling; known = known; opening = m.opening; asking = m.asking; held_until = m.held_until; last = m.last; is_hurried = m.is_hurried; has_ended = m.has_ended; wanted = m.wanted; sweeps = m.sweeps }
 
 abbrev pub with_opening : Opening → Mail → Mail
-with_opening opening m = record { calls = m.calls; letters = m.letters; telling = m.telling; known = m.known; opening = opening; asking = m.asking; held_until = m.held_until; last = m.last; is_hurried = m.is_hurried; has_ended = m.has_ended }
+with_opening opening m = record { calls = m.calls; letters = m.letters; telling = m.telling; known = m.known; opening = opening; asking = m.asking; held_until = m.held_until; last = m.last; is_hurried = m.is_hurried; has_ended = m.has_ended; wanted = m.wanted; sweeps = m.sweeps }
 
 abbrev pub with_asking : Asking → Mail → Mail
-with_asking asking m = record { calls = m.calls; letters = m.letters; telling = m.telling; known = m.known; opening = m.opening; asking = asking; held_until = m.held_until; last = m.last; is_hurried = m.is_hurried; has_ended = m.has_ended }
+with_asking asking m = record { calls = m.calls; letters = m.letters; telling = m.telling; known = m.known; opening = m.opening; asking = asking; held_until = m.held_until; last = m.last; is_hurried = m.is_hurried; has_ended = m.has_ended; wanted = m.wanted; sweeps = m.sweeps }
 
 abbrev pub with_hold : Duration → Mail → Mail
-with_hold until m = record { calls = m.calls; letters = m.letters; telling = m.telling; known = m.known; opening = m.opening; asking = m.asking; held_until = until; last = m.last; is_hurried = m.is_hurried; has_ended = m.has_ended }
+with_hold until m = record { calls = m.calls; letters = m.letters; telling = m.telling; known = m.known; opening = m.opening; asking = m.asking; held_until = until; last = m.last; is_hurried = m.is_hurried; has_ended = m.has_ended; wanted = m.wanted; sweeps = m.sweeps }
 
 abbrev pub with_last : Turn → Mail → Mail
-with_last last m = record { calls = m.calls; letters = m.letters; telling = m.telling; known = m.known; opening = m.opening; asking = m.asking; held_until = m.held_until; last = last; is_hurried = m.is_hurried; has_ended = m.has_ended }
+with_last last m = record { calls = m.calls; letters = m.letters; telling = m.telling; known = m.known; opening = m.opening; asking = m.asking; held_until = m.held_until; last = last; is_hurried = m.is_hurried; has_ended = m.has_ended; wanted = m.wanted; sweeps = m.sweeps }
 
 abbrev pub with_hurry : Bool → Mail → Mail
-with_hurry is_hurried m = record { calls = m.calls; letters = m.letters; telling = m.telling; known = m.known; opening = m.opening; asking = m.asking; held_until = m.held_until; last = m.last; is_hurried = is_hurried; has_ended = m.has_ended }
+with_hurry is_hurried m = record { calls = m.calls; letters = m.letters; telling = m.telling; known = m.known; opening = m.opening; asking = m.asking; held_until = m.held_until; last = m.last; is_hurried = is_hurried; has_ended = m.has_ended; wanted = m.wanted; sweeps = m.sweeps }
 
 abbrev pub with_end : Mail → Mail
-with_end m = record { calls = m.calls; letters = m.letters; telling = m.telling; known = m.known; opening = m.opening; asking = m.asking; held_until = m.held_until; last = m.last; is_hurried = m.is_hurried; has_ended = true }
+with_end m = record { calls = m.calls; letters = m.letters; telling = m.telling; known = m.known; opening = m.opening; asking = m.asking; held_until = m.held_until; last = m.last; is_hurried = m.is_hurried; has_ended = true; wanted = m.wanted; sweeps = m.sweeps }
+
+abbrev pub with_wanted : Wanted → Mail → Mail
+with_wanted wanted m = record { calls = m.calls; letters = m.letters; telling = m.telling; known = m.known; opening = m.opening; asking = m.asking; held_until = m.held_until; last = m.last; is_hurried = m.is_hurried; has_ended = m.has_ended; wanted = wanted; sweeps = m.sweeps }
+
+abbrev pub with_sweeps : Sweeps → Mail → Mail
+with_sweeps sweeps m = record { calls = m.calls; letters = m.letters; telling = m.telling; known = m.known; opening = m.opening; asking = m.asking; held_until = m.held_until; last = m.last; is_hurried = m.is_hurried; has_ended = m.has_ended; wanted = m.wanted; sweeps = sweeps }
+
+-- whether a call that operators want is to be made now, where commands are entered or aren't; and whether one is wanted
+abbrev pub is_wanted : Bool → Wanted → Bool
+is_wanted may_enter Nothing = false
+is_wanted may_enter Question = true
+is_wanted may_enter Command = may_enter
+
+abbrev pub is_any : Wanted → Bool
+is_any Nothing = false
+is_any Question = true
+is_any Command = true
 
 -- once it is known that the node has these facts of each node at least
 abbrev pub learnt : List ℕ → Known → Known

@@ -1,16 +1,18 @@
 -- How long the thread that enters may wait for something to do.
-use Rattle.std.specs.Prelude.{◌≡◌, ◌-◌, ◌&&◌, ◌||◌, ℕ, Bool, true, false, Option, None, Some, IsSomeAnd, MatchBool, if◌then◌else◌, not}
+use Rattle.std.specs.Prelude.{◌≡◌, ◌-◌, ◌||◌, ℕ, Bool, true, false, Option, None, Some, IsSomeAnd, MatchBool, if◌then◌else◌}
 use Rattle.std.specs.Duration.{as_nanos}
 use Rattle.std.specs.declared.time.Duration.{Duration}
 use Rattle.lra_turns.specs.Pausing.{earlier}
 use Rattle.lra_mailbox.specs.Mail.{Mail}
 use Rattle.lra_mailbox.specs.Moments.{earlier_of}
 use Rattle.lra_mailbox.specs.Tasks.{has, is_spared}
-use Rattle.lra_mailbox.specs.declared.turn.Turn.TheVariants.{OfCount, OfDeadlines, OfDuties, OfLetters, OfTelling}
+use Rattle.lra_mailbox.specs.declared.turn.Turn.TheVariants.{OfChores, OfCount, OfDeadlines, OfDuties, OfErrand, OfLetters, OfTelling}
 
 -- whether there is a task at this moment
 abbrev pub has_task : Duration → Mail → Bool
-has_task now m = not (is_spared now m) && (has now m OfDeadlines || (has now m OfCount || (has now m OfLetters || (has now m OfTelling || has now m OfDuties))))
+has_task now m =
+    has now m OfDeadlines
+    || (has now m OfCount || (has now m OfLetters || (has now m OfTelling || (has now m OfDuties || (has now m OfChores || has now m OfErrand)))))
 
 abbrev pub that_or : Option Duration → Duration → Duration
 that_or None other = other
@@ -28,11 +30,11 @@ next_at now m = if is_spared now m then m.held_until else (if m.known.is_to_coun
 abbrev pub rests_until : Duration → Mail → Duration
 rests_until now m = earlier m.calls.resumes_at (next_at now m)
 
--- whether it may not wait: there is a task, it was told to look whether the run is over, or it is busy with something else, which it may do
-abbrev pub is_occupied : Duration → Bool → Mail → Bool
-is_occupied now is_busy m = has_task now m || (m.is_hurried || (is_busy && (m.opening.is_open && not (is_spared now m))))
+-- whether it may not wait: there is a task, or it was told to look whether the run is over
+abbrev pub is_occupied : Duration → Mail → Bool
+is_occupied now m = has_task now m || m.is_hurried
 
 -- how long it may wait
-abbrev pub IsIdleFor : Duration → Bool → Mail → Option Duration → Type 0
-IsIdleFor now is_busy m rest = MatchBool (is_occupied now is_busy m) (rest ≡ None)
+abbrev pub IsIdleFor : Duration → Mail → Option Duration → Type 0
+IsIdleFor now m rest = MatchBool (is_occupied now m) (rest ≡ None)
     (IsSomeAnd rest (λ (time : Duration). as_nanos time ≡ as_nanos (rests_until now m) - as_nanos now))

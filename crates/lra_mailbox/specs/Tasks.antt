@@ -1,15 +1,18 @@
 -- What the thread that enters does next: the kinds of tasks have their turns, so that none waits for ever for others.
-use Rattle.std.specs.Prelude.{◌≡◌, ◌≤◌, ◌-◌, ◌+◌, ◌++◌, ◌∷◌, ◌&&◌, ◌||◌, [], ℕ, Bool, true, false, List, Option, None, Some, MatchBool, if◌then◌else◌, is_some, length, nat_le, nat_lt, not}
+use Rattle.std.specs.Prelude.{⊤, ◌≡◌, ◌≤◌, ◌-◌, ◌+◌, ◌++◌, ◌∷◌, ◌&&◌, ◌||◌, [], ℕ, Bool, true, false, List, Option, None, Some, MatchBool, if◌then◌else◌, is_some, length, nat_le, nat_lt, not}
 use Rattle.std.specs.Duration.{as_nanos}
 use Rattle.std.specs.declared.time.Duration.{Duration}
 use Rattle.lra_delta.specs.Frames.{Frame}
 use Rattle.lra_heard.specs.Letters.{Said}
-use Rattle.lra_mailbox.specs.Mail.{Mail, asked, is_anyone, looked, with_asking, with_hurry, with_known, with_last, with_letters, with_telling}
+use Rattle.lra_mailbox.specs.Mail.{Mail, asked, is_anyone, is_wanted, looked, with_asking, with_hurry, with_known, with_last, with_letters, with_sweeps, with_telling, with_wanted}
 use Rattle.lra_mailbox.specs.Moments.{IsAfter, is_by}
+use Rattle.lra_mailbox.specs.Sweeps.{IsNextChore, is_chore}
+use Rattle.lra_mailbox.specs.declared.sweep.Chore.{Chore}
 use Rattle.lra_mailbox.specs.declared.task.Task.{Task}
-use Rattle.lra_mailbox.specs.declared.task.Task.TheVariants.{Ask, Count, Enter, Rest, Take, Tick}
+use Rattle.lra_mailbox.specs.declared.task.Task.TheVariants.{Ask, Count, Enter, Errand, Rest, Sweep, Take, Tick}
+use Rattle.lra_mailbox.specs.declared.task.Wanted.TheVariants.{Nothing, Question}
 use Rattle.lra_mailbox.specs.declared.turn.Turn.{Turn}
-use Rattle.lra_mailbox.specs.declared.turn.Turn.TheVariants.{OfCount, OfDeadlines, OfDuties, OfLetters, OfTelling}
+use Rattle.lra_mailbox.specs.declared.turn.Turn.TheVariants.{OfChores, OfCount, OfDeadlines, OfDuties, OfErrand, OfLetters, OfTelling}
 
 -- the kind whose turn is after another's
 abbrev pub after : Turn → Turn
@@ -17,7 +20,9 @@ after OfDeadlines = OfCount
 after OfCount = OfLetters
 after OfLetters = OfTelling
 after OfTelling = OfDuties
-after OfDuties = OfDeadlines
+after OfDuties = OfChores
+after OfChores = OfErrand
+after OfErrand = OfDeadlines
 
 abbrev pub place_of : Turn → ℕ
 place_of OfDeadlines = 0
@@ -25,23 +30,31 @@ place_of OfCount = 1
 place_of OfLetters = 2
 place_of OfTelling = 3
 place_of OfDuties = 4
+place_of OfChores = 5
+place_of OfErrand = 6
 
--- how many turns it is from one kind to another: 1 to 5
+-- how many turns it is from one kind to another: 1 to 7
 abbrev pub turns_to : Turn → Turn → ℕ
-turns_to last kind = if nat_lt (place_of last) (place_of kind) then place_of kind - place_of last else place_of kind + 5 - place_of last
+turns_to last kind = if nat_lt (place_of last) (place_of kind) then place_of kind - place_of last else place_of kind + 7 - place_of last
 
 -- whether nothing is entered at this moment, as the journal failed
 abbrev pub is_spared : Duration → Mail → Bool
 is_spared now m = nat_lt (as_nanos now) (as_nanos m.held_until)
 
--- Whether there is a task of this kind at this moment. Before commands are entered, what others told is taken, and the node's facts are
--- counted, and no more.
+-- whether anything of the node's own is entered at this moment: the others are heard, and the journal isn't spared
+abbrev pub may_enter : Duration → Mail → Bool
+may_enter now m = m.opening.is_open && not (is_spared now m)
+
+-- Whether there is a task of this kind at this moment. Before commands are entered, what others told is
+-- taken, the node's facts are counted, and operators' questions are answered, and no more. While the journal is spared these are.
 abbrev pub has : Duration → Mail → Turn → Bool
-has now m OfDeadlines = m.opening.is_open && is_by now m.asking.ticks_at
-has now m OfCount = m.known.is_to_count && is_by now m.known.counts_at
-has now m OfLetters = m.opening.is_open && nat_lt 0 (length m.letters)
-has now m OfTelling = is_some m.telling
-has now m OfDuties = m.opening.is_open && m.asking.is_stirred
+has now m OfDeadlines = may_enter now m && is_by now m.asking.ticks_at
+has now m OfCount = not (is_spared now m) && (m.known.is_to_count && is_by now m.known.counts_at)
+has now m OfLetters = may_enter now m && nat_lt 0 (length m.letters)
+has now m OfTelling = not (is_spared now m) && is_some m.telling
+has now m OfDuties = may_enter now m && m.asking.is_stirred
+has now m OfChores = may_enter now m && is_chore now m.sweeps
+has now m OfErrand = is_wanted (may_enter now m) m.wanted
 
 -- the kind that has its turn first after another, of those of which there is a task; none, where there is none
 pub record IsFirstAfter (last : Turn) (is_there : Turn → Bool) (kind : Turn) : Type 0 where
@@ -78,22 +91,42 @@ pub record TakesFrame (old new : Mail) (task : Task) : Type 0 where
   pub waits : old.telling ≡ Some frame
   pub rest : new ≡ with_last OfTelling (with_telling None old)
 
+-- the home is swept: the next chore is done
+pub record DoesChore (now : Duration) (old new : Mail) (task : Task) : Type 0 where
+  pub chore : Chore
+  pub is : task ≡ Sweep chore
+  pub next : IsNextChore now old.sweeps new.sweeps (Some chore)
+  pub rest : new ≡ with_last OfChores (with_sweeps new.sweeps old)
+
 -- what a task of a kind is, and what is left
 abbrev pub Does : Duration → Turn → Mail → Mail → Task → Type 0
 Does now OfDeadlines old new task = LooksAtDeadlines now old new task
 Does now OfCount old new task = AsksForCount now old new task
 Does now OfLetters old new task = EntersFirst old new task
 Does now OfTelling old new task = TakesFrame old new task
+Does now OfChores old new task = DoesChore now old new task
+Does now OfErrand old new task = (task ≡ Errand old.wanted) × (new ≡ with_last OfErrand (with_wanted Nothing old))
 Does now OfDuties old new task = (task ≡ Ask) × (new ≡ with_last OfDuties (with_asking (asked now old.asking) old))
 
 abbrev pub DoesIf : Duration → Option Turn → Mail → Mail → Task → Type 0
 DoesIf now None old new task = (task ≡ Rest) × (new ≡ old)
 DoesIf now (Some kind) old new task = Does now kind old new task
 
--- What the thread that enters does: it looks whether the run is over, where it was told to, or where nothing may be entered or there is
--- nothing to do; else what has its turn
+-- What the thread that enters does: it looks whether the run is over, where it was told to, or where there is nothing to do; else what has
+-- its turn
 abbrev pub IsNextTask : Duration → Mail → Mail → Task → Type 0
 IsNextTask now old new task =
-    MatchBool (old.is_hurried || is_spared now old)
+    MatchBool old.is_hurried
     ((task ≡ Rest) × (new ≡ with_hurry false old))
     ((kind : Option Turn) × IsNextKind old.last (has now old) kind × DoesIf now kind old new task)
+
+-- a task that stores no fact of the node's own: of operators, only a question is served
+abbrev pub StoresNothing : Task → Type 0
+StoresNothing (Enter letter) = ⊥
+StoresNothing (Take frame) = ⊤
+StoresNothing Ask = ⊥
+StoresNothing Tick = ⊥
+StoresNothing Count = ⊤
+StoresNothing (Sweep chore) = ⊥
+StoresNothing (Errand wanted) = wanted ≡ Question
+StoresNothing Rest = ⊤

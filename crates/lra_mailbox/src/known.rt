@@ -1,4 +1,5 @@
 // How many facts of each node this one has at least.
+ghost use Rattle.lra_id.specs.declared.TheConstants.{MAX_NODES};
 ghost use Rattle.std.specs.Prelude.{◌≡◌, ◌≤◌, ◌&&◌, false, replicate, true};
 ghost use Rattle.lra_mailbox.specs.Moments.{IsAfter, is_by};
 ghost use Rattle.lra_mailbox.specs.Mail.{learnt};
@@ -24,7 +25,7 @@ pub(crate) struct Known {
 
 impl Known {
     pub(crate) fn new(nodes: u8, is_to_count: bool) -> Known
-        requires { (1 ≤ nodes) × (nodes ≤ 8) }
+        requires { (1 ≤ nodes) × (nodes ≤ MAX_NODES) }
         ensures { result ≡ record { front = replicate nodes 0; is_counted = false; is_to_count = is_to_count; counts_at = at_once } }
     {
         Known {

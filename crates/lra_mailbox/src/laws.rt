@@ -1,10 +1,17 @@
 // Laws of the definitions: each function does nothing, and its contract is the law.
-ghost use Rattle.std.specs.Prelude.{◌≡◌, ◌⊎◌, ◌<◌, ◌≤◌, Bool, false, true};
+ghost use Rattle.std.specs.Prelude.{◌≡◌, ◌⊎◌, ◌<◌, ◌≤◌, [], Bool, List, None, Option, Some, false, true};
 ghost use Rattle.std.specs.Duration.{as_nanos};
 ghost use Rattle.std.specs.declared.time.Duration.{Duration as TheDuration};
+ghost use Rattle.lra_id.specs.Ids.{Id};
+ghost use Rattle.lra_id.specs.declared.status.LraStatus.{LraStatus as TheStatus};
+ghost use Rattle.lra_mailbox.specs.Kept.{Kept};
 ghost use Rattle.lra_mailbox.specs.Mail.{Mail};
 ghost use Rattle.lra_mailbox.specs.Resting.{has_task, is_occupied, rests_until};
-ghost use Rattle.lra_mailbox.specs.Tasks.{IsFirstAfter, turns_to};
+ghost use Rattle.lra_mailbox.specs.Sweeps.{AreLeft, AreSince, IsLeftBy, IsNextChore, IsSeen, IsTurned, Root, Sight, Sweeps, WasKept, is_chore, last_seen, sights_after, time_of};
+ghost use Rattle.lra_mailbox.specs.declared.sweep.Chore.TheVariants.{List as ToList, Purge};
+ghost use Rattle.lra_mailbox.specs.declared.sweep.Purged.{Purged as ThePurged};
+ghost use Rattle.lra_mailbox.specs.Tasks.{IsFirstAfter, IsNextTask, StoresNothing, may_enter, turns_to};
+ghost use Rattle.lra_mailbox.specs.declared.task.Task.{Task as TheTask};
 ghost use Rattle.lra_mailbox.specs.declared.turn.Turn.{Turn as TheTurn};
 
 /// Each kind of task has its turn: while there is a task of a kind, it is done, or its turn comes
@@ -13,13 +20,50 @@ pub fn each_kind_has_its_turn()
     ensures nearer { (is_there : TheTurn → Bool) (last next kind : TheTurn) →
         IsFirstAfter last is_there next → is_there kind ≡ true →
         (next ≡ kind) ⊎ (turns_to next kind < turns_to last kind) }
-    ensures few { (last kind : TheTurn) → turns_to last kind ≤ 5 }
+    ensures few { (last kind : TheTurn) → turns_to last kind ≤ 7 }
 {}
 
 /// Nobody waits beyond the moment when there is something to do: of what lies in the mailbox
-/// nothing becomes a task before the wait is over.
+/// nothing becomes a task before the wait is over. Chores are apart: for those it looks each quarter
+/// of a second.
 pub fn a_wait_is_over_when_there_is_a_task()
-    ensures { (mail : Mail) (now later : TheDuration) (is_busy : Bool) →
-        is_occupied now is_busy mail ≡ false → as_nanos now ≤ as_nanos later →
+    ensures { (mail : Mail) (now later : TheDuration) →
+        is_chore later mail.sweeps ≡ is_chore now mail.sweeps →
+        is_occupied now mail ≡ false → as_nanos now ≤ as_nanos later →
         has_task later mail ≡ true → as_nanos (rests_until now mail) ≤ as_nanos later }
+{}
+
+/// Nothing is purged before its time. A root is remembered only since when a look showed what it shows, and each look since has; and it is
+/// purged, as one that shows this, only once that is so long ago as is said of those that show this.
+pub fn nothing_is_purged_before_its_time()
+    ensures none { AreSince [] [] }
+    ensures seen { (now : TheDuration) (id : Id) (seen : TheStatus) (sights : List Sight) (old new : Sweeps) →
+        IsSeen now id seen old new → AreSince sights old.ended →
+        AreSince (sights_after now id seen old sights) new.ended }
+    ensures turned { (more : Bool) (sights : List Sight) (old new : Sweeps) →
+        IsTurned more old new → AreSince sights old.ended → AreSince sights new.ended }
+    ensures purged { (purged : ThePurged) (id : Id) (sights : List Sight) (old new : List Root) →
+        IsLeftBy purged id old new → AreSince sights old → AreSince sights new }
+    ensures freed { (sights : List Sight) (old new : List Root) →
+        AreLeft old new → AreSince sights old → AreSince sights new }
+    ensures lists { (now : TheDuration) (beyond : Option Id) (sights : List Sight) (old new : Sweeps) →
+        IsNextChore now old new (Some (ToList beyond)) → AreSince sights old.ended →
+        AreSince sights new.ended }
+    ensures purges { (now : TheDuration) (kept : Kept) (sights : List Sight) (old new : Sweeps) →
+        IsNextChore now old new (Some (Purge kept)) → AreSince sights old.ended →
+        WasKept old.keep now kept sights × (new ≡ old) }
+{}
+
+/// What is kept for ever is never purged: one that showed last that it goes on, or what those show that are kept for ever.
+pub fn what_is_kept_for_ever_is_never_purged()
+    ensures { (now : TheDuration) (kept : Kept) (seen : TheStatus) (sights : List Sight) (old new : Sweeps) →
+        IsNextChore now old new (Some (Purge kept)) → AreSince sights old.ended →
+        last_seen kept.root sights ≡ Some seen → time_of old.keep seen ≡ None → ⊥ }
+{}
+
+/// Before the other nodes are heard, and while the journal is spared, the thread that enters does nothing that stores a fact of the node's
+/// own, for operators neither: it has no such task.
+pub fn nothing_is_entered_before_the_others_are_heard()
+    ensures { (now : TheDuration) (old new : Mail) (task : TheTask) →
+        may_enter now old ≡ false → IsNextTask now old new task → StoresNothing task }
 {}

@@ -1,15 +1,25 @@
-//! What the thread that enters is to do next, and what the threads that call and pull hand to it.
-//! It knows no thread, no lock and no clock: each moment is handed in.
+//! What the thread that enters is to do next: of what those that call and pull hand to it, of what
+//! operators want, and of what its home's sweep purges. It knows no thread, no lock and no clock: each moment is handed in.
 #![tactic(auto)]
 
 mod asking;
 mod known;
 pub mod laws;
+mod looking;
+mod noted;
 mod opening;
+mod ripe;
 mod state;
+mod sweep;
+mod sweeping;
 mod task;
 mod turn;
 
+pub use looking::MANY;
+pub use noted::{Became, News, Noted};
 pub use opening::OPENING_MS;
+pub use ripe::Ripe;
 pub use state::MailboxState;
-pub use task::Task;
+pub use sweep::{Chore, Fill, Keep, Purged};
+pub use sweeping::Sweeping;
+pub use task::{Task, Wanted};

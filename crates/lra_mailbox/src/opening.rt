@@ -1,4 +1,5 @@
 // Whether commands are entered yet. At a start they may wait for what other nodes tell.
+ghost use Rattle.lra_id.specs.declared.TheConstants.{MAX_NODES};
 ghost use Rattle.std.specs.Prelude.{◌≡◌, ◌-◌, ◌≤◌, None, not, replicate};
 ghost use Rattle.lra_id.specs.Fronts.{join_fronts};
 ghost use Rattle.lra_mailbox.specs.Mail.{IsOpened, IsOpenedBy};
@@ -25,7 +26,7 @@ pub(crate) struct Opening {
 impl Opening {
     /// Of a node beside so many in all, which are heard first if they are apart.
     pub(crate) fn new(nodes: u8, are_apart: bool) -> Opening
-        requires { (1 ≤ nodes) × (nodes ≤ 8) }
+        requires { (1 ≤ nodes) × (nodes ≤ MAX_NODES) }
         ensures { result ≡ record { is_open = not are_apart; opens_at = None; unasked = nodes - 1; awaited = replicate nodes 0 } }
     {
         Opening {

@@ -6,19 +6,26 @@ ghost use Rattle.lra_turns.specs.Slips.{at_once};
 ghost use Rattle.lra_turns.specs.Turns.{MayTake};
 ghost use Rattle.lra_mailbox.specs.Hearing.{HearsOf, IsAnswered, IsAwaited, IsDueFrom, IsHandedOver, IsListed, IsNoted, IsPutLast, is_harmless, pace_of};
 ghost use Rattle.lra_mailbox.specs.Moments.{earlier_of};
-ghost use Rattle.lra_mailbox.specs.Mail.{IsOpened, after_news, counted, hastened, is_anyone, learnt, to_count, with_asking, with_calls, with_end, with_hold, with_hurry, with_known, with_opening};
+ghost use Rattle.lra_mailbox.specs.Mail.{IsOpened, after_news, counted, hastened, is_any, is_anyone, learnt, to_count, with_asking, with_calls, with_end, with_hold, with_hurry, with_known, with_opening, with_sweeps, with_wanted};
+ghost use Rattle.lra_mailbox.specs.Noted.{Notes, with_news};
+ghost use Rattle.lra_mailbox.specs.Sweeps.{IsLeftBy, IsSeen, IsTurned, with_ended, with_looking};
+ghost use Rattle.lra_id.specs.declared.TheConstants.{MAX_NODES};
 ghost use Rattle.lra_mailbox.specs.Resting.{IsIdleFor, has_task, is_occupied, looks_at, next_at, rests_until};
-ghost use Rattle.lra_mailbox.specs.Tasks.{Does, IsNextKind, IsNextTask, has, is_spared};
+ghost use Rattle.lra_mailbox.specs.Tasks.{Does, IsNextKind, IsNextTask, has, is_spared, may_enter};
+ghost use Rattle.lra_mailbox.specs.declared.task.Wanted.TheVariants.{Nothing};
 ghost use Rattle.lra_mailbox.specs.declared.turn.Turn.TheVariants.{OfDuties as TheDuties};
 
-use crate::Task;
 use crate::asking::Asking;
 use crate::known::Known;
+use crate::noted::{News, Noted};
 use crate::opening::Opening;
+use crate::sweep::{Fill, Purged};
+use crate::sweeping::Sweeping;
+use crate::task::{Task, Wanted};
 use crate::turn::Turn;
 use lra_callback::{Duties, Duty, Heard, Kind};
 use lra_heard::{Letter, Telling, Unheard};
-use lra_id::{Act, Front, Outcome};
+use lra_id::{Act, Front, LraId, LraStatus, Outcome};
 use lra_turns::{Called, Calls, Due, Pace, Plight};
 use std::alloc::Global;
 use std::collections::VecDeque;
@@ -77,6 +84,10 @@ pub struct MailboxState {
     /// Whether the thread that enters is to look whether the run is over.
     is_hurried: bool,
     has_ended: bool,
+    /// What operators want.
+    wanted: Wanted,
+    /// What has ended, and is to be purged.
+    sweeping: Sweeping,
 }
 
 impl Model for MailboxState {
@@ -95,6 +106,8 @@ impl Model for MailboxState {
       last = m.last;
       is_hurried = m.is_hurried;
       has_ended = m.has_ended;
+      wanted = m.wanted;
+      sweeps = m.sweeping;
     } };
 }
 
@@ -102,8 +115,8 @@ impl MailboxState {
     /// With nothing in it, of a node beside so many in all. Of its own front nothing is known yet.
     /// Where the others are in processes of their own it is asked first, and then they are, before
     /// commands are entered.
-    pub fn new(alloc: Global, nodes: u8, are_apart: bool) -> MailboxState
-        requires { (1 ≤ nodes) × (nodes ≤ 8) }
+    pub fn new(alloc: Global, nodes: u8, are_apart: bool, sweeping: Sweeping) -> MailboxState
+        requires { (1 ≤ nodes) × (nodes ≤ MAX_NODES) }
         ensures { result ≡ record {
           calls = nothing;
           letters = [];
@@ -115,6 +128,8 @@ impl MailboxState {
           last = TheDuties;
           is_hurried = false;
           has_ended = false;
+          wanted = Nothing;
+          sweeps = sweeping;
         } }
     {
         MailboxState {
@@ -128,6 +143,8 @@ impl MailboxState {
             last: Turn::OfDuties,
             is_hurried: false,
             has_ended: false,
+            wanted: Wanted::Nothing,
+            sweeping,
         }
     }
 
@@ -148,6 +165,65 @@ impl MailboxState {
         } else {
             self.asking.stir();
         }
+    }
+
+    /// Has it asked who is to be called, where somebody may be.
+    fn hear_news(&mut self, news: News)
+        ensures { self.new ≡ with_news news self.old }
+    {
+        match news {
+            News::Nobody => {}
+            News::OfCompletion => self.stir(true),
+            News::Others => self.stir(false),
+        }
+    }
+
+    /// Notes what a call at the desk leaves to go on with.
+    pub fn note(&mut self, noted: &Noted)
+        ensures { Notes noted.now self.old self.new }
+    {
+        self.hear_news(noted.news);
+        self.sweeping.note_call(noted.became);
+        if let Some(id) = noted.freed {
+            self.sweeping.free(id);
+        }
+    }
+
+    /// Tells the sweep of an LRA on a page.
+    pub fn see(&mut self, now: Duration, id: LraId, seen: LraStatus)
+        ensures seen { IsSeen now id seen self.old.sweeps self.new.sweeps }
+        ensures rest { self.new ≡ with_sweeps self.new.sweeps self.old }
+    {
+        self.sweeping.see(now, id, seen);
+    }
+
+    /// Tells it that the page is over, and whether more follow.
+    pub fn turn(&mut self, more: bool)
+        ensures turned { IsTurned more self.old.sweeps self.new.sweeps }
+        ensures rest { self.new ≡ with_sweeps self.new.sweeps self.old }
+    {
+        self.sweeping.turn(more);
+    }
+
+    /// Tells it what came of a purge.
+    pub fn purged(&mut self, now: Duration, id: LraId, purged: Purged)
+        ensures ended { IsLeftBy purged id self.old.sweeps.ended self.new.sweeps.ended }
+        ensures rest { self.new ≡ with_sweeps (with_looking self.new.sweeps.looking
+            (with_ended self.new.sweeps.ended self.old.sweeps)) self.old }
+    {
+        self.sweeping.purged(now, id, purged);
+    }
+
+    /// How many LRAs of the home showed each status at the last look, in the order of their ranks.
+    pub fn held(&self) -> [u64; 7] {
+        self.sweeping.held()
+    }
+
+    /// How full the home is.
+    pub fn fill(&mut self) -> Fill
+        ensures { self.new ≡ self.old }
+    {
+        self.sweeping.fill()
     }
 
     /// Whether it is to be asked now who is to be called.
@@ -184,6 +260,23 @@ impl MailboxState {
         ensures { self.new ≡ with_hurry true self.old }
     {
         self.is_hurried = true;
+    }
+
+    /// Notes what operators want.
+    pub fn want(&mut self, wanted: Wanted)
+        ensures { self.new ≡ with_wanted wanted self.old }
+    {
+        self.wanted = wanted;
+    }
+
+    /// Wants no call for operators any more. It says whether one was wanted still: else it was made, or is being made.
+    pub fn take_back(&mut self) -> bool
+        ensures back { result ≡ is_any self.old.wanted }
+        ensures rest { self.new ≡ with_wanted Nothing self.old }
+    {
+        let is_back = self.wanted.is_any();
+        self.wanted = Wanted::Nothing;
+        is_back
     }
 
     /// Notes that the program is to end.
@@ -267,17 +360,26 @@ impl MailboxState {
         self.calls.resume(now)
     }
 
-    /// Whether there is a task of a kind at this moment. Before commands are entered, it takes what
-    /// others told and counts facts, and no more.
+    /// Whether anything of the node's own is entered at this moment.
+    fn may_enter(&self, now: Duration) -> bool
+        ensures { result ≡ may_enter now self.now }
+    {
+        self.opening.is_open && !self.is_spared(now)
+    }
+
+    /// Whether there is a task of a kind at this moment. Before commands are entered, it takes what others
+    /// told, counts facts and answers operators' questions, and no more; while the journal is spared, these.
     fn has(&self, kind: Turn, now: Duration) -> bool
         ensures { result ≡ has now self.now kind }
     {
         match kind {
-            Turn::OfDeadlines => self.opening.is_open && self.asking.is_tick_due(now),
-            Turn::OfCount => self.known.is_due(now),
-            Turn::OfLetters => self.opening.is_open && !self.letters.is_empty(),
-            Turn::OfTelling => self.telling.is_some(),
-            Turn::OfDuties => self.opening.is_open && self.asking.is_stirred,
+            Turn::OfDeadlines => self.may_enter(now) && self.asking.is_tick_due(now),
+            Turn::OfCount => !self.is_spared(now) && self.known.is_due(now),
+            Turn::OfLetters => self.may_enter(now) && !self.letters.is_empty(),
+            Turn::OfTelling => !self.is_spared(now) && self.telling.is_some(),
+            Turn::OfDuties => self.may_enter(now) && self.asking.is_stirred,
+            Turn::OfChores => self.may_enter(now) && self.sweeping.is_due(now),
+            Turn::OfErrand => self.wanted.is_there(self.may_enter(now)),
         }
     }
 
@@ -285,11 +387,12 @@ impl MailboxState {
     fn has_task(&self, now: Duration) -> bool
         ensures { result ≡ has_task now self.now }
     {
-        !self.is_spared(now)
-            && (self.has(Turn::OfDeadlines, now)
-                || (self.has(Turn::OfCount, now)
-                    || (self.has(Turn::OfLetters, now)
-                        || (self.has(Turn::OfTelling, now) || self.has(Turn::OfDuties, now)))))
+        self.has(Turn::OfDeadlines, now)
+            || (self.has(Turn::OfCount, now)
+                || (self.has(Turn::OfLetters, now)
+                    || (self.has(Turn::OfTelling, now)
+                        || (self.has(Turn::OfDuties, now)
+                            || (self.has(Turn::OfChores, now) || self.has(Turn::OfErrand, now))))))
     }
 
     /// When deadlines are looked at; or, before commands are entered, when they are at the latest.
@@ -319,19 +422,18 @@ impl MailboxState {
     }
 
     /// Whether the thread that enters may not wait at this moment.
-    fn is_occupied(&self, now: Duration, is_busy: bool) -> bool
-        ensures { result ≡ is_occupied now is_busy self.now }
+    fn is_occupied(&self, now: Duration) -> bool
+        ensures { result ≡ is_occupied now self.now }
     {
-        self.has_task(now)
-            || (self.is_hurried || (is_busy && (self.opening.is_open && !self.is_spared(now))))
+        self.has_task(now) || self.is_hurried
     }
 
     /// How long the thread that enters may wait at this moment for something to do: not at all where
-    /// it has a task, or is in a hurry, or busy with something else.
-    pub fn idle_time(&self, now: Duration, is_busy: bool) -> Option<Duration>
-        ensures { IsIdleFor now is_busy self.now result }
+    /// it has a task, or is in a hurry. A chore may come due before: the home is to be swept a quarter of a second later at the latest.
+    pub fn idle_time(&self, now: Duration) -> Option<Duration>
+        ensures { IsIdleFor now self.now result }
     {
-        if self.is_occupied(now, is_busy) {
+        if self.is_occupied(now) {
             return None;
         }
         let until = self.calls.resumes_by(self.next_at(now));
@@ -346,6 +448,8 @@ impl MailboxState {
         let second = first.next();
         let third = second.next();
         let fourth = third.next();
+        let fifth = fourth.next();
+        let sixth = fifth.next();
         if self.has(first, now) {
             Some(first)
         } else if self.has(second, now) {
@@ -354,6 +458,10 @@ impl MailboxState {
             Some(third)
         } else if self.has(fourth, now) {
             Some(fourth)
+        } else if self.has(fifth, now) {
+            Some(fifth)
+        } else if self.has(sixth, now) {
+            Some(sixth)
         } else if self.has(self.last, now) {
             Some(self.last)
         } else {
@@ -389,16 +497,24 @@ impl MailboxState {
                 self.asking.ask(now);
                 Task::Ask
             }
+            Turn::OfChores => match self.sweeping.next(now) {
+                Some(chore) => Task::Sweep(chore),
+                None => Task::Rest,
+            },
+            Turn::OfErrand => {
+                let wanted = self.wanted;
+                self.wanted = Wanted::Nothing;
+                Task::Errand(wanted)
+            }
         }
     }
 
-    /// What the thread that enters does now: it looks whether the run is over if it is in a hurry,
-    /// or has nothing to do. The kinds of tasks take turns, so that none waits for ever for others
-    /// where each call takes long.
+    /// What the thread that enters does now: it looks whether the run is over if it is in a hurry, or has
+    /// nothing to do. The kinds of tasks take turns, so that none waits for ever for others where each call takes long.
     pub fn next_task(&mut self, now: Duration) -> Task
         ensures { IsNextTask now self.old self.new result }
     {
-        if self.is_hurried || self.is_spared(now) {
+        if self.is_hurried {
             self.is_hurried = false;
             return Task::Rest;
         }
@@ -413,7 +529,7 @@ impl MailboxState {
     pub fn put_duties(&mut self, duties: Duties, now: Duration)
         ensures { IsListed duties now self.old self.new }
     {
-        let is_whole = self.calls.put_all(duties.into_vec(), now);
+        let is_whole = self.calls.put_all(duties, now);
         if !is_whole {
             self.asking.put_off();
         }
@@ -459,9 +575,9 @@ impl MailboxState {
     {
         let pace = pace_of(time);
         match came {
-            Err(Unheard { duty, came }) => {
-                self.calls.end(&duty, pace);
-                self.calls.vain(duty, came, now)
+            Err(Unheard { due, came }) => {
+                self.calls.end(due.duty(), pace);
+                self.calls.vain(due, came, now)
             }
             Ok(letter) => {
                 self.calls.end(letter.duty(), pace);

@@ -10,6 +10,8 @@ pub(crate) enum Turn {
     OfLetters,
     OfTelling,
     OfDuties,
+    OfChores,
+    OfErrand,
 }
 
 impl Turn {
@@ -22,7 +24,9 @@ impl Turn {
             Turn::OfCount => Turn::OfLetters,
             Turn::OfLetters => Turn::OfTelling,
             Turn::OfTelling => Turn::OfDuties,
-            Turn::OfDuties => Turn::OfDeadlines,
+            Turn::OfDuties => Turn::OfChores,
+            Turn::OfChores => Turn::OfErrand,
+            Turn::OfErrand => Turn::OfDeadlines,
         }
     }
 }

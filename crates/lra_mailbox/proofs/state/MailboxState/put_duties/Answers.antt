@@ -1,5 +1,4 @@
-use Rattle.std.proofs.Common.{rules, subst, List, ◌≡◌}
-use Rattle.lra_callback.specs.declared.duty.Duty.{Duty}
+use Rattle.std.proofs.Common.{rules, subst, ◌≡◌}
 use Rattle.lra_turns.specs.Calling.{Calling}
 use Rattle.lra_mailbox.specs.Hearing.{IsListed, Lists}
 use Rattle.lra_mailbox.specs.Mail.{Mail}
@@ -9,14 +8,15 @@ use Rattle.lra_mailbox.proofs.state.MailboxState.put_duties.Goals.{After-put_all
 listed : (c : After-put_all-is_whole) → Lists c.args.duties c.args.now c.args.self.now.calls c.put_all-is_whole.new.self c.put_all-is_whole.result
 listed c =
     subst (λ (old : Mail). Lists c.args.duties c.args.now old.calls c.put_all-is_whole.new.self c.put_all-is_whole.result) c.self.view_is
-    (subst (λ (duties : List Duty). Lists duties c.args.now c.self.inside.calls c.put_all-is_whole.new.self c.put_all-is_whole.result) c.into_vec.ensures
     (record {
       named = c.put_all-is_whole.ensures.named;
       once = c.put_all-is_whole.ensures.once;
       called = c.put_all-is_whole.ensures.called;
       put = c.put_all-is_whole.ensures.put;
       forgotten = c.put_all-is_whole.ensures.forgotten;
-    }))
+      only = c.put_all-is_whole.ensures.only;
+      outdated = c.put_all-is_whole.ensures.outdated;
+    })
 
 pub returns-then-not-is_whole : goal.returns-then-not-is_whole
 returns-then-not-is_whole c = record { is_whole = c.put_all-is_whole.result; lists = listed c.before.before.before; rest = search rules }

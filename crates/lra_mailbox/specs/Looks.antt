@@ -1,0 +1,35 @@
+-- When a node looks through its home, and why.
+use Rattle.std.specs.Prelude.{◌+◌, ◌-◌, ◌&&◌, ◌||◌, ℕ, Bool, true, false, min, nat_le, nat_lt}
+use Rattle.std.specs.declared.time.Duration.{Duration}
+use Rattle.lra_mailbox.specs.Moments.{is_by}
+use Rattle.lra_mailbox.specs.declared.looking.TheConstants.{MANY}
+use Rattle.lra_mailbox.specs.declared.looking.Looking.{Looking}
+
+-- once an LRA may have ended; once some were purged; once one more was begun; and once there was no room for one that has ended
+abbrev pub with_stir : Looking → Looking
+with_stir l = record { counts = l.counts; is_watched = l.is_watched; is_stirred = true; begun = l.begun; has_purged = l.has_purged; has_missed = l.has_missed; taken = l.taken; looks_at = l.looks_at; counts_at = l.counts_at }
+
+abbrev pub with_purged : Looking → Looking
+with_purged l = record { counts = l.counts; is_watched = l.is_watched; is_stirred = l.is_stirred; begun = l.begun; has_purged = true; has_missed = l.has_missed; taken = l.taken; looks_at = l.looks_at; counts_at = l.counts_at }
+
+abbrev pub with_begun : Looking → Looking
+with_begun l = record { counts = l.counts; is_watched = l.is_watched; is_stirred = l.is_stirred; begun = min (l.begun + 1) 18_446_744_073_709_551_615; has_purged = l.has_purged; has_missed = l.has_missed; taken = l.taken; looks_at = l.looks_at; counts_at = l.counts_at }
+
+abbrev pub missed : Looking → Looking
+missed l = record { counts = l.counts; is_watched = l.is_watched; is_stirred = l.is_stirred; begun = l.begun; has_purged = l.has_purged; has_missed = true; taken = l.taken; looks_at = l.looks_at; counts_at = l.counts_at }
+
+-- once a look begins, and the next may begin at these moments
+abbrev pub looked_at : Duration → Duration → Looking → Looking
+looked_at looks_at counts_at l = record { counts = l.counts; is_watched = l.is_watched; is_stirred = false; begun = 0; has_purged = false; has_missed = l.has_missed; taken = l.taken; looks_at = looks_at; counts_at = counts_at }
+
+-- whether three quarters of the home's places may be taken, where that is to be known
+abbrev pub may_be_many : Looking → Bool
+may_be_many l = l.counts && (nat_lt 0 l.begun && (nat_le MANY l.taken || nat_le (MANY - l.taken) l.begun))
+
+abbrev pub has_changed : Looking → Bool
+has_changed l = nat_lt 0 l.begun || (l.is_stirred || l.has_purged)
+
+-- whether the home is to be looked through at this moment, where roots that have ended are purged or aren't
+abbrev pub is_to_look : Duration → Bool → Looking → Bool
+is_to_look now purges l =
+    is_by now l.looks_at && (may_be_many l || ((l.is_watched && (is_by now l.counts_at && has_changed l)) || (purges && l.is_stirred)))

@@ -1,0 +1,35 @@
+-- What a call at the desk leaves for the threads to go on with.
+use Rattle.std.specs.Prelude.{◌≡◌, Option, None, Some, false, true}
+use Rattle.lra_id.specs.Ids.{Id}
+use Rattle.lra_mailbox.specs.Looks.{with_begun, with_purged, with_stir}
+use Rattle.lra_mailbox.specs.Mail.{Mail, after_news, with_sweeps}
+use Rattle.lra_mailbox.specs.Sweeps.{AreLeft, Sweeps, with_ended, with_looking}
+use Rattle.lra_mailbox.specs.declared.noted.Became.{Became}
+use Rattle.lra_mailbox.specs.declared.noted.Became.TheVariants.{Begun, Ended, Full, Nothing, Removed}
+use Rattle.lra_mailbox.specs.declared.noted.News.{News}
+use Rattle.lra_mailbox.specs.declared.noted.News.TheVariants.{Nobody, OfCompletion, Others}
+use Rattle.lra_mailbox.specs.declared.noted.Noted.{Noted}
+
+-- it is asked anew who is to be called, where somebody may be
+abbrev pub with_news : News → Mail → Mail
+with_news Nobody m = m
+with_news OfCompletion m = after_news true m
+with_news Others m = after_news false m
+
+-- the home is looked through for what became of an LRA
+abbrev pub with_became : Became → Sweeps → Sweeps
+with_became Nothing s = s
+with_became Begun s = with_looking (with_begun s.looking) s
+with_became Full s = s
+with_became Ended s = with_looking (with_stir s.looking) s
+with_became Removed s = with_looking (with_purged s.looking) s
+
+-- roots that waited for an LRA are tried
+abbrev pub IsFreed : Option Id → Sweeps → Sweeps → Type 0
+IsFreed None old new = new ≡ old
+IsFreed (Some id) old new = AreLeft old.ended new.ended × (new ≡ with_ended new.ended old)
+
+-- all that a call leaves is noted
+pub record Notes (noted : Noted) (old new : Mail) : Type 0 where
+  pub freed : IsFreed noted.freed (with_became noted.became old.sweeps) new.sweeps
+  pub rest : new ≡ with_sweeps new.sweeps (with_news noted.news old)

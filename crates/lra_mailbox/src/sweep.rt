@@ -1,0 +1,242 @@
+// What a node purges by itself, and when: its words.
+ghost use Rattle.std.specs.Prelude.{◌≡◌, IsTrue, true};
+ghost use Rattle.lra_id.specs.Ids.{same_id};
+ghost use Rattle.lra_mailbox.specs.Sweeps.{is_due, is_ripe, is_tried, newcomer, purges, seen_as, time_of, unfound, untried};
+
+use crate::ripe::Ripe;
+use lra_id::{LraId, LraStatus};
+use std::marker::Model;
+use std::time::Duration;
+
+/// The first pause before a purge that was refused is tried again. It doubles each time.
+const FIRST_PAUSE_MS: u64 = 1_000;
+
+/// The longest.
+const LAST_PAUSE_MS: u64 = 60_000;
+
+/// How long roots are kept from when they were first seen to show what they show, in milliseconds; for ever, if nothing is said.
+#[derive(Clone, Copy)]
+pub struct Keep {
+    /// Those that are closed or cancelled.
+    pub ended: Option<u64>,
+    /// Those that failed to close or to cancel.
+    pub failed: Option<u64>,
+}
+
+/// What is to be done next to sweep a home.
+#[derive(Drop)]
+pub enum Chore {
+    /// List the LRAs beyond this one.
+    List(Option<LraId>),
+    /// Purge this one, if it still shows what it showed.
+    Purge(Ripe),
+}
+
+/// How full a home is.
+#[derive(Clone, Copy)]
+pub struct Fill {
+    /// How many LRAs of it the last look found.
+    pub taken: u64,
+    /// Whether one couldn't be begun for that since this was last asked.
+    pub is_refused: bool,
+}
+
+/// What comes of a purge.
+#[derive(Clone, Copy, PartialEq, Eq)]
+pub enum Purged {
+    /// It isn't held any more.
+    Gone,
+    /// It is nested in another, and goes with that.
+    Nested,
+    /// A participant of this LRA is to be told something before.
+    Waits(LraId),
+    /// It shows something else by now.
+    Changed,
+    /// It is to be tried again later.
+    Later,
+}
+
+impl Keep {
+    /// How long one is kept that shows this, in milliseconds, if it is ever to be purged.
+    pub(crate) fn time_of(&self, seen: LraStatus) -> Option<u64>
+        ensures { result ≡ time_of self.now seen }
+    {
+        match seen {
+            LraStatus::Closed | LraStatus::Cancelled => self.ended,
+            LraStatus::FailedToClose | LraStatus::FailedToCancel => self.failed,
+            LraStatus::Active | LraStatus::Closing | LraStatus::Cancelling => None,
+        }
+    }
+
+    /// Whether anything is ever purged.
+    pub(crate) fn purges(&self) -> bool
+        ensures { result ≡ purges self.now }
+    {
+        self.ended.is_some() || self.failed.is_some()
+    }
+}
+
+/// An LRA of the home that has ended.
+#[derive(Drop)]
+pub(crate) struct EndedRoot {
+    id: LraId,
+    /// What it showed at the last look, and since when.
+    seen: LraStatus,
+    since: Duration,
+    /// Before this moment no purge is tried; never, where it is nested in another.
+    tries_at: Option<Duration>,
+    /// How long it paused after the last purge that was refused.
+    pause_ms: u64,
+    /// The LRA of which a participant is to be told something before.
+    waits_for: Option<LraId>,
+    /// Whether the look that goes on, or the last one, has found it.
+    is_found: bool,
+}
+
+// How long a pause is, and what it waits for, is in no clause.
+impl Model for EndedRoot {
+    ghost use Rattle.lra_mailbox.specs.Sweeps.{Root};
+
+    ghost Value = { Root };
+
+    ghost view = { λ e. record {
+      id = e.id;
+      seen = e.seen;
+      since = e.since;
+      is_found = e.is_found;
+      tries_at = e.tries_at;
+    } };
+}
+
+impl EndedRoot {
+    /// One that was seen to show this for the first time.
+    pub(crate) fn new(id: LraId, seen: LraStatus, now: Duration) -> EndedRoot
+        ensures { result ≡ newcomer id seen now }
+    {
+        EndedRoot {
+            id,
+            seen,
+            since: now,
+            tries_at: Some(Duration::ZERO),
+            pause_ms: 0,
+            waits_for: None,
+            is_found: true,
+        }
+    }
+
+    /// The root, as one that was kept long enough.
+    pub(crate) fn as_ripe(&self) -> Ripe
+        ensures { result ≡ record { root = self.now.id; seen = self.now.seen } }
+    {
+        Ripe::new(self.id, self.seen)
+    }
+
+    /// Whether it is this one.
+    pub(crate) fn is(&self, id: LraId) -> bool
+        ensures { result ≡ same_id self.now.id id }
+    {
+        self.id == id
+    }
+
+    /// Whether it was found.
+    pub(crate) fn is_found(&self) -> bool
+        ensures { result ≡ self.now.is_found }
+    {
+        self.is_found
+    }
+
+    /// Notes that a look begins, which hasn't found it yet.
+    pub(crate) fn unfind(&mut self)
+        ensures { self.new ≡ unfound self.old }
+    {
+        self.is_found = false;
+    }
+
+    /// Notes what an LRA shows at this moment, if it is this one. Its time begins anew where it showed something else before.
+    pub(crate) fn see(&mut self, id: LraId, seen: LraStatus, now: Duration)
+        ensures { self.new ≡ seen_as id seen now self.old }
+    {
+        if !self.is(id) {
+            return;
+        }
+        self.is_found = true;
+        if self.seen.rank() == seen.rank() {
+            return;
+        }
+        self.seen = seen;
+        self.since = now;
+        self.tries_at = Some(Duration::ZERO);
+        self.pause_ms = 0;
+        self.waits_for = None;
+    }
+
+    /// Has it wait, longer than the last time, or until a participant of an LRA was told.
+    fn wait_from(&mut self, now: Duration, waits_for: Option<LraId>)
+        ensures { untried self.new ≡ untried self.old }
+    {
+        self.pause_ms = self
+            .pause_ms
+            .saturating_mul(2)
+            .clamp(FIRST_PAUSE_MS, LAST_PAUSE_MS);
+        self.tries_at = Some(now.saturating_add(Duration::from_millis(self.pause_ms)));
+        self.waits_for = waits_for;
+    }
+
+    /// Notes what came of a purge that was refused, if it was of this one.
+    pub(crate) fn put_off(&mut self, id: LraId, purged: &Purged, now: Duration)
+        ensures { untried self.new ≡ untried self.old }
+    {
+        if !self.is(id) {
+            return;
+        }
+        match purged {
+            Purged::Waits(other) => self.wait_from(now, Some(*other)),
+            Purged::Changed | Purged::Later => self.wait_from(now, None),
+            Purged::Gone | Purged::Nested => {
+                self.tries_at = None;
+            }
+        }
+    }
+
+    /// Has it tried at once, if it waits for a participant of this LRA.
+    pub(crate) fn free(&mut self, id: LraId)
+        ensures { untried self.new ≡ untried self.old }
+    {
+        if let Some(other) = self.waits_for {
+            if other == id {
+                self.tries_at = Some(Duration::ZERO);
+                self.waits_for = None;
+            }
+        }
+    }
+
+    /// Whether it was kept as long as is said of those that show what it does.
+    fn is_ripe(&self, keep: &Keep, now: Duration) -> bool
+        ensures { result ≡ is_ripe keep.now now self.now }
+    {
+        match keep.time_of(self.seen) {
+            Some(time) => {
+                let kept = now.saturating_sub(self.since);
+                Duration::from_millis(time).as_nanos() <= kept.as_nanos()
+            }
+            None => false,
+        }
+    }
+
+    /// Whether a purge may be tried at this moment.
+    fn is_tried(&self, now: Duration) -> bool
+        ensures { result ≡ is_tried now self.now.tries_at }
+    {
+        match self.tries_at {
+            Some(until) => until.as_nanos() <= now.as_nanos(),
+            None => false,
+        }
+    }
+
+    /// Whether it is to be purged at this moment.
+    pub(crate) fn is_due(&self, keep: &Keep, now: Duration) -> bool
+        ensures { result ≡ is_due keep.now now self.now }
+    {
+        self.is_ripe(keep, now) && self.is_tried(now)
+    }
+}
