@@ -2,7 +2,7 @@
 // one run follows another.
 
 use crate::node::Node;
-use crate::pending_connection::PendingConnection;
+use lra_sockets::PendingConnection;
 use std::io::Error;
 use std::net::TcpListener;
 use std::sync::Wait;

@@ -1,15 +1,12 @@
 // The thread that pulls from the other nodes of its process in turn. It outlives the runs of its
 // node.
 
-use crate::buffered_socket::{BufferedSocket, Times};
-use crate::clock::now;
 use crate::counts::Pull;
-use crate::deadline_stream::{Cutoff, SLICE_MS};
 use crate::news::NewsCounts;
 use crate::node::Node;
-use crate::sockets::Sockets;
 use lra_heard::{Telling, ask_for};
 use lra_id::Front;
+use lra_sockets::{BufferedSocket, Cutoff, SLICE_MS, Sockets, Times, now};
 use std::alloc::Global;
 use std::net::TcpStream;
 use std::sync::Wait;
@@ -78,7 +75,7 @@ fn pause_of(node: &Node, round_ms: u64) -> Duration {
 /// The node after this one, save the one that asks.
 fn next_other(node: &Node, other: u8) -> u8 {
     let next = if other >= node.nodes { 1 } else { other + 1 };
-    if next != node.number {
+    if next != node.number() {
         return next;
     }
     if next >= node.nodes { 1 } else { next + 1 }
@@ -106,7 +103,7 @@ pub fn pull_in_turn<R: Wait + Clock + Sockets>(rt: &R, alloc: Global, node: &Nod
     if node.mailbox.wait_for_count(rt) {
         return;
     }
-    let mut other = node.number;
+    let mut other = node.number();
     let mut round_ms = SHORT_ROUND_MS;
     let mut seen = NewsCounts::new();
     for _ in rt.forever() {
@@ -115,7 +112,7 @@ pub fn pull_in_turn<R: Wait + Clock + Sockets>(rt: &R, alloc: Global, node: &Nod
         }
         let Some(told) = node
             .news
-            .wait(rt, node.number, &seen, pause_of(node, round_ms))
+            .wait(rt, node.number(), &seen, pause_of(node, round_ms))
         else {
             return;
         };

@@ -1,15 +1,13 @@
 // The threads that call participants. They outlive the runs of their node.
 
-use crate::buffered_socket::{BufferedSocket, SocketReader, SocketWriter, Times};
-use crate::clock::now;
-use crate::deadline_stream::{Cutoff, SLICE_MS};
 use crate::node::Node;
-use crate::reaching::connect_to_one;
-use crate::signal::Signal;
-use crate::sockets::Sockets;
 use log::{Log, warn};
 use lra_callback::{Heard, NetCaller};
 use lra_heard::{Letter, Unheard, call_for};
+use lra_sockets::{
+    BufferedSocket, Cutoff, SLICE_MS, Signal, SocketReader, SocketWriter, Sockets, Times,
+    connect_to_one, now,
+};
 use lra_turns::{Came, Due, Plight};
 use std::alloc::Global;
 use std::io::{Error, ErrorKind};
@@ -42,8 +40,7 @@ fn connect<R: Wait + Clock + Net<Stream = TcpStream>>(
 
 /// A duty for which nobody could be called, or whose call was lost.
 fn without_answer(due: Due, came: Came) -> Result<Letter, Unheard> {
-    let duty = due.into_duty();
-    Err(Unheard { duty, came })
+    Err(Unheard { due, came })
 }
 
 /// A caller over a connection.
@@ -98,7 +95,7 @@ fn heard_of(came: &Result<Letter, Unheard>) -> Option<Heard> {
 fn warn_of<L: Log>(log: &L, node: &Node, plight: &Plight) {
     let id = plight.id.to_text();
     let id = str::from_utf8(&id).unwrap_or("");
-    let (number, member, kind) = (node.number, plight.member, plight.kind);
+    let (number, member, kind) = (node.number(), plight.member, plight.kind);
     let (host, calls, seconds) = (plight.host.as_str(), plight.calls, plight.time.as_secs());
     if plight.is_over {
         warn!(log; "node {number}: /lra/{id}/member/{member} ({kind}) at {host} answers, after {calls} calls in vain in {seconds} s");

@@ -2,10 +2,10 @@
 // lock and not in forty atomics, so a page shows them as of one moment. No thread holds it while it
 // waits for anything.
 
-use crate::signal::StopReason;
-use crate::sweep::Purged;
 use lra_callback::{Heard, Kind};
-use lra_id::Outcome;
+use lra_id::{MAX_NODES, Outcome};
+use lra_mailbox::Purged;
+use lra_sockets::StopReason;
 use std::sync::{Mutex, Wait};
 use std::time::Duration;
 
@@ -13,28 +13,28 @@ use std::time::Duration;
 pub(crate) const CALLS: usize = 18;
 
 /// Their names.
-pub(crate) const CALL_NAMES: [&str; CALLS] = [
+pub const CALL_NAMES: [&str; CALLS] = [
     "begin", "join", "leave", "close", "cancel", "report", "forgot", "told", "purge", "status",
     "member", "page", "pull", "take", "duties", "expire", "record", "survey",
 ];
 
 /// How many refusals there are.
-pub(crate) const REFUSALS: usize = 24;
+pub const REFUSALS: usize = 24;
 
 /// Why runs are over, as it is counted.
-pub(crate) const RUNS: [&str; 6] = ["full", "E18", "E19", "E20", "E21", "starved"];
+pub const RUNS: [&str; 6] = ["full", "E18", "E19", "E20", "E21", "starved"];
 
 /// What participants are called for.
-pub(crate) const KINDS: [&str; 5] = ["complete", "compensate", "status", "forget", "after"];
+pub const KINDS: [&str; 5] = ["complete", "compensate", "status", "forget", "after"];
 
 /// What is heard of them.
-pub(crate) const HEARD: [&str; 5] = ["done", "failed", "busy", "told", "again"];
+pub const HEARD: [&str; 5] = ["done", "failed", "busy", "told", "again"];
 
 /// What comes of pulls.
-pub(crate) const PULLS: [&str; 3] = ["new", "nothing", "failed"];
+pub const PULLS: [&str; 3] = ["new", "nothing", "failed"];
 
 /// What comes of purges.
-pub(crate) const SWEPT: [&str; 4] = ["gone", "nested", "waits", "later"];
+pub const SWEPT: [&str; 5] = ["gone", "nested", "waits", "later", "changed"];
 
 /// What a call of the desk asks for, as it is counted.
 #[derive(Clone, Copy, PartialEq, Eq)]
@@ -144,6 +144,7 @@ fn swept_place(purged: Purged) -> usize {
         Purged::Nested => 1,
         Purged::Waits(_) => 2,
         Purged::Later => 3,
+        Purged::Changed => 4,
     }
 }
 
@@ -156,20 +157,20 @@ fn add(count: Option<&mut u64>, more: u64) {
 
 /// Counts since the start.
 #[derive(Clone, Copy)]
-pub(crate) struct Numbers {
-    pub(crate) calls: [u64; CALLS],
-    pub(crate) refused: [u64; REFUSALS],
-    pub(crate) runs: [u64; 6],
+pub struct Numbers {
+    pub calls: [u64; CALLS],
+    pub refused: [u64; REFUSALS],
+    pub runs: [u64; 6],
     /// By kind, and by what was heard.
-    pub(crate) callbacks: [[u64; 5]; 5],
+    pub callbacks: [[u64; 5]; 5],
     /// By node, and by what came of it.
-    pub(crate) pulls: [[u64; 3]; 8],
+    pub pulls: [[u64; 3]; MAX_NODES as usize],
     /// When a pull from each node last succeeded.
-    pub(crate) pulled: [Option<Duration>; 8],
-    pub(crate) swept: [u64; 4],
-    pub(crate) failures: u64,
-    pub(crate) accepted: u64,
-    pub(crate) closed: u64,
+    pub pulled: [Option<Duration>; MAX_NODES as usize],
+    pub swept: [u64; 5],
+    pub failures: u64,
+    pub accepted: u64,
+    pub closed: u64,
 }
 
 /// What the threads of a node count.
@@ -186,9 +187,9 @@ impl Counts {
                 refused: [0; REFUSALS],
                 runs: [0; 6],
                 callbacks: [[0; 5]; 5],
-                pulls: [[0; 3]; 8],
-                pulled: [None; 8],
-                swept: [0; 4],
+                pulls: [[0; 3]; MAX_NODES as usize],
+                pulled: [None; MAX_NODES as usize],
+                swept: [0; 5],
                 failures: 0,
                 accepted: 0,
                 closed: 0,
@@ -259,7 +260,7 @@ impl Counts {
     }
 
     /// All as they are now.
-    pub(crate) fn numbers<R: Wait>(&self, rt: &R) -> Numbers {
+    pub fn numbers<R: Wait>(&self, rt: &R) -> Numbers {
         *self.numbers.lock(rt)
     }
 }

@@ -2,13 +2,12 @@
 // of their node.
 
 use crate::asking::pull_over;
-use crate::clock::now;
 use crate::counts::Pull;
 use crate::node::Node;
-use crate::sockets::Sockets;
 use log::{Log, warn};
 use lra_heard::Telling;
 use lra_id::Front;
+use lra_sockets::{Sockets, now};
 use std::alloc::Global;
 use std::sync::Wait;
 use std::time::{Clock, Duration};
@@ -120,7 +119,8 @@ fn take_over<R: Wait>(rt: &R, node: &Node, other: u8, front: &Front, telling: Te
     }
     let is_older = count_of(&told, other) < count_of(front, other);
     // What this node gave until now it knows of.
-    let is_newer = count_of(&told, node.number) > count_of(&node.mailbox.front(rt), node.number);
+    let is_newer = count_of(&told, node.number())
+        > count_of(&node.mailbox.front(rt), node.number());
     let is_new = hand_over(rt, node, front, telling);
     if is_newer {
         return Pulled::Newer;
@@ -164,7 +164,7 @@ fn warn_of<R: Wait + Clock, L: Log>(
 ) {
     let now = now(rt);
     node.counts.pull(rt, other, counted(pulled), now);
-    let number = node.number;
+    let number = node.number();
     if pulled == Pulled::Unreached || pulled == Pulled::Unanswered {
         if outlook.note_failure(now) {
             let what = if pulled == Pulled::Unreached {

@@ -2,13 +2,14 @@
 // outlives the runs of a node, so a participant that is slow to answer holds up no run.
 
 ghost use Rattle.std.specs.Prelude.{◌≤◌};
+ghost use Rattle.lra_id.specs.declared.TheConstants.{MAX_NODES};
 
-use crate::clock::now;
 use crate::plaints::{Plaint, Sought, drop_sought, forget_found, in_vain, note_sought, plaints_of};
 use lra_callback::Duties;
 use lra_heard::{Letter, Telling, Unheard};
-use lra_id::Front;
-use lra_mailbox::{MailboxState, OPENING_MS, Task};
+use lra_id::{Front, LraId, LraStatus};
+use lra_mailbox::{Fill, MailboxState, Noted, OPENING_MS, Purged, Sweeping, Task, Wanted};
+use lra_sockets::now;
 use lra_turns::{Called, Due, Plight};
 use std::alloc::{AllocError, Global};
 use std::sync::{Condvar, CondvarTimeouts, Mutex, Wait};
@@ -36,7 +37,7 @@ impl Held {
     ) -> Option<Plight> {
         match &came {
             Ok(letter) => drop_sought(&mut self.sought, &Called::of(letter.duty())),
-            Err(unheard) => note_sought(&mut self.sought, self.alloc, &unheard.duty),
+            Err(unheard) => note_sought(&mut self.sought, self.alloc, unheard.due.duty()),
         }
         self.state.hear(time, came, now)
     }
@@ -64,12 +65,12 @@ pub struct Mailbox {
 impl Mailbox {
     /// With nothing in it. Of the node's own front nothing is known yet. Where the others are in
     /// processes of their own it is asked first, and then they are, before commands are entered.
-    pub fn new(alloc: Global, nodes: u8, are_apart: bool) -> Mailbox
-        requires { (1 ≤ nodes) × (nodes ≤ 8) }
+    pub fn new(alloc: Global, nodes: u8, are_apart: bool, sweeping: Sweeping) -> Mailbox
+        requires { (1 ≤ nodes) × (nodes ≤ MAX_NODES) }
     {
         let held = Held {
             alloc,
-            state: MailboxState::new(alloc, nodes, are_apart),
+            state: MailboxState::new(alloc, nodes, are_apart, sweeping),
             sought: Vec::new(alloc),
         };
         Mailbox {
@@ -144,14 +145,6 @@ impl Mailbox {
         held.state.has_ended()
     }
 
-    /// Whether nothing of the node's own is to be entered now: the journal failed, or the other
-    /// nodes aren't heard yet.
-    pub fn is_held<R: Wait + Clock>(&self, rt: &R) -> bool {
-        let moment = now(rt);
-        let held = self.held.lock(rt);
-        held.state.is_spared(moment) || !held.state.is_open()
-    }
-
     /// Whether the journal failed a moment ago, and is spared: nothing is to be stored.
     pub fn is_spared<R: Wait + Clock>(&self, rt: &R) -> bool {
         let moment = now(rt);
@@ -164,18 +157,18 @@ impl Mailbox {
     }
 
     /// How many wait for a call, are called, or pause before the next.
-    pub(crate) fn due<R: Wait>(&self, rt: &R) -> u64 {
+    pub fn due<R: Wait>(&self, rt: &R) -> u64 {
         self.held.lock(rt).state.calls().len() as u64
     }
 
     /// How many are called in vain, and how long the one that is so for longest.
-    pub(crate) fn in_vain<R: Wait>(&self, rt: &R, moment: Duration) -> (u64, Duration) {
+    pub fn in_vain<R: Wait>(&self, rt: &R, moment: Duration) -> (u64, Duration) {
         let held = self.held.lock(rt);
         in_vain(&held.sought, held.state.calls(), moment)
     }
 
     /// Those who are called in vain, who is so for longest first.
-    pub(crate) fn plaints<R: Wait>(
+    pub fn plaints<R: Wait>(
         &self,
         rt: &R,
         alloc: Global,
@@ -204,13 +197,12 @@ impl Mailbox {
     }
 
     /// How many facts of each node this one has at least.
-    pub(crate) fn front<R: Wait>(&self, rt: &R) -> Front {
+    pub fn front<R: Wait>(&self, rt: &R) -> Front {
         self.held.lock(rt).state.front()
     }
 
-    /// What the thread that enters does next. It waits for a quarter of a second at most, and not
-    /// where it has something else to do.
-    pub fn next<R: Wait + Clock>(&self, rt: &R, is_busy: bool) -> Task {
+    /// What the thread that enters does next. It waits for a quarter of a second at most.
+    pub fn next<R: Wait + Clock>(&self, rt: &R) -> Task {
         let moment = now(rt);
         let mut held = self.held.lock(rt);
         if held.state.open_if_due(moment) {
@@ -219,17 +211,61 @@ impl Mailbox {
         if held.state.resume_calls(moment) {
             self.due.notify_all();
         }
-        if let Some(rest) = held.state.idle_time(moment, is_busy) {
+        if let Some(rest) = held.state.idle_time(moment) {
             let (waited, _) = self
                 .came
                 .wait_timeout(rt, held, rest.min(Duration::from_millis(REST_MS)));
             held = waited;
         }
-        let task = held.state.next_task(moment);
+        let task = held.state.next_task(now(rt));
         if matches!(&task, Task::Take(_)) {
             self.changed.notify_all();
         }
         task
+    }
+
+    /// Notes what a call at the desk leaves to go on with.
+    pub fn note<R: Wait>(&self, rt: &R, noted: &Noted) {
+        self.held.lock(rt).state.note(noted);
+    }
+
+    /// Wants a call made for operators: a question, or a command.
+    pub fn want<R: Wait>(&self, rt: &R, wanted: Wanted) {
+        self.held.lock(rt).state.want(wanted);
+        self.came.notify_all();
+    }
+
+    /// Wants none made any more. It says whether it was wanted still: else it was made, or is being
+    /// made.
+    pub fn take_back<R: Wait>(&self, rt: &R) -> bool {
+        self.held.lock(rt).state.take_back()
+    }
+
+    /// Tells the sweep of an LRA on a page.
+    pub fn see<R: Wait + Clock>(&self, rt: &R, id: LraId, status: LraStatus) {
+        let moment = now(rt);
+        self.held.lock(rt).state.see(moment, id, status);
+    }
+
+    /// Tells it that the page is over, and whether more follow.
+    pub fn turn<R: Wait>(&self, rt: &R, more: bool) {
+        self.held.lock(rt).state.turn(more);
+    }
+
+    /// Tells it what came of a purge.
+    pub fn purged<R: Wait + Clock>(&self, rt: &R, id: LraId, purged: Purged) {
+        let moment = now(rt);
+        self.held.lock(rt).state.purged(moment, id, purged);
+    }
+
+    /// How many LRAs of the home showed each status at the last look, in the order of their ranks.
+    pub fn held<R: Wait>(&self, rt: &R) -> [u64; 7] {
+        self.held.lock(rt).state.held()
+    }
+
+    /// How full the home is.
+    pub fn fill<R: Wait>(&self, rt: &R) -> Fill {
+        self.held.lock(rt).state.fill()
     }
 
     /// Hands those who are to be called to the threads that call.

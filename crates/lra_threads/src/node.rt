@@ -1,20 +1,15 @@
 // What the threads of a node share.
 ghost use Rattle.std.specs.Prelude.{◌≤◌};
+ghost use Rattle.lra_id.specs.declared.TheConstants.{MAX_NODES};
 
-use crate::accept_queue::AcceptQueue;
-use crate::clock::now;
 use crate::counts::Counts;
 use crate::mailbox::Mailbox;
-use crate::metrics::metrics_of;
 use crate::news::News;
-use crate::plaints::calls_text;
-use crate::signal::{Signal, StopReason};
-use crate::site::Site;
-use crate::sockets::Sockets;
-use crate::sweep::{Keep, Sweep};
 use crate::tally::Tally;
-use lra_id::Front;
-use std::alloc::{AllocError, Global};
+use lra_id::{Front, NodeId};
+use lra_mailbox::{Keep, Sweeping};
+use lra_sockets::{AcceptQueue, Signal, Site, Sockets, StopReason, now};
+use std::alloc::Global;
 use std::io::ErrorKind;
 use std::net::{SocketAddr, TcpStream};
 use std::sync::atomic::{AtomicBool, AtomicU64, Ordering};
@@ -34,14 +29,13 @@ const MAX_TURNS: u32 = 100;
 /// What the threads of a node share besides the desk.
 #[derive(Drop)]
 pub struct Node {
-    pub number: u8,
+    pub me: NodeId,
     pub nodes: u8,
     pub site: Site,
     pub queue: AcceptQueue,
     pub signal: Signal,
     pub tally: Tally,
     pub mailbox: Mailbox,
-    pub sweep: Sweep,
     pub counts: Counts,
     /// Where it hears that others have something new.
     pub news: Arc<News>,
@@ -50,6 +44,8 @@ pub struct Node {
     has_news: AtomicBool,
     /// Whether its journal is closed, to be opened again.
     is_shut: AtomicBool,
+    /// How many calls of operators were made after they were answered that nobody knows (E18).
+    late: AtomicU64,
     /// When it started: milliseconds by the monotonic clock, and seconds since 1970.
     started_ms: AtomicU64,
     start_seconds: AtomicU64,
@@ -61,7 +57,7 @@ impl Node {
     /// its process do.
     pub fn new(
         alloc: Global,
-        number: u8,
+        me: NodeId,
         nodes: u8,
         site: Site,
         keep: Keep,
@@ -69,25 +65,35 @@ impl Node {
         news: Arc<News>,
         told: Vec<Arc<News>>,
     ) -> Node
-        requires { (1 ≤ nodes) × (nodes ≤ 8) }
+        requires { (1 ≤ nodes) × (nodes ≤ MAX_NODES) }
     {
         Node {
-            number,
+            me,
             nodes,
             queue: AcceptQueue::new(alloc),
             signal: Signal::new(),
             tally,
-            mailbox: Mailbox::new(alloc, nodes, nodes > 1 && site.is_apart()),
-            sweep: Sweep::new(alloc, number, keep, site.is_apart(), site.operate.is_some()),
+            mailbox: Mailbox::new(
+                alloc,
+                nodes,
+                nodes > 1 && site.is_apart(),
+                Sweeping::new(alloc, me, keep, site.is_apart(), site.operate.is_some()),
+            ),
             counts: Counts::new(),
             site,
             news,
             told,
             has_news: AtomicBool::new(false),
             is_shut: AtomicBool::new(false),
+            late: AtomicU64::new(0),
             started_ms: AtomicU64::new(0),
             start_seconds: AtomicU64::new(0),
         }
+    }
+
+    /// Its number, 1 to 8.
+    pub fn number(&self) -> u8 {
+        self.me.number()
     }
 
     /// Notes that it starts now.
@@ -99,12 +105,12 @@ impl Node {
     }
 
     /// When it started, by the monotonic clock.
-    pub(crate) fn started(&self) -> Duration {
+    pub fn started(&self) -> Duration {
         Duration::from_millis(self.started_ms.load(Ordering::SeqCst))
     }
 
     /// When it started, in seconds since 1970.
-    pub(crate) fn start_seconds(&self) -> u64 {
+    pub fn start_seconds(&self) -> u64 {
         self.start_seconds.load(Ordering::SeqCst)
     }
 
@@ -118,30 +124,30 @@ impl Node {
         self.is_shut.load(Ordering::SeqCst)
     }
 
-    /// Why it enters no commands now, if it doesn't: `journal` where the journal failed, `behind`
-    /// where the other nodes aren't heard yet, `ending` where the program is to end.
+    /// Notes that a call of an operator was made after it was answered that nobody knows (E18).
+    pub fn note_late(&self) {
+        self.late.fetch_add(1, Ordering::SeqCst);
+    }
+
+    /// How many were since this was last asked.
+    pub(crate) fn take_late(&self) -> u64 {
+        self.late.swap(0, Ordering::SeqCst)
+    }
+
+    /// Why it enters no commands now, if it doesn't: `journal` from when the journal failed until a
+    /// fact was stored, `behind` where the other nodes aren't heard yet, `ending` where the program
+    /// is to end.
     pub fn unready<R: Wait + Clock>(&self, rt: &R) -> Option<&'static str> {
         if self.signal.has_ended(rt) {
             return Some("ending");
         }
-        if self.is_shut() || self.mailbox.is_spared(rt) {
+        if self.is_shut() || self.tally.has_failed() || self.mailbox.is_spared(rt) {
             return Some("journal");
         }
         if self.mailbox.is_behind(rt) {
             return Some("behind");
         }
         None
-    }
-
-    /// Whom it calls in vain, as JSON: 256 at most, who is so for longest first.
-    pub fn calls<R: Wait + Clock>(&self, rt: &R, alloc: Global) -> Result<Vec<u8>, AllocError> {
-        let plaints = self.mailbox.plaints(rt, alloc, now(rt))?;
-        calls_text(alloc, &plaints)
-    }
-
-    /// Its counts, in the text format of Prometheus.
-    pub fn metrics<R: Wait + Clock>(&self, rt: &R, alloc: Global) -> Result<Vec<u8>, AllocError> {
-        metrics_of(rt, alloc, self)
     }
 
     /// Notes that a fact of the node's own was stored.
@@ -155,7 +161,7 @@ impl Node {
         self.mailbox.pass_on(rt);
         if self.has_news.swap(false, Ordering::SeqCst) {
             for news in self.told.iter() {
-                news.tell(rt, self.number);
+                news.tell(rt, self.number());
             }
             if self.nodes > 1 && self.site.is_apart() {
                 self.mailbox.want_count(rt);
@@ -171,30 +177,35 @@ impl Node {
         let mut number = 0u8;
         for (theirs, ours) in front.as_slice().iter().zip(known.as_slice()) {
             number = number.saturating_add(1);
-            if number != self.number && *theirs > *ours {
+            if number != self.number() && *theirs > *ours {
                 self.news.tell(rt, number);
             }
         }
     }
 
-    /// Ends the run for this cause: sets the signal, and has the threads of the run look at it; at
-    /// the program's end the accepting thread, too.
-    pub fn end_run<R: Wait + Clock + Sockets>(&self, rt: &R, why: StopReason) {
-        if !self.signal.end(rt, why) && why != StopReason::Program {
-            return;
+    /// Ends the run for this cause: sets the signal, and has the threads of the run look at it.
+    pub fn end_run<R: Wait>(&self, rt: &R, why: StopReason) {
+        if self.signal.end(rt, why) {
+            self.queue.end(rt);
+            self.mailbox.wake(rt);
         }
+    }
+
+    /// Ends all the node's threads, as the program is to end: the one place where that is told. It
+    /// sets the signal, and has those look at it who wait for a connection, a task, a duty, or news.
+    pub fn end_program<R: Wait + Clock + Sockets>(&self, rt: &R) {
+        let _is_first = self.signal.end(rt, StopReason::Program);
         self.queue.end(rt);
-        self.mailbox.wake(rt);
-        if why == StopReason::Program {
-            self.knock(rt, self.site.own_door());
-            if let Some(door) = self.site.own_operators_door() {
-                self.knock(rt, door);
-            }
+        self.mailbox.end(rt);
+        self.news.end(rt);
+        self.knock(rt, self.site.own_door());
+        if let Some(door) = self.site.own_operators_door() {
+            self.knock(rt, door);
         }
     }
 
     /// Ends a run that is nearly full.
-    pub fn end_if_spent<R: Wait + Clock + Sockets>(&self, rt: &R) {
+    pub fn end_if_spent<R: Wait>(&self, rt: &R) {
         if self.tally.is_spent() {
             self.end_run(rt, StopReason::Full);
         }

@@ -10,6 +10,8 @@ pub struct Tally {
     calls: AtomicU64,
     moves: AtomicU64,
     stored: AtomicBool,
+    /// Whether the journal failed since a fact was last stored. This outlives runs.
+    failed: AtomicBool,
 }
 
 impl Tally {
@@ -21,6 +23,7 @@ impl Tally {
             calls: AtomicU64::new(0),
             moves: AtomicU64::new(0),
             stored: AtomicBool::new(false),
+            failed: AtomicBool::new(false),
         }
     }
 
@@ -38,7 +41,18 @@ impl Tally {
         self.moves.fetch_add(u64::from(is_move), Ordering::SeqCst);
         if is_stored {
             self.stored.store(true, Ordering::SeqCst);
+            self.failed.store(false, Ordering::SeqCst);
         }
+    }
+
+    /// Notes that the journal failed.
+    pub fn note_failure(&self) {
+        self.failed.store(true, Ordering::SeqCst);
+    }
+
+    /// Whether the journal failed since a fact was last stored.
+    pub fn has_failed(&self) -> bool {
+        self.failed.load(Ordering::SeqCst)
     }
 
     /// Whether the run is to end now, so that no client meets its end.

@@ -1,10 +1,11 @@
-// The thread that warns of a home that fills up, and of connections that were closed. It outlives
-// the runs of its node.
+// The thread that warns of a home that fills up, of connections that were closed, and of calls that
+// were made after they were given up. It outlives the runs of its node.
 
-use crate::clock::now;
 use crate::node::Node;
-use crate::sweep::{Fill, PLACES};
 use log::{Log, warn};
+use lra_forest::MAX_HELD;
+use lra_mailbox::Fill;
+use lra_sockets::now;
 use std::sync::Wait;
 use std::time::{Clock, Duration};
 
@@ -35,9 +36,9 @@ fn level_of(fill: &Fill) -> u64 {
     let hundred = fill.taken.saturating_mul(100);
     if fill.is_refused {
         REFUSED
-    } else if hundred >= MOST * PLACES {
+    } else if hundred >= MOST * MAX_HELD as u64 {
         MOST
-    } else if hundred >= MANY * PLACES {
+    } else if hundred >= MANY * MAX_HELD as u64 {
         MANY
     } else {
         0
@@ -71,9 +72,9 @@ impl Warned {
 /// Warns of a home of which so many places are taken.
 fn warn_of<L: Log>(log: &L, number: u8, fill: &Fill) {
     if fill.is_refused {
-        warn!(log; "node {}: an LRA couldn't be begun (E13): its home holds {}", number, PLACES);
+        warn!(log; "node {}: an LRA couldn't be begun (E13): its home holds {}", number, MAX_HELD);
     } else {
-        warn!(log; "node {}: {} of the {} places of its home are taken", number, fill.taken, PLACES);
+        warn!(log; "node {}: {} of the {} places of its home are taken", number, fill.taken, MAX_HELD);
     }
 }
 
@@ -113,7 +114,7 @@ impl Dropped {
 /// Warns when three quarters and nine tenths of the home's places are taken, and when an LRA
 /// couldn't be begun, until the program is to end. It tells each once, and again once there was
 /// room and a minute is over. It warns of connections that were closed since no file was left, once
-/// a minute at most.
+/// a minute at most, and of calls of operators that were made after they were answered E18.
 pub fn watch<R: Wait + Clock, L: Log>(rt: &R, log: &L, node: &Node) {
     let (mut warned, mut closed) = (Warned::new(), Dropped::new());
     for _ in rt.forever() {
@@ -121,14 +122,17 @@ pub fn watch<R: Wait + Clock, L: Log>(rt: &R, log: &L, node: &Node) {
             return;
         }
         let now = now(rt);
-        let fill = node.sweep.fill(rt);
+        let fill = node.mailbox.fill(rt);
         if warned.note_fill(&fill, now) {
-            warn_of(log, node.number, &fill);
+            warn_of(log, node.number(), &fill);
+        }
+        if node.take_late() > 0 {
+            warn!(log; "node {}: a call at the operator's port was made after it was answered E18", node.number());
         }
         let count = node.queue.take_closed();
         node.counts.close(rt, count);
         if let Some(count) = closed.add(count, now) {
-            warn!(log; "node {}: {} connections were closed, since no file is left", node.number, count);
+            warn!(log; "node {}: {} connections were closed, since no file is left", node.number(), count);
         }
     }
 }

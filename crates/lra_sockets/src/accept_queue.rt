@@ -147,7 +147,7 @@ impl AcceptQueue {
     }
 
     /// Puts a connection last that comes now. One for which there is no memory is closed.
-    pub(crate) fn put<R: Wait>(&self, rt: &R, pending: PendingConnection) {
+    pub fn put<R: Wait>(&self, rt: &R, pending: PendingConnection) {
         let (_count, is_seen) = self.push(rt, pending);
         if !is_seen {
             self.came.notify_one();
@@ -155,12 +155,12 @@ impl AcceptQueue {
     }
 
     /// How many connections wait.
-    pub(crate) fn waiting<R: Wait>(&self, rt: &R) -> u64 {
+    pub fn waiting<R: Wait>(&self, rt: &R) -> u64 {
         self.waiting.lock(rt).pending.len() as u64
     }
 
     /// Whether as many wait as may at which nobody has looked yet.
-    pub(crate) fn is_full<R: Wait>(&self, rt: &R) -> bool {
+    pub fn is_full<R: Wait>(&self, rt: &R) -> bool {
         self.waiting.lock(rt).unseen >= MAX_UNSEEN
     }
 
@@ -276,7 +276,7 @@ impl AcceptQueue {
     }
 
     /// How many connections were closed for want of files since this was last asked.
-    pub(crate) fn take_closed(&self) -> u64 {
+    pub fn take_closed(&self) -> u64 {
         self.closed.swap(0, Ordering::SeqCst)
     }
 

@@ -1,6 +1,6 @@
 // What tells the threads of a node that its run is over.
 ghost use Rattle.std.specs.Prelude.{◌≡◌};
-ghost use Rattle.lra_threads.specs.Stops.{weight, weightier};
+ghost use Rattle.lra_sockets.specs.Stops.{weight, weightier};
 
 use std::sync::{Condvar, CondvarTimeouts, Mutex, Wait};
 use std::time::{Clock, Duration};

@@ -1,7 +1,7 @@
 -- Why a run is over.
 use Rattle.std.specs.Prelude.{ℕ, Option, None, Some, if◌then◌else◌, nat_lt}
-use Rattle.lra_threads.specs.declared.signal.StopReason.{StopReason}
-use Rattle.lra_threads.specs.declared.signal.StopReason.TheVariants.{Full, JournalFailed, Program, RunFull, Starved, Stopped, TrailLost}
+use Rattle.lra_sockets.specs.declared.signal.StopReason.{StopReason}
+use Rattle.lra_sockets.specs.declared.signal.StopReason.TheVariants.{Full, JournalFailed, Program, RunFull, Starved, Stopped, TrailLost}
 
 -- how much is to be done for a cause before the node goes on
 abbrev pub weight : StopReason → ℕ

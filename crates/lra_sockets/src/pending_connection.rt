@@ -108,7 +108,7 @@ impl Stage {
 
 impl PendingConnection {
     /// A connection that comes now.
-    pub(crate) fn new<R: Clock>(rt: &R, stream: TcpStream) -> io::Result<PendingConnection> {
+    pub fn new<R: Clock>(rt: &R, stream: TcpStream) -> io::Result<PendingConnection> {
         let until = rt
             .monotonic()?
             .saturating_add(Duration::from_millis(SILENCE_MS));

@@ -122,12 +122,12 @@ impl Site {
     }
 
     /// Where the node reaches its own port.
-    pub(crate) fn own_door(&self) -> SocketAddr {
+    pub fn own_door(&self) -> SocketAddr {
         door_of(self.listen)
     }
 
     /// Where it reaches its own port for operators, if it has one.
-    pub(crate) fn own_operators_door(&self) -> Option<SocketAddr> {
+    pub fn own_operators_door(&self) -> Option<SocketAddr> {
         match self.operate {
             Some(address) => Some(door_of(address)),
             None => None,
@@ -135,7 +135,7 @@ impl Site {
     }
 
     /// A connection to another node.
-    pub(crate) fn reach<R: Wait + Clock + Net<Stream = TcpStream>>(
+    pub fn reach<R: Wait + Clock + Net<Stream = TcpStream>>(
         &self,
         rt: &R,
         signal: &Signal,

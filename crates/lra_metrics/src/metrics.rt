@@ -1,10 +1,9 @@
 // The counts of a node in the text format of Prometheus, version 0.0.4.
 
-use crate::clock::now;
-use crate::counts::{CALL_NAMES, HEARD, KINDS, Numbers, PULLS, REFUSALS, RUNS, SWEPT};
-use crate::node::Node;
-use crate::sweep::PLACES;
-use lra_id::LraStatus;
+use lra_forest::MAX_HELD;
+use lra_id::{LraStatus, MAX_NODES};
+use lra_sockets::now;
+use lra_threads::{CALL_NAMES, HEARD, KINDS, Node, Numbers, PULLS, REFUSALS, RUNS, SWEPT};
 use std::alloc::{AllocError, Global};
 use std::sync::Wait;
 use std::time::{Clock, Duration};
@@ -146,8 +145,8 @@ fn push_pulls_from(page: &mut MetricsPage, other: u64, row: &[u64; 3]) -> Result
 fn push_pulls(page: &mut MetricsPage, node: &Node, numbers: &Numbers) -> Result<(), AllocError> {
     page.family("lra_pulls_total", "counter", "Pulls from other nodes.")?;
     for other in 1..=node.nodes {
-        if other != node.number {
-            let row = &numbers.pulls[usize::from(other.clamp(1, 8) - 1)];
+        if other != node.number() {
+            let row = &numbers.pulls[usize::from(other.clamp(1, MAX_NODES) - 1)];
             push_pulls_from(page, u64::from(other), row)?;
         }
     }
@@ -167,8 +166,8 @@ fn push_ages(
         "How long ago a pull last succeeded; since the start where none did.",
     )?;
     for other in 1..=node.nodes {
-        if other != node.number {
-            let pulled = numbers.pulled[usize::from(other.clamp(1, 8) - 1)];
+        if other != node.number() {
+            let pulled = numbers.pulled[usize::from(other.clamp(1, MAX_NODES) - 1)];
             let since = now.saturating_sub(pulled.unwrap_or(node.started()));
             page.open(name)?;
             page.label_number("from", u64::from(other))?;
@@ -195,7 +194,7 @@ fn push_front<R: Wait>(page: &mut MetricsPage, rt: &R, node: &Node) -> Result<()
 fn push_held<R: Wait>(page: &mut MetricsPage, rt: &R, node: &Node) -> Result<(), AllocError> {
     let name = "lra_held";
     page.family(name, "gauge", "LRAs of the node's home, by what they show.")?;
-    let held = node.sweep.held(rt);
+    let held = node.mailbox.held(rt);
     for (status, value) in STATUSES.iter().zip(&held) {
         page.open(name)?;
         page.label("status", status.name())?;
@@ -205,7 +204,7 @@ fn push_held<R: Wait>(page: &mut MetricsPage, rt: &R, node: &Node) -> Result<(),
         "lra_held_limit",
         "gauge",
         "LRAs that the home holds at most.",
-        PLACES,
+        MAX_HELD as u64,
     )
 }
 
@@ -281,7 +280,7 @@ fn push_others<R: Wait>(
 }
 
 /// The counts of a node, in the text format of Prometheus.
-pub(crate) fn metrics_of<R: Wait + Clock>(
+pub fn metrics_of<R: Wait + Clock>(
     rt: &R,
     alloc: Global,
     node: &Node,
@@ -290,7 +289,7 @@ pub(crate) fn metrics_of<R: Wait + Clock>(
     let numbers = node.counts.numbers(rt);
     let mut page = MetricsPage {
         alloc,
-        node: node.number,
+        node: node.number(),
         text: Vec::new(alloc),
     };
     page.single("lra_up", "gauge", "Whether the node lives.", 1)?;

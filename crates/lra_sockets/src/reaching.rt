@@ -33,10 +33,12 @@ fn connect_until<R: Wait + Clock + Net<Stream = TcpStream>>(
 }
 
 /// The first of some addresses that answers. All of them together have this time.
-pub(crate) fn connect_to_one<
-    R: Wait + Clock + Net<Stream = TcpStream>,
-    A: Iterator<Item = SocketAddr>,
->(rt: &R, signal: &Signal, addresses: A, time: Duration) -> io::Result<TcpStream>
+pub fn connect_to_one<R: Wait + Clock + Net<Stream = TcpStream>, A: Iterator<Item = SocketAddr>>(
+    rt: &R,
+    signal: &Signal,
+    addresses: A,
+    time: Duration,
+) -> io::Result<TcpStream>
     requires { A.can_next addresses × IsFinite (A.remaining addresses) }
 {
     let until = rt.monotonic()?.saturating_add(time);

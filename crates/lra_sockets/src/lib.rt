@@ -1,0 +1,28 @@
+//! A connection's life: where nodes listen and are reached, what waits for a worker, streams that
+//! give up in time, and the signal that has them end.
+#![tactic(auto)]
+
+mod accept_queue;
+mod address;
+mod buffered_socket;
+mod clock;
+mod deadline_stream;
+mod pending_connection;
+mod reaching;
+mod shared_socket;
+mod signal;
+mod site;
+mod sockets;
+mod window;
+
+pub use accept_queue::AcceptQueue;
+pub use address::{address_of, port_of};
+pub use buffered_socket::{BufferedSocket, SocketReader, SocketWriter, Times};
+pub use clock::{now, unix_millis};
+pub use deadline_stream::{Cutoff, SLICE_MS};
+pub use pending_connection::{PendingConnection, REQUEST_MS, Readiness};
+pub use reaching::connect_to_one;
+pub use shared_socket::SharedSocket;
+pub use signal::{Signal, StopReason};
+pub use site::{Peer, Site};
+pub use sockets::Sockets;
