@@ -1,6 +1,6 @@
 -- What is told of a call that operators want.
 use Rattle.std.specs.Prelude.{⊤}
-use Rattle.std.proofs.Common.{◌≡◌, ℕ, Option, None, Some, Result, ap, subst, sym, inl, inr}
+use Rattle.std.proofs.Common.{◌≡◌, ℕ, None, Some, Result, ap, subst, sym, inl, inr}
 use Rattle.lra_facts.specs.declared.refusal.Refusal.{Refusal}
 use Rattle.lra_book.specs.declared.calls.Call.{Call}
 use Rattle.lra_book.specs.declared.calls.Reply.{Reply}
@@ -9,8 +9,8 @@ use Rattle.lra_server.specs.Entering.{IsMadeAndCopied, IsMadeInMemory, MakesIf, 
 
 -- it is what came of the call, or that there was no memory for a copy
 pub told_made : {C : Type 0} (clerk : OfClerk C) (old new : C) (now : ℕ) (asked : Call) (outcome : Result Reply Refusal) (result : Result ⊤ Refusal)
-    → IsMadeAndCopied clerk old new now asked outcome → result ≡ told outcome → (wanted : Option Call) × MakesIf clerk old new wanted result
+    → IsMadeAndCopied clerk old new now asked outcome → result ≡ told outcome → MakesIf clerk old new (Some asked) result
 told_made clerk old new now asked outcome result (made, makes, inl is) is_told =
-    (Some asked, (now, made, makes, inl (subst (λ o. result ≡ told o) is is_told)))
+    (now, made, makes, inl (subst (λ o. result ≡ told o) is is_told))
 told_made clerk old new now asked outcome result (made, makes, inr is) is_told =
-    (Some asked, (now, made, makes, inr (subst (λ o. result ≡ told o) is is_told)))
+    (now, made, makes, inr (subst (λ o. result ≡ told o) is is_told))

@@ -4,9 +4,9 @@ use Rattle.lra_facts.specs.declared.refusal.Refusal.{Refusal}
 use Rattle.lra_facts.specs.declared.refusal.Refusal.TheVariants as refusal
 use Rattle.lra_threads.specs.declared.shutdown.End.{End}
 use Rattle.lra_threads.specs.declared.shutdown.End.TheVariants.{Failed, Input}
-use Rattle.lra_threads.specs.declared.signal.StopReason.{StopReason}
-use Rattle.lra_threads.specs.declared.signal.StopReason.TheVariants.{Full, JournalFailed, Program, RunFull, Starved, Stopped, TrailLost}
-use Rattle.lra_server.specs.declared.server.Trouble.{Trouble}
+use Rattle.lra_sockets.specs.declared.signal.StopReason.{StopReason}
+use Rattle.lra_sockets.specs.declared.signal.StopReason.TheVariants.{Full, JournalFailed, Program, RunFull, Starved, Stopped, TrailLost}
+use Rattle.lra_server.specs.declared.program.Trouble.{Trouble}
 
 -- why a run is over in which a call met this refusal: one of E18 to E21
 abbrev pub reason_of : Refusal → StopReason

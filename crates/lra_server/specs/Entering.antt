@@ -1,9 +1,8 @@
 -- What the thread that enters asks of its clerk.
-use Rattle.std.specs.Prelude.{◌≡◌, ◌⊎◌, ⊤, ℕ, List, Option, Some, None, Result, Ok, Err}
+use Rattle.std.specs.Prelude.{◌≡◌, ◌⊎◌, ◌∷◌, [], ⊤, ℕ, Bool, true, false, IfSome, List, Option, Some, None, Result, Ok, Err, not}
 use Rattle.lra_facts.specs.declared.refusal.Refusal.{Refusal}
 use Rattle.lra_facts.specs.declared.refusal.Refusal.TheVariants.{NoMemory}
-use Rattle.lra_facts.specs.declared.command.Command.{Command}
-use Rattle.lra_facts.specs.declared.command.Command.TheVariants as command
+use Rattle.lra_facts.specs.declared.command.Command.{Command as TheCommand}
 use Rattle.lra_callback.specs.HeardCommands.{command_heard}
 use Rattle.lra_book.specs.declared.calls.Call.{Call}
 use Rattle.lra_book.specs.declared.calls.Call.TheVariants as call
@@ -13,8 +12,11 @@ use Rattle.lra_api.specs.Serving.{Makes}
 use Rattle.lra_heard.specs.Letters.{Said}
 use Rattle.lra_mailbox.specs.declared.task.Task.{Task}
 use Rattle.lra_mailbox.specs.declared.task.Task.TheVariants as task
-use Rattle.lra_threads.specs.declared.sweep.Chore.{Chore}
-use Rattle.lra_threads.specs.declared.sweep.Chore.TheVariants as chore
+use Rattle.lra_mailbox.specs.declared.sweep.Chore.{Chore}
+use Rattle.lra_mailbox.specs.declared.sweep.Chore.TheVariants as chore
+use Rattle.lra_mailbox.specs.declared.task.Wanted.{Wanted}
+use Rattle.lra_mailbox.specs.declared.task.Wanted.TheVariants.{Command, Nothing, Question}
+use Rattle.lra_server.specs.Noting.{enters}
 
 -- what is told of a call: only why it was refused, if it was
 abbrev pub told : Result Reply Refusal → Result ⊤ Refusal
@@ -38,7 +40,7 @@ IsMadeAndCopied clerk old new now asked result =
     (outcome : Result Reply Refusal) × Makes clerk old new now asked outcome × ((result ≡ outcome) ⊎ (result ≡ Err NoMemory))
 
 -- the command is entered, if there is one, and nothing else
-abbrev pub EntersIf : {C : Type 0} → OfClerk C → (old new : C) → Option Command → Result ⊤ Refusal → Type 0
+abbrev pub EntersIf : {C : Type 0} → OfClerk C → (old new : C) → Option TheCommand → Result ⊤ Refusal → Type 0
 EntersIf clerk old new None result = (new ≡ old) × (result ≡ Ok tt)
 EntersIf clerk old new (Some command) result = IsMade clerk old new (call.Command command) result
 
@@ -52,6 +54,22 @@ abbrev pub Counts : {C : Type 0} → OfClerk C → (old new : C) → Result ⊤ 
 Counts clerk old new result =
     ((body : List ℕ) × IsMade clerk old new (call.Pull body) result) ⊎ ((new ≡ old) × (result ≡ Err NoMemory))
 
+-- one call for a chore: a page is listed, or a root purged if it still shows what it showed for as long as it was kept
+abbrev pub DoesChore : {C : Type 0} → OfClerk C → (old new : C) → Chore → Result ⊤ Refusal → Type 0
+DoesChore clerk old new (chore.List beyond) result = IsMade clerk old new (call.Page beyond) result
+DoesChore clerk old new (chore.Purge kept) result = IsMade clerk old new (call.Sweep kept.root kept.seen) result
+
+-- whether a call may be made for operators who want one of this kind: for a question none that enters something
+abbrev pub fits : Wanted → Call → Bool
+fits Nothing asked = false
+fits Question asked = not (enters asked)
+fits Command asked = true
+
+-- the call that operators want, if there is one
+abbrev pub MakesIf : {C : Type 0} → OfClerk C → (old new : C) → Option Call → Result ⊤ Refusal → Type 0
+MakesIf clerk old new None result = (new ≡ old) × (result ≡ Ok tt)
+MakesIf clerk old new (Some asked) result = IsMadeInMemory clerk old new asked result
+
 -- One call at most for a task: what was heard is entered, what another node told is taken, and so on.
 abbrev pub DoesTask : {C : Type 0} → OfClerk C → (old new : C) → Task → Result ⊤ Refusal → Type 0
 DoesTask clerk old new (task.Enter letter) result = EntersLetter clerk old new letter result
@@ -59,18 +77,11 @@ DoesTask clerk old new (task.Take telling) result = IsMade clerk old new (call.T
 DoesTask clerk old new task.Ask result = IsMadeInMemory clerk old new call.Duties result
 DoesTask clerk old new task.Tick result = IsMade clerk old new call.Expire result
 DoesTask clerk old new task.Count result = Counts clerk old new result
+DoesTask clerk old new (task.Sweep chore) result = DoesChore clerk old new chore result
+DoesTask clerk old new (task.Errand wanted) result = (asked : Option Call) × IfSome asked (λ c. fits wanted c ≡ true) × MakesIf clerk old new asked result
 DoesTask clerk old new task.Rest result = (new ≡ old) × (result ≡ Ok tt)
 
--- one call for a chore: a page is listed, or a root purged
-abbrev pub DoesChore : {C : Type 0} → OfClerk C → (old new : C) → Chore → Result ⊤ Refusal → Type 0
-DoesChore clerk old new (chore.List beyond) result = IsMade clerk old new (call.Page beyond) result
-DoesChore clerk old new (chore.Purge root) result = IsMade clerk old new (call.Command (command.Purge root)) result
-
-abbrev pub DoesChoreIf : {C : Type 0} → OfClerk C → (old new : C) → Option Chore → Result ⊤ Refusal → Type 0
-DoesChoreIf clerk old new None result = (new ≡ old) × (result ≡ Ok tt)
-DoesChoreIf clerk old new (Some it) result = DoesChore clerk old new it result
-
--- the call that operators want, if there is one
-abbrev pub MakesIf : {C : Type 0} → OfClerk C → (old new : C) → Option Call → Result ⊤ Refusal → Type 0
-MakesIf clerk old new None result = (new ≡ old) × (result ≡ Ok tt)
-MakesIf clerk old new (Some asked) result = IsMadeInMemory clerk old new asked result
+-- tasks are done one after another, the last first
+abbrev pub DoesEach : {C : Type 0} → OfClerk C → (old : C) → List Task → (new : C) → Type 0
+DoesEach clerk old [] new = new ≡ old
+DoesEach clerk old (last ∷ before) new = (mid : _) × (result : Result ⊤ Refusal) × DoesEach clerk old before mid × DoesTask clerk mid new last result

@@ -2,7 +2,7 @@
 use Rattle.std.specs.Prelude.{◌≡◌, ◌*◌, ◌-◌, ℕ, Bool, true, false, Option, None, Some, if◌then◌else◌, min, nat_lt}
 use Rattle.std.specs.Duration.{as_nanos}
 use Rattle.std.specs.declared.time.Duration.{Duration}
-use Rattle.lra_server.specs.declared.backoff.Backoff.{Backoff}
+use Rattle.lra_server.specs.declared.node.backoff.Backoff.{Backoff}
 
 -- each time twice as long, up to a longest time
 abbrev pub doubled : (longest time : ℕ) → ℕ

@@ -1,18 +1,24 @@
 -- What is noted of a call for the other threads.
-use Rattle.std.specs.Prelude.{◌&&◌, ℕ, Bool, true, false, Option, None, Some, not}
+use Rattle.std.specs.Prelude.{◌&&◌, ℕ, Bool, true, false, List, Option, None, Some, if◌then◌else◌, not}
 use Rattle.lra_id.specs.Ids.{Id}
 use Rattle.lra_id.specs.declared.outcome.Act.{Act}
 use Rattle.lra_id.specs.declared.outcome.Act.TheVariants as act
 use Rattle.lra_callback.specs.declared.duty.Duty.{Duty}
 use Rattle.lra_facts.specs.declared.command.Command.{Command}
 use Rattle.lra_facts.specs.declared.command.Command.TheVariants as command
+use Rattle.lra_facts.specs.declared.refusal.Refusal.{Refusal}
+use Rattle.lra_facts.specs.declared.refusal.Refusal.TheVariants as refusal
 use Rattle.lra_facts.specs.declared.command.CommandReply.{CommandReply}
 use Rattle.lra_facts.specs.declared.command.CommandReply.TheVariants as reply
 use Rattle.lra_book.specs.declared.calls.Call.{Call}
 use Rattle.lra_book.specs.declared.calls.Call.TheVariants as call
 use Rattle.lra_book.specs.declared.calls.Reply.{Reply}
 use Rattle.lra_book.specs.declared.calls.Reply.TheVariants.{Command as OfCommand, Due, Expired, Took}
-use Rattle.std.specs.Prelude.{List}
+use Rattle.lra_mailbox.specs.declared.noted.Became.{Became}
+use Rattle.lra_mailbox.specs.declared.noted.Became.TheVariants.{Begun, Ended, Full, Nothing, Removed}
+use Rattle.lra_mailbox.specs.declared.noted.News.{News}
+use Rattle.lra_mailbox.specs.declared.noted.News.TheVariants.{Nobody, OfCompletion, Others}
+use Rattle.lra_mailbox.specs.declared.noted.Noted.{Noted}
 
 -- whether a command was entered: then a fact was stored
 abbrev pub is_entered : CommandReply → Bool
@@ -35,34 +41,42 @@ abbrev pub is_own : Reply → Bool
 is_own reply = is_stored reply && not (is_taken reply)
 
 -- whether other participants may be due: a decision, a report or a forgetting was entered, a frame taken, or an LRA expired
-abbrev pub makes_due : CommandReply → Bool
-makes_due (reply.Decided id status) = true
-makes_due reply.Reported = true
-makes_due reply.Forgotten = true
-makes_due _ = false
+abbrev pub news_by : (completes : Bool) → CommandReply → News
+news_by completes (reply.Decided id status) = Others
+news_by completes reply.Forgotten = Others
+news_by completes reply.Reported = if completes then OfCompletion else Others
+news_by completes _ = Nobody
 
-abbrev pub stirs : Reply → Bool
-stirs Took = true
-stirs (Expired id) = true
-stirs (OfCommand done) = makes_due done
-stirs _ = false
+abbrev pub news_of : (completes : Bool) → Reply → News
+news_of completes Took = Others
+news_of completes (Expired id) = Others
+news_of completes (OfCommand done) = news_by completes done
+news_of completes _ = Nobody
 
--- whether an LRA may have ended
-abbrev pub may_end_by : CommandReply → Bool
-may_end_by (reply.Decided id status) = true
-may_end_by reply.Reported = true
-may_end_by _ = false
+-- what may have become of an LRA
+abbrev pub became_where : Refusal → Became
+became_where refusal.LrasFull = Full
+became_where _ = Nothing
 
-abbrev pub may_end : Reply → Bool
-may_end Took = true
-may_end (Expired id) = true
-may_end (OfCommand done) = may_end_by done
-may_end _ = false
+abbrev pub became_by : CommandReply → Became
+became_by (reply.Began id status) = Begun
+became_by (reply.Refused refusal) = became_where refusal
+became_by reply.Purged = Removed
+became_by (reply.Decided id status) = Ended
+became_by reply.Reported = Ended
+became_by _ = Nothing
+
+abbrev pub became_of : Reply → Became
+became_of Took = Ended
+became_of (Expired id) = Ended
+became_of (OfCommand done) = became_by done
+became_of _ = Nothing
 
 -- whether a call enters something of the node's own
 abbrev pub enters : Call → Bool
 enters (call.Command it) = true
 enters call.Expire = true
+enters (call.Sweep root seen) = true
 enters _ = false
 
 -- whether it reports a completion
@@ -87,6 +101,10 @@ told_by _ = None
 abbrev pub freed_by : Call → Option Id
 freed_by (call.Command it) = told_by it
 freed_by _ = None
+
+-- what a call leaves that reported a completion or didn't, and said that a participant of an LRA was told, or didn't
+abbrev pub noted_by : (completes : Bool) (freed : Option Id) → Reply → Noted
+noted_by completes freed reply = record { news = news_of completes reply; became = became_of reply; freed = freed }
 
 -- the participants that are to be called, by a reply
 abbrev pub duties_in : Reply → Option (List Duty)

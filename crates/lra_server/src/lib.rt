@@ -1,25 +1,14 @@
 //! The server: nodes that answer HTTP, call participants and pull from one another, each over its
-//! own journal.
+//! own journal. In folders by who owns what: `run` has one run of a node, `node` a node from its
+//! first run to its last, `operators` their port, and `program` all nodes of the process.
 #![tactic(auto)]
 
-mod apply_loop;
-mod backoff;
-mod begun;
-mod closed;
-mod connections;
-mod counting;
-mod counting_clerk;
-mod errands;
-mod known;
-mod node_runtime;
-mod opening;
-mod operating;
-mod operator_clerk;
-mod refusals;
+mod node;
+mod operators;
+mod program;
 mod run;
-mod server;
 mod shared;
-mod sweeping;
 
-pub use opening::{Folder, Stores, Unopened};
-pub use server::{Members, serve, serve_members};
+pub use node::opening::{Folder, Stores, Unopened};
+pub use program::files::{UnknownFiles, hold};
+pub use program::{Members, serve, serve_members};

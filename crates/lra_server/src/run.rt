@@ -1,19 +1,28 @@
 // One run of a node: its desk, and the threads at it.
+pub(crate) mod apply_loop;
+pub(crate) mod connections;
+pub(crate) mod counting;
+pub(crate) mod counting_clerk;
+pub(crate) mod noting;
+pub(crate) mod refusals;
+pub(crate) mod sweeping;
+
 ghost use Rattle.std.specs.Prelude.{◌≡◌, [], IfSome, IsTrue, None, Some};
 ghost use Rattle.sqlite.specs.Held.{state};
 ghost use Rattle.lra_journal.specs.Keeping.{IsOwn};
 ghost use Rattle.lra_server.specs.Running.{IsFresh};
 
-use crate::apply_loop::enter_all;
-use crate::connections::Connections;
-use crate::counting_clerk::CountingClerk;
-use crate::errands::Errands;
-use crate::refusals::stop_reason_of;
+use crate::operators::errands::Errands;
+use crate::run::apply_loop::enter_all;
+use crate::run::connections::Connections;
+use crate::run::counting_clerk::CountingClerk;
+use crate::run::refusals::stop_reason_of;
 use crate::shared::Shared;
 use log::{Log, warn};
 use lra_api::Paths;
 use lra_book::{Book, Desk, DeskClerk, DeskPass, Run};
-use lra_threads::{Node, Sockets, StopReason};
+use lra_sockets::{Sockets, StopReason};
+use lra_threads::Node;
 use lra_work::{Open, work};
 use sqlite::Alter;
 use std::alloc::Global;
@@ -244,7 +253,7 @@ where
     }
     let (book, _trail, found) = desk.close(passes);
     if let Err(refusal) = found {
-        warn!(log; "node {}: {}", node.number, refusal);
+        warn!(log; "node {}: {}", node.number(), refusal);
     }
     Some(book)
 }

@@ -36,6 +36,7 @@ pub(crate) fn asked_by(call: &Call) -> Asked {
         Call::Survey(_) => Asked::Survey,
         Call::Duties => Asked::Duties,
         Call::Expire => Asked::Expire,
+        Call::Sweep { .. } => Asked::Purge,
     }
 }
 

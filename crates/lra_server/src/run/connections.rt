@@ -1,10 +1,11 @@
 // The connections of a node, as its workers take them.
 ghost use Rattle.std.specs.Prelude.{⊤};
 
-use lra_threads::{
-    BufferedSocket, Cutoff, Node, PendingConnection, REQUEST_MS, Readiness, SharedSocket,
-    SocketReader, SocketWriter, Sockets, Times, unix_millis,
+use lra_sockets::{
+    BufferedSocket, Cutoff, PendingConnection, REQUEST_MS, Readiness, SharedSocket, SocketReader,
+    SocketWriter, Sockets, Times, unix_millis,
 };
+use lra_threads::Node;
 use lra_work::{Arrivals, Connection};
 use std::alloc::Global;
 use std::net::TcpStream;

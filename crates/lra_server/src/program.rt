@@ -1,13 +1,20 @@
 // All nodes of a program.
+pub(crate) mod files;
+
 ghost use Rattle.std.specs.Prelude.{◌≡◌, ◌≤◌, vec_len};
+ghost use Rattle.lra_id.specs.declared.TheConstants.{MAX_NODES};
 ghost use Rattle.lra_server.specs.Ending.{status_of};
 
-use crate::begun::{Begun, Shut, begun_by};
-use crate::node_runtime::{Failure, NodeRuntime, open_book, run_node, runtime_of};
+use crate::node::begun::{Begun, Shut, begun_by};
+use crate::node::reopening::open_book;
+use crate::node::{Failure, NodeRuntime, run_node, runtime_of};
 use crate::{Stores, Unopened};
 use log::{Log, info};
 use lra_book::{Book, MAX_ENTRIES, MAX_MOVES};
-use lra_threads::{End, Keep, News, Node, Peer, Shutdown, Site, Sockets, StopReason, Tally, drain};
+use lra_id::NodeId;
+use lra_mailbox::Keep;
+use lra_sockets::{Peer, Site, Sockets, StopReason};
+use lra_threads::{End, News, Node, Shutdown, Tally, drain};
 use sqlite::Alter;
 use std::alloc::{AllocError, Global};
 use std::io::{ErrorKind, Read};
@@ -63,9 +70,9 @@ fn tell<R: Eprint>(rt: &R, trouble: Trouble) {
 /// Tells where each node listens.
 fn tell_of_all<L: Log>(log: &L, nodes: &[Node]) {
     for node in nodes {
-        info!(log; "node {}: listens on {}", node.number, node.site.listen);
+        info!(log; "node {}: listens on {}", node.number(), node.site.listen);
         if let Some(address) = node.site.operate {
-            info!(log; "node {}: listens for operators on {}", node.number, address);
+            info!(log; "node {}: listens for operators on {}", node.number(), address);
         }
     }
 }
@@ -80,10 +87,10 @@ fn books_of<S: Stores>(
     for node in nodes {
         let book = match open_book(alloc, stores, node) {
             Ok(book) => book,
-            Err(why) => return Err(Trouble::Journal(node.number, why)),
+            Err(why) => return Err(Trouble::Journal(node.number(), why)),
         };
         if books.push(Shut { book }).is_err() {
-            return Err(Trouble::Run(node.number));
+            return Err(Trouble::Run(node.number()));
         }
     }
     Ok(books)
@@ -98,10 +105,10 @@ fn begun_of<S: Alter + Drop>(
     let mut begun = Vec::new(alloc);
     for (node, shut) in nodes.iter().zip(books) {
         let Ok(next) = begun_by(alloc, shut) else {
-            return Err(Trouble::Run(node.number));
+            return Err(Trouble::Run(node.number()));
         };
         if begun.push(next).is_err() {
-            return Err(Trouble::Run(node.number));
+            return Err(Trouble::Run(node.number()));
         }
     }
     Ok(begun)
@@ -118,10 +125,10 @@ fn runtimes_of<R: Sockets, S: Alter + Drop>(
     for (node, begun) in nodes.iter().zip(books) {
         let runtime = match runtime_of(rt, node, begun) {
             Ok(runtime) => runtime,
-            Err((port, why)) => return Err(Trouble::Port(node.number, port, why)),
+            Err((port, why)) => return Err(Trouble::Port(node.number(), port, why)),
         };
         if runtimes.push(runtime).is_err() {
-            return Err(Trouble::Run(node.number));
+            return Err(Trouble::Run(node.number()));
         }
     }
     Ok(runtimes)
@@ -146,7 +153,7 @@ fn same_news(alloc: Global, all: &[Arc<News>]) -> Result<Vec<Arc<News>>, AllocEr
 
 /// What the nodes share with their threads.
 fn nodes_of(alloc: Global, nodes: u8, port: u16) -> Result<Vec<Node>, AllocError>
-    requires { (1 ≤ nodes) × (nodes ≤ 8) }
+    requires { (1 ≤ nodes) × (nodes ≤ MAX_NODES) }
 {
     let news = Arc::new(alloc, News::new())?;
     let keep = Keep {
@@ -155,11 +162,14 @@ fn nodes_of(alloc: Global, nodes: u8, port: u16) -> Result<Vec<Node>, AllocError
     };
     let mut all = Vec::new(alloc);
     for number in 1..=nodes {
+        let Ok(me) = NodeId::new(number) else {
+            continue;
+        };
         let shared = Arc::try_clone(&news)?;
         let mut told = Vec::new(alloc);
         told.push(Arc::try_clone(&news)?)?;
         let site = Site::here(port, number);
-        all.push(Node::new(alloc, number, nodes, site, keep, tally(), shared, told))?;
+        all.push(Node::new(alloc, me, nodes, site, keep, tally(), shared, told))?;
     }
     Ok(all)
 }
@@ -190,7 +200,7 @@ fn port_after(address: Option<SocketAddr>, count: u8) -> Option<SocketAddr> {
 
 /// What members of a group share with their threads.
 fn nodes_of_members(alloc: Global, members: Members) -> Result<Vec<Node>, AllocError>
-    requires { (1 ≤ vec_len members.peers) × (vec_len members.peers ≤ 8) }
+    requires { (1 ≤ vec_len members.peers) × (vec_len members.peers ≤ MAX_NODES) }
 {
     let Members {
         first,
@@ -209,11 +219,14 @@ fn nodes_of_members(alloc: Global, members: Members) -> Result<Vec<Node>, AllocE
     let mut all = Vec::new(alloc);
     let mut number = first;
     for own in news.iter() {
+        let Ok(me) = NodeId::new(number) else {
+            break;
+        };
         let operators = port_after(operate, number.saturating_sub(first));
         let site = Site::apart(listen, operators, number, Arc::try_clone(&peers)?);
         let own = Arc::try_clone(own)?;
         let told = same_news(alloc, &news)?;
-        all.push(Node::new(alloc, number, nodes, site, keep, tally(), own, told))?;
+        all.push(Node::new(alloc, me, nodes, site, keep, tally(), own, told))?;
         number = number.saturating_add(1);
     }
     Ok(all)
@@ -235,8 +248,8 @@ where
 {
     if let Err(failure) = run_node(rt, log, alloc, node, stores, runtime) {
         match failure {
-            Failure::Journal(why) => tell(rt, Trouble::Journal(node.number, why)),
-            Failure::Run => tell(rt, Trouble::Run(node.number)),
+            Failure::Journal(why) => tell(rt, Trouble::Journal(node.number(), why)),
+            Failure::Run => tell(rt, Trouble::Run(node.number())),
         }
         shutdown.tell(rt, End::Failed);
     }
@@ -261,7 +274,7 @@ where
         .spawn(move || run_and_tell(rt, log, alloc, node, stores, runtime, shutdown))
         .is_err()
     {
-        tell(rt, Trouble::Run(node.number));
+        tell(rt, Trouble::Run(node.number()));
         shutdown.tell(rt, End::Failed);
     }
 }
@@ -304,7 +317,7 @@ where
         start_all(scope, rt, log, alloc, nodes, stores, runtimes, shutdown);
         shutdown.wait(rt);
         for node in nodes {
-            node.end_run(rt, StopReason::Program);
+            node.end_program(rt);
         }
     })
 }
@@ -407,7 +420,7 @@ where
     H: Wait + Send + Drop + 'static,
     S: Stores + Sync,
     I: Read + Send + Drop + 'static,
-    requires nodes { (1 ≤ nodes) × (nodes ≤ 8) }
+    requires nodes { (1 ≤ nodes) × (nodes ≤ MAX_NODES) }
     ensures status { result ≤ 1 }
 {
     let Ok(all) = nodes_of(alloc, nodes, port) else {
@@ -436,7 +449,7 @@ where
     H: Wait + Send + Drop + 'static,
     S: Stores + Sync,
     I: Read + Send + Drop + 'static,
-    requires nodes { (1 ≤ vec_len members.peers) × (vec_len members.peers ≤ 8) }
+    requires nodes { (1 ≤ vec_len members.peers) × (vec_len members.peers ≤ MAX_NODES) }
     ensures status { result ≤ 1 }
 {
     let first = members.first;

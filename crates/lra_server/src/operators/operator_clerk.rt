@@ -2,12 +2,13 @@
 ghost use Rattle.std.specs.Prelude.{⊤, Err, IfErr, Ok, OnOk};
 ghost use Rattle.lra_book.specs.Clerks.{IsOfClerk, IsOutcome, last_reply};
 
-use crate::counting_clerk::enters;
-use crate::errands::Errands;
+use crate::operators::errands::Errands;
+use crate::run::noting::enters;
 use log::{Log, warn};
 use lra_book::{Call, Clerk, Receipt, Reply};
 use lra_facts::{Command, CommandReply, Refusal};
 use lra_id::LraId;
+use lra_mailbox::Wanted;
 use lra_threads::Node;
 use std::alloc::Global;
 use std::str;
@@ -47,9 +48,19 @@ impl<'n, R: Wait + Clock, L: Log> OperatorClerk<'n, R, L> {
         if self.node.is_shut() || (enters(&call) && self.node.mailbox.is_spared(self.rt)) {
             return Err(Refusal::Stopped);
         }
+        let wanted = wanted_by(&call);
         self.errands.want(self.rt, call, now);
-        self.node.mailbox.wake(self.rt);
+        self.node.mailbox.want(self.rt, wanted);
         self.errands.wait(self.rt, self.node)
+    }
+}
+
+/// What a call is to the thread that enters.
+fn wanted_by(call: &Call) -> Wanted {
+    if enters(call) {
+        Wanted::Command
+    } else {
+        Wanted::Question
     }
 }
 
@@ -69,7 +80,7 @@ fn warn_by<L: Log>(log: &L, number: u8, command: &Command) {
     }
 }
 
-/// Whether a command was entered, or was known already.
+/// Whether a forgot or a told was entered.
 fn is_entered(reply: &Reply) -> bool {
     matches!(
         reply,
@@ -113,7 +124,7 @@ impl<'n, R: Wait + Clock, L: Log> OperatorClerk<'n, R, L> {
     fn tell(&self, call: &Call, reply: &Reply) {
         if let Call::Command(command) = call {
             if is_entered(reply) {
-                warn_by(self.log, self.node.number, command);
+                warn_by(self.log, self.node.number(), command);
             }
         }
     }

@@ -1,14 +1,13 @@
 // Purges of roots that have ended, one call at a time.
-ghost use Rattle.std.specs.Prelude.{Option};
-ghost use Rattle.lra_facts.specs.declared.command.Command.TheVariants.{Purge};
-ghost use Rattle.lra_book.specs.declared.calls.Call.TheVariants.{Command as Enter, Page as AskPage};
-ghost use Rattle.lra_threads.specs.declared.sweep.Chore.{Chore as TheChore};
-ghost use Rattle.lra_server.specs.Entering.{DoesChore, DoesChoreIf, IsMade};
+ghost use Rattle.lra_book.specs.declared.calls.Call.TheVariants.{Page as AskPage, Sweep as AskSweep};
+ghost use Rattle.lra_server.specs.Entering.{DoesChore, IsMade};
 
 use lra_book::{Call, Clerk, Reply};
-use lra_facts::{Command, CommandReply, Refusal};
+use lra_facts::{CommandReply, Refusal};
 use lra_id::LraId;
-use lra_threads::{Chore, Node, Purged, unix_millis};
+use lra_mailbox::{Chore, Purged, Ripe};
+use lra_sockets::unix_millis;
+use lra_threads::Node;
 use std::alloc::Global;
 use std::sync::Wait;
 use std::time::Clock;
@@ -17,9 +16,9 @@ use std::time::Clock;
 fn note<R: Wait + Clock>(rt: &R, node: &Node, reply: &Reply) {
     if let Reply::Listed(page) = reply {
         for row in page.rows() {
-            node.sweep.see(rt, row.id, row.status);
+            node.mailbox.see(rt, row.id, row.status);
         }
-        node.sweep.turn(rt, page.more());
+        node.mailbox.turn(rt, page.more());
     }
 }
 
@@ -44,6 +43,8 @@ fn put_off_by(refusal: Refusal) -> Purged {
 /// What came of a purge, by its reply.
 fn purged_by(reply: &Reply) -> Purged {
     match reply {
+        Reply::Shown(_, _) => Purged::Changed,
+        Reply::Refused(refusal) => put_off_by(*refusal),
         Reply::Command(reply) => match refusal_of(reply) {
             None => Purged::Gone,
             Some(refusal) => put_off_by(refusal),
@@ -67,25 +68,29 @@ fn list<R: Wait + Clock, C: Clerk>(
     Ok(())
 }
 
-/// Purges a root.
+/// Purges a root, if it still shows what it showed for as long as it was kept.
 fn purge<R: Wait + Clock, C: Clerk>(
     rt: &R,
     alloc: Global,
     node: &Node,
     clerk: &mut C,
-    root: LraId,
+    ripe: &Ripe,
 ) -> Result<(), Refusal>
-    ensures { IsMade C.Clerk clerk.old clerk.new (Enter (Purge root)) result }
+    ensures { IsMade C.Clerk clerk.old clerk.new (AskSweep ripe.now.root ripe.now.seen) result }
 {
-    let command = Command::Purge { root };
-    clerk.call(alloc, Call::Command(command), unix_millis(rt))?;
+    let call = Call::Sweep {
+        root: ripe.root(),
+        seen: ripe.seen(),
+    };
+    clerk.call(alloc, call, unix_millis(rt))?;
     node.counts.sweep(rt, purged_by(clerk.reply()));
-    node.sweep.purged(rt, root, purged_by(clerk.reply()));
+    node.mailbox
+        .purged(rt, ripe.root(), purged_by(clerk.reply()));
     Ok(())
 }
 
-/// Does a chore.
-fn attend<R: Wait + Clock, C: Clerk>(
+/// Does a chore of the sweep of a node's home.
+pub fn sweep<R: Wait + Clock, C: Clerk>(
     rt: &R,
     alloc: Global,
     node: &Node,
@@ -96,25 +101,6 @@ fn attend<R: Wait + Clock, C: Clerk>(
 {
     match chore {
         Chore::List(beyond) => list(rt, alloc, node, clerk, beyond),
-        Chore::Purge(root) => purge(rt, alloc, node, clerk, root),
+        Chore::Purge(ripe) => purge(rt, alloc, node, clerk, &ripe),
     }
-}
-
-/// Does what is to be done next to sweep the node's home, if there is something, and nothing has to
-/// wait for the journal.
-pub fn sweep<R: Wait + Clock, C: Clerk>(
-    rt: &R,
-    alloc: Global,
-    node: &Node,
-    clerk: &mut C,
-) -> Result<(), Refusal>
-    ensures { (chore : Option TheChore) × DoesChoreIf C.Clerk clerk.old clerk.new chore result }
-{
-    if node.mailbox.is_held(rt) {
-        return Ok(());
-    }
-    let Some(chore) = node.sweep.next(rt) else {
-        return Ok(());
-    };
-    attend(rt, alloc, node, clerk, chore)
 }

@@ -1,13 +1,18 @@
 // The thread that serves a node's operators. It outlives the runs of its node, and waits for no
 // desk.
 
-use crate::errands::Errands;
-use crate::known::Known;
-use crate::operator_clerk::OperatorClerk;
+pub(crate) mod errands;
+pub(crate) mod known;
+pub(crate) mod operator_clerk;
+
+use crate::operators::errands::Errands;
+use crate::operators::known::Known;
+use crate::operators::operator_clerk::OperatorClerk;
 use log::Log;
 use lra_api::Paths;
 use lra_operate::serve_operator;
-use lra_threads::{BufferedSocket, Cutoff, Node, SLICE_MS, Times, unix_millis};
+use lra_sockets::{BufferedSocket, Cutoff, SLICE_MS, Times, unix_millis};
+use lra_threads::Node;
 use std::alloc::Global;
 use std::net::{TcpListener, TcpStream};
 use std::sync::Wait;
@@ -45,7 +50,8 @@ fn serve_one<'a, R: Wait + Clock, L: Log>(
     let buffered = BufferedSocket::new(rt, alloc, signal, cutoff, stream, times);
     let (mut reader, mut writer, _socket) = buffered.ok()?.into_parts();
     let mut clerk = OperatorClerk::new(rt, log, alloc, node, errands);
-    let known = Known { rt, node };
+    let cause = node.unready(rt);
+    let known = Known { rt, node, cause };
     let _served = serve_operator(
         alloc,
         paths,

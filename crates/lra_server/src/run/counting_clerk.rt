@@ -1,15 +1,18 @@
 // The clerk of a thread in a run of a node.
 ghost use Rattle.std.specs.Prelude.{◌≡◌, ◌⊎◌, ◌≤◌, Err};
 ghost use Rattle.lra_facts.specs.declared.refusal.Refusal.TheVariants.{Stopped};
-ghost use Rattle.lra_server.specs.Noting.{enters, freed_by, is_completion, is_own, is_stored, may_end, stirs, told_by};
 
-use crate::counting::{asked_by, number_of, refused_by};
+use crate::run::counting::{asked_by, number_of, refused_by};
+use crate::run::noting::{
+    enters, freed_by, is_any, is_completion, is_own_fact, is_stored, noted_by,
+};
 use lra_book::{Call, Clerk, Reply};
 use lra_delta::Delta;
-use lra_facts::{Command, CommandReply, Refusal};
-use lra_id::{Act, Front, LraId};
+use lra_facts::Refusal;
+use lra_id::{Front, LraId, MAX_NODES};
+use lra_mailbox::Noted;
 use lra_peer::front_of_pull;
-use lra_threads::Node;
+use lra_threads::{Asked, Node};
 use std::alloc::Global;
 use std::sync::Wait;
 use std::time::Clock;
@@ -40,8 +43,8 @@ pub struct CountingClerk<'n, R, C: Clerk> {
 }
 
 impl<'n, R, C: Clerk> CountingClerk<'n, R, C> {
-    /// Of the thread that enters what others hear. It holds nothing back: while the journal is
-    /// spared it has nothing to enter.
+    /// Of the thread that enters what others hear. It holds nothing back: before the others are
+    /// heard, and while the journal is spared, it has nothing to enter.
     pub fn new(rt: &'n R, node: &'n Node, clerk: C) -> CountingClerk<'n, R, C> {
         CountingClerk {
             rt,
@@ -84,34 +87,6 @@ impl<'n, R, C: Clerk> CountingClerk<'n, R, C> {
     }
 }
 
-/// Whether after this reply other participants may be to be called.
-fn stirs(reply: &Reply) -> bool
-    ensures { result ≡ stirs reply.now }
-{
-    matches!(
-        reply,
-        Reply::Took
-            | Reply::Expired(_)
-            | Reply::Command(
-                CommandReply::Decided(_, _) | CommandReply::Reported | CommandReply::Forgotten
-            )
-    )
-}
-
-/// Whether a call reports a completion: it makes nobody else due, save when the last one has
-/// completed.
-fn is_completion(call: &Call) -> bool
-    ensures { result ≡ is_completion call.now }
-{
-    matches!(
-        call,
-        Call::Command(Command::Report {
-            act: Act::Complete,
-            ..
-        })
-    )
-}
-
 /// How many calls more a frame counts as, by the facts between its base and its front.
 fn shares_of(delta: &Delta) -> u64
     ensures { result ≤ 320 }
@@ -142,103 +117,42 @@ fn weight_of_reply(reply: &Reply) -> u64 {
     }
 }
 
-/// Whether after this reply an LRA may have ended.
-fn may_end(reply: &Reply) -> bool
-    ensures { result ≡ may_end reply.now }
-{
-    matches!(
-        reply,
-        Reply::Took
-            | Reply::Expired(_)
-            | Reply::Command(CommandReply::Decided(_, _) | CommandReply::Reported)
-    )
-}
-
-/// Whether a call enters a command.
-pub(crate) fn enters(call: &Call) -> bool
-    ensures { result ≡ enters call.now }
-{
-    matches!(call, Call::Command(_) | Call::Expire)
-}
-
-/// The LRA of which a command says that a participant was told what it was to be told.
-fn told_by(command: &Command) -> Option<LraId>
-    ensures { result ≡ told_by command.now }
-{
-    match command {
-        Command::Forgot { id, .. } | Command::Told { id, .. } => Some(*id),
-        _ => None,
-    }
-}
-
-/// The LRA of which a call says so.
-fn freed_by(call: &Call) -> Option<LraId>
-    ensures { result ≡ freed_by call.now }
-{
-    match call {
-        Call::Command(command) => told_by(command),
-        _ => None,
-    }
-}
-
-/// Notes what a reply says of the home: that an LRA was begun, couldn't be begun, was purged, or
-/// may have ended.
-fn note_home(node: &Node, reply: &Reply) {
-    match reply {
-        Reply::Command(CommandReply::Began(_, _)) => node.sweep.note_begun(),
-        Reply::Command(CommandReply::Refused(Refusal::LrasFull)) => node.sweep.note_full(),
-        Reply::Command(CommandReply::Purged) => node.sweep.note_purged(),
-        _ => {
-            if may_end(reply) {
-                node.sweep.stir();
-            }
-        }
-    }
-}
-
 /// How many facts one has that pulls, where that is to be heard: the other nodes are in processes
 /// of their own.
 fn front_of(node: &Node, call: &Call) -> Option<Front> {
     let Call::Pull(body) = call else {
         return None;
     };
-    if !node.site.is_apart() || node.nodes == 0 || node.nodes > 8 {
+    if !node.site.is_apart() || node.nodes == 0 || node.nodes > MAX_NODES {
         return None;
     }
     front_of_pull(usize::from(node.nodes), body.as_slice()).ok()
 }
 
-/// Whether a fact was stored before this reply.
-fn is_stored(reply: &Reply) -> bool
-    ensures { result ≡ is_stored reply.now }
-{
-    match reply {
-        Reply::Command(CommandReply::Known | CommandReply::Refused(_)) => false,
-        Reply::Command(_) | Reply::Took | Reply::Expired(_) => true,
-        _ => false,
+/// Notes what the other threads are to go on with.
+fn note<R: Wait>(rt: &R, node: &Node, noted: &Noted) {
+    if is_any(noted) {
+        node.mailbox.note(rt, noted);
     }
-}
-
-/// Whether a fact of the node's own was stored before this reply, and not one that another node
-/// told.
-fn is_own_fact(reply: &Reply) -> bool
-    ensures { result ≡ is_own reply.now }
-{
-    is_stored(reply) && !matches!(reply, Reply::Took)
 }
 
 /// Notes what the other threads and nodes are to go on with after a reply (`Node::pass_on`).
-fn tell<R: Wait>(rt: &R, node: &Node, reply: &Reply, is_completion: bool) {
+fn tell<R: Wait>(rt: &R, node: &Node, reply: &Reply, completes: bool, freed: &Option<LraId>) {
     if let Reply::Gave(delta) = reply {
         node.mailbox.count(rt, &delta.front());
     }
-    if stirs(reply) {
-        node.mailbox.stir(rt, is_completion);
-    }
-    note_home(node, reply);
+    note(rt, node, &noted_by(completes, freed, reply));
     if is_own_fact(reply) {
         node.note_fact();
     }
+}
+
+/// Notes why a call was refused.
+fn tell_refused<R: Wait>(rt: &R, node: &Node, asked: Asked, refusal: &Refusal) {
+    if matches!(refusal, Refusal::JournalFailed) {
+        node.tally.note_failure();
+    }
+    node.counts.call(rt, asked, Some(number_of(refusal)));
 }
 
 impl<'n, R: Wait + Clock, C: Clerk + Drop> Clerk for CountingClerk<'n, R, C> {
@@ -255,8 +169,7 @@ impl<'n, R: Wait + Clock, C: Clerk + Drop> Clerk for CountingClerk<'n, R, C> {
         if self.holds && enters(&call) {
             if self.node.mailbox.is_spared(self.rt) {
                 self.held = true;
-                let number = number_of(&Refusal::Stopped);
-                self.node.counts.call(self.rt, asked, Some(number));
+                tell_refused(self.rt, self.node, asked, &Refusal::Stopped);
                 return Err(Refusal::Stopped);
             }
             if self.node.site.is_apart() {
@@ -268,19 +181,15 @@ impl<'n, R: Wait + Clock, C: Clerk + Drop> Clerk for CountingClerk<'n, R, C> {
                 let reply = self.clerk.reply();
                 let calls = weight.saturating_add(weight_of_reply(reply));
                 self.node.tally.count(calls, is_move, is_stored(reply));
-                tell(self.rt, self.node, reply, completes);
+                tell(self.rt, self.node, reply, completes, &freed);
                 self.node.counts.call(self.rt, asked, refused_by(reply));
                 if let Some(front) = front {
                     self.node.hear_front(self.rt, &front);
                 }
-                if let Some(id) = freed {
-                    self.node.sweep.free(self.rt, id);
-                }
                 Ok(())
             }
             Err(refusal) => {
-                let number = number_of(&refusal);
-                self.node.counts.call(self.rt, asked, Some(number));
+                tell_refused(self.rt, self.node, asked, &refusal);
                 Err(refusal)
             }
         }

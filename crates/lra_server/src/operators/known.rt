@@ -1,16 +1,19 @@
 // What a node's threads know of it, as its operators are told.
 
+use lra_metrics::{calls_of, metrics_of};
 use lra_operate::State;
 use lra_threads::Node;
 use std::alloc::{AllocError, Global};
 use std::sync::Wait;
 use std::time::Clock;
 
-/// What the threads of a node know of it.
+/// What the threads of a node know of it, and why it entered no commands when that was last looked
+/// at, if it didn't.
 #[derive(Clone, Copy)]
 pub struct Known<'n, R> {
     pub rt: &'n R,
     pub node: &'n Node,
+    pub cause: Option<&'static str>,
 }
 
 fn push_number(alloc: Global, body: &mut Vec<u8>, number: u8) -> Result<(), AllocError> {
@@ -19,9 +22,17 @@ fn push_number(alloc: Global, body: &mut Vec<u8>, number: u8) -> Result<(), Allo
 }
 
 impl<'n, R: Wait + Clock> State for Known<'n, R> {
+    ghost use Rattle.std.specs.Prelude.{◌≡◌, ⊤};
+    ghost use Rattle.std.specs.Option.{option_copied};
+
+    ghost causes = { λ k cause. cause ≡ option_copied k.cause };
+
+    // What the threads know stands under locks, of which no clause tells.
+    ghost tells = { λ _ _ _. ⊤ };
+
     fn health(&self, alloc: Global) -> Result<Vec<u8>, AllocError> {
         let mut body = Vec::from_slice(alloc, b"{\"node\":")?;
-        push_number(alloc, &mut body, self.node.number)?;
+        push_number(alloc, &mut body, self.node.number())?;
         body.extend_from_slice(b",\"nodes\":")?;
         push_number(alloc, &mut body, self.node.nodes)?;
         body.extend_from_slice(b"}")?;
@@ -29,14 +40,14 @@ impl<'n, R: Wait + Clock> State for Known<'n, R> {
     }
 
     fn unready(&self) -> Option<&'static str> {
-        self.node.unready(self.rt)
+        self.cause
     }
 
     fn calls(&self, alloc: Global) -> Result<Vec<u8>, AllocError> {
-        self.node.calls(self.rt, alloc)
+        calls_of(self.rt, alloc, self.node)
     }
 
     fn metrics(&self, alloc: Global) -> Result<Vec<u8>, AllocError> {
-        self.node.metrics(self.rt, alloc)
+        metrics_of(self.rt, alloc, self.node)
     }
 }

@@ -1,7 +1,11 @@
 // Calls that a node's operators want made, which the thread that enters makes.
+ghost use Rattle.std.specs.Prelude.{◌≡◌, IfSome, true};
+ghost use Rattle.lra_server.specs.Entering.{fits};
 
+use crate::run::noting::enters;
 use lra_book::{Call, Reply};
 use lra_facts::Refusal;
+use lra_mailbox::Wanted;
 use lra_threads::Node;
 use std::sync::{Condvar, CondvarTimeouts, Mutex, Wait};
 use std::time::{Clock, Duration};
@@ -33,7 +37,21 @@ struct Counter {
     /// The number of the last call that was wanted.
     number: u64,
     wanted: Option<Errand>,
+    /// Whether nobody waits for it any more.
+    is_given_up: bool,
     done: Option<Done>,
+}
+
+/// Whether a call may be made for operators who want one of this kind: for a question none that
+/// enters something.
+fn fits(wanted: Wanted, call: &Call) -> bool
+    ensures { result ≡ fits wanted call.now }
+{
+    match wanted {
+        Wanted::Nothing => false,
+        Wanted::Question => !enters(call),
+        Wanted::Command => true,
+    }
 }
 
 /// Where one thread, which serves operators, asks for calls, and the one that enters makes them.
@@ -46,6 +64,18 @@ pub struct Errands {
 }
 
 impl Counter {
+    /// The call that is to be made, if it is of this kind; another is left.
+    fn next(&mut self, wanted: Wanted) -> Option<Errand>
+        ensures { IfSome result (λ errand. fits wanted errand.call ≡ true) }
+    {
+        let errand = self.wanted.take()?;
+        if fits(wanted, &errand.call) {
+            return Some(errand);
+        }
+        self.wanted = Some(errand);
+        None
+    }
+
     /// What came of the last call that was wanted, if it was made.
     fn take(&mut self) -> Option<Result<Reply, Refusal>> {
         let done = self.done.take()?;
@@ -63,6 +93,7 @@ impl Errands {
             counter: Mutex::new(Counter {
                 number: 0,
                 wanted: None,
+                is_given_up: false,
                 done: None,
             }),
             made: Condvar::new(),
@@ -75,6 +106,7 @@ impl Errands {
         let number = counter.number.saturating_add(1);
         counter.number = number;
         counter.done = None;
+        counter.is_given_up = false;
         counter.wanted = Some(Errand { number, call, now });
     }
 
@@ -90,8 +122,9 @@ impl Errands {
         counter.take()
     }
 
-    /// What came of the call that was wanted last: E19 where it wasn't made in time, and where the
-    /// node's journal is closed meanwhile, or the program is to end.
+    /// What came of the call that was wanted last. Where it isn't made in time, the node's journal is
+    /// closed meanwhile, or the program is to end, it is taken back (E19); or, where that is too late,
+    /// nobody knows whether it is made (E18).
     pub(crate) fn wait<R: Wait + Clock>(&self, rt: &R, node: &Node) -> Result<Reply, Refusal> {
         for _slice in 0..SLICES {
             if let Some(outcome) = self.wait_a_slice(rt) {
@@ -101,21 +134,43 @@ impl Errands {
                 break;
             }
         }
-        self.counter.lock(rt).wanted = None;
-        Err(Refusal::Stopped)
+        self.give_up(rt, node.mailbox.take_back(rt))
     }
 
-    /// The call that is to be made, if one is.
-    pub(crate) fn next<R: Wait>(&self, rt: &R) -> Option<Errand> {
-        self.counter.lock(rt).wanted.take()
-    }
-
-    /// Tells what came of a call. Nobody waits any more for one that is not the last.
-    pub(crate) fn tell<R: Wait>(&self, rt: &R, number: u64, outcome: Result<Reply, Refusal>) {
+    /// What is answered where a call isn't waited for any more, which was taken back or wasn't.
+    fn give_up<R: Wait>(&self, rt: &R, is_back: bool) -> Result<Reply, Refusal> {
         let mut counter = self.counter.lock(rt);
-        if number == counter.number {
-            counter.done = Some(Done { number, outcome });
-            self.made.notify_all();
+        if let Some(outcome) = counter.take() {
+            return outcome;
         }
+        if is_back {
+            counter.wanted = None;
+            return Err(Refusal::Stopped);
+        }
+        counter.is_given_up = true;
+        Err(Refusal::JournalFailed)
+    }
+
+    /// The call that is to be made, if one of this kind is.
+    pub(crate) fn next<R: Wait>(&self, rt: &R, wanted: Wanted) -> Option<Errand>
+        ensures { IfSome result (λ errand. fits wanted errand.call ≡ true) }
+    {
+        self.counter.lock(rt).next(wanted)
+    }
+
+    /// Tells what came of a call. It says whether somebody waits for that still.
+    pub(crate) fn tell<R: Wait>(
+        &self,
+        rt: &R,
+        number: u64,
+        outcome: Result<Reply, Refusal>,
+    ) -> bool {
+        let mut counter = self.counter.lock(rt);
+        if number != counter.number || counter.is_given_up {
+            return false;
+        }
+        counter.done = Some(Done { number, outcome });
+        self.made.notify_all();
+        true
     }
 }

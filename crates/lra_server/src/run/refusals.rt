@@ -3,7 +3,7 @@ ghost use Rattle.std.specs.Prelude.{◌≡◌};
 ghost use Rattle.lra_server.specs.Ending.{met, reason_of};
 
 use lra_facts::Refusal;
-use lra_threads::StopReason;
+use lra_sockets::StopReason;
 
 /// That a call met this refusal, which ends a run.
 pub fn stop_reason_of(refusal: Refusal) -> StopReason

@@ -1,23 +1,24 @@
 // The thread that enters what the others hear, in each run of a node.
-ghost use Rattle.std.specs.Prelude.{◌≡◌, IfErr, IfOk, Option};
+ghost use Rattle.std.specs.Prelude.{◌≡◌, IfErr, IfOk, IfSome, List, Option, true};
 ghost use Rattle.lra_facts.specs.declared.refusal.Refusal.TheVariants.{NoMemory};
 ghost use Rattle.lra_book.specs.declared.calls.Call.TheVariants.{Duties as AskDuties, Expire as AskExpire, Take as TakeDelta};
 ghost use Rattle.lra_book.specs.declared.calls.Call.{Call as TheCall};
 ghost use Rattle.lra_mailbox.specs.declared.task.Task.{Task as TheTask};
 ghost use Rattle.lra_server.specs.Noting.{duties_in};
-ghost use Rattle.lra_server.specs.Entering.{Counts, DoesTask, EntersLetter, IsMade, IsMadeAndCopied, IsMadeInMemory, MakesIf, told};
+ghost use Rattle.lra_server.specs.Entering.{Counts, DoesEach, DoesTask, EntersLetter, IsMade, IsMadeAndCopied, IsMadeInMemory, MakesIf, fits, told};
 
-use crate::errands::{Errand, Errands};
-use crate::refusals::stop_reason_of;
-use crate::sweeping::sweep;
+use crate::operators::errands::{Errand, Errands};
+use crate::run::refusals::stop_reason_of;
+use crate::run::sweeping::sweep;
 use lra_book::{Call, Clerk, PullBody, Reply};
 use lra_callback::Duties;
 use lra_facts::Refusal;
 use lra_heard::{Letter, Telling};
-use lra_id::{Front, LAST_NUMBER};
-use lra_mailbox::Task;
+use lra_id::{Front, LAST_NUMBER, MAX_NODES};
+use lra_mailbox::{Task, Wanted};
 use lra_peer::pull_body;
-use lra_threads::{Node, Sockets, unix_millis};
+use lra_sockets::{Sockets, unix_millis};
+use lra_threads::Node;
 use lra_work::ending_by;
 use std::alloc::{AllocError, Global};
 use std::sync::Wait;
@@ -128,8 +129,8 @@ fn expire<R: Wait + Clock, C: Clerk>(
 
 /// The body of a pull by one that has all facts that there can be of so many nodes.
 fn body_of_all(alloc: Global, nodes: u8) -> Result<PullBody, AllocError> {
-    let counts = [LAST_NUMBER; 8];
-    let nodes = usize::from(nodes.clamp(1, 8));
+    let counts = [LAST_NUMBER; MAX_NODES as usize];
+    let nodes = usize::from(nodes.clamp(1, MAX_NODES));
     let bytes = pull_body(alloc, &Front::from_counts(&counts[..nodes]))?;
     Ok(PullBody::new(bytes))
 }
@@ -163,22 +164,38 @@ fn make<C: Clerk>(alloc: Global, clerk: &mut C, call: Call, now: u64) -> Result<
     }
 }
 
-/// Makes the call that operators want, if there is one.
+/// Hands back what came of a call that operators want. One for which nobody waits any more is told.
+fn hand_back<R: Wait>(
+    rt: &R,
+    node: &Node,
+    errands: &Errands,
+    number: u64,
+    outcome: Result<Reply, Refusal>,
+) {
+    if !errands.tell(rt, number, outcome) {
+        node.note_late();
+    }
+}
+
+/// Makes the call that operators want, if there is one of this kind.
 fn serve_errand<R: Wait + Clock, C: Clerk>(
     rt: &R,
     alloc: Global,
+    node: &Node,
     errands: &Errands,
     clerk: &mut C,
+    wanted: Wanted,
 ) -> Result<(), Refusal>
-    ensures { (asked : Option TheCall) × MakesIf C.Clerk clerk.old clerk.new asked result }
+    ensures { (asked : Option TheCall) × IfSome asked (λ c. fits wanted c ≡ true)
+        × MakesIf C.Clerk clerk.old clerk.new asked result }
 {
-    let Some(errand) = errands.next(rt) else {
+    let Some(errand) = errands.next(rt, wanted) else {
         return Ok(());
     };
     let Errand { number, call, now } = errand;
     let outcome = make(alloc, clerk, call, now);
     let told = told(&outcome);
-    errands.tell(rt, number, outcome);
+    hand_back(rt, node, errands, number, outcome);
     told
 }
 
@@ -196,6 +213,7 @@ fn do_task<R: Wait + Clock, C: Clerk>(
     rt: &R,
     alloc: Global,
     node: &Node,
+    errands: &Errands,
     clerk: &mut C,
     task: Task,
 ) -> Result<(), Refusal>
@@ -219,21 +237,10 @@ fn do_task<R: Wait + Clock, C: Clerk>(
             }
             counted
         }
+        Task::Sweep(chore) => sweep(rt, alloc, node, clerk, chore),
+        Task::Errand(wanted) => serve_errand(rt, alloc, node, errands, clerk, wanted),
         Task::Rest => Ok(()),
     }
-}
-
-/// Does what is to be done next. It waits for that, unless the home is to be swept.
-fn attend<R: Wait + Clock, C: Clerk>(
-    rt: &R,
-    alloc: Global,
-    node: &Node,
-    clerk: &mut C,
-) -> Result<(), Refusal>
-    ensures { (task : TheTask) × DoesTask C.Clerk clerk.old clerk.new task result }
-{
-    let task = node.mailbox.next(rt, node.sweep.is_due(rt));
-    do_task(rt, alloc, node, clerk, task)
 }
 
 /// Ends the run where a refusal does, and rests for a moment where memory runs out.
@@ -252,19 +259,17 @@ pub fn enter_all<R: Wait + Clock + Sockets, C: Clerk + Drop>(
     node: &Node,
     errands: &Errands,
     mut clerk: C,
-) -> C {
+) -> C
+    ensures { (tasks : List TheTask) × DoesEach C.Clerk clerk tasks result }
+{
     for _ in rt.forever() {
         node.pass_on(rt);
         node.end_if_spent(rt);
         if node.signal.stop_reason(rt).is_some() {
             return clerk;
         }
-        if let Err(refusal) = attend(rt, alloc, node, &mut clerk) {
-            rest(rt, node, refusal);
-        } else if let Err(refusal) = sweep(rt, alloc, node, &mut clerk) {
-            rest(rt, node, refusal);
-        }
-        if let Err(refusal) = serve_errand(rt, alloc, errands, &mut clerk) {
+        let task = node.mailbox.next(rt);
+        if let Err(refusal) = do_task(rt, alloc, node, errands, &mut clerk, task) {
             rest(rt, node, refusal);
         }
     }

@@ -1,24 +1,29 @@
 // A node at work: its runs, one after another, and the threads that outlive them.
+pub(crate) mod backoff;
+pub(crate) mod begun;
+pub(crate) mod closed;
+pub(crate) mod helpers;
+pub(crate) mod opening;
+pub(crate) mod reopening;
+
 ghost use Rattle.std.specs.Prelude.{◌≡◌, IfOk, IfSome, None};
 ghost use Rattle.lra_server.specs.Ending.{goes_on};
 
-use crate::backoff::Backoff;
-use crate::begun::{Begun, Shut, begun_by};
-use crate::closed::Closed;
-use crate::connections::Connections;
-use crate::errands::Errands;
-use crate::operating::operate;
-use crate::refusals::refusal_of;
+use crate::node::backoff::Backoff;
+use crate::node::begun::{Begun, Shut, begun_by};
+use crate::node::helpers::{roles_of, start_helper};
+use crate::node::opening::{Stores, Unopened};
+use crate::node::reopening::reopened;
+use crate::operators::errands::Errands;
+use crate::operators::operate;
 use crate::run::named_run;
+use crate::run::refusals::refusal_of;
 use crate::shared::Shared;
-use crate::{Stores, Unopened};
 use log::{Log, warn};
 use lra_api::Paths;
 use lra_book::Book;
-use lra_facts::Refusal;
-use lra_id::NodeId;
-use lra_threads::{Node, Sockets, StopReason, accept, call_out, follow, now, pull_in_turn, watch};
-use lra_work::{Open, work};
+use lra_sockets::{Sockets, StopReason, now};
+use lra_threads::Node;
 use sqlite::Alter;
 use std::alloc::Global;
 use std::io::ErrorKind;
@@ -28,149 +33,14 @@ use std::thread;
 use std::thread::{Scope, Threads};
 use std::time::{Clock, Duration};
 
-/// How many threads that call participants.
-const CALLERS: usize = 4;
-
-/// What a thread does that outlives the runs of its node.
-#[derive(Clone, Copy, PartialEq, Eq)]
-enum Role {
-    /// It warns of a full home, and of connections that were closed.
-    Watch,
-    /// It calls participants.
-    Call,
-    /// It takes connections.
-    Accept,
-    /// It pulls from the other nodes of its process in turn.
-    Pull,
-    /// It pulls from this node, in a process of its own.
-    Follow(u8),
-}
-
 /// How long a node waits where no memory can be had for its table of paths.
 const PAUSE_MS: u64 = 10;
-
-/// How many files a journal takes, with its log and the look at its folder.
-const FILES: u8 = 4;
 
 /// What a node couldn't do.
 #[derive(Clone, Copy, PartialEq, Eq, Debug)]
 pub enum Failure {
     Journal(Unopened),
     Run,
-}
-
-/// The book of a node, whose journal is opened, or why it can't be opened.
-pub fn open_book<S: Stores>(
-    alloc: Global,
-    stores: &S,
-    node: &Node,
-) -> Result<Book<S::Store>, Unopened>
-    ensures { IfOk result (λ b. b.opening ≡ None) }
-{
-    let Ok(me) = NodeId::new(node.number) else {
-        return Err(Unopened::Broken(0));
-    };
-    if node.number > node.nodes || node.nodes > 8 {
-        return Err(Unopened::Broken(0));
-    }
-    let connection = stores.open(node.number)?;
-    match Book::open(alloc, connection, me, usize::from(node.nodes)) {
-        Ok(book) => Ok(book),
-        Err((Refusal::BadFrame(place), _)) => Err(Unopened::Broken(place)),
-        Err((Refusal::NoMemory, _)) => Err(Unopened::NoMemory),
-        Err(_) => Err(Unopened::NoJournal),
-    }
-}
-
-/// Warns that a journal can't be opened again, once a second at most.
-fn warn_of_journal<R: Clock, L: Log>(
-    rt: &R,
-    log: &L,
-    node: &Node,
-    why: Unopened,
-    backoff: &mut Backoff,
-) {
-    let now = now(rt);
-    if backoff.note_warning(now) {
-        warn!(log; "node {}: its journal can't be opened again yet: {}", node.number, why);
-    }
-}
-
-/// Closes the connections that have waited longest for a worker, so that a journal and its log find
-/// a file each.
-fn close_some<R: Wait>(rt: &R, node: &Node) {
-    for _turn in 0..FILES {
-        node.queue.close_first(rt);
-    }
-}
-
-/// Answers what comes while the journal is closed: E19, for so long or until the program is to end.
-fn refuse_for<R: Wait + Clock + Sockets>(
-    rt: &R,
-    alloc: Global,
-    node: &Node,
-    shared: &Shared,
-    time: Duration,
-) {
-    let now = now(rt);
-    let mut connections = Connections::between_runs(rt, alloc, node, now.saturating_add(time));
-    for _ in rt.forever() {
-        let (_clerk, ending) = work(
-            rt,
-            alloc,
-            &shared.paths,
-            &mut connections,
-            Closed::new(alloc),
-            &Open,
-        );
-        connections.close_served();
-        if ending.is_none() {
-            return;
-        }
-    }
-}
-
-/// The book of a node whose journal was closed, opened again once that can be done; none where the
-/// program is to end before. Meanwhile each request is refused. Each time it is longer before it
-/// tries again.
-fn reopened<R, L: Log, S: Stores>(
-    rt: &R,
-    log: &L,
-    alloc: Global,
-    node: &Node,
-    stores: &S,
-    shared: &Shared,
-    backoff: &mut Backoff,
-) -> Result<Option<Book<S::Store>>, Failure>
-where
-    R: Wait + Clock + Sockets,
-    ensures { IfOk result (λ next. IfSome next (λ b. b.opening ≡ None)) }
-{
-    node.note_shut(true);
-    for _ in rt.forever() {
-        if node.signal.has_ended(rt) {
-            return Ok(None);
-        }
-        let why = match open_book(alloc, stores, node) {
-            Ok(book) => {
-                node.note_shut(false);
-                backoff.end_rest();
-                node.mailbox.hold(rt, backoff.next_pause());
-                return Ok(Some(book));
-            }
-            Err(why) => why,
-        };
-        if why.is_for_good() {
-            return Err(Failure::Journal(why));
-        }
-        node.counts.failure(rt);
-        warn_of_journal(rt, log, node, why, backoff);
-        refuse_for(rt, alloc, node, shared, backoff.next_rest());
-        if why == Unopened::NoFile {
-            close_some(rt, node);
-        }
-    }
-    unreachable!()
 }
 
 /// Whether the next run is on the same book, by why the last is over: it had no fault, or no thread
@@ -267,10 +137,10 @@ fn warn_of<R: Clock, L: Log>(
     };
     if let Some(refusal) = refusal_of(reason) {
         if backoff.note_warning(now) {
-            warn!(log; "node {}: {}", node.number, refusal);
+            warn!(log; "node {}: {}", node.number(), refusal);
         }
     } else if reason == StopReason::Starved && backoff.note_warning(now) {
-        warn!(log; "node {}: no thread or no memory can be had for a run", node.number);
+        warn!(log; "node {}: no thread or no memory can be had for a run", node.number());
     }
 }
 
@@ -370,75 +240,12 @@ where
     unreachable!()
 }
 
-/// What the thread at a place does, if there is something for it.
-fn role_of(node: &Node, place: usize) -> Option<Role> {
-    if place == 0 {
-        return Some(Role::Watch);
-    }
-    if place <= CALLERS {
-        return Some(Role::Call);
-    }
-    let after = place.saturating_sub(CALLERS);
-    if after == 1 {
-        return Some(Role::Accept);
-    }
-    if !node.site.is_apart() {
-        return if node.nodes > 1 {
-            Some(Role::Pull)
-        } else {
-            None
-        };
-    }
-    let number = u8::try_from(after.saturating_sub(1)).unwrap_or(node.number);
-    if number == node.number {
-        None
-    } else {
-        Some(Role::Follow(number))
-    }
-}
-
 /// Where a node's threads take connections.
 #[derive(Drop)]
 pub struct Listeners {
     listener: TcpListener,
     /// For operators, if they are served.
     operators: Option<TcpListener>,
-}
-
-/// Plays a role, until the program is to end.
-fn help<R: Wait + Clock + Sockets, L: Log>(
-    rt: &R,
-    log: &L,
-    alloc: Global,
-    node: &Node,
-    listener: &TcpListener,
-    role: Role,
-) {
-    match role {
-        Role::Watch => watch(rt, log, node),
-        Role::Call => call_out(rt, log, alloc, node),
-        Role::Accept => accept(rt, node, listener),
-        Role::Pull => pull_in_turn(rt, alloc, node),
-        Role::Follow(number) => follow(rt, log, alloc, node, number),
-    }
-}
-
-/// How many places of threads that outlive the runs a node has: one that watches, those that call,
-/// one that accepts, and those that pull.
-fn places_of(node: &Node) -> usize {
-    let pulling = if node.site.is_apart() {
-        usize::from(node.nodes)
-    } else {
-        1
-    };
-    CALLERS.saturating_add(2).saturating_add(pulling)
-}
-
-/// Ends the threads that outlive runs.
-fn end_helpers<R: Wait + Clock + Sockets>(rt: &R, node: &Node) {
-    node.end_run(rt, StopReason::Program);
-    node.mailbox.end(rt);
-    node.news.end(rt);
 }
 
 /// What a node begins with: its first run, and its ports.
@@ -472,26 +279,6 @@ pub fn runtime_of<R: Sockets, S: Alter + Drop>(
         operators,
     };
     Ok(NodeRuntime { begun, listeners })
-}
-
-/// Starts a thread for a role. It says whether one could be had. (As in `run`, each start is a
-/// function of its own.)
-fn start_helper<'s, E, R, L>(
-    scope: &Scope<'s, E>,
-    rt: &'s R,
-    log: &'s L,
-    alloc: Global,
-    node: &'s Node,
-    listener: &'s TcpListener,
-    role: Role,
-) -> bool
-where
-    R: Threads + Wait + Clock + Sockets + Sync,
-    L: Log + Sync,
-{
-    scope
-        .spawn(move || help(rt, log, alloc, node, listener, role))
-        .is_ok()
 }
 
 /// Starts the thread that serves operators. It says whether one could be had.
@@ -528,10 +315,10 @@ where
     R: Threads + Wait + Clock + Sockets + Sync,
     L: Log + Sync,
 {
-    for place in 0..places_of(node) {
-        let Some(role) = role_of(node, place) else {
-            continue;
-        };
+    let Ok(roles) = roles_of(alloc, node) else {
+        return false;
+    };
+    for role in roles {
         if !start_helper(scope, rt, log, alloc, node, &listeners.listener, role) {
             return false;
         }
@@ -567,11 +354,11 @@ where
     let (listeners, shared) = (&listeners, &shared);
     thread::scope(thread::scope_env(), rt, move |scope| {
         if !start_helpers(scope, rt, log, alloc, node, shared, listeners) {
-            end_helpers(rt, node);
+            node.end_program(rt);
             return Err(Failure::Run);
         }
         let outcome = run_on(rt, log, alloc, node, stores, shared, begun);
-        end_helpers(rt, node);
+        node.end_program(rt);
         outcome
     })
 }

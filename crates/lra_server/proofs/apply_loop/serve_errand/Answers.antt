@@ -1,7 +1,0 @@
-use Rattle.lra_server.proofs.Outcomes.{told_made}
-use Rattle.lra_server.proofs.apply_loop.serve_errand.Goals as goal
-
-pub returns : goal.returns
-returns g c =
-    told_made g.C.Clerk c.args.clerk.now c.make-outcome.new.clerk c.in-Some.errand.now c.in-Some.errand.call c.make-outcome.result c.told-told.result
-    c.make-outcome.ensures c.told-told.ensures

@@ -1,0 +1,95 @@
+// The threads of a node that outlive its runs.
+
+use log::Log;
+use lra_sockets::Sockets;
+use lra_threads::{Node, accept, call_out, follow, pull_in_turn, watch};
+use std::alloc::{AllocError, Global};
+use std::net::TcpListener;
+use std::sync::Wait;
+use std::thread::{Scope, Threads};
+use std::time::Clock;
+
+/// How many threads that call participants.
+const CALLERS: usize = 4;
+
+/// What a thread does that outlives the runs of its node.
+#[derive(Clone, Copy, PartialEq, Eq)]
+pub(crate) enum Role {
+    /// It warns of a full home, and of connections that were closed.
+    Watch,
+    /// It calls participants.
+    Call,
+    /// It takes connections.
+    Accept,
+    /// It pulls from the other nodes of its process in turn.
+    Pull,
+    /// It pulls from this node, in a process of its own.
+    Follow(u8),
+}
+
+/// Adds who pulls from the other nodes.
+fn push_pullers(roles: &mut Vec<Role>, node: &Node) -> Result<(), AllocError> {
+    if !node.site.is_apart() {
+        if node.nodes > 1 {
+            roles.push(Role::Pull)?;
+        }
+        return Ok(());
+    }
+    for number in 1..=node.nodes {
+        if number != node.number() {
+            roles.push(Role::Follow(number))?;
+        }
+    }
+    Ok(())
+}
+
+/// What the threads do that outlive the runs of a node: one watches, some call, one accepts, and
+/// some pull.
+pub(crate) fn roles_of(alloc: Global, node: &Node) -> Result<Vec<Role>, AllocError> {
+    let mut roles = Vec::new(alloc);
+    roles.push(Role::Watch)?;
+    for _caller in 0..CALLERS {
+        roles.push(Role::Call)?;
+    }
+    roles.push(Role::Accept)?;
+    push_pullers(&mut roles, node)?;
+    Ok(roles)
+}
+
+/// Plays a role, until the program is to end.
+fn help<R: Wait + Clock + Sockets, L: Log>(
+    rt: &R,
+    log: &L,
+    alloc: Global,
+    node: &Node,
+    listener: &TcpListener,
+    role: Role,
+) {
+    match role {
+        Role::Watch => watch(rt, log, node),
+        Role::Call => call_out(rt, log, alloc, node),
+        Role::Accept => accept(rt, node, listener),
+        Role::Pull => pull_in_turn(rt, alloc, node),
+        Role::Follow(number) => follow(rt, log, alloc, node, number),
+    }
+}
+
+/// Starts a thread for a role. It says whether one could be had. (As in `run`, each start is a
+/// function of its own.)
+pub(crate) fn start_helper<'s, E, R, L>(
+    scope: &Scope<'s, E>,
+    rt: &'s R,
+    log: &'s L,
+    alloc: Global,
+    node: &'s Node,
+    listener: &'s TcpListener,
+    role: Role,
+) -> bool
+where
+    R: Threads + Wait + Clock + Sockets + Sync,
+    L: Log + Sync,
+{
+    scope
+        .spawn(move || help(rt, log, alloc, node, listener, role))
+        .is_ok()
+}

@@ -1,0 +1,134 @@
+// A node's book, opened, and opened again once its journal has failed.
+ghost use Rattle.std.specs.Prelude.{◌≡◌, IfOk, IfSome, None};
+
+use crate::node::Failure;
+use crate::node::backoff::Backoff;
+use crate::node::closed::Closed;
+use crate::node::opening::{Stores, Unopened};
+use crate::run::connections::Connections;
+use crate::shared::Shared;
+use log::{Log, warn};
+use lra_book::Book;
+use lra_facts::Refusal;
+use lra_id::MAX_NODES;
+use lra_sockets::{Sockets, now};
+use lra_threads::Node;
+use lra_work::{Open, work};
+use std::alloc::Global;
+use std::sync::Wait;
+use std::time::{Clock, Duration};
+
+/// How many files a journal takes, with its log and the look at its folder.
+const FILES: u8 = 4;
+
+/// The book of a node, whose journal is opened, or why it can't be opened.
+pub fn open_book<S: Stores>(
+    alloc: Global,
+    stores: &S,
+    node: &Node,
+) -> Result<Book<S::Store>, Unopened>
+    ensures { IfOk result (λ b. b.opening ≡ None) }
+{
+    let me = node.me;
+    if me.number() > node.nodes || node.nodes > MAX_NODES {
+        return Err(Unopened::Broken(0));
+    }
+    let connection = stores.open(me.number())?;
+    match Book::open(alloc, connection, me, usize::from(node.nodes)) {
+        Ok(book) => Ok(book),
+        Err((Refusal::BadFrame(place), _)) => Err(Unopened::Broken(place)),
+        Err((Refusal::NoMemory, _)) => Err(Unopened::NoMemory),
+        Err(_) => Err(Unopened::NoJournal),
+    }
+}
+
+/// Warns that a journal can't be opened again, once a second at most.
+fn warn_of_journal<R: Clock, L: Log>(
+    rt: &R,
+    log: &L,
+    node: &Node,
+    why: Unopened,
+    backoff: &mut Backoff,
+) {
+    let now = now(rt);
+    if backoff.note_warning(now) {
+        warn!(log; "node {}: its journal can't be opened again yet: {}", node.number(), why);
+    }
+}
+
+/// Closes the connections that have waited longest for a worker, so that a journal and its log find
+/// a file each.
+fn close_some<R: Wait>(rt: &R, node: &Node) {
+    for _turn in 0..FILES {
+        node.queue.close_first(rt);
+    }
+}
+
+/// Answers what comes while the journal is closed: E19, for so long or until the program is to end.
+fn refuse_for<R: Wait + Clock + Sockets>(
+    rt: &R,
+    alloc: Global,
+    node: &Node,
+    shared: &Shared,
+    time: Duration,
+) {
+    let now = now(rt);
+    let mut connections = Connections::between_runs(rt, alloc, node, now.saturating_add(time));
+    for _ in rt.forever() {
+        let (_clerk, ending) = work(
+            rt,
+            alloc,
+            &shared.paths,
+            &mut connections,
+            Closed::new(alloc),
+            &Open,
+        );
+        connections.close_served();
+        if ending.is_none() {
+            return;
+        }
+    }
+}
+
+/// The book of a node whose journal was closed, opened again once that can be done; none where the
+/// program is to end before. Meanwhile each request is refused. Each time it is longer before it
+/// tries again.
+pub fn reopened<R, L: Log, S: Stores>(
+    rt: &R,
+    log: &L,
+    alloc: Global,
+    node: &Node,
+    stores: &S,
+    shared: &Shared,
+    backoff: &mut Backoff,
+) -> Result<Option<Book<S::Store>>, Failure>
+where
+    R: Wait + Clock + Sockets,
+    ensures { IfOk result (λ next. IfSome next (λ b. b.opening ≡ None)) }
+{
+    node.note_shut(true);
+    for _ in rt.forever() {
+        if node.signal.has_ended(rt) {
+            return Ok(None);
+        }
+        let why = match open_book(alloc, stores, node) {
+            Ok(book) => {
+                node.note_shut(false);
+                backoff.end_rest();
+                node.mailbox.hold(rt, backoff.next_pause());
+                return Ok(Some(book));
+            }
+            Err(why) => why,
+        };
+        if why.is_for_good() {
+            return Err(Failure::Journal(why));
+        }
+        node.counts.failure(rt);
+        warn_of_journal(rt, log, node, why, backoff);
+        refuse_for(rt, alloc, node, shared, backoff.next_rest());
+        if why == Unopened::NoFile {
+            close_some(rt, node);
+        }
+    }
+    unreachable!()
+}

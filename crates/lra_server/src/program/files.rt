@@ -1,0 +1,30 @@
+// What a program says of the files that it opens.
+
+use sqlite::Start;
+use std::fs::File;
+
+/// Nothing is known of what a file held, and it is supposed that a torn write leaves each byte old
+/// or new. The kit's `Unknown` says the same, but can't be copied. A start is a type, and one
+/// serves all files and openings.
+#[derive(Clone, Copy, Drop)]
+pub struct UnknownFiles;
+
+impl Start for UnknownFiles {
+    ghost use Rattle.std.specs.Prelude.{[], true};
+
+    ghost log = { [] };
+
+    ghost db = { [] };
+
+    ghost is_mixing = { true };
+
+    fn mixes() -> bool {
+        true
+    }
+}
+
+/// Opens nothing, so that no connection gets the number of a standard stream that was closed before
+/// the start: what is written to standard error would go to a client.
+pub fn hold(rt: &HostRuntime) -> Option<File> {
+    File::open(rt, "/dev/null").ok()
+}

@@ -1,0 +1,141 @@
+// What a call at the desk leaves for the threads to go on with.
+ghost use Rattle.std.specs.Prelude.{◌≡◌};
+ghost use Rattle.lra_server.specs.Noting.{became_by, became_of, enters, freed_by, is_completion, is_own, is_stored, news_by, news_of, noted_by, told_by};
+
+use lra_book::{Call, Reply};
+use lra_facts::{Command, CommandReply, Refusal};
+use lra_id::{Act, LraId};
+use lra_mailbox::{Became, News, Noted};
+
+/// Whether a call enters something of the node's own.
+pub fn enters(call: &Call) -> bool
+    ensures { result ≡ enters call.now }
+{
+    matches!(call, Call::Command(_) | Call::Expire | Call::Sweep { .. })
+}
+
+/// Whether a call reports a completion: it makes nobody else due, save when the last one has
+/// completed.
+pub fn is_completion(call: &Call) -> bool
+    ensures { result ≡ is_completion call.now }
+{
+    matches!(
+        call,
+        Call::Command(Command::Report {
+            act: Act::Complete,
+            ..
+        })
+    )
+}
+
+/// The LRA of which a command says that a participant was told what it was to be told.
+fn told_by(command: &Command) -> Option<LraId>
+    ensures { result ≡ told_by command.now }
+{
+    match command {
+        Command::Forgot { id, .. } | Command::Told { id, .. } => Some(*id),
+        _ => None,
+    }
+}
+
+/// The LRA of which a call says so.
+pub fn freed_by(call: &Call) -> Option<LraId>
+    ensures { result ≡ freed_by call.now }
+{
+    match call {
+        Call::Command(command) => told_by(command),
+        _ => None,
+    }
+}
+
+fn news_by(completes: bool, reply: &CommandReply) -> News
+    ensures { result ≡ news_by completes reply.now }
+{
+    match reply {
+        CommandReply::Decided(_, _) | CommandReply::Forgotten => News::Others,
+        CommandReply::Reported => {
+            if completes {
+                News::OfCompletion
+            } else {
+                News::Others
+            }
+        }
+        _ => News::Nobody,
+    }
+}
+
+/// Whether after this reply other participants may be due.
+fn news_of(completes: bool, reply: &Reply) -> News
+    ensures { result ≡ news_of completes reply.now }
+{
+    match reply {
+        Reply::Took | Reply::Expired(_) => News::Others,
+        Reply::Command(reply) => news_by(completes, reply),
+        _ => News::Nobody,
+    }
+}
+
+fn became_by(reply: &CommandReply) -> Became
+    ensures { result ≡ became_by reply.now }
+{
+    match reply {
+        CommandReply::Began(_, _) => Became::Begun,
+        CommandReply::Refused(refusal) => {
+            if *refusal == Refusal::LrasFull {
+                Became::Full
+            } else {
+                Became::Nothing
+            }
+        }
+        CommandReply::Purged => Became::Removed,
+        CommandReply::Decided(_, _) | CommandReply::Reported => Became::Ended,
+        _ => Became::Nothing,
+    }
+}
+
+/// What may have become of an LRA, by this reply.
+fn became_of(reply: &Reply) -> Became
+    ensures { result ≡ became_of reply.now }
+{
+    match reply {
+        Reply::Took | Reply::Expired(_) => Became::Ended,
+        Reply::Command(reply) => became_by(reply),
+        _ => Became::Nothing,
+    }
+}
+
+/// What a call leaves that reported a completion or didn't, said that a participant was told, or
+/// didn't, and was replied so.
+pub fn noted_by(completes: bool, freed: &Option<LraId>, reply: &Reply) -> Noted
+    ensures { result ≡ noted_by completes freed.now reply.now }
+{
+    Noted {
+        news: news_of(completes, reply),
+        became: became_of(reply),
+        freed: *freed,
+    }
+}
+
+/// Whether that is anything.
+pub fn is_any(noted: &Noted) -> bool {
+    noted.news != News::Nobody || noted.became != Became::Nothing || noted.freed.is_some()
+}
+
+/// Whether a fact was stored before this reply.
+pub fn is_stored(reply: &Reply) -> bool
+    ensures { result ≡ is_stored reply.now }
+{
+    match reply {
+        Reply::Command(CommandReply::Known | CommandReply::Refused(_)) => false,
+        Reply::Command(_) | Reply::Took | Reply::Expired(_) => true,
+        _ => false,
+    }
+}
+
+/// Whether a fact of the node's own was stored before this reply, and not one that another node
+/// told.
+pub fn is_own_fact(reply: &Reply) -> bool
+    ensures { result ≡ is_own reply.now }
+{
+    is_stored(reply) && !matches!(reply, Reply::Took)
+}
