@@ -5,7 +5,8 @@ use Rattle.std.specs.List.{AllPairs, AllZip, list_any}
 use Rattle.std.specs.Net.Grammar.{IsSocketText}
 use Rattle.std.specs.Net.Socket.{socket_port}
 use Rattle.std.specs.declared.net.socket_addr.SocketAddr.{SocketAddr}
-use Rattle.lra_threads.specs.declared.site.Peer.{Peer}
+use Rattle.lra_id.specs.declared.TheConstants.{MAX_NODES}
+use Rattle.lra_sockets.specs.declared.site.Peer.{Peer}
 
 -- a word says one node, or the first and the last of several with a hyphen between them
 abbrev pub SaysNodes : List ℕ → (first last : ℕ) → Type 0
@@ -65,7 +66,7 @@ pub record AskNodes (words : List (List ℕ)) (first last : ℕ) (listen operate
   pub are : words ≡ nodes ∷ folder ∷ behind
   pub say_nodes : SaysNodes nodes first last
   pub say_choices : SayChoices behind listen operate ended failed addresses
-  pub in_order : (1 ≤ first) × (first ≤ last) × (last ≤ length addresses) × (length addresses ≤ 8)
+  pub in_order : (1 ≤ first) × (first ≤ last) × (last ≤ length addresses) × (length addresses ≤ MAX_NODES)
   pub listens_alone : first < last → listen ≡ None
   pub have_ports : HavePorts first last operate
 

@@ -3,18 +3,18 @@ ghost use Rattle.std.specs.Prelude.{◌≡◌, ◌≢◌, ◌≤◌, ◌<◌, �
 ghost use Rattle.std.specs.Fmt.{decimal};
 ghost use Rattle.std.specs.List.{AllPairs, Contains};
 ghost use Rattle.std.specs.declared.net.socket_addr.SocketAddr.{SocketAddr as TheAddress};
+ghost use Rattle.lra_id.specs.declared.TheConstants.{MAX_NODES};
 ghost use Rattle.lra_member.specs.Arguments.{AskMembers, AskNodes, HavePorts, IsListen, IsTime, SayChoices, SayPeers, SaysNodes, reached, said};
 ghost use Rattle.lra_member.specs.Readings.{IsNotSaid, IsOneOrTwo, IsUnnamed};
 ghost use Rattle.lra_member.specs.declared.words.Unasked.TheVariants as unasked;
 
 use crate::words::{Unasked, number_of, peer_of};
+use lra_id::MAX_NODES;
+use lra_mailbox::Keep;
 use lra_server::Members;
-use lra_threads::{Keep, Peer};
+use lra_sockets::Peer;
 use std::alloc::Global;
 use std::net::SocketAddr;
-
-/// The most nodes that there may be.
-const MAX_NODES: usize = 8;
 
 /// The nodes that are asked for, and the folder in which their journals lie.
 #[derive(Drop)]
@@ -39,8 +39,8 @@ fn one_or_two(word: &[u8]) -> Option<(u8, u8)>
 
 /// The node that a digit spells.
 fn node_of(digit: u8) -> Option<u8>
-    ensures { MatchOption result ((node : ℕ) → 1 ≤ node → node ≤ 8 → digit ≡ 48 + node → ⊥)
-        (λ node. (1 ≤ node) × (node ≤ 8) × (digit ≡ 48 + node)) }
+    ensures { MatchOption result ((node : ℕ) → 1 ≤ node → node ≤ MAX_NODES → digit ≡ 48 + node → ⊥)
+        (λ node. (1 ≤ node) × (node ≤ MAX_NODES) × (digit ≡ 48 + node)) }
 {
     if digit < b'1' || digit > b'8' {
         return None;
@@ -50,9 +50,9 @@ fn node_of(digit: u8) -> Option<u8>
 
 /// The first and the last node that a word says.
 fn nodes_of(word: &[u8]) -> Option<(u8, u8)>
-    ensures one { (first last : ℕ) → 1 ≤ first → first ≤ last → last ≤ 8 → SaysNodes word.now first last →
+    ensures one { (first last : ℕ) → 1 ≤ first → first ≤ last → last ≤ MAX_NODES → SaysNodes word.now first last →
         result ≡ Some (first, last) }
-    ensures are { IfSome result (λ nodes. (1 ≤ nodes.0) × (nodes.0 ≤ nodes.1) × (nodes.1 ≤ 8)
+    ensures are { IfSome result (λ nodes. (1 ≤ nodes.0) × (nodes.0 ≤ nodes.1) × (nodes.1 ≤ MAX_NODES)
         × SaysNodes word.now nodes.0 nodes.1) }
 {
     let Some((first, last)) = one_or_two(word) else {
@@ -171,10 +171,10 @@ fn have_ports(first: u8, last: u8, operate: Option<SocketAddr>) -> bool
 
 /// Whether these are nodes of so many. Several can't listen at one address that is said.
 fn is_group(first: u8, last: u8, listen: Option<SocketAddr>, count: usize) -> bool
-    ensures { MatchBool result ((last ≤ count) × (count ≤ 8) × (first < last → listen ≡ None))
-        ((last ≤ count) × (count ≤ 8) × (first < last → listen ≡ None) → ⊥) }
+    ensures { MatchBool result ((last ≤ count) × (count ≤ MAX_NODES) × (first < last → listen ≡ None))
+        ((last ≤ count) × (count ≤ MAX_NODES) × (first < last → listen ≡ None) → ⊥) }
 {
-    if usize::from(last) > count || count > MAX_NODES {
+    if usize::from(last) > count || count > usize::from(MAX_NODES) {
         return false;
     }
     !(first < last && listen.is_some())
@@ -284,7 +284,7 @@ pub fn asked_by(alloc: Global, words: &[String]) -> Result<Asked, Unasked>
         (peers : List (List ℕ × ℕ)) (folder : List ℕ) →
         AskMembers (map string_bytes words.now) first last listen operate ended failed peers folder → ⊥) }
     ensures few { IfOk result (λ asked. (1 ≤ vec_len asked.members.peers)
-        × (vec_len asked.members.peers ≤ 8)) }
+        × (vec_len asked.members.peers ≤ MAX_NODES)) }
 {
     let Some(reading) = reading_of(words) else {
         return Err(Unasked::OtherWords);

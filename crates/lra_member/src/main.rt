@@ -5,18 +5,17 @@
 mod asked;
 mod words;
 
+ghost use Rattle.lra_id.specs.declared.TheConstants.{MAX_NODES};
 ghost use Rattle.std.specs.Prelude.{◌≤◌, vec_len};
 
 use crate::asked::{Asked, asked_by};
 use crate::words::Unasked;
 use log::{Level, Log, Logged};
 use lra_script::arguments;
-use lra_server::{Folder, Members, Stores, serve_members};
+use lra_server::{Folder, Members, Stores, UnknownFiles, hold, serve_members};
 use lra_threads::{ToLines, lines_of};
-use sqlite::Start;
 use std::alloc::Global;
 use std::env;
-use std::fs::File;
 use std::io::Read;
 use std::net::{Net, TcpListener, TcpStream};
 use std::process::ExitCode;
@@ -83,33 +82,8 @@ where
     H: Wait + Send + Drop + 'static,
     S: Stores + Sync,
     I: Read + Send + Drop + 'static,
-    requires nodes { (1 ≤ vec_len members.peers) × (vec_len members.peers ≤ 8) }
+    requires nodes { (1 ≤ vec_len members.peers) × (vec_len members.peers ≤ MAX_NODES) }
     ensures status { result ≤ 1 }
 {
     serve_members(rt, log, host, alloc, members, stores, input)
-}
-
-/// Opens nothing, so that no connection gets the number of a standard stream that was closed before
-/// the start: what is written to standard error would go to a client.
-fn hold(rt: &HostRuntime) -> Option<File> {
-    File::open(rt, "/dev/null").ok()
-}
-
-/// Nothing is known of what a file held, and it is supposed that a torn write leaves each byte old
-/// or new. The kit's `Unknown` says the same, but can't be copied.
-#[derive(Clone, Copy, Drop)]
-struct UnknownFiles;
-
-impl Start for UnknownFiles {
-    ghost use Rattle.std.specs.Prelude.{[], true};
-
-    ghost log = { [] };
-
-    ghost db = { [] };
-
-    ghost is_mixing = { true };
-
-    fn mixes() -> bool {
-        true
-    }
 }

@@ -4,7 +4,7 @@ ghost use Rattle.std.specs.Fmt.{decimal};
 ghost use Rattle.lra_member.specs.Arguments.{IsHost, SaysPeer, has, host_text, reached};
 ghost use Rattle.lra_member.specs.declared.words.Unasked.TheVariants as unasked;
 
-use lra_threads::Peer;
+use lra_sockets::Peer;
 use std::alloc::Global;
 
 /// Why the words of a command line ask for no node.

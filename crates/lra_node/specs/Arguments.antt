@@ -1,6 +1,7 @@
 -- What the program's arguments ask for, beside a script.
 use Rattle.std.specs.Prelude.{◌≡◌, ◌≤◌, ℕ, List, [], ◌∷◌, codes}
 use Rattle.std.specs.Fmt.{decimal}
+use Rattle.lra_id.specs.declared.TheConstants.{MAX_NODES}
 use Rattle.lra_script.specs.Asks.{IsNodeOf}
 
 -- a server of so many nodes, of which the first listens at this port, with their journals in a folder
@@ -9,4 +10,4 @@ server_words nodes port folder = codes "serve" ∷ decimal nodes ∷ decimal por
 
 -- words ask for such a server, of 1 to 8 nodes, at a port that all of them can have and that asks for no privilege
 abbrev pub AskServer : List (List ℕ) → (nodes port : ℕ) → List ℕ → Type 0
-AskServer words nodes port folder = IsNodeOf 8 nodes × (1024 ≤ port) × (port ≤ 65528) × (words ≡ server_words nodes port folder)
+AskServer words nodes port folder = IsNodeOf MAX_NODES nodes × (1024 ≤ port) × (port ≤ 65528) × (words ≡ server_words nodes port folder)

@@ -1,6 +1,7 @@
 //! The program: a server of one to eight nodes, or a script of commands over as many.
 #![tactic(auto)]
 
+ghost use Rattle.lra_id.specs.declared.TheConstants.{MAX_NODES};
 ghost use Rattle.lra_node.specs.Arguments.{AskServer};
 ghost use Rattle.std.specs.Prelude.{◌≤◌, ℕ, List, MatchOption, map, string_bytes};
 
@@ -8,11 +9,9 @@ use log::{Level, Log, Logged};
 use lra_http::{OverRead, OverWrite};
 use lra_id::MAX_NODES;
 use lra_script::{Ended, arguments, code_of, node_of, play};
-use lra_server::{Folder, Stores, serve};
+use lra_server::{Folder, Stores, UnknownFiles, hold, serve};
 use lra_threads::{ToLines, lines_of};
-use sqlite::Start;
 use std::alloc::Global;
-use std::fs::File;
 use std::io::Read;
 use std::net::{Net, TcpListener, TcpStream};
 use std::process::ExitCode;
@@ -82,7 +81,7 @@ where
     H: Wait + Send + Drop + 'static,
     S: Stores + Sync,
     I: Read + Send + Drop + 'static,
-    requires nodes { (1 ≤ nodes) × (nodes ≤ 8) }
+    requires nodes { (1 ≤ nodes) × (nodes ≤ MAX_NODES) }
     ensures status { result ≤ 1 }
 {
     serve(rt, log, host, alloc, nodes, port, stores, input)
@@ -93,32 +92,6 @@ fn played(rt: &HostRuntime, words: &[String]) -> Ended {
     let mut reader = OverRead::new(rt.reader());
     let mut writer = OverWrite::new(io::writer(rt));
     play(rt, words, USAGE, &mut reader, &mut writer)
-}
-
-/// Opens nothing, so that no connection gets the number of a standard stream that was closed before
-/// the start: what is written to standard error would go to a client.
-fn hold(rt: &HostRuntime) -> Option<File> {
-    File::open(rt, "/dev/null").ok()
-}
-
-/// Nothing is known of what a file held, and it is supposed that a torn write leaves each byte old
-/// or new. The kit's `Unknown` says the same, but can't be copied. A start is a type, and one
-/// serves all files and openings.
-#[derive(Clone, Copy, Drop)]
-struct UnknownFiles;
-
-impl Start for UnknownFiles {
-    ghost use Rattle.std.specs.Prelude.{[], true};
-
-    ghost log = { [] };
-
-    ghost db = { [] };
-
-    ghost is_mixing = { true };
-
-    fn mixes() -> bool {
-        true
-    }
 }
 
 /// The folder that the last word names.

@@ -5,8 +5,9 @@ use crate::loopback::{InMemory, Until, address, answers, comes_to, needs, stoppe
 use crate::{halves, hanging};
 use log::sink::Console;
 use log::{Level, Log, Logged};
+use lra_mailbox::Keep;
 use lra_server::{Members, serve, serve_members};
-use lra_threads::{Keep, Peer};
+use lra_sockets::Peer;
 use std::alloc::Global;
 use std::io::Read;
 use std::net::{Net, TcpListener, TcpStream};

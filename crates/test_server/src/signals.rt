@@ -1,7 +1,7 @@
 // Of several causes for the end of a run the weightiest stands, whatever their order.
 
 use crate::loopback::needs;
-use lra_threads::{Signal, StopReason};
+use lra_sockets::{Signal, StopReason};
 use std::sync::Wait;
 use std::test::Fail;
 
