@@ -2,11 +2,12 @@
 """Tests the operator's port, as who is on call meets it: python3 tests/operate.py [PROGRAM] [TEST..].
 
 PROGRAM is crates/lra_member/out/lra_member, or --unproved (tools/unproved.py). A TEST is one of paths, records, stuck,
-dead, page, metrics, ready, slow and cost; without one it does all, some two minutes. Each check prints a line; the
-status is 1 where one fails. Standard library alone."""
+dead, page, metrics, ready, early, disk, slow and cost; without one it does all, some two minutes. Each check prints a
+line; the status is 1 where one fails. Standard library alone."""
 import json
 import os
 import re
+import resource
 import socket
 import subprocess
 import sys
@@ -125,7 +126,7 @@ class TestOperators(checks.Checked):
         """Each path, what is no path, and what the interface has."""
         group = self.operated(2).start()
         line = f"node 1: listens for operators on 127.0.0.1:{group.doors[0]}"
-        self.check("it says where it listens", line in group.whole_log(1), group.whole_log(1))
+        self.check("it says where it listens", comes_to(SLOW, lambda: line in group.whole_log(1)))
         self.check("health", group.told(1, "/health") == (200, {"node": 1, "nodes": 2}))
         self.check("ready", comes_to(SLOW, lambda: group.told(1, "/ready") == (200, {"ready": True})))
         page = group.at(1, "/")
@@ -368,6 +369,48 @@ class TestOperators(checks.Checked):
         self.check("it is ready in the end", comes_to(SLOW, is_seen), seen)
         self.check("and says why not before, if at all", seen <= {(200, None), (503, "behind")}, seen)
         group.end(1)
+
+    def test_early(self) -> None:
+        """A command at the operator's port waits until the others are heard, as elsewhere; a question doesn't."""
+        group = self.operated(2)
+        group.start(1, 2)
+        group.kill(1, 2)
+        group.run(1)
+        seen: list[Json] = []
+
+        def is_told() -> bool:
+            try:
+                seen.append(group.told(1, "/ready")[1])
+            except OSError:
+                return False
+            return True
+
+        self.check("it listens", comes_to(SLOW, is_told))
+        began = time.monotonic()
+        listed = group.at(1, "/lras").status
+        self.check("a question is answered", listed == 200 and time.monotonic() - began < 0.7, listed)
+        status, _ = group.told(1, "/lra", "POST")
+        self.check("a command is entered", status == 201, status)
+        behind = seen[0].get("cause") == "behind"
+        self.check("but not before the others are heard", not behind or group.told(1, "/ready")[0] == 200, seen)
+        group.end(1)
+
+    def test_disk(self) -> None:
+        """A node whose journal can't grow says so from a refused write until one is stored, and goes on by itself."""
+        group = self.operated(1).start()
+        pid, limit = group.processes[1].pid, resource.RLIMIT_FSIZE
+        group.begin(1)
+        resource.prlimit(pid, limit, (1, resource.RLIM_INFINITY))
+        self.check("a write is refused", comes_to(SLOW, lambda: group.told(1, "/lra", "POST")[0] == 503))
+        causes = {(group.told(1, "/ready")[0], group.told(1, "/ready")[1].get("cause")) for _ in range(40)}
+        self.check("it isn't ready", causes == {(503, "journal")}, causes)
+        time.sleep(2)
+        self.check("nor behind the pause", group.told(1, "/ready") == (503, {"ready": False, "cause": "journal"}))
+        self.check("that is counted", group.samples(1)[("lra_ready",)] == 0)
+        resource.prlimit(pid, limit, (resource.RLIM_INFINITY, resource.RLIM_INFINITY))
+        self.check("it goes on by itself", comes_to(SLOW, lambda: group.told(1, "/lra", "POST")[0] == 201))
+        self.check("and is ready", group.told(1, "/ready") == (200, {"ready": True}))
+        self.check("it ends", group.end() == [0])
 
     def test_slow(self) -> None:
         """Operators that are slow, silent or many hold up no client; and a client's flood holds up no operator for

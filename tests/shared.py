@@ -112,7 +112,7 @@ class TestNode(checks.Checked):
 
     def test_texts(self) -> None:
         self.same("a home", 2, home_of(LRA))
-        log = "[INFO  lra_server::server] node 1: listens on 127.0.0.1:8070\nnode 1: a warning\n"
+        log = "[INFO  lra_server::program] node 1: listens on 127.0.0.1:8070\nnode 1: a warning\n"
         self.same("what is told besides", "node 1: a warning\n", without_starts(log))
 
     def test_misled(self) -> None:

@@ -140,7 +140,7 @@ METRICS: dict[str, tuple[str, dict[str, str]]] = {
     "lra_queue": ("gauge", {}),
     "lra_connections_total": ("counter", {}),
     "lra_closed_total": ("counter", {}),
-    "lra_swept_total": ("counter", {"came": "gone|nested|waits|later"}),
+    "lra_swept_total": ("counter", {"came": "gone|nested|waits|later|changed"}),
     "lra_journal_failures_total": ("counter", {}),
     "lra_ready": ("gauge", {}),
 }

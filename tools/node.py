@@ -257,11 +257,12 @@ class Group(Nodes):
         return self.addresses
 
     def run(self, number: int, options: Iterable[str] | None = None, word: str | None = None) -> None:
-        """Starts a process, for one node or for those that a word names, and doesn't wait for it."""
+        """Starts a process, for one node or for those that a word names, and doesn't wait for it. As for Python itself
+        a write beyond a limit on files is an error there, and no end."""
         given = self.options if options is None else options
         words = [self.program, word or str(number), f"{self.folder}/{number}", *given, *self.addresses_for(number)]
         with open(f"{self.folder}/{number}.log", "ab") as log:
-            self.processes[number] = subprocess.Popen(words, stdin=subprocess.PIPE, stderr=log)
+            self.processes[number] = subprocess.Popen(words, stdin=subprocess.PIPE, stderr=log, restore_signals=False)
 
     def start(self, *numbers: int, options: Iterable[str] | None = None, word: str | None = None) -> typing.Self:
         """Starts nodes, all if none is named, and waits until they take connections."""
@@ -285,7 +286,7 @@ class Group(Nodes):
 
     def lines(self, number: int) -> list[str]:
         """What a node told, without the level and the place of the code."""
-        return [re.sub(r"^\[WARN +lra_\w+::\w+\] ", "", line) for line in self.log(number).splitlines()]
+        return [re.sub(r"^\[WARN +lra_\w+(?:::\w+)+\] ", "", line) for line in self.log(number).splitlines()]
 
     def kill(self, *numbers: int) -> None:
         for number in numbers:
