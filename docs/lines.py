@@ -16,7 +16,9 @@ TESTS = ["test_answers", "test_calls", "test_script", "test_server"]
 LAYERS = [
     ("lra_node", "lra_member", "lra_play", "the programs"),
     ("lra_server", "the server over its journals"),
-    ("lra_threads", "threads and sockets"),
+    ("lra_metrics", "what threads know, as text"),
+    ("lra_threads", "threads, and what they share"),
+    ("lra_sockets", "a connection's life"),
     ("lra_mailbox", "what is done next"),
     ("lra_heard", "what was heard of others"),
     ("lra_turns", "whom to call next"),

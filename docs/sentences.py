@@ -1,6 +1,6 @@
 #!/usr/bin/env python3
 """Lists the sentences of the pages that have over 30 words: python3 docs/sentences.py [PAGE..]. With --check it fails
-where there is one, and where all pages together have over 30,000 words. Code in a line counts as one word, and blocks
+where there is one, and where all pages together have over 31,000 words. Code in a line counts as one word, and blocks
 of code aren't looked at. With --words it prints how many words each page has, and all of them: what stands between
 spaces and has a letter. Standard library alone."""
 import os
@@ -12,7 +12,7 @@ sys.path.insert(0, os.path.dirname(os.path.dirname(os.path.abspath(__file__))))
 from tools import repo
 
 MOST = 30
-MOST_WORDS = 30_000
+MOST_WORDS = 31_000
 
 
 def pieces(text: str) -> Iterator[tuple[int, str]]:
