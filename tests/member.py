@@ -27,7 +27,8 @@ from tools.node import SLOW, Group, Json, Server, comes_to, end_input, home_of, 
 from tools.participant import Participant
 from tools.ports import HOST, free_row, is_open, listening
 
-USAGE = b"usage: lra_member I|I-J DIR [listen=IP:PORT] [operate=IP:PORT] [keep=MS] [keep-failed=MS] HOST:PORT..\n"
+USAGE = b"usage: lra_member I|I-J DIR [listen=IP:PORT] [operate=IP:PORT] [names=NAME,..] [keep=MS] [keep-failed=MS] " \
+        b"[group=NAME] [anew] HOST:PORT..\n"
 NO_FOLDER = b"node 2: its journal can't be opened: there is no folder, or no right to it, or no file is left\n" \
             b"journal 2\n"
 # LRAs with their statuses.
@@ -73,6 +74,22 @@ OTHER_WORDS: list[list[str]] = [
     ["1", "DIR", "keep-failed=1", "keep=1", "h:1"],
     ["1", "DIR", "keep=1", "keep-failed=1", "keep-failed=1", "h:1"],
     ["1", "DIR", "keep-other=1", "h:1"],
+    ["1", "DIR", "names=", "h:1"],
+    ["1", "DIR", "names=a b", "h:1"],
+    ["1", "DIR", "names=a:1", "h:1"],
+    ["1", "DIR", "names=a", "names=b", "h:1"],
+    ["1", "DIR", "names=a", "operate=127.0.0.1:1", "h:1"],
+    ["1", "DIR", "keep=1", "names=a", "h:1"],
+    ["1", "DIR", "group=", "h:1"],
+    ["1", "DIR", "group=a,b", "h:1"],
+    ["1", "DIR", f"group={'g' * 65}", "h:1"],
+    ["1", "DIR", "group=a", "group=a", "h:1"],
+    ["1", "DIR", "group=a", "keep=1", "h:1"],
+    ["1", "DIR", "anew=", "h:1"],
+    ["1", "DIR", "anew", "anew", "h:1"],
+    ["1", "DIR", "anew", "group=a", "h:1"],
+    ["1", "DIR", "h:1", "anew"],
+    ["1", "DIR", "anew"],
     ["1", "DIR", "h:1", "keep=1"],
     ["2-1", "DIR", "h:1", "h:2"],
     ["1-3", "DIR", "h:1", "h:2"],
@@ -229,6 +246,7 @@ class TestMembers(checks.Checked):
             ["2", "DIR/none", "h:1", f"h:{other}"],
             ["2-3", "DIR/none", "operate=127.0.0.1:65534", "h:1", "h:2", "h:3"],
             ["2", "DIR/none", "operate=[::1]:65535", "h:1", "h:2"],
+            ["2", "DIR/none", "names=lra2,lra-2.example_1", f"group={'g' * 64}", "anew", "h:1", "anew.h:2"],
         ):
             ran = self.run_with(*[word.replace("DIR", self.folder) for word in given])
             self.check(f"a folder that isn't there: {' '.join(given)}", (ran.returncode, ran.stderr) == (1, NO_FOLDER),
@@ -403,13 +421,14 @@ class TestMembers(checks.Checked):
             begun.append(group.begin(1))
             late.append(group.comes_to(2, begun[-1], "Active") or SLOW)
         self.check(f"they hold up no other ({in_ms(max(late))} at most)", max(late) < 5, late)
-        how = {**dict.fromkeys((3, 5, 6, 7), "gives no frame"), 4: "can't be reached"}
+        misled = "isn't there: another node answers, or one of another group"
+        how = {**dict.fromkeys((3, 5, 6), "gives no frame"), 4: "can't be reached", 7: misled}
         for node in (1, 2):
             wanted = {f"node {node}: node {other} {what}" for other, what in how.items()}
             is_told = comes_to(SLOW, lambda: set(group.lines(node)) >= wanted)
             self.check(f"node {node} tells of each, and nothing else",
                        is_told and sorted(group.lines(node)) == sorted(wanted), group.log(node))
-        is_told = comes_to(30, lambda: group.lines(7) == ["node 1: node 2 gives no frame"])
+        is_told = comes_to(30, lambda: group.lines(7) == [f"node 1: node 2 {misled}"])
         self.check("and so does the one that counts another number of them", is_told, group.log(7))
         self.check("nothing of theirs is taken",
                    [group.shown(node) for node in (1, 2)] == [dict.fromkeys(begun, "Active")] * 2, group.shown(1))

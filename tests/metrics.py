@@ -8,6 +8,8 @@ import json
 import math
 import os
 import re
+import shutil
+import subprocess
 import sys
 import unittest
 
@@ -133,11 +135,17 @@ class TestUse(unittest.TestCase):
 
     def test_alerts(self) -> None:
         rules = re.split(r"^ *- alert: ", self.text("alerts.yaml"), flags=re.M)[1:]
-        self.assertEqual(len(rules), 4)
+        self.assertEqual(len(rules), 5)
         for rule in rules:
             with self.subTest(rule.split("\n")[0]):
                 for word in ("expr:", "for:", "severity:", "summary:", "description:"):
                     self.assertIn(word, rule)
+
+    @unittest.skipUnless(shutil.which("promtool"), "there is no promtool")
+    def test_alerts_fire(self) -> None:
+        words = ["promtool", "test", "rules", f"{repo.TOP}/tests/alerts.yaml"]
+        tried = subprocess.run(words, capture_output=True, text=True, check=False)
+        self.assertEqual(tried.returncode, 0, tried.stdout + tried.stderr)
 
 
 def look_at_node(url: str) -> int:

@@ -13,11 +13,11 @@ import subprocess
 import sys
 import threading
 import time
-from collections.abc import Iterable
 
 sys.path.insert(0, os.path.dirname(os.path.dirname(os.path.abspath(__file__))))
-from tools import checks, metrics, repo, shapes, unproved
-from tools.node import SLOW, Answer, Group, Json, comes_to, request
+from tools import checks, metrics, repo, unproved
+from tools.node import SLOW, Group, Json, comes_to
+from tools.operated import Operated
 from tools.ports import HOST, free_row
 
 LAST = "00000000-0000-8008-8000-ffffffffffff"
@@ -25,65 +25,6 @@ UNKNOWN = LAST.replace("8008", "8001")
 BAD = "{\"refused\":\"E1 BadText\"}"
 # Queries that break their grammar, beside those of one LRA.
 BAD_QUERIES = ("after=x", "status=Ended", "status=", "x=1", "")
-# Samples by name and labels, but for the node's.
-Samples = dict[tuple[str, ...], float]
-
-
-class Operated(Group):
-    """A group whose nodes have a port for operators each."""
-
-    def __init__(self, count: int, folder: str, *options: str) -> None:
-        super().__init__(count, folder, *options)
-        self.doors = free_row(count)
-
-    def run(self, number: int, options: Iterable[str] | None = None, word: str | None = None) -> None:
-        given = self.options if options is None else options
-        super().run(number, [f"operate={HOST}:{self.doors[number - 1]}", *given], word)
-
-    def at(self, node: int, path: str, method: str = "GET") -> Answer:
-        """An answer at a node's port for operators."""
-        return request((HOST, self.doors[node - 1]), method, path)
-
-    def told(self, node: int, path: str, method: str = "GET") -> tuple[int, Json]:
-        """The status and the JSON of such an answer."""
-        answer = self.at(node, path, method)
-        return answer.status, answer.json()
-
-    def calls(self, node: int) -> list[Json]:
-        """The calls that a node makes in vain."""
-        return self.told(node, "/calls")[1]["calls"]
-
-    def record(self, node: int, lra: str) -> Json:
-        """All that a node holds of an LRA."""
-        return self.told(node, f"/lra/{lra}")[1]
-
-    def refused(self, node: int, path: str, method: str = "GET") -> tuple[int, str]:
-        """The status and the text of such an answer."""
-        answer = self.at(node, path, method)
-        return answer.status, answer.text
-
-    def samples(self, node: int) -> Samples:
-        """The counts of a node."""
-        found = metrics.samples(self.at(node, "/metrics").text)
-        return {(name, *sorted(f"{key}={value}" for key, value in labels.items() if key != "node")): value
-                for name, rows in found.items() for labels, value in rows}
-
-    def all_of(self, node: int, path: str) -> list[Json]:
-        """All rows of a list, page by page."""
-        rows: list[Json] = []
-        after = None
-        while True:
-            status, page = self.told(node, path + (f"?after={after}" if after else ""))
-            if status != 200:
-                raise AssertionError(f"{path}: {status} {page}")
-            rows += page["lras"]
-            after = page["next"]
-            if not after:
-                return rows
-
-    def strange_shapes(self, node: int) -> list[str]:
-        """What of a node's answers isn't as docs/operate.json has it."""
-        return shapes.compare(f"http://{HOST}:{self.doors[node - 1]}")
 
 
 def listed(lra: str, status: str, members: int = 0, parent: str | None = None) -> Json:
@@ -273,6 +214,9 @@ class TestOperators(checks.Checked):
         self.check("then it is due", group.record(1, lra)["purge"] == "due")
         failed = ("lra_held", "status=FailedToCancel")
         self.check("and is counted as held", comes_to(SLOW, lambda: group.samples(1)[failed] == 1), group.samples(1))
+        told = "node 1: LRAs of its home that failed to close or to cancel: 1"
+        self.check("the log says that one failed",
+                   comes_to(SLOW, lambda: told in group.whole_log(1)), group.whole_log(1))
         log = group.whole_log(1)
         for what in ("forgot", "was told of the end"):
             self.check(f"the log says who {what}", f"node 1: an operator says that /lra/{lra}/member/1 {what}" in log,
@@ -307,6 +251,8 @@ class TestOperators(checks.Checked):
             body, _, code = ran.stdout.rpartition("\n")
             is_so = code == "204" if shown is None else code == "200" and has_form(shown, json.loads(body))
             self.check(command, is_so, ran.stdout + ran.stderr)
+        said = f"node 1: an operator says that /lra/{stuck}/member/1 failed to compensate"
+        self.check("what was reported is told", said in group.whole_log(1), group.whole_log(1))
         group.end()
 
     def test_metrics(self) -> None:
@@ -422,7 +368,7 @@ class TestOperators(checks.Checked):
         self.check("clients don't wait for silent operators", time.monotonic() - began < 5)
         began = time.monotonic()
         code, took = group.at(1, "/health").status, time.monotonic() - began
-        self.check("the next operator waits a second for each", code == 200 and took < 60, (code, took))
+        self.check("nor does another operator", code == 200 and took < 5, (code, took))
         for one in silent:
             one.close()
         flood = [socket.create_connection((HOST, group.ports[0])) for _ in range(200)]
@@ -437,7 +383,7 @@ class TestOperators(checks.Checked):
         parts = socket.create_connection((HOST, group.doors[0]))
         parts.sendall(b"GET /health HTTP/1.1\r\nHo")
         time.sleep(0.3)
-        parts.sendall(b"st: x\r\n\r\n")
+        parts.sendall(b"st: localhost\r\n\r\n")
         parts.settimeout(SLOW)
         self.check("a request in parts", parts.recv(4096).startswith(b"HTTP/1.1 200"), "")
         parts.close()

@@ -125,7 +125,7 @@ class TestPage(checks.Checked):
         """The mock is as the port."""
         with serves(150) as (world, url):
             host, port = url.split("/")[2].split(":")
-            asked = f"GET /lras?after={id_of(1, 2)}&status=Closed HTTP/1.1\r\nHost: x\r\n\r\n"
+            asked = f"GET /lras?after={id_of(1, 2)}&status=Closed HTTP/1.1\r\nHost: localhost\r\n\r\n"
             head, _, body = exchange((host, int(port)), asked.encode()).partition(b"\r\n\r\n")
             are_closed = all(row["status"] == "Closed" for row in json.loads(body)["lras"])
             self.check("the mock answers as the port does", b"Connection: close" in head and are_closed)

@@ -132,7 +132,7 @@ METRICS: dict[str, tuple[str, dict[str, str]]] = {
     "lra_callbacks_due": ("gauge", {}),
     "lra_callbacks_vain": ("gauge", {}),
     "lra_callbacks_oldest_seconds": ("gauge", {}),
-    "lra_pulls_total": ("counter", {"from": "[1-8]", "came": "new|nothing|failed"}),
+    "lra_pulls_total": ("counter", {"from": "[1-8]", "came": "new|nothing|failed|refused"}),
     "lra_pulled_seconds": ("gauge", {"from": "[1-8]"}),
     "lra_front": ("gauge", {"of": "[1-8]"}),
     "lra_held": ("gauge", {"status": STATUS}),
@@ -140,7 +140,7 @@ METRICS: dict[str, tuple[str, dict[str, str]]] = {
     "lra_queue": ("gauge", {}),
     "lra_connections_total": ("counter", {}),
     "lra_closed_total": ("counter", {}),
-    "lra_swept_total": ("counter", {"came": "gone|nested|waits|later|changed"}),
+    "lra_swept_total": ("counter", {"came": "gone|nested|waits|later|changed|missing"}),
     "lra_journal_failures_total": ("counter", {}),
     "lra_ready": ("gauge", {}),
 }

@@ -27,7 +27,7 @@ use crate::preparing::{carry_out, prepare};
 use crate::sameness::{same_call, same_reply};
 use crate::{Call, Entry, Pass, Receipt, Reply};
 use lra_facts::Refusal;
-use lra_id::NodeId;
+use lra_id::{Front, NodeId};
 use lra_journal::Journal;
 use lra_replica::{Patch, Replica};
 use sqlite::{Alter, Connection};
@@ -417,6 +417,13 @@ impl<S: Alter> Book<S> {
         let empty = Vec::new(*self.trail.allocator());
         self.opening = None;
         mem::replace(&mut self.trail, empty)
+    }
+
+    /// How many facts of each node it has.
+    pub fn front(&self) -> Front
+        ensures { result ≡ self.now.records.front }
+    {
+        self.replica.front()
     }
 
     /// Gives the connection back, with the rows as they are.

@@ -10,15 +10,17 @@ ghost use Rattle.lra_http.specs.Streams.{IsSent};
 
 use lra_delta::Delta;
 use lra_http::{Sink, Source};
-use lra_id::Front;
+use lra_id::{Front, NodeId};
 use lra_peer::{PullError, pull};
 use std::alloc::Global;
 use std::marker::Model;
 
 /// What another node told in a pull: a whole frame. Only `ask_for` makes one, and none is made of
-/// another. So no frame is taken that didn't come, and each is taken once at most.
+/// another. So no frame is taken that didn't come, and each is taken once at most. Contracts speak
+/// of the frame alone: that it keeps the number of the node that was asked stands in no clause.
 #[derive(Drop)]
 pub struct Telling {
+    from: NodeId,
     delta: Delta,
 }
 
@@ -31,6 +33,11 @@ impl Model for Telling {
 }
 
 impl Telling {
+    /// The node that was asked. No clause tells which it is.
+    pub fn from(&self) -> NodeId {
+        self.from
+    }
+
     /// How many facts of each node the other has.
     pub fn front(&self) -> Front
         ensures { result ≡ self.now.front }
@@ -46,33 +53,36 @@ impl Telling {
     }
 }
 
-/// Asks another node for what is lacked by one that has the facts which a front counts, as
-/// `lra_peer::pull`. Errors: as that.
+/// Asks another node for what is lacked by one that has the facts which a front counts, with a
+/// query, as `lra_peer::pull`. The telling keeps the node's number. Errors: as that.
 pub fn ask_for<R: Source, W: Sink>(
     alloc: Global,
     reader: &mut R,
     writer: &mut W,
+    from: NodeId,
+    query: &str,
     front: &Front,
 ) -> Result<Telling, PullError>
-    // The whole request for this front was written and passed on. What was given since is one whole
-    // response with status 200, whose body encodes the frame, and no byte more. No call failed.
+    // The whole request for this front was written, with the query, and passed on. What was given
+    // since is one whole response with status 200, whose body encodes the frame, and no byte more.
+    // No call failed.
     ensures message { IfOk result (λ telling. IsSent (W.stream writer.old)
-        (W.stream writer.new) (W.calls writer.old) (W.calls writer.new) (pull_text front.now)
+        (W.stream writer.new) (W.calls writer.old) (W.calls writer.new) (pull_text query.now front.now)
         × TellsDelta (R.stream reader.old)
         (R.stream reader.new) (R.calls reader.old) (R.calls reader.new) telling) }
     ensures error { IfErr result (λ error. IsUnsentBy (W.stream writer.old)
-        (W.stream writer.new) (W.calls writer.old) (W.calls writer.new) (pull_text front.now)
+        (W.stream writer.new) (W.calls writer.old) (W.calls writer.new) (pull_text query.now front.now)
         (reader.new ≡ reader.old) ((writer.new ≡ writer.old) × (reader.new ≡ reader.old)) error
         ⊎ (IsSent (W.stream writer.old) (W.stream writer.new) (W.calls writer.old)
-        (W.calls writer.new) (pull_text front.now) × StopsPull (R.stream reader.old)
+        (W.calls writer.new) (pull_text query.now front.now) × StopsPull (R.stream reader.old)
         (R.stream reader.new) (R.calls reader.old) (R.calls reader.new) error)) }
     ensures found { IfSome (R.stream reader.old).left
         (λ input. (bytes rest : List ℕ) (version : Version) (frame : Frame) → input ≡ bytes ++ rest →
         IsDeltaAs version frame → IsAnswer bytes 200 (encoding_as version frame) →
         MatchResult result (λ telling. telling ≡ frame) IsOfStreams) }
 {
-    match pull(alloc, reader, writer, front) {
-        Ok(delta) => Ok(Telling { delta }),
+    match pull(alloc, reader, writer, query, front) {
+        Ok(delta) => Ok(Telling { from, delta }),
         Err(error) => Err(error),
     }
 }

@@ -19,7 +19,7 @@ use Rattle.lra_mailbox.specs.Sweeps.{AreLeft, AreSince, IsAdded, IsLeftBy, IsNex
 use Rattle.lra_mailbox.specs.declared.sweep.Chore.TheVariants.{List as ToList, Purge}
 use Rattle.lra_mailbox.specs.declared.sweep.Keep.{Keep}
 use Rattle.lra_mailbox.specs.declared.sweep.Purged.{Purged}
-use Rattle.lra_mailbox.specs.declared.sweep.Purged.TheVariants.{Changed, Gone, Later, Nested, Waits}
+use Rattle.lra_mailbox.specs.declared.sweep.Purged.TheVariants.{Changed, Gone, Later, Missing, Nested, Waits}
 
 both_true : (a b : Bool) → a ≡ true → b ≡ true → (a && b) ≡ true
 both_true true b e h = h
@@ -152,6 +152,7 @@ left_since sights old new left all =
 
 pub purged_since : (purged : Purged) (id : Id) (sights : List Sight) (old new : List Root) → IsLeftBy purged id old new → AreSince sights old → AreSince sights new
 purged_since Gone id sights old new is all = subst (AreSince sights) (sym is) (All-filter (λ (root : Root). not (same_id root.id id)) (IsSince sights) old all)
+purged_since Missing id sights old new is all = subst (AreSince sights) (sym is) (All-filter (λ (root : Root). not (same_id root.id id)) (IsSince sights) old all)
 purged_since Nested id sights old new is all = left_since sights old new is all
 purged_since Changed id sights old new is all = left_since sights old new is all
 purged_since (Waits other) id sights old new is all = left_since sights old new is all

@@ -2,7 +2,7 @@
 use Rattle.std.specs.Prelude.{◌≡◌, ◌≢◌, ◌≤◌, ◌<◌, ◌⊎◌, ◌++◌, ◌∷◌, ◌==◌, ◌&&◌, [], ℕ, Bool, true, false, List, Option, None, Some, IsTrue, MatchBool, Result, MatchResult, if◌then◌else◌, length, nat_lt, not}
 use Rattle.std.specs.Duration.{as_nanos}
 use Rattle.std.specs.declared.time.Duration.{Duration}
-use Rattle.lra_id.specs.Fronts.{IsBelow, join_fronts}
+use Rattle.lra_id.specs.Fronts.{IsBelow}
 use Rattle.lra_id.specs.declared.outcome.Act.{Act}
 use Rattle.lra_id.specs.declared.outcome.Act.TheVariants.{Compensate as ToCompensate, Complete as ToComplete}
 use Rattle.lra_id.specs.declared.outcome.Outcome.TheVariants.{Busy}
@@ -24,6 +24,7 @@ use Rattle.lra_turns.specs.declared.pace.Pace.TheVariants.{Quick, Slow}
 use Rattle.lra_turns.specs.declared.plight.Plight.{Plight}
 use Rattle.lra_turns.specs.declared.slip.Called.{Called}
 use Rattle.lra_mailbox.specs.Mail.{Mail, after_news, put_off, with_asking, with_calls, with_letters, with_opening, with_telling}
+use Rattle.lra_mailbox.specs.Starts.{with_awaited}
 
 -- Those who are to be called are those of a list: nobody else is, and nobody twice; who is called is left alone, and no call that goes on
 -- is for what the list has. With memory each who may be called is put; who is neither on the list nor called is forgotten.
@@ -97,12 +98,8 @@ pub record IsNoted (said : Said) (now : Duration) (old new : Mail) : Type 0 wher
 abbrev pub IsHandedOver : Frame → Mail → Mail → Bool → Type 0
 IsHandedOver frame old new is_put = MatchBool is_put ((old.telling ≡ None) × (new ≡ with_telling (Some frame) old)) ((old.telling ≢ None) × (new ≡ old))
 
--- commands wait for these facts too
-abbrev pub with_awaited : List ℕ → Mail → Mail
-with_awaited told m = with_opening (record { is_open = m.opening.is_open; opens_at = m.opening.opens_at; unasked = m.opening.unasked; awaited = join_fronts m.opening.awaited told }) m
-
 -- the same of what commands wait for: not where the program is to end, nor where nothing of it is new
 abbrev pub IsAwaited : Frame → Mail → Mail → Bool → Type 0
 IsAwaited frame old new is_put =
-    MatchBool is_put (new ≡ with_awaited frame.front (with_telling (Some frame) old))
+    MatchBool is_put (new ≡ with_opening (with_awaited frame.front old.opening) (with_telling (Some frame) old))
     ((IsTrue old.has_ended ⊎ ((length frame.front ≢ length old.known.front) ⊎ IsBelow frame.front old.known.front)) × (new ≡ old))

@@ -5,5 +5,6 @@ pub mod Mail
 pub mod Moments
 pub mod Noted
 pub mod Resting
+pub mod Starts
 pub mod Sweeps
 pub mod Tasks

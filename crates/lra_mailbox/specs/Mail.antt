@@ -127,20 +127,3 @@ is_anyone m = nat_lt 0 (length m.calls.slips)
 -- wait
 abbrev pub after_news : Bool → Mail → Mail
 after_news makes_none_due m = with_asking (if makes_none_due && list_any is_due m.calls.now.hosts then put_off m.asking else stirred m.asking) m
-
--- when it opens at the latest: a second after the first look
-abbrev pub IsOpenedBy : Duration → Option Duration → Duration → Type 0
-IsOpenedBy now (Some until) by = by ≡ until
-IsOpenedBy now None by = IsAfter 1_000 now by
-
--- It is opened at a look by a node that has these facts: its time is over, or each other node was asked, and what they told is taken.
--- That is said once.
-pub record IsOpenedAt (now : Duration) (front : List ℕ) (old new : Opening) : Type 0 where
-  pub until : Duration
-  pub by : IsOpenedBy now old.opens_at until
-  pub opens : IsTrue new.is_open ↔ ((as_nanos until ≤ as_nanos now) ⊎ ((old.unasked ≡ 0) × IsBelow old.awaited front))
-  pub rest : new ≡ record { is_open = new.is_open; opens_at = Some until; unasked = old.unasked; awaited = old.awaited }
-
-abbrev pub IsOpened : Duration → List ℕ → Opening → Opening → Bool → Type 0
-IsOpened now front old new result =
-    MatchBool old.is_open ((new ≡ old) × (result ≡ false)) (IsOpenedAt now front old new × (result ≡ new.is_open))

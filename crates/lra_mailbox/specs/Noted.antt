@@ -1,5 +1,5 @@
 -- What a call at the desk leaves for the threads to go on with.
-use Rattle.std.specs.Prelude.{◌≡◌, Option, None, Some, false, true}
+use Rattle.std.specs.Prelude.{◌≡◌, Bool, Option, None, Some, MatchBool, false, true}
 use Rattle.lra_id.specs.Ids.{Id}
 use Rattle.lra_mailbox.specs.Looks.{with_begun, with_purged, with_stir}
 use Rattle.lra_mailbox.specs.Mail.{Mail, after_news, with_sweeps}
@@ -24,12 +24,16 @@ with_became Full s = s
 with_became Ended s = with_looking (with_stir s.looking) s
 with_became Removed s = with_looking (with_purged s.looking) s
 
--- roots that waited for an LRA are tried
+-- roots that waited for an LRA are tried; or, where a frame was taken, all that wait are tried soon
 abbrev pub IsFreed : Option Id → Sweeps → Sweeps → Type 0
 IsFreed None old new = new ≡ old
 IsFreed (Some id) old new = AreLeft old.ended new.ended × (new ≡ with_ended new.ended old)
 
+abbrev pub IsFreedBy : (took : Bool) → Option Id → Sweeps → Sweeps → Type 0
+IsFreedBy took freed old new =
+    MatchBool took (AreLeft old.ended new.ended × (new ≡ with_ended new.ended old)) (IsFreed freed old new)
+
 -- all that a call leaves is noted
 pub record Notes (noted : Noted) (old new : Mail) : Type 0 where
-  pub freed : IsFreed noted.freed (with_became noted.became old.sweeps) new.sweeps
+  pub freed : IsFreedBy noted.took noted.freed (with_became noted.became old.sweeps) new.sweeps
   pub rest : new ≡ with_sweeps new.sweeps (with_news noted.news old)

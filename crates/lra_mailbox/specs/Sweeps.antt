@@ -17,7 +17,7 @@ use Rattle.lra_mailbox.specs.declared.sweep.Chore.{Chore}
 use Rattle.lra_mailbox.specs.declared.sweep.Chore.TheVariants.{List as ToList, Purge}
 use Rattle.lra_mailbox.specs.declared.sweep.Keep.{Keep}
 use Rattle.lra_mailbox.specs.declared.sweep.Purged.{Purged}
-use Rattle.lra_mailbox.specs.declared.sweep.Purged.TheVariants.{Gone}
+use Rattle.lra_mailbox.specs.declared.sweep.Purged.TheVariants.{Gone, Missing}
 
 -- a root that was seen to have ended: what it showed at the last look, since when, whether the look that goes on, or the last one, has
 -- found it, and from when on a purge is tried, if ever
@@ -159,6 +159,7 @@ IsTurned more old new = MatchBool (old.looks && not more) (new ≡ looked new.lo
 -- what a purge leaves
 abbrev pub IsLeftBy : Purged → Id → (old new : List Root) → Type 0
 IsLeftBy Gone id old new = new ≡ without id old
+IsLeftBy Missing id old new = new ≡ without id old
 IsLeftBy _ id old new = AreLeft old new
 
 -- whether there is ever a chore, and whether there is one now

@@ -1,5 +1,6 @@
 // When a node looks through its home.
 ghost use Rattle.std.specs.Prelude.{◌≡◌, ◌||◌, false, true};
+ghost use Rattle.lra_mailbox.specs.declared.looking.TheConstants.{MANY};
 ghost use Rattle.lra_mailbox.specs.Looks.{has_changed, is_to_look, looked_at, may_be_many, missed, with_begun, with_purged, with_stir};
 ghost use Rattle.lra_turns.specs.Slips.{at_once};
 
@@ -45,7 +46,7 @@ pub(crate) struct Looking {
 impl Looking {
     /// How many there are is to be known at the start.
     pub(crate) fn new(counts: bool, is_watched: bool) -> Looking
-        ensures { result ≡ record { counts = counts; is_watched = is_watched; is_stirred = true; begun = 192; has_purged = false; has_missed = false; taken = 0; looks_at = at_once; counts_at = at_once } }
+        ensures { result ≡ record { counts = counts; is_watched = is_watched; is_stirred = true; begun = MANY; has_purged = false; has_missed = false; taken = 0; looks_at = at_once; counts_at = at_once } }
     {
         Looking {
             counts,

@@ -35,4 +35,6 @@ pub struct Noted {
     pub became: Became,
     /// The LRA of which a participant was told what it was to be told, or is said to have been.
     pub freed: Option<LraId>,
+    /// Whether a frame was taken: a participant of any LRA may have been told.
+    pub took: bool,
 }

@@ -6,10 +6,11 @@ ghost use Rattle.lra_turns.specs.Slips.{at_once};
 ghost use Rattle.lra_turns.specs.Turns.{MayTake};
 ghost use Rattle.lra_mailbox.specs.Hearing.{HearsOf, IsAnswered, IsAwaited, IsDueFrom, IsHandedOver, IsListed, IsNoted, IsPutLast, is_harmless, pace_of};
 ghost use Rattle.lra_mailbox.specs.Moments.{earlier_of};
-ghost use Rattle.lra_mailbox.specs.Mail.{IsOpened, after_news, counted, hastened, is_any, is_anyone, learnt, to_count, with_asking, with_calls, with_end, with_hold, with_hurry, with_known, with_opening, with_sweeps, with_wanted};
+ghost use Rattle.lra_mailbox.specs.Mail.{after_news, counted, hastened, is_any, is_anyone, learnt, to_count, with_asking, with_calls, with_end, with_hold, with_hurry, with_known, with_opening, with_sweeps, with_wanted};
 ghost use Rattle.lra_mailbox.specs.Noted.{Notes, with_news};
 ghost use Rattle.lra_mailbox.specs.Sweeps.{IsLeftBy, IsSeen, IsTurned, with_ended, with_looking};
 ghost use Rattle.lra_id.specs.declared.TheConstants.{MAX_NODES};
+ghost use Rattle.lra_mailbox.specs.Starts.{IsOpened, heard_by, heard_with, told_by};
 ghost use Rattle.lra_mailbox.specs.Resting.{IsIdleFor, has_task, is_occupied, looks_at, next_at, rests_until};
 ghost use Rattle.lra_mailbox.specs.Tasks.{Does, IsNextKind, IsNextTask, has, is_spared, may_enter};
 ghost use Rattle.lra_mailbox.specs.declared.task.Wanted.TheVariants.{Nothing};
@@ -25,7 +26,7 @@ use crate::task::{Task, Wanted};
 use crate::turn::Turn;
 use lra_callback::{Duties, Duty, Heard, Kind};
 use lra_heard::{Letter, Telling, Unheard};
-use lra_id::{Act, Front, LraId, LraStatus, Outcome};
+use lra_id::{Act, Front, LraId, LraStatus, NodeId, Outcome};
 use lra_turns::{Called, Calls, Due, Pace, Plight};
 use std::alloc::Global;
 use std::collections::VecDeque;
@@ -112,17 +113,24 @@ impl Model for MailboxState {
 }
 
 impl MailboxState {
-    /// With nothing in it, of a node beside so many in all. Of its own front nothing is known yet.
-    /// Where the others are in processes of their own it is asked first, and then they are, before
-    /// commands are entered.
-    pub fn new(alloc: Global, nodes: u8, are_apart: bool, sweeping: Sweeping) -> MailboxState
+    /// With nothing in it, of a node of so many in all. Of its own front nothing is known yet. Where
+    /// the others are in processes of their own it is asked first, and then they are, before commands
+    /// are entered: for a second, or until it has heard them all.
+    pub fn new(
+        alloc: Global,
+        me: NodeId,
+        nodes: u8,
+        are_apart: bool,
+        waits_for_all: bool,
+        sweeping: Sweeping,
+    ) -> MailboxState
         requires { (1 ≤ nodes) × (nodes ≤ MAX_NODES) }
         ensures { result ≡ record {
           calls = nothing;
           letters = [];
           telling = None;
           known = record { front = replicate nodes 0; is_counted = false; is_to_count = are_apart; counts_at = at_once };
-          opening = record { is_open = not are_apart; opens_at = None; unasked = nodes - 1; awaited = replicate nodes 0 };
+          opening = record { me = me; waits_for_all = waits_for_all; is_open = not are_apart; opens_at = None; is_late = false; heard = heard_with me (replicate nodes 0); awaited = replicate nodes 0 };
           asking = record { is_stirred = true; is_put_off = false; asked_at = at_once; ticks_at = at_once };
           held_until = at_once;
           last = TheDuties;
@@ -137,7 +145,7 @@ impl MailboxState {
             letters: VecDeque::new(alloc),
             telling: None,
             known: Known::new(nodes, are_apart),
-            opening: Opening::new(nodes, are_apart),
+            opening: Opening::new(me, nodes, are_apart, waits_for_all),
             asking: Asking::new(),
             held_until: Duration::ZERO,
             last: Turn::OfDuties,
@@ -179,12 +187,14 @@ impl MailboxState {
     }
 
     /// Notes what a call at the desk leaves to go on with.
-    pub fn note(&mut self, noted: &Noted)
+    pub fn note(&mut self, noted: &Noted, now: Duration)
         ensures { Notes noted.now self.old self.new }
     {
         self.hear_news(noted.news);
         self.sweeping.note_call(noted.became);
-        if let Some(id) = noted.freed {
+        if noted.took {
+            self.sweeping.hasten(now);
+        } else if let Some(id) = noted.freed {
             self.sweeping.free(id);
         }
     }
@@ -328,11 +338,27 @@ impl MailboxState {
         self.known.is_to_count = true;
     }
 
-    /// Notes that another node was asked for the first time since the start.
-    pub fn note_asked(&mut self)
-        ensures { self.new ≡ with_opening (record { is_open = self.old.opening.is_open; opens_at = self.old.opening.opens_at; unasked = self.old.opening.unasked - 1; awaited = self.old.opening.awaited }) self.old }
+    /// Notes that another node answered, and what it told.
+    pub fn note_heard(&mut self, other: NodeId, telling: &Telling)
+        ensures { self.new ≡ with_opening
+            (heard_by other telling.now.front self.old.known.front self.old.opening) self.old }
     {
-        self.opening.note_asked();
+        let (told, known) = (telling.front(), self.known.front);
+        self.opening.hear(other, &told, &known);
+    }
+
+    /// Notes that one that asks counts so many facts of this node.
+    pub fn hear_count(&mut self, count: u64)
+        ensures { self.new ≡ with_opening (told_by count self.old.opening) self.old }
+    {
+        self.opening.hear_count(count);
+    }
+
+    /// Whether a start has waited for the others as long as it may, and wasn't opened.
+    pub fn is_late(&self) -> bool
+        ensures { result ≡ self.now.opening.is_late }
+    {
+        self.opening.is_late
     }
 
     /// Has deadlines looked at at once.
@@ -342,7 +368,7 @@ impl MailboxState {
         self.asking.hasten();
     }
 
-    /// Has commands entered from here on, if all others were asked and what they told is taken, or
+    /// Has commands entered from here on, if all others were heard and what they told is taken, or
     /// the time for that is over. It says whether that begins now.
     pub fn open_if_due(&mut self, now: Duration) -> bool
         ensures opened { IsOpened now self.old.known.front self.old.opening self.new.opening result }

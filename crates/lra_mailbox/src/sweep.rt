@@ -44,8 +44,10 @@ pub struct Fill {
 /// What comes of a purge.
 #[derive(Clone, Copy, PartialEq, Eq)]
 pub enum Purged {
-    /// It isn't held any more.
+    /// It is purged.
     Gone,
+    /// It wasn't held any more.
+    Missing,
     /// It is nested in another, and goes with that.
     Nested,
     /// A participant of this LRA is to be told something before.
@@ -192,7 +194,7 @@ impl EndedRoot {
         match purged {
             Purged::Waits(other) => self.wait_from(now, Some(*other)),
             Purged::Changed | Purged::Later => self.wait_from(now, None),
-            Purged::Gone | Purged::Nested => {
+            Purged::Gone | Purged::Missing | Purged::Nested => {
                 self.tries_at = None;
             }
         }
@@ -206,6 +208,22 @@ impl EndedRoot {
             if other == id {
                 self.tries_at = Some(Duration::ZERO);
                 self.waits_for = None;
+            }
+        }
+    }
+
+    /// Has it tried soon, if it waits for a participant of any LRA.
+    pub(crate) fn hasten(&mut self, now: Duration)
+        ensures { untried self.new ≡ untried self.old }
+    {
+        if self.waits_for.is_none() {
+            return;
+        }
+        let soon = now.saturating_add(Duration::from_millis(FIRST_PAUSE_MS));
+        if let Some(until) = self.tries_at {
+            if soon.as_nanos() < until.as_nanos() {
+                self.tries_at = Some(soon);
+                self.pause_ms = 0;
             }
         }
     }

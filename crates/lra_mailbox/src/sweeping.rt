@@ -4,6 +4,7 @@ ghost use Rattle.std.specs.Prelude.{◌≡◌, ◌⊎◌, [], false, filter, map
 ghost use Rattle.std.specs.List.{list_any};
 ghost use Rattle.std.specs.Option.{option_map};
 ghost use Rattle.lra_turns.specs.Slips.{at_once};
+ghost use Rattle.lra_mailbox.specs.declared.looking.TheConstants.{MANY};
 ghost use Rattle.lra_mailbox.specs.Looks.{is_to_look, missed};
 ghost use Rattle.lra_mailbox.specs.Noted.{with_became};
 ghost use Rattle.lra_mailbox.specs.Sweeps.{AreLeft, IsAdded, IsLeftBy, IsNextChore, IsNoted, IsSeen, IsTurned, begun, first_due, is_chore, purges, is_found, is_root, kept_of, looked, seen_as, sweeps, unfound, with_ended, with_looking, without};
@@ -51,6 +52,15 @@ fn free_each(ended: &mut [EndedRoot], id: LraId)
 {
     for root in ended.iter_mut() {
         root.free(id);
+    }
+}
+
+/// Has those tried soon that wait for a participant of any LRA.
+fn hasten_each(ended: &mut [EndedRoot], now: Duration)
+    ensures { AreLeft ended.old ended.new }
+{
+    for root in ended.iter_mut() {
+        root.hasten(now);
     }
 }
 
@@ -183,7 +193,7 @@ impl Model for Sweeping {
 impl Sweeping {
     /// Of a node, which keeps its roots so long; and knows how full the home is, or doesn't, and what its LRAs show, or doesn't.
     pub fn new(alloc: Global, me: NodeId, keep: Keep, counts: bool, is_watched: bool) -> Sweeping
-        ensures { result ≡ record { number = me; keep = keep; ended = []; looks = false; looking = record { counts = counts; is_watched = is_watched; is_stirred = true; begun = 192; has_purged = false; has_missed = false; taken = 0; looks_at = at_once; counts_at = at_once } } }
+        ensures { result ≡ record { number = me; keep = keep; ended = []; looks = false; looking = record { counts = counts; is_watched = is_watched; is_stirred = true; begun = MANY; has_purged = false; has_missed = false; taken = 0; looks_at = at_once; counts_at = at_once } } }
     {
         Sweeping {
             me,
@@ -324,7 +334,7 @@ impl Sweeping {
         ensures rest { self.new ≡ with_looking self.new.looking (with_ended self.new.ended self.old) }
     {
         match purged {
-            Purged::Gone => forget(&mut self.ended, id),
+            Purged::Gone | Purged::Missing => forget(&mut self.ended, id),
             Purged::Changed => {
                 put_off_each(&mut self.ended, id, &purged, now);
                 self.looking.stir();
@@ -339,6 +349,15 @@ impl Sweeping {
         ensures rest { self.new ≡ with_ended self.new.ended self.old }
     {
         free_each(&mut self.ended, id);
+    }
+
+    /// Tells that another node told something: roots that wait for a participant of any LRA are tried
+    /// soon.
+    pub(crate) fn hasten(&mut self, now: Duration)
+        ensures ended { AreLeft self.old.ended self.new.ended }
+        ensures rest { self.new ≡ with_ended self.new.ended self.old }
+    {
+        hasten_each(&mut self.ended, now);
     }
 
     /// How many LRAs of the home showed each status at the last look, in the order of their ranks.

@@ -2,18 +2,17 @@
 //! isn't `lra_node`, since the words and statuses of `serve` are fixed.
 #![tactic(auto)]
 
-mod asked;
-mod words;
-
 ghost use Rattle.lra_id.specs.declared.TheConstants.{MAX_NODES};
-ghost use Rattle.std.specs.Prelude.{◌≤◌, vec_len};
+ghost use Rattle.lra_work.specs.Groups.{is_group_name};
+ghost use Rattle.std.specs.Prelude.{◌≡◌, ◌≤◌, IfNone, IfOk, IfSome, IsFalse, IsSomeAnd, option_map, string_bytes, vec_len};
 
-use crate::asked::{Asked, asked_by};
-use crate::words::Unasked;
 use log::{Level, Log, Logged};
+use lra_mailbox::Keep;
 use lra_script::arguments;
 use lra_server::{Folder, Members, Stores, UnknownFiles, hold, serve_members};
 use lra_threads::{ToLines, lines_of};
+use lra_words::{Asked, Unasked, asked_by};
+use lra_work::GroupName;
 use std::alloc::Global;
 use std::env;
 use std::io::Read;
@@ -24,10 +23,78 @@ use std::thread::Threads;
 use std::time::{Clock, Duration};
 
 const USAGE: &str =
-    "usage: lra_member I|I-J DIR [listen=IP:PORT] [operate=IP:PORT] [keep=MS] [keep-failed=MS] HOST:PORT..";
+    "usage: lra_member I|I-J DIR [listen=IP:PORT] [operate=IP:PORT] [names=NAME,..] [keep=MS] [keep-failed=MS] [group=NAME] [anew] HOST:PORT..";
 
 /// How long the last warnings have to be written at the end, in milliseconds.
 const LAST_LINES_MS: u64 = 500;
+
+/// The members that the words ask for, and the folder in which their journals lie.
+#[derive(Drop)]
+struct Given {
+    members: Members,
+    folder: String,
+}
+
+/// The members that are asked for, and the folder in which their journals lie; nothing where the
+/// group's name is none.
+fn members_of(asked: Asked) -> Option<(Members, String)>
+    ensures nodes { IfSome result (λ made. (made.0.first ≡ asked.first) × (made.0.last ≡ asked.last)
+        × (made.0.peers ≡ asked.peers) × (made.1 ≡ asked.folder)) }
+    ensures choices { IfSome result (λ made. (made.0.listen ≡ asked.listen) × (made.0.operate ≡ asked.operate)
+        × (made.0.names ≡ asked.names) × (made.0.keep.ended ≡ asked.ended) × (made.0.keep.failed ≡ asked.failed)
+        × (made.0.group ≡ option_map string_bytes asked.group) × (made.0.anew ≡ asked.anew)) }
+    ensures none { IfNone result (IsSomeAnd asked.group (λ name. IsFalse (is_group_name (string_bytes name)))) }
+{
+    let Asked {
+        first,
+        last,
+        folder,
+        listen,
+        operate,
+        names,
+        ended,
+        failed,
+        group,
+        anew,
+        peers,
+    } = asked;
+    let group = match group {
+        Some(text) => {
+            let Some(name) = GroupName::new(text) else {
+                return None;
+            };
+            Some(name)
+        }
+        None => None,
+    };
+    let members = Members {
+        first,
+        last,
+        peers,
+        listen,
+        operate,
+        names,
+        keep: Keep { ended, failed },
+        group,
+        anew,
+    };
+    Some((members, folder))
+}
+
+/// What the words ask for.
+fn given_by(alloc: Global, words: &[String]) -> Result<Given, Unasked>
+    ensures { IfOk result (λ given. (1 ≤ vec_len given.members.peers)
+        × (vec_len given.members.peers ≤ MAX_NODES)) }
+{
+    let asked = match asked_by(alloc, words) {
+        Ok(asked) => asked,
+        Err(fault) => return Err(fault),
+    };
+    let Some((members, folder)) = members_of(asked) else {
+        return Err(Unasked::OtherWords);
+    };
+    Ok(Given { members, folder })
+}
 
 /// Runs nodes until standard input ends, and gives the exit status of `serve_members`. Where the
 /// arguments ask for something else it ends with 2, and the usage.
@@ -39,8 +106,8 @@ fn main(rt: HostRuntime) -> ExitCode {
     let Ok(words) = arguments(alloc, given) else {
         return ExitCode::from(1);
     };
-    let Asked { members, folder } = match asked_by(alloc, &words) {
-        Ok(asked) => asked,
+    let Given { members, folder } = match given_by(alloc, &words) {
+        Ok(given) => given,
         Err(Unasked::NoMemory) => return ExitCode::from(1),
         Err(Unasked::OtherWords) => {
             let _ = eprintln!(rt; "{}", USAGE);

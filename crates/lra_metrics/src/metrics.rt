@@ -132,7 +132,7 @@ fn push_callbacks(page: &mut MetricsPage, numbers: &Numbers) -> Result<(), Alloc
     Ok(())
 }
 
-fn push_pulls_from(page: &mut MetricsPage, other: u64, row: &[u64; 3]) -> Result<(), AllocError> {
+fn push_pulls_from(page: &mut MetricsPage, other: u64, row: &[u64; 4]) -> Result<(), AllocError> {
     for (came, value) in PULLS.iter().zip(row) {
         page.open("lra_pulls_total")?;
         page.label_number("from", other)?;
@@ -236,7 +236,7 @@ fn push_participants<R: Wait>(
     let help = "Participants that wait for a call, are called, or pause before the next.";
     page.single("lra_callbacks_due", "gauge", help, node.mailbox.due(rt))?;
     let (count, oldest) = node.mailbox.in_vain(rt, now);
-    let help = "Participants that are called in vain, 256 at most.";
+    let help = "Participants that are called in vain.";
     page.single("lra_callbacks_vain", "gauge", help, count)?;
     let help = "How long the one is called in vain that is so for longest.";
     page.single(

@@ -1,3 +1,4 @@
+pub mod Doors
 pub mod Filters
 pub mod Json
 pub mod Records

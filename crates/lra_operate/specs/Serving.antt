@@ -1,5 +1,5 @@
 -- What one request at an operator's port comes to.
-use Rattle.std.specs.Prelude.{◌≡◌, ◌⊎◌, ⊤, ℕ, true, false, List, [], ◌∷◌, ◌++◌, codes, Option, Some, None, Result, Ok, Err}
+use Rattle.std.specs.Prelude.{◌≡◌, ◌⊎◌, ⊤, ℕ, true, false, List, [], ◌∷◌, ◌++◌, codes, Option, Some, None, MatchBool, Result, Ok, Err}
 use Rattle.lra_facts.specs.declared.refusal.Refusal.{Refusal}
 use Rattle.lra_facts.specs.declared.refusal.Refusal.TheVariants.{BadText}
 use Rattle.lra_facts.specs.declared.command.Command.TheVariants as command
@@ -16,6 +16,7 @@ use Rattle.lra_api.specs.Answers.{answer_of, ok_json, refusal_answer, with_body}
 use Rattle.lra_api.specs.Routes.{routed}
 use Rattle.lra_api.specs.Serving.{Ends, EndsNoMemory, ServesFault, ServesRequest, refusal_in}
 use Rattle.lra_api.specs.declared.serving.ServeError.{ServeError}
+use Rattle.lra_operate.specs.Doors.{foreign_answer, is_foreign}
 use Rattle.lra_operate.specs.Json.{named, opened, truth, word}
 use Rattle.lra_operate.specs.Records.{record_body}
 use Rattle.lra_operate.specs.Surveys.{survey_body}
@@ -98,10 +99,18 @@ abbrev pub ServesWanted : {W : Type 0} → (same : Type 0) → (makes : Call →
 ServesWanted same makes told sink old new now request w (Some c) result = ServesCall w (makes c) sink old new result
 ServesWanted same makes told sink old new now request w None result = ServesOther same makes told sink old new now request w result
 
--- What was read is served: a request by what it wants, and a fault as the interface does. `same`: no call is made. `makes`: this
--- call is made, once, and this comes of it. `told`: what is told of a topic
-abbrev pub Serves : {W : Type 0} → (same : Type 0) → (makes : Call → Result Reply Refusal → Type 0) → (told : Topic → Response → Type 0) → OfSink W → (old new : W) → ℕ → Result Request Fault
+-- a request that is foreign to a node of these names is refused; another is served by what it wants
+abbrev pub ServesAsked : {W : Type 0} → (same : Type 0) → (makes : Call → Result Reply Refusal → Type 0) → (told : Topic → Response → Type 0) → OfSink W → (old new : W) → ℕ → Request → (names : List (List ℕ))
     → Result ⊤ ServeError → Type 0
-Serves same makes told sink old new now (Ok request) result =
-    ServesWanted same makes told sink old new now request (wanted request) (call_of (wanted request)) result
-Serves same makes told sink old new now (Err f) result = same × ServesFault sink old new f result
+ServesAsked same makes told sink old new now request names result =
+    MatchBool (is_foreign names request.fields)
+    (same × Ends sink old new foreign_answer None result)
+    (ServesWanted same makes told sink old new now request (wanted request) (call_of (wanted request)) result)
+
+-- What was read is served: a request by what it wants, unless it is foreign, and a fault as the interface does. `same`: no call is made.
+-- `makes`: this call is made, once, and this comes of it. `told`: what is told of a topic. `named`: the names that the node may have
+abbrev pub Serves : {W : Type 0} → (same : Type 0) → (makes : Call → Result Reply Refusal → Type 0) → (told : Topic → Response → Type 0) → (named : List (List ℕ) → Type 0) → OfSink W → (old new : W) → ℕ
+    → Result Request Fault → Result ⊤ ServeError → Type 0
+Serves same makes told named sink old new now (Ok request) result =
+    (names : List (List ℕ)) × named names × ServesAsked same makes told sink old new now request names result
+Serves same makes told named sink old new now (Err f) result = same × ServesFault sink old new f result

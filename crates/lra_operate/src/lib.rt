@@ -2,6 +2,7 @@
 //! answers.
 #![tactic(auto)]
 
+mod doors;
 mod filter;
 mod json;
 mod page;

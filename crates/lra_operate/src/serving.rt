@@ -7,9 +7,11 @@ ghost use Rattle.lra_book.specs.declared.calls.Call.TheVariants.{Survey};
 ghost use Rattle.lra_api.specs.Answers.{refusal_answer as broken_answer};
 ghost use Rattle.lra_api.specs.Serving.{Ends, Makes};
 ghost use Rattle.lra_api.specs.Streams.{IsReading};
-ghost use Rattle.lra_operate.specs.Serving.{EndsTold, IsTold, Serves, ServesCall, ServesOther, ServesWanted, answer_at, call_of};
+ghost use Rattle.lra_operate.specs.Doors.{foreign_answer, is_foreign};
+ghost use Rattle.lra_operate.specs.Serving.{EndsTold, IsTold, Serves, ServesAsked, ServesCall, ServesOther, ServesWanted, answer_at, call_of};
 ghost use Rattle.lra_operate.specs.Wanted.{wanted};
 
+use crate::doors::{foreign_answer, is_foreign};
 use crate::records::record_body;
 use crate::surveys::survey_body;
 use crate::telling::told_answer;
@@ -20,7 +22,7 @@ use lra_api::{
 };
 use lra_book::{Call, Clerk, Reply};
 use lra_facts::{Command, Refusal};
-use lra_http::{MAX_BODY_BYTES, Request, Sink, Source, read_request};
+use lra_http::{Bytes, MAX_BODY_BYTES, Request, Sink, Source, read_request};
 use std::alloc::{AllocError, Global};
 
 /// The survey of which a list shows some.
@@ -159,10 +161,41 @@ fn serve_wanted<W: Sink, C: Clerk, T: State>(
     }
 }
 
+/// Refuses a request that is none of an operator's.
+fn serve_foreign<W: Sink>(alloc: Global, writer: &mut W) -> Result<(), ServeError>
+    ensures { Ends W.Sink writer.old writer.new foreign_answer None result }
+{
+    let made = foreign_answer(alloc);
+    end(alloc, writer, made, None)
+}
+
+/// Serves a request at the port of a node with these names, unless it is foreign.
+fn serve_asked<W: Sink, C: Clerk, T: State>(
+    alloc: Global,
+    paths: &Paths,
+    state: &T,
+    names: &[Bytes],
+    writer: &mut W,
+    clerk: &mut C,
+    request: &Request,
+    now: u64,
+) -> Result<(), ServeError>
+    ensures { ServesAsked (clerk.new ≡ clerk.old)
+        (Makes C.Clerk clerk.old clerk.new now) (IsTold T.State state.now)
+        W.Sink writer.old writer.new now request.now names.now result }
+{
+    if is_foreign(names, &request.fields) {
+        return serve_foreign(alloc, writer);
+    }
+    serve_wanted(alloc, paths, state, writer, clerk, request, now)
+}
+
 /// Reads one request at an operator's port, and writes one answer. It makes the call that is
 /// wanted, once, or none: one of the operator's own paths shows the LRAs that are held, all that is
 /// held of one, or enters a word in the place of a participant; or tells what the node's threads
-/// know; and what the interface has is served as it serves it. Errors: as `lra_api::serve_one`.
+/// know; and what the interface has is served as it serves it. A coordinator's own call to a link
+/// is refused (403), and so is what is for another host or comes from a page of one. Errors: as
+/// `lra_api::serve_one`.
 pub fn serve_operator<R: Source, W: Sink, C: Clerk, T: State>(
     alloc: Global,
     paths: &Paths,
@@ -175,10 +208,13 @@ pub fn serve_operator<R: Source, W: Sink, C: Clerk, T: State>(
     ensures served { (read : Result TheRequest TheFault)
         × IsReading R.Source reader.old reader.new read × Serves (clerk.new ≡ clerk.old)
         (Makes C.Clerk clerk.old clerk.new now) (IsTold T.State state.now)
-        W.Sink writer.old writer.new now read result }
+        (T.named state.now) W.Sink writer.old writer.new now read result }
 {
     match read_request(alloc, reader, MAX_BODY_BYTES) {
-        Ok(request) => serve_wanted(alloc, paths, state, writer, clerk, &request, now),
+        Ok(request) => {
+            let names = state.names();
+            serve_asked(alloc, paths, state, names, writer, clerk, &request, now)
+        }
         Err(fault) => serve_fault(alloc, writer, fault),
     }
 }

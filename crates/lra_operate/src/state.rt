@@ -1,5 +1,6 @@
 // What an operator's port tells of its node besides what the journal has.
 
+use lra_http::Bytes;
 use std::alloc::{AllocError, Global};
 
 /// What the threads of a node know of it. What they know may change at any moment, so each state
@@ -14,8 +15,15 @@ pub trait State {
     /// does.
     ghost causes: { Self → Option (List ℕ) → Type 0 };
 
+    /// The names that it may have.
+    ghost named: { Self → List (List ℕ) → Type 0 };
+
     /// The texts that it may tell of a topic.
     ghost tells: { Self → TheTopic → List ℕ → Type 0 };
+
+    /// The names by which it may be asked, besides `localhost` and addresses.
+    fn names(&self) -> &[Bytes]
+        ensures { named self.now result.now };
 
     /// Which node it is, of how many, as JSON.
     fn health(&self, alloc: Global) -> Result<Vec<u8>, AllocError>

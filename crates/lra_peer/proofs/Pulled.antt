@@ -1,6 +1,6 @@
 -- What was given has to do with what comes of a pull.
 use Rattle.std.proofs.Common.{◌≡◌, ◌≢◌, ◌∙◌, ◌⊎◌, ℕ, ◌+◌, List, [], ◌++◌, Option, None, Some, Result, Ok, Err, IfErr, IfOk, IfSome, MatchResult, OnErr, OnOk, ◌≤◌, ap, append-nil, arith, inl, inr, length, refl, subst, sym, take}
-use Rattle.std.specs.Prelude.{⊤}
+use Rattle.std.specs.Prelude.{⊤, Bool, true, false, ◌==◌, if◌then◌else◌}
 use Rattle.std.specs.Io.KnownBytes.{Consumes}
 use Rattle.std.proofs.lemmas.Bool.{cases_eq}
 use Rattle.std.proofs.lemmas.List.{take_at}
@@ -22,9 +22,9 @@ use Rattle.lra_http.proofs.Cuts.{final_more}
 use Rattle.lra_http.proofs.Known.{gives_more}
 use Rattle.lra_http.proofs.Left.{response_found}
 use Rattle.lra_http.proofs.Messages.{unique_final}
-use Rattle.lra_peer.specs.PullAnswers.{IsAnswer, IsBodyRead, IsFound, IsOfStreams, IsUnsent, Reads, StopsPull, TellsDelta, error_of, max_frame_bytes, pull_reads, told_by}
+use Rattle.lra_peer.specs.PullAnswers.{IsAnswer, IsBodyRead, IsFound, IsOfStreams, IsUnsent, Reads, StopsPull, TellsDelta, error_of, max_frame_bytes, other_of, pull_reads, told_by}
 use Rattle.lra_peer.specs.declared.error.PullError.{PullError}
-use Rattle.lra_peer.specs.declared.error.PullError.TheVariants.{Fault}
+use Rattle.lra_peer.specs.declared.error.PullError.TheVariants.{Fault, Misdirected}
 
 -- ---- what was written
 
@@ -95,6 +95,15 @@ whole_answer heads body size h len = record {
   status_is = sym h.status;
 }
 
+-- it lies in the status: no cut, and each read came out well
+no_cut : (is : Bool) → (if is then Misdirected else Fault NotOffered) ≡ Fault Cut → ⊥
+no_cut true e = cc
+no_cut false e = cc
+
+other_reads : (old new : Calls) (is : Bool) → AllWell pull_reads 0 old new → Reads old new (if is then Misdirected else Fault NotOffered)
+other_reads old new true well = well
+other_reads old new false well = well
+
 abbrev stopped : PullError → Result Frame PullError
 stopped error = Err error
 
@@ -161,7 +170,7 @@ found_body (Some input) (Some more) given status size result took h body = λ by
 module _ {R : Type 0} (stream : R → GivenBytes) (calls : R → Calls) (r0 r1 r2 : R) (status size count : ℕ) (result : Result Frame PullError)
     (head : GivesWhat (stream r0) (stream r1) (λ given. IsHeadRead max_frame_bytes given status size)) (fits : size ≤ max_frame_bytes)
     (well : AllWell 16385 0 (calls r0) (calls r1)) (counted : (calls r1).interrupted ≡ (calls r0).interrupted + count)
-    (other : status ≢ 200 → (result ≡ Err (Fault NotOffered)) × (r2 ≡ r1))
+    (other : status ≢ 200 → (result ≡ Err (other_of status)) × (r2 ≡ r1))
     (body : status ≡ 200 → (read : Result Frame Stop) × (result ≡ told_by read) × IsBodyRead size count (stream r1) (stream r2) (calls r1) (calls r2) read) where
   offered : status ≡ 200 → IsHeadRead max_frame_bytes head.0 200 size
   offered ok = subst (λ (s : ℕ). IsHeadRead max_frame_bytes head.0 s size) ok head.2
@@ -194,13 +203,13 @@ module _ {R : Type 0} (stream : R → GivenBytes) (calls : R → Calls) (r0 r1 r
         reads = stop_calls (calls r0) (calls r1) (calls r2) size count fits counted well stop is.calls;
       }
 
-  other_error : status ≢ 200 → (r : R) → r ≡ r1 → StopsPull (stream r0) (stream r) (calls r0) (calls r) (Fault NotOffered)
-  other_error not r same = subst (λ (x : R). StopsPull (stream r0) (stream x) (calls r0) (calls x) (Fault NotOffered)) (sym same) (record {
+  other_error : status ≢ 200 → (r : R) → r ≡ r1 → StopsPull (stream r0) (stream r) (calls r0) (calls r) (other_of status)
+  other_error not r same = subst (λ (x : R). StopsPull (stream r0) (stream x) (calls r0) (calls x) (other_of status)) (sym same) (record {
     bytes = head.0;
     gives = head.1;
-    refuses = inr (inl (refl, (status, size, head.2, not)));
-    ended = λ e. absurd (cc);
-    reads = head_well (calls r0) (calls r1) well;
+    refuses = inr (inl (status, size, head.2, not, refl));
+    ended = λ e. absurd (no_cut (status == 421) e);
+    reads = other_reads (calls r0) (calls r1) (status == 421) (head_well (calls r0) (calls r1) well);
   })
 
   pub answer_message : IfOk result (TellsDelta (stream r0) (stream r2) (calls r0) (calls r2))

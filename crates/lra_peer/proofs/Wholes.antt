@@ -1,13 +1,15 @@
 -- The text of a pull is a whole request.
-use Rattle.std.proofs.Common.{◌≡◌, ◌∙◌, ℕ, zero, suc, ◌+◌, ◌*◌, ◌<◌, ◌≤◌, true, List, ◌∷◌, ◌++◌, length, codes, Ok, Result, refl, ap, arith, subst, All}
+use Rattle.std.proofs.Common.{◌≡◌, ◌∙◌, ℕ, zero, suc, ◌+◌, ◌*◌, ◌<◌, ◌≤◌, true, List, [], ◌∷◌, ◌++◌, length, codes, Ok, Result, refl, ap, arith, subst, All, IsTrue}
+use Rattle.std.specs.Prelude.{IsUtf8}
 use Rattle.std.specs.Fmt.{decimal, digits}
 use Rattle.std.specs.List.{list_all}
 use Rattle.std.specs.Str.Parse.{digits_value}
 use Rattle.std.proofs.lemmas.Bool.{le-ltb}
 use Rattle.std.proofs.lemmas.List.{length-append}
-use Rattle.std.proofs.lemmas.List.Elements.{All-from_recursion}
+use Rattle.std.proofs.lemmas.List.Elements.{All-append, All-from_recursion}
 use Rattle.std.proofs.lemmas.List.Sums.{AllPass-from_list_all}
-use Rattle.httparse.specs.Grammar.{RequestHead, is_token_byte, is_uri_byte, is_value_byte, trim_ows}
+use Rattle.std.proofs.lemmas.Str.{IsUtf8-append, IsUtf8-nil}
+use Rattle.httparse.specs.Grammar.{AllPass, RequestHead, is_token_byte, is_uri_byte, is_value_byte, trim_ows}
 use Rattle.lra_http.specs.declared.fault.Fault.{Fault}
 use Rattle.lra_http.specs.HeadFields.{is_number, length_in}
 use Rattle.lra_http.specs.Requests.{IsRequest}
@@ -16,8 +18,8 @@ use Rattle.lra_http.specs.WholeMessages.{IsPlain, IsSoundCall, host_field}
 use Rattle.lra_http.proofs.WholeMessages.{whole_request}
 use Rattle.lra_delta.proofs.RecordCodes.{length-vector}
 use Rattle.lra_peer.specs.PullBodies.{pull_body}
-use Rattle.lra_peer.specs.Texts.{field, pull_fields, pull_request, pull_text}
-use Rattle.lra_peer.proofs.Requested.{before_length, text_is}
+use Rattle.lra_peer.specs.Texts.{IsQuery, field, pull_fields, pull_request, pull_target, pull_text}
+use Rattle.lra_peer.proofs.Requested.{text_is}
 
 -- the length of a pull's body as it is written
 record IsSize (n : ℕ) : Type 0 where
@@ -69,33 +71,60 @@ length_is limit n size fits =
 body_length : (front : List ℕ) → 1 + 8 * length front ≡ length (pull_body front)
 body_length front = omega (arith, length-vector front)
 
--- the head has few bytes besides
-head_short : (digits : List ℕ) → length digits ≤ 2
-    → length (before_length (((digits ++ line_end) ++ (codes "Connection: close" ++ line_end)) ++ line_end)) ≤ 16384
-head_short digits few =
+-- what stands between the line of the request and the length
+abbrev behind_line : List ℕ → List ℕ
+behind_line rest =
+    codes "Host: peer" ++ (line_end
+    ++ (codes "Content-Type: application/octet-stream" ++ (line_end
+    ++ (codes "Content-Length: " ++ rest))))
+
+-- the head has few bytes besides the query
+head_short : (query digits : List ℕ) → length query ≤ 16000 → length digits ≤ 2
+    → length (codes "POST /peer/pull" ++ ((query ++ (codes " HTTP/1.1" ++ line_end)) ++ behind_line (((digits ++ line_end) ++ (codes "Connection: close" ++ line_end)) ++ line_end))) ≤ 16384
+head_short query digits low few =
     let last : List ℕ = codes "Connection: close" ++ line_end in
+    let version : List ℕ = codes " HTTP/1.1" ++ line_end in
+    let rest : List ℕ = behind_line (((digits ++ line_end) ++ last) ++ line_end) in
     let one = length-append digits line_end in
     let two = length-append (digits ++ line_end) last in
     let three = length-append ((digits ++ line_end) ++ last) line_end in
-    omega (arith, few, one, two, three)
+    let four = length-append query version in
+    let five = length-append (query ++ version) rest in
+    omega (arith, low, few, one, two, three, four, five)
 
-sound : (limit : ℕ) (front : List ℕ) → 65 ≤ limit → length front ≤ 8 → IsSoundCall limit (pull_request front)
-unfolding is_token_byte lib.Utf8.encode
-sound limit front most few =
+target_bytes : (query : List ℕ) → AllPass is_uri_byte query → AllPass is_uri_byte (pull_target query)
+target_bytes query bytes = All-append (λ b. IsTrue (is_uri_byte b)) (codes "/peer/pull") query (AllPass-from_list_all is_uri_byte (codes "/peer/pull") refl) bytes
+
+path_text : IsUtf8 (codes "/peer/pull")
+unfolding lib.Utf8.encode
+path_text = (codes "/peer/pull", (refl, refl))
+
+sound : (limit : ℕ) (query front : List ℕ) → 65 ≤ limit → IsQuery query → length front ≤ 8 → IsSoundCall limit (pull_request query front)
+unfolding is_token_byte
+sound limit query front most asks few =
     let size = size_of (length front) few in
     record {
       method = (omega arith, AllPass-from_list_all is_token_byte (codes "POST") refl);
-      target = (omega arith, AllPass-from_list_all is_uri_byte (codes "/peer/pull") refl);
-      text = (codes "/peer/pull", (refl, refl));
+      target = (omega arith, target_bytes query asks.bytes);
+      text = IsUtf8-append (codes "/peer/pull") query path_text asks.text;
       fields = all_plain front size;
       stated = length_is limit (1 + 8 * length front) size (omega (arith, most, few)) ∙ ap sized (body_length front);
-      short = head_short (decimal (1 + 8 * length front)) size.short;
+      short = head_short query (decimal (1 + 8 * length front)) asks.short size.short;
       few = omega arith;
     }
 
-pub whole_pull : (limit : ℕ) (front rest : List ℕ) → 65 ≤ limit → length front ≤ 8
-    → (h : RequestHead) × IsRequest limit (pull_text front ++ rest) h (pull_body front) rest
+pub whole_pull : (limit : ℕ) (query front rest : List ℕ) → 65 ≤ limit → IsQuery query → length front ≤ 8
+    → (h : RequestHead) × IsRequest limit (pull_text query front ++ rest) h (pull_body front) rest
+    × (h.method ≡ codes "POST") × (h.target ≡ pull_target query)
+whole_pull limit query front rest most asks few =
+    let w = whole_request limit (pull_request query front) rest (sound limit query front most asks few) in
+    (w.0, subst (λ (text : List ℕ). IsRequest limit (text ++ rest) w.0 (pull_body front) rest) (text_is query front) w.1, w.2, w.3)
+
+-- without a query
+no_query : IsQuery []
+no_query = record { text = IsUtf8-nil; bytes = AllPass-from_list_all is_uri_byte [] refl; short = omega arith }
+
+pub bare_pull : (limit : ℕ) (front rest : List ℕ) → 65 ≤ limit → length front ≤ 8
+    → (h : RequestHead) × IsRequest limit (pull_text [] front ++ rest) h (pull_body front) rest
     × (h.method ≡ codes "POST") × (h.target ≡ codes "/peer/pull")
-whole_pull limit front rest most few =
-    let w = whole_request limit (pull_request front) rest (sound limit front most few) in
-    (w.0, subst (λ (text : List ℕ). IsRequest limit (text ++ rest) w.0 (pull_body front) rest) (text_is front) w.1, w.2, w.3)
+bare_pull limit front rest most few = whole_pull limit [] front rest most no_query few

@@ -1,5 +1,5 @@
 -- What comes of a pull.
-use Rattle.std.specs.Prelude.{◌≡◌, ◌≢◌, ◌⊎◌, ℕ, ◌+◌, ◌≤◌, List, [], ◌++◌, length, take, Result, Ok, Err, IfErr, IfOk, IfSome, MatchResult}
+use Rattle.std.specs.Prelude.{◌≡◌, ◌≢◌, ◌⊎◌, ℕ, ◌+◌, ◌≤◌, List, [], ◌++◌, length, take, Result, Ok, Err, IfErr, IfOk, IfSome, MatchResult, if◌then◌else◌, ◌==◌}
 use Rattle.httparse.specs.Grammar.{ResponseHead, status_code}
 use Rattle.lra_delta.specs.declared.version.Version.{Version}
 use Rattle.lra_delta.specs.Frames.{Frame}
@@ -11,11 +11,11 @@ use Rattle.lra_delta.specs.declared.input.Stop.{Stop}
 use Rattle.lra_delta.specs.declared.input.Stop.TheVariants.{Fault as FaultAt, Cut as CutShort, ReadFault as ReadFailed, Memory}
 use Rattle.lra_http.specs.Heads.{max_head_bytes}
 use Rattle.lra_http.specs.Responses.{IsHeadRead, IsResponse, ShowsNoHead, head_room}
-use Rattle.lra_http.specs.Streams.{AllWell, Calls, FoundEnd, GivenBytes, Gives, GivesWhat, IsFlushed, IsLost, OnReadFault, TakenBytes, Takes, TakesPart}
+use Rattle.lra_http.specs.Streams.{AllWell, Calls, FoundEnd, GivenBytes, Gives, GivesWhat, IsLost, OnReadFault, TakenBytes, TakesPart}
 use Rattle.lra_http.specs.declared.fault.Fault.{Fault as HttpFault}
 use Rattle.lra_http.specs.declared.fault.Fault.TheVariants.{Cut, NoMemory, NotOffered, ReadFault, WriteFault}
 use Rattle.lra_peer.specs.declared.error.PullError.{PullError}
-use Rattle.lra_peer.specs.declared.error.PullError.TheVariants.{Fault, BadFrame}
+use Rattle.lra_peer.specs.declared.error.PullError.TheVariants.{Fault, BadFrame, Misdirected}
 
 -- the most bytes of a frame
 abbrev pub max_frame_bytes : ℕ
@@ -36,6 +36,7 @@ IsUnsent old new before after text unread untouched fault =
 abbrev pub IsUnsentBy : (old new : TakenBytes) (before after : Calls) → List ℕ → (unread untouched : Type 0) → PullError → Type 0
 IsUnsentBy old new before after text unread untouched (Fault fault) = IsUnsent old new before after text unread untouched fault
 IsUnsentBy old new before after text unread untouched (BadFrame place) = ⊥
+IsUnsentBy old new before after text unread untouched Misdirected = ⊥
 
 -- ---- the answer
 
@@ -45,9 +46,13 @@ pub record IsAnswer (bytes : List ℕ) (status : ℕ) (body : List ℕ) : Type 0
   pub whole : IsResponse head_room max_frame_bytes bytes head body []
   pub status_is : status_code head ≡ status
 
--- the heads state another status than 200, and no byte of the body was given
-abbrev pub IsOther : List ℕ → Type 0
-IsOther bytes = (status : ℕ) × (size : ℕ) × IsHeadRead max_frame_bytes bytes status size × (status ≢ 200)
+-- the error of another status than 200: 421 says that another node answers than the one that was asked
+abbrev pub other_of : ℕ → PullError
+other_of status = if status == 421 then Misdirected else Fault NotOffered
+
+-- the heads state another status than 200, which is the error, and no byte of the body was given
+abbrev pub IsOther : List ℕ → PullError → Type 0
+IsOther bytes error = (status : ℕ) × (size : ℕ) × IsHeadRead max_frame_bytes bytes status size × (status ≢ 200) × (error ≡ other_of status)
 
 -- the heads state status 200 and a body of so many bytes, of which these were given, and no byte behind it
 pub record IsOffered (bytes : List ℕ) (size : ℕ) (body : List ℕ) : Type 0 where
@@ -75,12 +80,13 @@ RefusesHead bytes error = (fault : HttpFault) × ShowsNoHead max_frame_bytes byt
 
 -- why bytes tell no delta: by their heads, which come first, by another status, or by the body
 abbrev pub RefusesPull : List ℕ → PullError → Type 0
-RefusesPull bytes error = RefusesHead bytes error ⊎ (((error ≡ Fault NotOffered) × IsOther bytes) ⊎ RefusesBody bytes error)
+RefusesPull bytes error = RefusesHead bytes error ⊎ (IsOther bytes error ⊎ RefusesBody bytes error)
 
 -- how the reads came out before an error
 abbrev pub Reads : Calls → Calls → PullError → Type 0
 Reads before after (Fault fault) = OnReadFault (IsLost pull_reads 0 before after) (AllWell pull_reads 0 before after) fault
 Reads before after (BadFrame place) = AllWell pull_reads 0 before after
+Reads before after Misdirected = AllWell pull_reads 0 before after
 
 -- what was given tells no delta, and a cut comes where the last call found the end
 pub record StopsPull (old new : GivenBytes) (before after : Calls) (error : PullError) : Type 0 where

@@ -3,9 +3,7 @@ ghost use Rattle.std.specs.Prelude.{◌≡◌, ◌≢◌, ◌<◌, Result, Err, 
 ghost use Rattle.lra_delta.specs.Frames.{Frame};
 ghost use Rattle.lra_delta.specs.declared.input.Stop.{Stop as TheStop};
 ghost use Rattle.lra_http.specs.Streams.{too_many_interrupted};
-ghost use Rattle.lra_http.specs.declared.fault.Fault.TheVariants.{NotOffered};
-ghost use Rattle.lra_peer.specs.PullAnswers.{IsBodyRead, IsFound, StopsPull, TellsDelta, error_of, told_by};
-ghost use Rattle.lra_peer.specs.declared.error.PullError.TheVariants.{Fault as OfHttp};
+ghost use Rattle.lra_peer.specs.PullAnswers.{IsBodyRead, IsFound, StopsPull, TellsDelta, error_of, other_of, told_by};
 
 use crate::PullError;
 use lra_delta::{Delta, Stop};
@@ -23,6 +21,17 @@ fn error_of(stop: Stop) -> PullError
         Stop::Cut => PullError::Fault(Fault::Cut),
         Stop::ReadFault => PullError::Fault(Fault::ReadFault),
         Stop::Memory => PullError::Fault(Fault::NoMemory),
+    }
+}
+
+/// Why an answer with another status than 200 tells no delta.
+fn other_of(status: u16) -> PullError
+    ensures { result ≡ other_of status }
+{
+    if status == 421 {
+        PullError::Misdirected
+    } else {
+        PullError::Fault(Fault::NotOffered)
     }
 }
 
@@ -44,13 +53,13 @@ fn body_of<R: Source>(alloc: Global, reader: &mut R, head: FinalHead) -> Result<
 fn delta_of<R: Source>(alloc: Global, reader: &mut R, head: FinalHead) -> Result<Delta, PullError>
     requires { head.interrupted < too_many_interrupted }
     ensures other { head.status ≢ 200 →
-        (result ≡ Err (OfHttp NotOffered)) × (reader.new ≡ reader.old) }
+        (result ≡ Err (other_of head.status)) × (reader.new ≡ reader.old) }
     ensures body { head.status ≡ 200 → (read : Result Frame TheStop) × (result ≡ told_by read)
         × IsBodyRead head.size head.interrupted (R.stream reader.old)
         (R.stream reader.new) (R.calls reader.old) (R.calls reader.new) read }
 {
     if head.status.as_u16() != 200 {
-        return Err(PullError::Fault(Fault::NotOffered));
+        return Err(other_of(head.status.as_u16()));
     }
     body_of(alloc, reader, head)
 }

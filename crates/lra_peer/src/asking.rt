@@ -1,7 +1,7 @@
 // The request of a pull.
 ghost use Rattle.std.specs.Prelude.{◌≡◌, IfOk};
 ghost use Rattle.lra_http.specs.MessageTexts.{request_text};
-ghost use Rattle.lra_peer.specs.Texts.{field, pull_fields, pull_request, pull_text};
+ghost use Rattle.lra_peer.specs.Texts.{field, pull_fields, pull_request, pull_target, pull_text};
 
 use crate::bodies::pull_body;
 use http::Method;
@@ -36,21 +36,30 @@ fn text(alloc: Global, text: &str) -> Result<Text, AllocError>
     Ok(Text::new(String::from_str(alloc, text)?))
 }
 
-fn parts_of(alloc: Global, front: &Front) -> Result<CallRequest, AllocError>
-    ensures { IfOk result (λ request. request ≡ pull_request front.now) }
+/// The target of a pull with a query.
+fn target(alloc: Global, query: &str) -> Result<Text, AllocError>
+    ensures { IfOk result (λ made. made ≡ pull_target query.now) }
+{
+    let mut target = String::from_str(alloc, "/peer/pull")?;
+    target.push_str(query)?;
+    Ok(Text::new(target))
+}
+
+fn parts_of(alloc: Global, query: &str, front: &Front) -> Result<CallRequest, AllocError>
+    ensures { IfOk result (λ request. request ≡ pull_request query.now front.now) }
 {
     Ok(CallRequest {
         method: Method::POST,
-        target: text(alloc, "/peer/pull")?,
+        target: target(alloc, query)?,
         host: text(alloc, "peer")?,
         fields: pull_fields(alloc, 1 + 8 * front.nodes())?,
         body: Bytes::new(pull_body(alloc, front)?),
     })
 }
 
-/// The request for what a front lacks.
-pub fn pull_request(alloc: Global, front: &Front) -> Result<CallRequest, AllocError>
-    ensures { IfOk result (λ request. request_text request ≡ pull_text front.now) }
+/// The request for what a front lacks, with a query.
+pub fn pull_request(alloc: Global, query: &str, front: &Front) -> Result<CallRequest, AllocError>
+    ensures { IfOk result (λ request. request_text request ≡ pull_text query.now front.now) }
 {
-    parts_of(alloc, front)
+    parts_of(alloc, query, front)
 }

@@ -9,11 +9,14 @@ use std::fmt;
 #[derive(Clone, Copy, Debug, PartialEq, Eq)]
 pub enum PullError {
     /// The request was not written, or no whole response was read: `NotOffered` also where its
-    /// status is not 200, and `NoMemory` also where memory ran out elsewhere in the call.
+    /// status is neither 200 nor 421, and `NoMemory` also where memory ran out elsewhere in the
+    /// call.
     Fault(Fault),
     /// E16: the body of the response is no frame, whatever follows of it. The place of its first
     /// field that isn't whole within the stated length or breaks its rule.
     BadFrame(u64),
+    /// The status of the response is 421: another node answers than the one that was asked.
+    Misdirected,
 }
 
 impl fmt::Display for PullError {
@@ -23,6 +26,7 @@ impl fmt::Display for PullError {
         match *self {
             PullError::Fault(fault) => f.write_str(fault.name()),
             PullError::BadFrame(place) => write!(f, "E16 BadFrame {place}"),
+            PullError::Misdirected => f.write_str("Misdirected"),
         }
     }
 }

@@ -1,5 +1,5 @@
 // Laws of pulls: each function does nothing, and its contract is the law.
-ghost use Rattle.std.specs.Prelude.{◌≡◌, ◌++◌, ◌≤◌, ℕ, List, Ok, codes, length};
+ghost use Rattle.std.specs.Prelude.{◌≡◌, ◌++◌, ◌≤◌, ℕ, List, [], Ok, codes, length};
 ghost use Rattle.httparse.specs.Grammar.{RequestHead};
 ghost use Rattle.lra_id.specs.declared.TheConstants.{MAX_NODES};
 ghost use Rattle.lra_id.specs.Fronts.{IsBelow, join_fronts};
@@ -16,7 +16,7 @@ ghost use Rattle.lra_http.specs.ByteResponses.{Response as TheResponse};
 ghost use Rattle.lra_peer.specs.PullAnswers.{IsAnswer, max_frame_bytes};
 ghost use Rattle.lra_peer.specs.PullBodies.{IsAsked, asked, pull_body};
 ghost use Rattle.lra_peer.specs.Serving.{Serves};
-ghost use Rattle.lra_peer.specs.Texts.{pull_text};
+ghost use Rattle.lra_peer.specs.Texts.{IsQuery, pull_target, pull_text};
 
 /// What a node takes by a pull from a node of the same history is the union of what both have: one
 /// that asks from a front which it has itself, and has the same nodes, may take what is served, and
@@ -38,11 +38,16 @@ pub fn a_pull_is_the_union()
 {}
 
 /// The text of a pull from a front of 1 to 8 nodes is one whole request, with the front as its
-/// body, for a reader whose limit is at least 65 bytes.
+/// body, for a reader whose limit is at least 65 bytes: without a query, and with each that may
+/// stand in a target and has at most 16,000 bytes.
 pub fn a_pull_is_a_whole_request()
-    ensures { (limit : ℕ) (front rest : List ℕ) → 65 ≤ limit → length front ≤ MAX_NODES →
-        (h : RequestHead) × IsRequest limit (pull_text front ++ rest) h (pull_body front) rest
+    ensures bare { (limit : ℕ) (front rest : List ℕ) → 65 ≤ limit → length front ≤ MAX_NODES →
+        (h : RequestHead) × IsRequest limit (pull_text [] front ++ rest) h (pull_body front) rest
         × (h.method ≡ codes "POST") × (h.target ≡ codes "/peer/pull") }
+    ensures query { (limit : ℕ) (query front rest : List ℕ) →
+        65 ≤ limit → IsQuery query → length front ≤ MAX_NODES → (h : RequestHead)
+        × IsRequest limit (pull_text query front ++ rest) h (pull_body front) rest
+        × (h.method ≡ codes "POST") × (h.target ≡ pull_target query) }
 {}
 
 /// The text of a response with status 200, whose body encodes a frame and whose fields are plain

@@ -17,46 +17,54 @@ use lra_id::Front;
 use std::alloc::Global;
 
 /// Writes the request.
-fn write_pull_request<W: Sink>(alloc: Global, writer: &mut W, front: &Front) -> Result<(), Fault>
+fn write_pull_request<W: Sink>(
+    alloc: Global,
+    writer: &mut W,
+    query: &str,
+    front: &Front,
+) -> Result<(), Fault>
     ensures sent { OnOk result (IsSent (W.stream writer.old)
-        (W.stream writer.new) (W.calls writer.old) (W.calls writer.new) (pull_text front.now)) }
+        (W.stream writer.new) (W.calls writer.old) (W.calls writer.new) (pull_text query.now front.now)) }
     ensures unsent { IfErr result (IsUnsent (W.stream writer.old) (W.stream writer.new)
-        (W.calls writer.old) (W.calls writer.new) (pull_text front.now) ⊤ (writer.new ≡ writer.old)) }
+        (W.calls writer.old) (W.calls writer.new) (pull_text query.now front.now) ⊤ (writer.new ≡ writer.old)) }
 {
-    let request = pull_request(alloc, front)?;
+    let request = pull_request(alloc, query, front)?;
     write_request(alloc, writer, &request)
 }
 
 /// Asks another node for what is lacked by one that has the facts which a front counts: writes the
-/// request of a pull, and reads the delta out of one response with status 200, whose body has at
-/// most 67,108,864 bytes, field by field as it comes. What is behind the response is left unread,
-/// for which its head is read one byte a call: over a socket a buffered reader goes below. It asks
-/// once, and applies nothing: what comes is for `lra_delta::prepare`, which also looks whether it
-/// is of as many nodes. Errors: each `Fault`, with NotOffered for another status, whose body is
-/// left unread; and E16 with its place where the body is no frame, as soon as its first bad field
-/// has come, and nothing behind that field is read. It looks at no more than it must. It follows no
-/// redirect, and doesn't look at Content-Type, since a frame is told by its first bytes. The node
-/// that is asked refuses a front with too great counts.
+/// request of a pull, whose target is `/peer/pull` and the query as it is given, and reads the delta
+/// out of one response with status 200, whose body has at most 67,108,864 bytes, field by field as
+/// it comes. The query is empty, or has its question mark. What is behind the response is left
+/// unread, for which its head is read one byte a call: over a socket a buffered reader goes below.
+/// It asks once, and applies nothing: what comes is for `lra_delta::prepare`, which also looks
+/// whether it is of as many nodes. Errors: Misdirected for status 421, by which a node refuses what
+/// was asked of another; each `Fault`, with NotOffered for any other status than 200; the body of
+/// either is left unread; and E16 with its place where the body is no frame, as soon as its first
+/// bad field has come, and nothing behind that field is read. It looks at no more than it must. It
+/// follows no redirect, and doesn't look at Content-Type, since a frame is told by its first bytes.
+/// The node that is asked refuses a front with too great counts.
 pub fn pull<R: Source, W: Sink>(
     alloc: Global,
     reader: &mut R,
     writer: &mut W,
+    query: &str,
     front: &Front,
 ) -> Result<Delta, PullError>
     // The whole request was written and passed on. What was given since is one whole response with
     // status 200, whose body encodes the delta, and no byte more. No call failed.
     ensures message { IfOk result (λ delta. IsSent (W.stream writer.old)
-        (W.stream writer.new) (W.calls writer.old) (W.calls writer.new) (pull_text front.now)
+        (W.stream writer.new) (W.calls writer.old) (W.calls writer.new) (pull_text query.now front.now)
         × TellsDelta (R.stream reader.old)
         (R.stream reader.new) (R.calls reader.old) (R.calls reader.new) delta) }
     // Where each error comes: a prefix of the request was written, where a write failed, or
     // nothing, where memory ran out before, and then nothing was read; or all of it was, and what
     // was given tells why there is no delta, or a read failed.
     ensures error { IfErr result (λ error. IsUnsentBy (W.stream writer.old)
-        (W.stream writer.new) (W.calls writer.old) (W.calls writer.new) (pull_text front.now)
+        (W.stream writer.new) (W.calls writer.old) (W.calls writer.new) (pull_text query.now front.now)
         (reader.new ≡ reader.old) ((writer.new ≡ writer.old) × (reader.new ≡ reader.old)) error
         ⊎ (IsSent (W.stream writer.old) (W.stream writer.new) (W.calls writer.old)
-        (W.calls writer.new) (pull_text front.now) × StopsPull (R.stream reader.old)
+        (W.calls writer.new) (pull_text query.now front.now) × StopsPull (R.stream reader.old)
         (R.stream reader.new) (R.calls reader.old) (R.calls reader.new) error)) }
     // Where the bytes that are left are known, and a whole response with status 200 and a frame
     // stands at their start, that frame is taken, unless a call fails or memory runs out.
@@ -65,7 +73,7 @@ pub fn pull<R: Source, W: Sink>(
         IsDeltaAs version frame → IsAnswer bytes 200 (encoding_as version frame) →
         MatchResult result (λ delta. delta ≡ frame) IsOfStreams) }
 {
-    match write_pull_request(alloc, writer, front) {
+    match write_pull_request(alloc, writer, query, front) {
         Ok(()) => read_answer(alloc, reader),
         Err(fault) => Err(PullError::Fault(fault)),
     }

@@ -40,10 +40,12 @@ is_taken _ = false
 abbrev pub is_own : Reply → Bool
 is_own reply = is_stored reply && not (is_taken reply)
 
--- whether other participants may be due: a decision, a report or a forgetting was entered, a frame taken, or an LRA expired
+-- whether other participants may be due: a decision, a report or a forgetting was entered, a frame taken, or an LRA expired; or a
+-- listener is due no more, as it was told
 abbrev pub news_by : (completes : Bool) → CommandReply → News
 news_by completes (reply.Decided id status) = Others
 news_by completes reply.Forgotten = Others
+news_by completes reply.Told = OfCompletion
 news_by completes reply.Reported = if completes then OfCompletion else Others
 news_by completes _ = Nobody
 
@@ -104,7 +106,7 @@ freed_by _ = None
 
 -- what a call leaves that reported a completion or didn't, and said that a participant of an LRA was told, or didn't
 abbrev pub noted_by : (completes : Bool) (freed : Option Id) → Reply → Noted
-noted_by completes freed reply = record { news = news_of completes reply; became = became_of reply; freed = freed }
+noted_by completes freed reply = record { news = news_of completes reply; became = became_of reply; freed = freed; took = is_taken reply }
 
 -- the participants that are to be called, by a reply
 abbrev pub duties_in : Reply → Option (List Duty)

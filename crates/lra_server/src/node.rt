@@ -23,7 +23,8 @@ use log::{Log, warn};
 use lra_api::Paths;
 use lra_book::Book;
 use lra_sockets::{Sockets, StopReason, now};
-use lra_threads::Node;
+use lra_threads::{Node, accept_operators};
+use lra_work::Addressee;
 use sqlite::Alter;
 use std::alloc::Global;
 use std::io::ErrorKind;
@@ -102,14 +103,16 @@ where
         return Err(Failure::Run);
     }
     let Some(book) = book else {
-        return reopened(rt, log, alloc, node, stores, shared, backoff);
+        let had = node.mailbox.front(rt);
+        return reopened(rt, log, alloc, node, stores, shared, &had, backoff);
     };
     if goes_on(reason) {
         return Ok(Some(book));
     }
+    let had = book.front();
     // (it holds the file's lock until it is dropped)
     drop(book.close());
-    reopened(rt, log, alloc, node, stores, shared, backoff)
+    reopened(rt, log, alloc, node, stores, shared, &had, backoff)
 }
 
 /// Counts a run that is over, and a failure of the journal, if one ended it.
@@ -198,13 +201,11 @@ where
     Ok(begun_in_time(rt, alloc, node, Shut { book }))
 }
 
-/// A table of paths and an empty counter for errands, once there is memory for it; none where the
-/// program is to end before.
-fn shared_of<R: Wait + Clock>(rt: &R, alloc: Global, node: &Node) -> Option<Shared> {
+/// A table of paths, once there is memory for it; none where the program is to end before.
+fn paths_of<R: Wait + Clock>(rt: &R, alloc: Global, node: &Node) -> Option<Paths> {
     for _ in rt.forever() {
         if let Ok(paths) = Paths::new(alloc) {
-            let errands = Errands::new();
-            return Some(Shared { paths, errands });
+            return Some(paths);
         }
         if node.signal.stop_reason(rt).is_some() {
             return None;
@@ -248,11 +249,12 @@ pub struct Listeners {
     operators: Option<TcpListener>,
 }
 
-/// What a node begins with: its first run, and its ports.
+/// What a node begins with: its first run, its ports, and as whom it is asked.
 #[derive(Drop)]
 pub struct NodeRuntime<S: Alter + Drop> {
     pub begun: Begun<S>,
     pub listeners: Listeners,
+    pub addressee: Addressee,
 }
 
 /// The port of an address, bound; or which can't be, and why.
@@ -263,11 +265,13 @@ fn bound<R: Sockets>(rt: &R, address: SocketAddr) -> Result<TcpListener, (u16, E
     }
 }
 
-/// What a node begins with that has this run, at its ports; or which port can't be bound, and why.
+/// What a node begins with that has this run and is asked so, at its ports; or which port can't be
+/// bound, and why.
 pub fn runtime_of<R: Sockets, S: Alter + Drop>(
     rt: &R,
     node: &Node,
     begun: Begun<S>,
+    addressee: Addressee,
 ) -> Result<NodeRuntime<S>, (u16, ErrorKind)> {
     let listener = bound(rt, node.site.listen)?;
     let operators = match node.site.operate {
@@ -278,7 +282,11 @@ pub fn runtime_of<R: Sockets, S: Alter + Drop>(
         listener,
         operators,
     };
-    Ok(NodeRuntime { begun, listeners })
+    Ok(NodeRuntime {
+        begun,
+        listeners,
+        addressee,
+    })
 }
 
 /// Starts the thread that serves operators. It says whether one could be had.
@@ -290,14 +298,28 @@ fn start_operator<'s, E, R, L>(
     node: &'s Node,
     paths: &'s Paths,
     errands: &'s Errands,
-    listener: &'s TcpListener,
 ) -> bool
 where
     R: Threads + Wait + Clock + Sockets + Sync,
     L: Log + Sync,
 {
     scope
-        .spawn(move || operate(rt, log, alloc, node, paths, errands, listener))
+        .spawn(move || operate(rt, log, alloc, node, paths, errands))
+        .is_ok()
+}
+
+/// Starts the thread that takes operators' connections. It says whether one could be had.
+fn start_accepting<'s, E, R>(
+    scope: &Scope<'s, E>,
+    rt: &'s R,
+    node: &'s Node,
+    listener: &'s TcpListener,
+) -> bool
+where
+    R: Threads + Wait + Clock + Sockets + Sync,
+{
+    scope
+        .spawn(move || accept_operators(rt, node, listener))
         .is_ok()
 }
 
@@ -326,7 +348,8 @@ where
     match &listeners.operators {
         Some(operators) => {
             let (paths, errands) = (&shared.paths, &shared.errands);
-            start_operator(scope, rt, log, alloc, node, paths, errands, operators)
+            start_operator(scope, rt, log, alloc, node, paths, errands)
+                && start_accepting(scope, rt, node, operators)
         }
         None => true,
     }
@@ -346,10 +369,19 @@ where
     R: Threads + Wait + Clock + Sockets + Sync,
     L: Log + Sync,
 {
-    let NodeRuntime { begun, listeners } = runtime;
+    let NodeRuntime {
+        begun,
+        listeners,
+        addressee,
+    } = runtime;
     node.note_start(rt);
-    let Some(shared) = shared_of(rt, alloc, node) else {
+    let Some(paths) = paths_of(rt, alloc, node) else {
         return Ok(());
+    };
+    let shared = Shared {
+        paths,
+        addressee,
+        errands: Errands::new(),
     };
     let (listeners, shared) = (&listeners, &shared);
     thread::scope(thread::scope_env(), rt, move |scope| {

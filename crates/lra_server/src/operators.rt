@@ -11,23 +11,22 @@ use crate::operators::operator_clerk::OperatorClerk;
 use log::Log;
 use lra_api::Paths;
 use lra_operate::serve_operator;
-use lra_sockets::{BufferedSocket, Cutoff, SLICE_MS, Times, unix_millis};
+use lra_sockets::{BufferedSocket, Cutoff, Limit, Readiness, SLICE_MS, Times, unix_millis};
 use lra_threads::Node;
 use std::alloc::Global;
-use std::net::{TcpListener, TcpStream};
+use std::net::TcpStream;
 use std::sync::Wait;
-use std::thread;
 use std::time::{Clock, Duration};
 
-/// How long a request may take. One is served after another, so a silent one costs the next a
-/// second. More threads would be worth it only for a port that anybody reaches.
+/// How long a request may take once it is there, or has begun and is a long one.
 const REQUEST_MS: u64 = 1_000;
 
-/// How long its answer may take.
+/// How long it may take to write its answer. What the operator doesn't take at once is sent on
+/// beside other requests.
 const ANSWER_MS: u64 = 5_000;
 
-/// How long it waits where no connection can be had.
-const PAUSE_MS: u64 = 10;
+/// How long it rests where nothing comes of all that wait.
+const REST_MS: u64 = 2;
 
 /// Serves one operator, if there is memory for it.
 fn serve_one<'a, R: Wait + Clock, L: Log>(
@@ -43,12 +42,12 @@ fn serve_one<'a, R: Wait + Clock, L: Log>(
         .set_read_timeout(Some(Duration::from_millis(SLICE_MS)))
         .ok()?;
     let times = Times {
-        reading: Duration::from_millis(REQUEST_MS),
-        writing: Duration::from_millis(ANSWER_MS),
+        reading: Limit::of_millis(REQUEST_MS),
+        writing: Limit::of_millis(ANSWER_MS),
     };
-    let (signal, cutoff) = (&node.signal, Cutoff::ProgramEnd);
-    let buffered = BufferedSocket::new(rt, alloc, signal, cutoff, stream, times);
-    let (mut reader, mut writer, _socket) = buffered.ok()?.into_parts();
+    let (signal, queue, cutoff) = (&node.signal, Some(&node.operators), Cutoff::ProgramEnd);
+    let buffered = BufferedSocket::new(rt, alloc, signal, cutoff, queue, stream, times);
+    let (mut reader, mut writer, socket) = buffered.ok()?.into_parts();
     let mut clerk = OperatorClerk::new(rt, log, alloc, node, errands);
     let cause = node.unready(rt);
     let known = Known { rt, node, cause };
@@ -61,10 +60,14 @@ fn serve_one<'a, R: Wait + Clock, L: Log>(
         &mut clerk,
         unix_millis(rt),
     );
+    drop(reader);
+    drop(writer);
+    node.operators.close(rt, socket);
     Some(())
 }
 
-/// Serves operators, one after another, until the program is to end.
+/// Serves operators, one after another, until the program is to end. Who says nothing, or takes
+/// nothing, waits beside the others.
 pub fn operate<R: Wait + Clock, L: Log>(
     rt: &R,
     log: &L,
@@ -72,17 +75,24 @@ pub fn operate<R: Wait + Clock, L: Log>(
     node: &Node,
     paths: &Paths,
     errands: &Errands,
-    listener: &TcpListener,
 ) {
-    for stream in listener.incoming() {
-        if node.signal.has_ended(rt) {
+    let mut silent = 0usize;
+    for _ in rt.forever() {
+        let Some(pending) = node.operators.take(rt) else {
             return;
-        }
-        match stream {
-            Ok(stream) => {
+        };
+        match pending.look(rt, true) {
+            Readiness::Pending(pending) => {
+                silent = silent.saturating_add(1);
+                if silent >= node.operators.put_back(rt, pending) {
+                    node.operators.rest(rt, Duration::from_millis(REST_MS));
+                    silent = 0;
+                }
+            }
+            Readiness::Closed => {}
+            Readiness::Whole(stream) | Readiness::Long(stream) => {
                 let _served = serve_one(rt, log, alloc, node, paths, errands, stream);
             }
-            Err(_) => thread::sleep(rt, Duration::from_millis(PAUSE_MS)),
         }
     }
 }

@@ -11,10 +11,12 @@ use crate::node::{Failure, NodeRuntime, run_node, runtime_of};
 use crate::{Stores, Unopened};
 use log::{Log, info};
 use lra_book::{Book, MAX_ENTRIES, MAX_MOVES};
+use lra_http::Bytes;
 use lra_id::NodeId;
 use lra_mailbox::Keep;
 use lra_sockets::{Peer, Site, Sockets, StopReason};
-use lra_threads::{End, News, Node, Shutdown, Tally, drain};
+use lra_threads::{End, Manners, News, Node, Shutdown, Tally, drain};
+use lra_work::{Addressee, GroupName, query_to};
 use sqlite::Alter;
 use std::alloc::{AllocError, Global};
 use std::io::{ErrorKind, Read};
@@ -114,16 +116,36 @@ fn begun_of<S: Alter + Drop>(
     Ok(begun)
 }
 
+/// As whom a node is asked: where the others are in other processes, by its number and group.
+fn addressee_of(
+    alloc: Global,
+    node: &Node,
+    group: Option<&GroupName>,
+) -> Result<Addressee, AllocError> {
+    if !node.site.is_apart() {
+        return Ok(Addressee::anyone());
+    }
+    let Some(group) = group else {
+        return Ok(Addressee::of(node.me, None));
+    };
+    let name = String::from_str(alloc, group.as_str())?;
+    Ok(Addressee::of(node.me, GroupName::new(name)))
+}
+
 /// What all nodes begin with, or the first port that can't be bound.
 fn runtimes_of<R: Sockets, S: Alter + Drop>(
     rt: &R,
     alloc: Global,
     nodes: &[Node],
     books: Vec<Begun<S>>,
+    group: Option<&GroupName>,
 ) -> Result<Vec<NodeRuntime<S>>, Trouble> {
     let mut runtimes = Vec::new(alloc);
     for (node, begun) in nodes.iter().zip(books) {
-        let runtime = match runtime_of(rt, node, begun) {
+        let Ok(addressee) = addressee_of(alloc, node, group) else {
+            return Err(Trouble::Run(node.number()));
+        };
+        let runtime = match runtime_of(rt, node, begun, addressee) {
             Ok(runtime) => runtime,
             Err((port, why)) => return Err(Trouble::Port(node.number(), port, why)),
         };
@@ -169,7 +191,8 @@ fn nodes_of(alloc: Global, nodes: u8, port: u16) -> Result<Vec<Node>, AllocError
         let mut told = Vec::new(alloc);
         told.push(Arc::try_clone(&news)?)?;
         let site = Site::here(port, number);
-        all.push(Node::new(alloc, me, nodes, site, keep, tally(), shared, told))?;
+        let manners = Manners::of_nobody(alloc);
+        all.push(Node::new(alloc, me, nodes, site, keep, tally(), shared, told, manners))?;
     }
     Ok(all)
 }
@@ -187,8 +210,57 @@ pub struct Members {
     pub listen: Option<SocketAddr>,
     /// Where the first of them listens for operators, if that is said; each other at the next port.
     pub operate: Option<SocketAddr>,
+    /// The names by which operators may ask them, besides `localhost` and addresses: parted by
+    /// commas.
+    pub names: String,
     /// How long each keeps roots that have ended.
     pub keep: Keep,
+    /// The name of their group, if it has one. A pull of another group's node is refused, and so is
+    /// what one of another group answers.
+    pub group: Option<GroupName>,
+    /// Whether each waits at its start until it has heard all others, without a bound: its journal
+    /// is lost, or not the newest.
+    pub anew: bool,
+}
+
+/// What a pull from each of so many nodes says of whom it asks.
+fn queries_of(
+    alloc: Global,
+    nodes: u8,
+    group: Option<&GroupName>,
+) -> Result<Vec<String>, AllocError> {
+    let mut queries = Vec::new(alloc);
+    for number in 1..=nodes {
+        let Ok(other) = NodeId::new(number) else {
+            continue;
+        };
+        queries.push(query_to(alloc, other, group)?)?;
+    }
+    Ok(queries)
+}
+
+/// The names in a text, which are parted by commas.
+fn names_in(alloc: Global, text: &str) -> Result<Vec<Bytes>, AllocError> {
+    let mut names = Vec::new(alloc);
+    for name in text.split(',') {
+        names.push(Bytes::new(Vec::from_slice(alloc, name.as_bytes())?))?;
+    }
+    Ok(names)
+}
+
+/// How each of these members deals with others.
+fn manners_of(
+    alloc: Global,
+    nodes: u8,
+    group: Option<&GroupName>,
+    anew: bool,
+    names: &str,
+) -> Result<Manners, AllocError> {
+    Ok(Manners {
+        waits_for_all: anew,
+        queries: queries_of(alloc, nodes, group)?,
+        names: names_in(alloc, names)?,
+    })
 }
 
 /// An address at the port so many after one.
@@ -199,7 +271,10 @@ fn port_after(address: Option<SocketAddr>, count: u8) -> Option<SocketAddr> {
 }
 
 /// What members of a group share with their threads.
-fn nodes_of_members(alloc: Global, members: Members) -> Result<Vec<Node>, AllocError>
+fn nodes_of_members(
+    alloc: Global,
+    members: Members,
+) -> Result<(Vec<Node>, Option<GroupName>), AllocError>
     requires { (1 ≤ vec_len members.peers) × (vec_len members.peers ≤ MAX_NODES) }
 {
     let Members {
@@ -208,7 +283,10 @@ fn nodes_of_members(alloc: Global, members: Members) -> Result<Vec<Node>, AllocE
         peers,
         listen,
         operate,
+        names,
         keep,
+        group,
+        anew,
     } = members;
     let nodes = peers.len() as u8;
     let peers = Arc::new(alloc, peers)?;
@@ -226,10 +304,11 @@ fn nodes_of_members(alloc: Global, members: Members) -> Result<Vec<Node>, AllocE
         let site = Site::apart(listen, operators, number, Arc::try_clone(&peers)?);
         let own = Arc::try_clone(own)?;
         let told = same_news(alloc, &news)?;
-        all.push(Node::new(alloc, me, nodes, site, keep, tally(), own, told))?;
+        let manners = manners_of(alloc, nodes, group.as_ref(), anew, names.as_str())?;
+        all.push(Node::new(alloc, me, nodes, site, keep, tally(), own, told, manners))?;
         number = number.saturating_add(1);
     }
-    Ok(all)
+    Ok((all, group))
 }
 
 /// Runs a node, and tells a failure.
@@ -328,10 +407,11 @@ fn begin<R: Sockets, S: Stores>(
     alloc: Global,
     nodes: &[Node],
     stores: &S,
+    group: Option<&GroupName>,
 ) -> Result<Vec<NodeRuntime<S::Store>>, Trouble> {
     let books = books_of(alloc, nodes, stores)?;
     let begun = begun_of(alloc, nodes, books)?;
-    runtimes_of(rt, alloc, nodes, begun)
+    runtimes_of(rt, alloc, nodes, begun, group)
 }
 
 /// Has a thread read the input, which tells its end. Where that can't be had, the run of this node
@@ -363,6 +443,7 @@ fn serve_these<R, L, H, S, I>(
     alloc: Global,
     first: u8,
     nodes: &[Node],
+    group: Option<&GroupName>,
     stores: &S,
     input: I,
 ) -> Result<End, Trouble>
@@ -373,7 +454,7 @@ where
     S: Stores + Sync,
     I: Read + Send + Drop + 'static,
 {
-    let runtimes = begin(rt, alloc, nodes, stores)?;
+    let runtimes = begin(rt, alloc, nodes, stores, group)?;
     let shutdown = watch(rt, alloc, host, first, input)?;
     tell_of_all(log, nodes);
     run_all(rt, log, alloc, nodes, stores, runtimes, &shutdown);
@@ -428,7 +509,7 @@ where
     };
     close(
         rt,
-        serve_these(rt, log, host, alloc, 1, &all, stores, input),
+        serve_these(rt, log, host, alloc, 1, &all, None, stores, input),
     )
 }
 
@@ -453,11 +534,21 @@ where
     ensures status { result ≤ 1 }
 {
     let first = members.first;
-    let Ok(all) = nodes_of_members(alloc, members) else {
+    let Ok((all, group)) = nodes_of_members(alloc, members) else {
         return close(rt, Err(Trouble::Run(first)));
     };
     close(
         rt,
-        serve_these(rt, log, host, alloc, first, &all, stores, input),
+        serve_these(
+            rt,
+            log,
+            host,
+            alloc,
+            first,
+            &all,
+            group.as_ref(),
+            stores,
+            input,
+        ),
     )
 }

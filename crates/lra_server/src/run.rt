@@ -23,7 +23,7 @@ use lra_api::Paths;
 use lra_book::{Book, Desk, DeskClerk, DeskPass, Run};
 use lra_sockets::{Sockets, StopReason};
 use lra_threads::Node;
-use lra_work::{Open, work};
+use lra_work::{Addressee, Open, work};
 use sqlite::Alter;
 use std::alloc::Global;
 use std::marker::Brand;
@@ -42,13 +42,15 @@ fn run_worker<R: Wait + Clock + Sockets, J: Run, S: Alter + Drop>(
     alloc: Global,
     node: &Node,
     paths: &Paths,
+    addressee: &Addressee,
     desk: &Desk<J, S>,
     pass: DeskPass<J>,
+    place: usize,
 ) -> DeskPass<J> {
     let mut connections = Connections::new(rt, alloc, node);
-    let mut clerk = CountingClerk::of_worker(rt, node, DeskClerk::new(rt, desk, pass));
+    let mut clerk = CountingClerk::of_worker(rt, node, DeskClerk::new(rt, desk, pass), place);
     for _ in rt.forever() {
-        let (back, ending) = work(rt, alloc, paths, &mut connections, clerk, &Open);
+        let (back, ending) = work(rt, alloc, paths, &mut connections, clerk, &Open, addressee);
         connections.close_served();
         clerk = back;
         // A command that was held back ends no run.
@@ -72,7 +74,7 @@ fn run_apply_loop<R: Wait + Clock + Sockets, J: Run, S: Alter + Drop>(
     desk: &Desk<J, S>,
     pass: DeskPass<J>,
 ) -> DeskPass<J> {
-    let clerk = CountingClerk::new(rt, node, DeskClerk::new(rt, desk, pass));
+    let clerk = CountingClerk::new(rt, node, DeskClerk::new(rt, desk, pass), 0);
     let clerk = enter_all(rt, alloc, node, errands, clerk);
     clerk.into_clerk().into_pass()
 }
@@ -108,13 +110,15 @@ fn start_worker<'s, E, J: Run + Send + Sync + 's, S: Alter + Send + Drop + 's, R
     alloc: Global,
     node: &'s Node,
     paths: &'s Paths,
+    addressee: &'s Addressee,
     desk: &'s Desk<J, S>,
     pass: DeskPass<J>,
+    place: usize,
 ) -> Result<JoinHandle<DeskPass<J>>, DeskPass<J>>
 where
     R: Threads + Wait + Clock + Sockets + Sync,
 {
-    match scope.spawn(move || run_worker(rt, alloc, node, paths, desk, pass)) {
+    match scope.spawn(move || run_worker(rt, alloc, node, paths, addressee, desk, pass, place)) {
         Ok(thread) => Ok(thread),
         Err(refused) => {
             // The run is over, so this comes back at once.
@@ -141,7 +145,8 @@ where
     if place == 0 {
         start_apply_loop(scope, rt, alloc, node, &shared.errands, desk, pass)
     } else {
-        start_worker(scope, rt, alloc, node, &shared.paths, desk, pass)
+        let (paths, addressee) = (&shared.paths, &shared.addressee);
+        start_worker(scope, rt, alloc, node, paths, addressee, desk, pass, place)
     }
 }
 

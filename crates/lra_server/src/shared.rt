@@ -2,11 +2,13 @@
 
 use crate::operators::errands::Errands;
 use lra_api::Paths;
+use lra_work::Addressee;
 
-/// What the threads of a node share, from run to run: the table of paths, and where operators ask
-/// for calls.
+/// What the threads of a node share, from run to run: the table of paths, who is asked here, and
+/// where operators ask for calls.
 #[derive(Drop)]
 pub struct Shared {
     pub paths: Paths,
+    pub addressee: Addressee,
     pub errands: Errands,
 }

@@ -1,13 +1,15 @@
 // Connections that wait for a worker.
 ghost use Rattle.std.specs.Prelude.{◌≡◌, ◌⊎◌, ◌++◌, ◌∷◌, [], IfNone, IfSome};
 
-use crate::pending_connection::PendingConnection;
+use crate::pending_connection::{PendingConnection, Readiness};
+use crate::shared_socket::SharedSocket;
 use std::alloc::Global;
 use std::collections::VecDeque;
+use std::rc::Rc;
 use std::sync::atomic::{AtomicU64, Ordering};
 use std::sync::{Condvar, CondvarTimeouts, Mutex, Wait};
-use std::thread;
 use std::time::{Clock, Duration};
+use std::{io, thread};
 
 /// How long a worker looks for a connection before it sleeps. What comes meanwhile wakes nobody.
 /// One worker at a time looks. On an idle virtual machine a wake-up costs more than an answer.
@@ -24,7 +26,7 @@ const MAX_UNSEEN: usize = 1_024;
 const MAX_READING: u64 = 2;
 
 /// How many bytes of answers wait at most to be sent on: two frames of full homes with the longest
-/// links.
+/// links, or a dozen of common ones.
 const MAX_KEPT: usize = 64 << 20;
 
 // What lies under the lock.
@@ -81,6 +83,17 @@ impl Waiting {
         self.unseen = self.unseen.saturating_sub(unseen);
         self.kept = self.kept.saturating_sub(pending.kept());
         Some(pending)
+    }
+}
+
+// A connection that was served, as it waits for its end: to be sent the rest of its answer, or to be
+// read on.
+fn to_close<R: Clock>(rt: &R, socket: SharedSocket) -> io::Result<PendingConnection> {
+    let (stream, kept) = socket.into_parts();
+    if kept.is_empty() {
+        PendingConnection::closing(rt, stream)
+    } else {
+        PendingConnection::sending(rt, stream, kept)
     }
 }
 
@@ -169,6 +182,21 @@ impl AcceptQueue {
     pub fn put_back<R: Wait>(&self, rt: &R, pending: PendingConnection) -> usize {
         let (count, _is_seen) = self.push(rt, pending);
         count
+    }
+
+    /// Closes a connection that was served, so that its client gets the answer whole: what is left of
+    /// that is sent on from here, and what the client still sends is read on for a moment.
+    pub fn close<R: Wait + Clock>(&self, rt: &R, socket: Rc<SharedSocket>) {
+        if socket.kept() == 0 && socket.is_done() {
+            return;
+        }
+        if let Some(socket) = Rc::into_inner(socket) {
+            if let Ok(pending) = to_close(rt, socket) {
+                if let Readiness::Pending(pending) = pending.look(rt, false) {
+                    let _waiting = self.put_back(rt, pending);
+                }
+            }
+        }
     }
 
     /// Wakes a worker that sleeps, if connections wait: the one that looked at them has something

@@ -1,6 +1,7 @@
 // A buffered reader and writer over one socket.
 
-use crate::deadline_stream::{Cutoff, DeadlineStream};
+use crate::accept_queue::AcceptQueue;
+use crate::deadline_stream::{Cutoff, DeadlineStream, Limit};
 use crate::shared_socket::SharedSocket;
 use crate::signal::Signal;
 use lra_http::{OverRead, OverWrite};
@@ -10,7 +11,7 @@ use std::io::{BufReader, BufWriter, Error, ErrorKind};
 use std::net::TcpStream;
 use std::rc::Rc;
 use std::sync::Wait;
-use std::time::{Clock, Duration};
+use std::time::Clock;
 
 /// How many bytes are read or written at once: a frame of many fields makes no more calls of the
 /// system than that.
@@ -25,8 +26,8 @@ pub type SocketWriter<'a, R> = OverWrite<BufWriter<DeadlineStream<'a, R>>>;
 /// How long a message may take to be read, and how long one to be written.
 #[derive(Clone, Copy)]
 pub struct Times {
-    pub reading: Duration,
-    pub writing: Duration,
+    pub reading: Limit,
+    pub writing: Limit,
 }
 
 /// A reader and a writer over one socket. They are made together, so that no reader of one socket
@@ -39,20 +40,22 @@ pub struct BufferedSocket<'a, R: Wait + Clock> {
 }
 
 impl<'a, R: Wait + Clock> BufferedSocket<'a, R> {
-    /// Over this connection.
+    /// Over this connection. What its client doesn't take at once of what is written goes to a
+    /// queue, if one is said.
     pub fn new(
         rt: &'a R,
         alloc: Global,
         signal: &'a Signal,
-        cutoff: Cutoff<'a>,
+        cutoff: Cutoff,
+        queue: Option<&'a AcceptQueue>,
         stream: TcpStream,
         times: Times,
     ) -> io::Result<BufferedSocket<'a, R>> {
         let Ok(socket) = Rc::new(alloc, SharedSocket::new(alloc, stream)) else {
             return Err(Error::from(ErrorKind::OutOfMemory));
         };
-        let reader = DeadlineStream::new(rt, signal, cutoff, socket.clone()?, times.reading);
-        let writer = DeadlineStream::new(rt, signal, cutoff, socket.clone()?, times.writing);
+        let reader = DeadlineStream::new(rt, signal, cutoff, queue, socket.clone()?, times.reading);
+        let writer = DeadlineStream::new(rt, signal, cutoff, queue, socket.clone()?, times.writing);
         let reader = BufReader::with_capacity(alloc, BUFFER, reader)?;
         let writer = BufWriter::with_capacity(alloc, BUFFER, writer)?;
         Ok(BufferedSocket {

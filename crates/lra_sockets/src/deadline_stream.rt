@@ -20,34 +20,72 @@ const AT_ONCE: usize = 4096;
 /// How long an answer may still take once nobody waits for it any more.
 const GRACE_MS: u64 = 500;
 
-// A message of ten seconds takes 5,000 slices of 2 milliseconds.
+/// How many slices in a row take nothing of an answer that is to be kept before it is cut, where
+/// there is no room for it: a tenth of a second.
+const MAX_STALLED: u32 = 5;
+
+// A silence of ten seconds takes 5,000 slices of 2 milliseconds.
 const MAX_TURNS: u32 = 10_000;
 
-/// What cuts the time of a connection short.
+/// How long a message may take, and for how long nothing of it may come or go.
 #[derive(Clone, Copy)]
-pub enum Cutoff<'a> {
-    /// The end of the run. What its client hasn't taken of its answer by then goes to this queue,
-    /// if there is room, and is sent on.
-    RunEnd(&'a AcceptQueue),
+pub struct Limit {
+    pub silence: Duration,
+    pub whole: Duration,
+}
+
+impl Limit {
+    /// So many milliseconds for the whole message, also in silence.
+    pub fn of_millis(whole: u64) -> Limit {
+        let whole = Duration::from_millis(whole);
+        Limit {
+            silence: whole,
+            whole,
+        }
+    }
+
+    /// So many milliseconds of silence, and of the whole message.
+    pub fn of_silence(silence: u64, whole: u64) -> Limit {
+        Limit {
+            silence: Duration::from_millis(silence),
+            whole: Duration::from_millis(whole),
+        }
+    }
+}
+
+/// What cuts the time of a connection short.
+#[derive(Clone, Copy, PartialEq, Eq)]
+pub enum Cutoff {
+    /// The end of the run.
+    RunEnd,
     /// The end of the program.
     ProgramEnd,
 }
 
 /// A connection whose reads, or writes, of one message end: with `TimedOut` where the message takes
-/// too long.
+/// too long. What its client doesn't take of an answer at once goes to a queue, if one is said and
+/// has room, and is sent on from there.
 #[derive(Drop)]
 pub struct DeadlineStream<'a, R: Wait + Clock> {
     rt: &'a R,
     signal: &'a Signal,
-    cutoff: Cutoff<'a>,
+    cutoff: Cutoff,
+    queue: Option<&'a AcceptQueue>,
     socket: Rc<SharedSocket>,
-    time_limit: Duration,
+    limit: Limit,
+    /// When the whole message has to be over.
     until: Option<Duration>,
+    /// Until when something of it has to come or go.
+    silent_until: Duration,
+    /// Whether something did since that was last looked at.
+    has_moved: bool,
     hurried: bool,
     /// Whether something was written.
     wrote: bool,
     /// Whether a write waits for a slice at most.
     sliced: bool,
+    /// How many slices in a row took nothing.
+    stalled: u32,
 }
 
 impl<'a, R: Wait + Clock> DeadlineStream<'a, R> {
@@ -55,66 +93,56 @@ impl<'a, R: Wait + Clock> DeadlineStream<'a, R> {
     pub fn new(
         rt: &'a R,
         signal: &'a Signal,
-        cutoff: Cutoff<'a>,
+        cutoff: Cutoff,
+        queue: Option<&'a AcceptQueue>,
         socket: Rc<SharedSocket>,
-        time_limit: Duration,
+        limit: Limit,
     ) -> DeadlineStream<'a, R> {
         DeadlineStream {
             rt,
             signal,
             cutoff,
+            queue,
             socket,
-            time_limit,
+            limit,
             until: None,
+            silent_until: Duration::ZERO,
+            has_moved: true,
             hurried: false,
             wrote: false,
             sliced: false,
+            stalled: 0,
         }
     }
 
     // Whether its time is cut short.
     fn is_hurried(&self) -> bool {
         match self.cutoff {
-            Cutoff::RunEnd(_) => self.signal.stop_reason(self.rt).is_some(),
+            Cutoff::RunEnd => self.signal.stop_reason(self.rt).is_some(),
             Cutoff::ProgramEnd => self.signal.has_ended(self.rt),
         }
     }
 
     // Whether the run is over, and the next one waits for this connection.
     fn has_next_run(&self) -> bool {
-        match self.cutoff {
-            Cutoff::RunEnd(_) => self.is_hurried() && !self.signal.has_ended(self.rt),
-            Cutoff::ProgramEnd => false,
+        self.cutoff == Cutoff::RunEnd && self.is_hurried() && !self.signal.has_ended(self.rt)
+    }
+
+    // Whether so many bytes of the answer may be kept for later, besides what is kept of it.
+    fn may_keep(&self, count: usize) -> bool {
+        match self.queue {
+            Some(queue) => queue.may_keep(self.socket.kept().saturating_add(count)),
+            None => false,
         }
     }
 
-    // Whether so many bytes of the answer are kept for later: some are already, or a next run waits
-    // for this one, and there is room.
-    fn is_to_keep(&self, count: usize) -> bool {
-        match self.cutoff {
-            Cutoff::RunEnd(queue) => {
-                let kept = self.socket.kept();
-                (kept > 0 || self.has_next_run()) && queue.may_keep(kept.saturating_add(count))
-            }
-            Cutoff::ProgramEnd => false,
-        }
-    }
-
-    // Keeps more, after what is kept.
-    fn keep_more(&self, bytes: &[u8]) -> io::Result<usize>
-        ensures { IfOk result (λ count. count ≤ length bytes.now) }
-    {
-        if self.is_to_keep(bytes.len()) {
-            self.keep(bytes)
-        } else {
-            Err(Error::from(ErrorKind::TimedOut))
-        }
-    }
-
-    // Keeps bytes of the answer for later.
+    // Keeps bytes of the answer for later, or fails.
     fn keep(&self, bytes: &[u8]) -> io::Result<usize>
         ensures { IfOk result (λ count. count ≤ length bytes.now) }
     {
+        if !self.may_keep(bytes.len()) {
+            return Err(Error::from(ErrorKind::TimedOut));
+        }
         if self.socket.keep(bytes) {
             Ok(bytes.len())
         } else {
@@ -122,19 +150,42 @@ impl<'a, R: Wait + Clock> DeadlineStream<'a, R> {
         }
     }
 
-    // Fails once the time is up.
-    fn check_deadline(&mut self) -> io::Result<()> {
-        let now = self.rt.monotonic()?;
+    // Notes that a slice took nothing of an answer for which there is no room. It says whether the
+    // answer is to be cut, so that others are served.
+    fn is_crowded_out(&mut self) -> bool {
+        self.stalled = self.stalled.saturating_add(1);
+        self.queue.is_some() && self.stalled >= MAX_STALLED
+    }
+
+    // Notes that something came or went.
+    fn note_move(&mut self) {
+        self.has_moved = true;
+        self.stalled = 0;
+    }
+
+    // When the whole message has to be over, looked at now. Its time is cut short once.
+    fn ends_at(&mut self, now: Duration) -> Duration {
         let mut until = match self.until {
             Some(until) => until,
-            None => now.saturating_add(self.time_limit),
+            None => now.saturating_add(self.limit.whole),
         };
         if !self.hurried && self.is_hurried() {
             self.hurried = true;
             until = until.min(now.saturating_add(Duration::from_millis(GRACE_MS)));
         }
         self.until = Some(until);
-        if now >= until {
+        until
+    }
+
+    // Fails once the time is up.
+    fn check_deadline(&mut self) -> io::Result<()> {
+        let now = self.rt.monotonic()?;
+        let until = self.ends_at(now);
+        if self.has_moved {
+            self.has_moved = false;
+            self.silent_until = now.saturating_add(self.limit.silence);
+        }
+        if now >= until || now >= self.silent_until {
             return Err(Error::from(ErrorKind::TimedOut));
         }
         Ok(())
@@ -160,6 +211,7 @@ impl<'a, R: Wait + Clock> Read for DeadlineStream<'a, R> {
             match stream.read(buf) {
                 Ok(count) => {
                     self.socket.note_read(count, buf.len());
+                    self.note_move();
                     return Ok(count);
                 }
                 Err(error) if error.kind() == ErrorKind::WouldBlock => {
@@ -178,11 +230,11 @@ impl<'a, R: Wait + Clock> Write for DeadlineStream<'a, R> {
     fn write(&mut self, buf: &[u8]) -> io::Result<usize> {
         self.socket.note_written(buf);
         if self.socket.kept() > 0 {
-            return self.keep_more(buf);
+            return self.keep(buf);
         }
         for _turn in 0..MAX_TURNS {
             if let Err(error) = self.check_deadline() {
-                if self.hurried && self.is_to_keep(buf.len()) {
+                if self.hurried && self.has_next_run() {
                     return self.keep(buf);
                 }
                 return Err(error);
@@ -191,11 +243,17 @@ impl<'a, R: Wait + Clock> Write for DeadlineStream<'a, R> {
             let mut stream = self.socket.stream();
             match stream.write(buf) {
                 Err(error) if error.kind() == ErrorKind::WouldBlock => {
-                    if self.is_to_keep(buf.len()) {
+                    if self.may_keep(buf.len()) {
                         return self.keep(buf);
                     }
+                    if self.is_crowded_out() {
+                        return Err(error);
+                    }
                 }
-                outcome => return outcome,
+                outcome => {
+                    self.note_move();
+                    return outcome;
+                }
             }
         }
         Err(Error::from(ErrorKind::TimedOut))

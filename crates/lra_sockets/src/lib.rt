@@ -19,7 +19,7 @@ pub use accept_queue::AcceptQueue;
 pub use address::{address_of, port_of};
 pub use buffered_socket::{BufferedSocket, SocketReader, SocketWriter, Times};
 pub use clock::{now, unix_millis};
-pub use deadline_stream::{Cutoff, SLICE_MS};
+pub use deadline_stream::{Cutoff, Limit, SLICE_MS};
 pub use pending_connection::{PendingConnection, REQUEST_MS, Readiness};
 pub use reaching::connect_to_one;
 pub use shared_socket::SharedSocket;

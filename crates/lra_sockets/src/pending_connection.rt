@@ -18,11 +18,18 @@ pub const REQUEST_MS: u64 = 5_000;
 /// How long a connection that is served is kept for what its client still sends.
 const LINGER_MS: u64 = 1_000;
 
-/// The rest of an answer: these bytes from a place on.
+/// How long a client may take nothing of the rest of its answer.
+const IDLE_MS: u64 = 10_000;
+
+/// How long it may take for that in all.
+const SENDING_MS: u64 = 300_000;
+
+/// The rest of an answer: these bytes from a place on, which are sent until a moment.
 #[derive(Drop)]
 struct Rest {
     bytes: Vec<u8>,
     from: usize,
+    ends: Duration,
 }
 
 /// What a write of the rest of an answer comes to.
@@ -30,15 +37,18 @@ struct Rest {
 enum Sent {
     All,
     Part,
+    /// The client has taken nothing since.
     Nothing,
+    /// It is gone.
+    Failed,
 }
 
 impl Rest {
-    /// Writes as much as the connection takes. Nothing can be sent where its client is gone.
+    /// Writes as much as the connection takes.
     fn send(&mut self, mut stream: &TcpStream) -> Sent {
         let rest = self.bytes.as_slice().get(self.from..).unwrap_or(&[]);
         match stream.write(rest) {
-            Ok(0) => Sent::Nothing,
+            Ok(0) => Sent::Failed,
             Ok(count) => {
                 self.from = self.from.saturating_add(count);
                 if self.from < self.bytes.len() {
@@ -47,10 +57,16 @@ impl Rest {
                     Sent::All
                 }
             }
-            Err(error) if error.kind() == ErrorKind::WouldBlock => Sent::Part,
-            Err(error) if error.kind() == ErrorKind::Interrupted => Sent::Part,
-            Err(_) => Sent::Nothing,
+            Err(error) if error.kind() == ErrorKind::WouldBlock => Sent::Nothing,
+            Err(error) if error.kind() == ErrorKind::Interrupted => Sent::Nothing,
+            Err(_) => Sent::Failed,
         }
+    }
+
+    /// Until when the client has to take more of it that took some now.
+    fn until(&self, now: Duration) -> Duration {
+        now.saturating_add(Duration::from_millis(IDLE_MS))
+            .min(self.ends)
     }
 }
 
@@ -144,17 +160,24 @@ impl PendingConnection {
         })
     }
 
-    /// A connection of whose answer these bytes are still to be sent, until this moment.
-    pub fn sending(
+    /// A connection of whose answer these bytes are still to be sent, as long as its client takes
+    /// some of them.
+    pub fn sending<R: Clock>(
+        rt: &R,
         stream: TcpStream,
         bytes: Vec<u8>,
-        until: Duration,
     ) -> io::Result<PendingConnection> {
         stream.set_nonblocking(true)?;
+        let now = rt.monotonic()?;
+        let rest = Rest {
+            bytes,
+            from: 0,
+            ends: now.saturating_add(Duration::from_millis(SENDING_MS)),
+        };
         Ok(PendingConnection {
             stream,
-            stage: Stage::Sending(Rest { bytes, from: 0 }),
-            until,
+            until: rest.until(now),
+            stage: Stage::Sending(rest),
         })
     }
 
@@ -239,6 +262,14 @@ impl PendingConnection {
         Some(stream)
     }
 
+    // Has its time begin anew, as its client took some of its answer.
+    fn go_on<R: Clock>(mut self, rt: &R) -> Readiness {
+        if let (Ok(now), Stage::Sending(rest)) = (rt.monotonic(), &self.stage) {
+            self.until = rest.until(now);
+        }
+        self.keep_or_drop(rt)
+    }
+
     // Sends more of its answer.
     fn send_rest<R: Clock>(mut self, rt: &R) -> Readiness {
         let sent = match &mut self.stage {
@@ -246,8 +277,9 @@ impl PendingConnection {
             _ => Sent::All,
         };
         match sent {
-            Sent::Nothing => Readiness::Closed,
-            Sent::Part => self.keep_or_drop(rt),
+            Sent::Failed => Readiness::Closed,
+            Sent::Nothing => self.keep_or_drop(rt),
+            Sent::Part => self.go_on(rt),
             Sent::All => self.begin_closing(rt),
         }
     }

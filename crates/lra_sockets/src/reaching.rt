@@ -3,38 +3,75 @@
 ghost use Rattle.std.specs.Iterator.{IsFinite};
 
 use crate::signal::Signal;
+use std::alloc::{AllocError, Global};
 use std::io;
 use std::io::{Error, ErrorKind};
 use std::net::{Net, SocketAddr, TcpStream};
 use std::sync::Wait;
 use std::time::{Clock, Duration};
 
-/// How long one try may take, so that the program's end waits no longer.
-const TRY_MS: u64 = 1_500;
+/// How long a try of an address takes at most in the first round over all. It doubles with each
+/// round.
+const FIRST_TRY_MS: u64 = 500;
 
-/// A connection to one address, tried until this unix_millis; none where the program is to end.
+/// How long at most in a later one, so that the program's end waits no longer.
+const LAST_TRY_MS: u64 = 1_500;
+
+/// A connection to one address, tried for so long, and not beyond this moment; none where the
+/// program is to end.
 fn connect_until<R: Wait + Clock + Net<Stream = TcpStream>>(
     rt: &R,
     signal: &Signal,
-    address: SocketAddr,
+    address: &SocketAddr,
+    time: Duration,
     until: Duration,
 ) -> io::Result<TcpStream> {
-    for _ in rt.forever() {
-        let left = until.saturating_sub(rt.monotonic()?);
-        if left.is_zero() || signal.has_ended(rt) {
-            return Err(Error::from(ErrorKind::TimedOut));
-        }
-        match TcpStream::connect_timeout(rt, &address, left.min(Duration::from_millis(TRY_MS))) {
-            Err(error) if error.kind() == ErrorKind::TimedOut => {}
-            other => return other,
-        }
+    let left = until.saturating_sub(rt.monotonic()?);
+    if left.is_zero() || signal.has_ended(rt) {
+        return Err(Error::from(ErrorKind::TimedOut));
     }
-    unreachable!()
+    TcpStream::connect_timeout(rt, address, left.min(time))
 }
 
-/// The first of some addresses that answers. All of them together have this time.
+/// One round: the first of some addresses that answers. Where none does and one was silent, that is
+/// why; a longer try may reach it.
+fn try_each<R: Wait + Clock + Net<Stream = TcpStream>>(
+    rt: &R,
+    signal: &Signal,
+    addresses: &[SocketAddr],
+    time: Duration,
+    until: Duration,
+) -> io::Result<TcpStream> {
+    let mut last = Error::from(ErrorKind::NotFound);
+    for address in addresses {
+        match connect_until(rt, signal, address, time, until) {
+            Ok(stream) => return Ok(stream),
+            Err(error) if last.kind() == ErrorKind::TimedOut => drop(error),
+            Err(error) => last = error,
+        }
+    }
+    Err(last)
+}
+
+/// All of some addresses.
+fn all_of<A: Iterator<Item = SocketAddr>>(
+    alloc: Global,
+    addresses: A,
+) -> Result<Vec<SocketAddr>, AllocError>
+    requires { A.can_next addresses × IsFinite (A.remaining addresses) }
+{
+    let mut all = Vec::new(alloc);
+    for address in addresses {
+        all.push(address)?;
+    }
+    Ok(all)
+}
+
+/// The first of some addresses that answers. Each has a short try, and those that are silent a
+/// longer one once all had theirs, until this time is over for all of them together.
 pub fn connect_to_one<R: Wait + Clock + Net<Stream = TcpStream>, A: Iterator<Item = SocketAddr>>(
     rt: &R,
+    alloc: Global,
     signal: &Signal,
     addresses: A,
     time: Duration,
@@ -42,12 +79,18 @@ pub fn connect_to_one<R: Wait + Clock + Net<Stream = TcpStream>, A: Iterator<Ite
     requires { A.can_next addresses × IsFinite (A.remaining addresses) }
 {
     let until = rt.monotonic()?.saturating_add(time);
-    let mut last = Error::from(ErrorKind::NotFound);
-    for address in addresses {
-        match connect_until(rt, signal, address, until) {
-            Ok(stream) => return Ok(stream),
-            Err(error) => last = error,
+    let Ok(all) = all_of(alloc, addresses) else {
+        return Err(Error::from(ErrorKind::OutOfMemory));
+    };
+    let mut try_ms = FIRST_TRY_MS;
+    for _ in rt.forever() {
+        let tried = try_each(rt, signal, &all, Duration::from_millis(try_ms), until);
+        let is_over = signal.has_ended(rt) || rt.monotonic()? >= until;
+        match tried {
+            Err(error) if error.kind() == ErrorKind::TimedOut && !is_over => {}
+            other => return other,
         }
+        try_ms = try_ms.saturating_mul(2).min(LAST_TRY_MS);
     }
-    Err(last)
+    unreachable!()
 }

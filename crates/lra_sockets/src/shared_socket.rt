@@ -13,7 +13,7 @@ pub struct SharedSocket {
     is_dry: Cell<bool>,
     /// Whether what is written is the answer to a request that was read to its end.
     is_heard: Cell<bool>,
-    /// What is left of an answer whose run is over: it is sent later.
+    /// What is left of an answer that its client doesn't take: it is sent later.
     kept: RefCell<Vec<u8>>,
 }
 

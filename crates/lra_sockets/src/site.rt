@@ -5,14 +5,18 @@ ghost use Rattle.std.specs.Net.Socket.{socket_ip, socket_port};
 use crate::address::address_of;
 use crate::reaching::connect_to_one;
 use crate::signal::Signal;
+use std::alloc::Global;
 use std::io;
 use std::io::{Error, ErrorKind};
 use std::net::{IpAddr, Ipv4Addr, Ipv6Addr, Net, SocketAddr, TcpStream, ToSocketAddrs};
 use std::sync::{Arc, Wait};
 use std::time::{Clock, Duration};
 
-/// How long another node may take to be reached.
+/// How long another node of this process may take to be reached.
 const REACH_MS: u64 = 1_000;
+
+/// How long one of another process may, however many addresses its name has.
+const REACH_APART_MS: u64 = 2_000;
 
 /// Where a node is reached: a host, by its name or its IP address, and a port.
 #[derive(Drop)]
@@ -49,11 +53,18 @@ fn listens_at(said: Option<SocketAddr>, port: u16) -> SocketAddr
 /// A connection to a node.
 fn connect<R: Wait + Clock + Net<Stream = TcpStream>>(
     rt: &R,
+    alloc: Global,
     signal: &Signal,
     peer: &Peer,
 ) -> io::Result<TcpStream> {
-    let (host, time) = (peer.host.as_str(), Duration::from_millis(REACH_MS));
-    connect_to_one(rt, signal, (host, peer.port).to_socket_addrs(rt)?, time)
+    let (host, time) = (peer.host.as_str(), Duration::from_millis(REACH_APART_MS));
+    connect_to_one(
+        rt,
+        alloc,
+        signal,
+        (host, peer.port).to_socket_addrs(rt)?,
+        time,
+    )
 }
 
 /// Where one is reached from its own machine that listens here: one that listens on every
@@ -138,6 +149,7 @@ impl Site {
     pub fn reach<R: Wait + Clock + Net<Stream = TcpStream>>(
         &self,
         rt: &R,
+        alloc: Global,
         signal: &Signal,
         other: u8,
     ) -> io::Result<TcpStream> {
@@ -147,7 +159,7 @@ impl Site {
                 TcpStream::connect_timeout(rt, &address_of(*first, other), time)
             }
             Others::Apart(peers) => match peer_at(peers.as_slice(), other) {
-                Some(peer) => connect(rt, signal, peer),
+                Some(peer) => connect(rt, alloc, signal, peer),
                 None => Err(Error::from(ErrorKind::NotFound)),
             },
         }

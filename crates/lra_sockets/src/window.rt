@@ -1,11 +1,15 @@
 // Whether more of a request is to come.
 
 use httparse::{EMPTY_HEADER, Header, Request, Status};
+use lra_http::MAX_HEAD_BYTES;
 use std::str;
 
-/// How many bytes of a request are looked at while it comes. A worker reads a longer one as it
-/// comes.
-pub(crate) const WINDOW: usize = 4_096;
+/// How many bytes a request has at most that is looked at while it comes: as many as a head may
+/// have. A worker reads a longer one as it comes.
+const LONGEST: usize = MAX_HEAD_BYTES;
+
+/// How many bytes are looked at, so that it shows which is longer.
+pub(crate) const WINDOW: usize = LONGEST + 1;
 
 /// How many field lines are looked at. Where there are more, a worker refuses the request.
 const MAX_LINES: usize = 64;
@@ -37,13 +41,13 @@ pub(crate) enum Extent {
     Part,
     /// All of it, or what is no request: a worker has no more to wait for.
     Whole,
-    /// The start of one that is longer than the window.
+    /// The start of one that is longer.
     Long,
 }
 
 /// How much these bytes are of a request.
 pub(crate) fn extent_of(bytes: &[u8]) -> Extent {
-    if bytes.len() >= WINDOW {
+    if bytes.len() > LONGEST {
         return Extent::Long;
     }
     let mut headers = [EMPTY_HEADER; MAX_LINES];
@@ -53,7 +57,7 @@ pub(crate) fn extent_of(bytes: &[u8]) -> Extent {
             let whole = head.saturating_add(length_of(request.headers));
             if bytes.len() >= whole {
                 Extent::Whole
-            } else if whole < WINDOW {
+            } else if whole <= LONGEST {
                 Extent::Part
             } else {
                 Extent::Long

@@ -2,12 +2,12 @@
 // one run follows another.
 
 use crate::node::Node;
-use lra_sockets::PendingConnection;
+use lra_sockets::{AcceptQueue, PendingConnection};
 use std::io::Error;
-use std::net::TcpListener;
+use std::net::{TcpListener, TcpStream};
 use std::sync::Wait;
-use std::thread;
 use std::time::{Clock, Duration};
+use std::{io, thread};
 
 /// How long it waits where no connection can be had.
 const PAUSE_MS: u64 = 10;
@@ -27,34 +27,52 @@ fn wants_files(error: &Error) -> bool {
 }
 
 /// Waits while too many connections wait for a worker, or until the program is to end.
-fn wait_for_room<R: Wait + Clock>(rt: &R, node: &Node) {
+fn wait_for_room<R: Wait + Clock>(rt: &R, node: &Node, queue: &AcceptQueue) {
     for _ in rt.forever() {
-        if !node.queue.is_full(rt) || node.signal.has_ended(rt) {
+        if !queue.is_full(rt) || node.signal.has_ended(rt) {
             return;
         }
         thread::sleep(rt, Duration::from_millis(CROWDED_MS));
     }
 }
 
-/// Takes connections and puts them on the queue, until the program is to end. Where no file is left
-/// for a connection, the one that has waited longest is closed.
-pub fn accept<R: Wait + Clock>(rt: &R, node: &Node, listener: &TcpListener) {
-    for stream in listener.incoming() {
-        match stream {
-            Ok(stream) => {
-                node.counts.accept(rt);
-                if let Ok(pending) = PendingConnection::new(rt, stream) {
-                    node.queue.put(rt, pending);
-                }
-            }
-            Err(error) => {
-                if wants_files(&error) {
-                    node.queue.close_first(rt);
-                }
-                thread::sleep(rt, Duration::from_millis(PAUSE_MS));
+/// Puts a connection on a queue, where one came. Where no file is left for it, the one that has
+/// waited longest there is closed.
+fn put<R: Wait + Clock>(rt: &R, queue: &AcceptQueue, came: io::Result<TcpStream>) {
+    match came {
+        Ok(stream) => {
+            if let Ok(pending) = PendingConnection::new(rt, stream) {
+                queue.put(rt, pending);
             }
         }
-        wait_for_room(rt, node);
+        Err(error) => {
+            if wants_files(&error) {
+                queue.close_first(rt);
+            }
+            thread::sleep(rt, Duration::from_millis(PAUSE_MS));
+        }
+    }
+}
+
+/// Takes connections and puts them on the node's queue, until the program is to end.
+pub fn accept<R: Wait + Clock>(rt: &R, node: &Node, listener: &TcpListener) {
+    for came in listener.incoming() {
+        if came.is_ok() {
+            node.counts.accept(rt);
+        }
+        put(rt, &node.queue, came);
+        wait_for_room(rt, node, &node.queue);
+        if node.signal.has_ended(rt) {
+            return;
+        }
+    }
+}
+
+/// The same of those that come to the operators' port.
+pub fn accept_operators<R: Wait + Clock>(rt: &R, node: &Node, listener: &TcpListener) {
+    for came in listener.incoming() {
+        put(rt, &node.operators, came);
+        wait_for_room(rt, node, &node.operators);
         if node.signal.has_ended(rt) {
             return;
         }

@@ -5,15 +5,20 @@ use crate::counts::Pull;
 use crate::news::NewsCounts;
 use crate::node::Node;
 use lra_heard::{Telling, ask_for};
-use lra_id::Front;
-use lra_sockets::{BufferedSocket, Cutoff, SLICE_MS, Sockets, Times, now};
+use lra_http::Fault;
+use lra_id::{Front, NodeId};
+use lra_peer::PullError;
+use lra_sockets::{BufferedSocket, Cutoff, Limit, SLICE_MS, Sockets, Times, now};
 use std::alloc::Global;
 use std::net::TcpStream;
 use std::sync::Wait;
 use std::time::{Clock, Duration};
 
-/// How long another node may take to answer.
-const PATIENCE_MS: u64 = 10_000;
+/// How long another node may be silent.
+const PATIENCE_MS: u64 = 5_000;
+
+/// How long its whole answer may take, over a slow line.
+const FRAME_MS: u64 = 300_000;
 
 /// How long a node pauses after each pull.
 const PAUSE_MS: u64 = 50;
@@ -24,35 +29,46 @@ const SHORT_ROUND_MS: u64 = 500;
 /// How long it takes at rest.
 const LONG_ROUND_MS: u64 = 5_000;
 
-/// What another node has beyond a front, over a connection to it.
+/// What another node has beyond a front, over a connection to it; or why nothing can be had of it.
 pub(crate) fn pull_over<'a, R: Wait + Clock>(
     rt: &'a R,
     alloc: Global,
     node: &'a Node,
+    other: NodeId,
     front: &Front,
     stream: TcpStream,
-) -> Option<Telling> {
-    stream
+) -> Result<Telling, PullError> {
+    if stream
         .set_read_timeout(Some(Duration::from_millis(SLICE_MS)))
-        .ok()?;
-    let patience = Duration::from_millis(PATIENCE_MS);
+        .is_err()
+    {
+        return Err(PullError::Fault(Fault::ReadFault));
+    }
+    let patience = Limit::of_silence(PATIENCE_MS, FRAME_MS);
     let times = Times {
         reading: patience,
         writing: patience,
     };
     let (signal, cutoff) = (&node.signal, Cutoff::ProgramEnd);
-    let buffered = BufferedSocket::new(rt, alloc, signal, cutoff, stream, times);
-    let (mut reader, mut writer, _socket) = buffered.ok()?.into_parts();
-    ask_for(alloc, &mut reader, &mut writer, front).ok()
+    let buffered = BufferedSocket::new(rt, alloc, signal, cutoff, None, stream, times);
+    let Ok(buffered) = buffered else {
+        return Err(PullError::Fault(Fault::NoMemory));
+    };
+    let (mut reader, mut writer, _socket) = buffered.into_parts();
+    let query = node.query_of(other);
+    ask_for(alloc, &mut reader, &mut writer, other, query, front)
 }
 
 /// Pulls from another node, and hands over what is new.
 fn pull_one<R: Wait + Clock + Sockets>(rt: &R, alloc: Global, node: &Node, other: u8) -> Pull {
-    let front = node.mailbox.front(rt);
-    let Ok(stream) = node.site.reach(rt, &node.signal, other) else {
+    let Ok(who) = NodeId::new(other) else {
         return Pull::Failed;
     };
-    let Some(telling) = pull_over(rt, alloc, node, &front, stream) else {
+    let front = node.mailbox.front(rt);
+    let Ok(stream) = node.site.reach(rt, alloc, &node.signal, other) else {
+        return Pull::Failed;
+    };
+    let Ok(telling) = pull_over(rt, alloc, node, who, &front, stream) else {
         return Pull::Failed;
     };
     let told = telling.front();
@@ -124,7 +140,7 @@ pub fn pull_in_turn<R: Wait + Clock + Sockets>(rt: &R, alloc: Global, node: &Nod
         }
         round_ms = match pulled {
             Pull::New => SHORT_ROUND_MS,
-            Pull::Nothing | Pull::Failed => round_ms.saturating_mul(2).min(LONG_ROUND_MS),
+            _ => round_ms.saturating_mul(2).min(LONG_ROUND_MS),
         };
     }
 }

@@ -5,7 +5,7 @@ use log::{Log, warn};
 use lra_callback::{Heard, NetCaller};
 use lra_heard::{Letter, Unheard, call_for};
 use lra_sockets::{
-    BufferedSocket, Cutoff, SLICE_MS, Signal, SocketReader, SocketWriter, Sockets, Times,
+    BufferedSocket, Cutoff, Limit, SLICE_MS, Signal, SocketReader, SocketWriter, Sockets, Times,
     connect_to_one, now,
 };
 use lra_turns::{Came, Due, Plight};
@@ -23,6 +23,7 @@ const PATIENCE_MS: u64 = 10_000;
 /// A connection to the host of a link.
 fn connect<R: Wait + Clock + Net<Stream = TcpStream>>(
     rt: &R,
+    alloc: Global,
     signal: &Signal,
     url: &Url,
 ) -> io::Result<TcpStream> {
@@ -30,10 +31,22 @@ fn connect<R: Wait + Clock + Net<Stream = TcpStream>>(
     let time = Duration::from_millis(PATIENCE_MS);
     match url.host() {
         Some(Host::Domain(name)) => {
-            connect_to_one(rt, signal, (name, port).to_socket_addrs(rt)?, time)
+            connect_to_one(rt, alloc, signal, (name, port).to_socket_addrs(rt)?, time)
         }
-        Some(Host::Ipv4(ip)) => connect_to_one(rt, signal, (ip, port).to_socket_addrs(rt)?, time),
-        Some(Host::Ipv6(ip)) => connect_to_one(rt, signal, (ip, port).to_socket_addrs(rt)?, time),
+        Some(Host::Ipv4(ip)) => connect_to_one(
+            rt,
+            alloc,
+            signal,
+            (ip, port).to_socket_addrs(rt)?,
+            time,
+        ),
+        Some(Host::Ipv6(ip)) => connect_to_one(
+            rt,
+            alloc,
+            signal,
+            (ip, port).to_socket_addrs(rt)?,
+            time,
+        ),
         None => Err(Error::from(ErrorKind::NotFound)),
     }
 }
@@ -53,13 +66,13 @@ fn caller_over<'a, R: Wait + Clock>(
     stream
         .set_read_timeout(Some(Duration::from_millis(SLICE_MS)))
         .ok()?;
-    let patience = Duration::from_millis(PATIENCE_MS);
+    let patience = Limit::of_millis(PATIENCE_MS);
     let times = Times {
         reading: patience,
         writing: patience,
     };
     let (signal, cutoff) = (&node.signal, Cutoff::ProgramEnd);
-    let buffered = BufferedSocket::new(rt, alloc, signal, cutoff, stream, times);
+    let buffered = BufferedSocket::new(rt, alloc, signal, cutoff, None, stream, times);
     let (reader, writer, _socket) = buffered.ok()?.into_parts();
     Some(NetCaller::new(reader, writer))
 }
@@ -74,7 +87,7 @@ fn call_one<R: Wait + Clock + Sockets>(
     let Ok(url) = Url::parse(alloc, due.duty().link.as_str()) else {
         return without_answer(due, Came::NoConnection);
     };
-    let Ok(stream) = connect(rt, &node.signal, &url) else {
+    let Ok(stream) = connect(rt, alloc, &node.signal, &url) else {
         return without_answer(due, Came::NoConnection);
     };
     match caller_over(rt, alloc, node, stream) {

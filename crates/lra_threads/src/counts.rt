@@ -31,10 +31,10 @@ pub const KINDS: [&str; 5] = ["complete", "compensate", "status", "forget", "aft
 pub const HEARD: [&str; 5] = ["done", "failed", "busy", "told", "again"];
 
 /// What comes of pulls.
-pub const PULLS: [&str; 3] = ["new", "nothing", "failed"];
+pub const PULLS: [&str; 4] = ["new", "nothing", "failed", "refused"];
 
 /// What comes of purges.
-pub const SWEPT: [&str; 5] = ["gone", "nested", "waits", "later", "changed"];
+pub const SWEPT: [&str; 6] = ["gone", "nested", "waits", "later", "changed", "missing"];
 
 /// What a call of the desk asks for, as it is counted.
 #[derive(Clone, Copy, PartialEq, Eq)]
@@ -91,6 +91,8 @@ pub(crate) enum Pull {
     New,
     Nothing,
     Failed,
+    /// What was told can't be taken.
+    Refused,
 }
 
 impl Pull {
@@ -99,6 +101,7 @@ impl Pull {
             Pull::New => 0,
             Pull::Nothing => 1,
             Pull::Failed => 2,
+            Pull::Refused => 3,
         }
     }
 }
@@ -145,6 +148,7 @@ fn swept_place(purged: Purged) -> usize {
         Purged::Waits(_) => 2,
         Purged::Later => 3,
         Purged::Changed => 4,
+        Purged::Missing => 5,
     }
 }
 
@@ -164,10 +168,10 @@ pub struct Numbers {
     /// By kind, and by what was heard.
     pub callbacks: [[u64; 5]; 5],
     /// By node, and by what came of it.
-    pub pulls: [[u64; 3]; MAX_NODES as usize],
+    pub pulls: [[u64; 4]; MAX_NODES as usize],
     /// When a pull from each node last succeeded.
     pub pulled: [Option<Duration>; MAX_NODES as usize],
-    pub swept: [u64; 5],
+    pub swept: [u64; 6],
     pub failures: u64,
     pub accepted: u64,
     pub closed: u64,
@@ -187,9 +191,9 @@ impl Counts {
                 refused: [0; REFUSALS],
                 runs: [0; 6],
                 callbacks: [[0; 5]; 5],
-                pulls: [[0; 3]; MAX_NODES as usize],
+                pulls: [[0; 4]; MAX_NODES as usize],
                 pulled: [None; MAX_NODES as usize],
-                swept: [0; 5],
+                swept: [0; 6],
                 failures: 0,
                 accepted: 0,
                 closed: 0,
@@ -229,7 +233,7 @@ impl Counts {
         if let Some(row) = numbers.pulls.get_mut(place) {
             add(row.get_mut(pull.place()), 1);
         }
-        if pull != Pull::Failed {
+        if pull == Pull::New || pull == Pull::Nothing {
             if let Some(pulled) = numbers.pulled.get_mut(place) {
                 *pulled = Some(now);
             }

@@ -6,7 +6,8 @@ use crate::counts::Pull;
 use crate::node::Node;
 use log::{Log, warn};
 use lra_heard::Telling;
-use lra_id::Front;
+use lra_id::{Front, NodeId};
+use lra_peer::PullError;
 use lra_sockets::{Sockets, now};
 use std::alloc::Global;
 use std::sync::Wait;
@@ -15,10 +16,13 @@ use std::time::{Clock, Duration};
 /// How long a node pauses after each pull.
 const PAUSE_MS: u64 = 50;
 
+/// How long it waits before it tries again one that wasn't heard yet. It doubles each time.
+const FIRST_ROUND_MS: u64 = 100;
+
 /// How long it waits for news of another node where something was new the last time.
 const SHORT_ROUND_MS: u64 = 500;
 
-/// How long it waits at rest, and where the other can't be reached.
+/// How long it waits at rest, and where the other can't be reached, at last.
 const LONG_ROUND_MS: u64 = 5_000;
 
 /// For how long nothing can be had of another node before that is told.
@@ -35,6 +39,10 @@ enum Pulled {
     Unreached,
     /// It gives no frame.
     Unanswered,
+    /// What is reached there is another node, or one of another group.
+    Misdirected,
+    /// What it told can't be taken, by the number of the refusal.
+    Refused(u64),
     /// It has fewer facts of its own than it told before.
     Older,
     /// It has more facts of this node than this node's journal.
@@ -48,7 +56,8 @@ struct Outlook {
     since: Option<Duration>,
     /// Whether that was told.
     is_told: bool,
-    /// Whether it was told that its journal, or this node's, is older than what was told.
+    /// Whether it was told that its journal, or this node's, is older than what was told; or that
+    /// what it told can't be taken.
     is_odd: bool,
 }
 
@@ -61,11 +70,12 @@ impl Outlook {
         }
     }
 
-    /// Notes that nothing can be had. It says whether that is to be told now.
-    fn note_failure(&mut self, now: Duration) -> bool {
+    /// Notes that nothing can be had that was asked for at a moment. It says whether that is to be
+    /// told now.
+    fn note_failure(&mut self, began: Duration, now: Duration) -> bool {
         let since = match self.since {
             Some(since) => since,
-            None => now,
+            None => began,
         };
         self.since = Some(since);
         let is_due = !self.is_told
@@ -82,13 +92,14 @@ impl Outlook {
         was_told
     }
 
-    /// Notes that no journal is older.
+    /// Notes that no journal is older, and what was told is taken.
     fn note_well(&mut self) {
         self.is_odd = false;
     }
 
-    /// Notes that a journal is older. It says whether that is to be told now.
-    fn note_older(&mut self) -> bool {
+    /// Notes that a journal is older, or that something can't be taken. It says whether that is to be
+    /// told now.
+    fn note_odd(&mut self) -> bool {
         let was_odd = self.is_odd;
         self.is_odd = true;
         !was_odd
@@ -112,15 +123,21 @@ fn hand_over<R: Wait>(rt: &R, node: &Node, front: &Front, telling: Telling) -> b
 }
 
 /// What comes of what another node told, beyond the front from which it was asked.
-fn take_over<R: Wait>(rt: &R, node: &Node, other: u8, front: &Front, telling: Telling) -> Pulled {
+fn take_over<R: Wait>(
+    rt: &R,
+    node: &Node,
+    other: NodeId,
+    front: &Front,
+    telling: Telling,
+) -> Pulled {
     let told = telling.front();
     if told.nodes() != front.nodes() {
         return Pulled::Unanswered;
     }
-    let is_older = count_of(&told, other) < count_of(front, other);
+    node.mailbox.note_heard(rt, other, &telling);
+    let is_older = told.count(other) < front.count(other);
     // What this node gave until now it knows of.
-    let is_newer = count_of(&told, node.number())
-        > count_of(&node.mailbox.front(rt), node.number());
+    let is_newer = told.count(node.me) > node.mailbox.front(rt).count(node.me);
     let is_new = hand_over(rt, node, front, telling);
     if is_newer {
         return Pulled::Newer;
@@ -136,58 +153,95 @@ fn counted(pulled: Pulled) -> Pull {
     match pulled {
         Pulled::New => Pull::New,
         Pulled::Nothing | Pulled::Older | Pulled::Newer => Pull::Nothing,
-        Pulled::Unreached | Pulled::Unanswered => Pull::Failed,
+        Pulled::Unreached | Pulled::Unanswered | Pulled::Misdirected => Pull::Failed,
+        Pulled::Refused(_) => Pull::Refused,
     }
 }
 
 /// Pulls from another node once, and hands over what is new.
-fn pull_once<R: Wait + Clock + Sockets>(rt: &R, alloc: Global, node: &Node, other: u8) -> Pulled {
+fn pull_once<R: Wait + Clock + Sockets>(
+    rt: &R,
+    alloc: Global,
+    node: &Node,
+    other: NodeId,
+) -> Pulled {
     let front = node.mailbox.front(rt);
-    let Ok(stream) = node.site.reach(rt, &node.signal, other) else {
+    let Ok(stream) = node.site.reach(rt, alloc, &node.signal, other.number()) else {
         return Pulled::Unreached;
     };
-    match pull_over(rt, alloc, node, &front, stream) {
-        Some(telling) => take_over(rt, node, other, &front, telling),
-        None => Pulled::Unanswered,
+    match pull_over(rt, alloc, node, other, &front, stream) {
+        Ok(telling) => take_over(rt, node, other, &front, telling),
+        Err(PullError::Misdirected) => Pulled::Misdirected,
+        Err(_) => Pulled::Unanswered,
     }
 }
 
-/// Counts a pull, and warns of what it shows of another node: that nothing can be had of it, that
-/// it answers again, and that a journal is older than what its node told before.
+/// What a pull came to, once what it handed over was looked at.
+fn came_to(node: &Node, other: NodeId, pulled: Pulled) -> Pulled {
+    match node.take_refused(other) {
+        Some(number) => Pulled::Refused(number),
+        None => pulled,
+    }
+}
+
+/// What is wrong with one of which nothing can be had.
+fn fault_of(pulled: Pulled) -> Option<&'static str> {
+    match pulled {
+        Pulled::Unreached => Some("can't be reached"),
+        Pulled::Unanswered => Some("gives no frame"),
+        Pulled::Misdirected => Some("isn't there: another node answers, or one of another group"),
+        _ => None,
+    }
+}
+
+/// Warns of what is odd in what another node tells, once until it is well again.
+fn warn_of_odd<L: Log>(log: &L, number: u8, other: NodeId, pulled: Pulled, outlook: &mut Outlook) {
+    let other = other.number();
+    match pulled {
+        Pulled::Older => {
+            if outlook.note_odd() {
+                warn!(log; "node {}: node {} told of more facts of its own before: its journal is older", number, other);
+            }
+        }
+        Pulled::Newer => {
+            if outlook.note_odd() {
+                warn!(log; "node {}: node {} has more facts of this node: the journal here is older", number, other);
+            }
+        }
+        Pulled::Refused(refusal) => {
+            if outlook.note_odd() {
+                warn!(log; "node {}: what node {} tells can't be taken (E{})", number, other, refusal);
+            }
+        }
+        _ => outlook.note_well(),
+    }
+}
+
+/// Counts a pull that began at a moment, and warns of what it shows of another node: that nothing
+/// can be had of it, that it answers again, that a journal is older than what its node told before,
+/// and that what it tells can't be taken.
 fn warn_of<R: Wait + Clock, L: Log>(
     rt: &R,
     log: &L,
     node: &Node,
-    other: u8,
+    other: NodeId,
+    began: Duration,
     pulled: Pulled,
     outlook: &mut Outlook,
 ) {
     let now = now(rt);
-    node.counts.pull(rt, other, counted(pulled), now);
+    node.counts.pull(rt, other.number(), counted(pulled), now);
     let number = node.number();
-    if pulled == Pulled::Unreached || pulled == Pulled::Unanswered {
-        if outlook.note_failure(now) {
-            let what = if pulled == Pulled::Unreached {
-                "can't be reached"
-            } else {
-                "gives no frame"
-            };
-            warn!(log; "node {}: node {} {}", number, other, what);
+    if let Some(what) = fault_of(pulled) {
+        if outlook.note_failure(began, now) {
+            warn!(log; "node {}: node {} {}", number, other.number(), what);
         }
         return;
     }
     if outlook.note_answer() {
-        warn!(log; "node {}: node {} answers again", number, other);
+        warn!(log; "node {}: node {} answers again", number, other.number());
     }
-    if pulled == Pulled::New || pulled == Pulled::Nothing {
-        outlook.note_well();
-    }
-    if pulled == Pulled::Older && outlook.note_older() {
-        warn!(log; "node {}: node {} told of more facts of its own before: its journal is older", number, other);
-    }
-    if pulled == Pulled::Newer && outlook.note_older() {
-        warn!(log; "node {}: node {} has more facts of this node: the journal here is older", number, other);
-    }
+    warn_of_odd(log, number, other, pulled, outlook);
 }
 
 /// How long a round is, in milliseconds, by what the last pull came to.
@@ -198,36 +252,46 @@ fn round_after(pulled: Pulled, round_ms: u64) -> u64 {
     }
 }
 
+/// How long is paused after a pull, in milliseconds, whatever news there is.
+fn pause_after(pulled: Pulled, round_ms: u64) -> u64 {
+    match pulled {
+        Pulled::Refused(_) | Pulled::Misdirected => round_ms,
+        _ => PAUSE_MS,
+    }
+}
+
 /// Pulls from another node, until the program is to end: at once where it is known to have
 /// something new, or is to hear that this one has, if there was a pause after the last pull; else
-/// twice a second while that brings anything, and every five seconds at rest.
+/// twice a second while that brings anything, and every five seconds at rest. One that wasn't heard
+/// yet is tried sooner. What can't be taken is asked for again after a round.
 pub fn follow<R: Wait + Clock + Sockets, L: Log>(
     rt: &R,
     log: &L,
     alloc: Global,
     node: &Node,
-    other: u8,
+    other: NodeId,
 ) {
     if node.mailbox.wait_for_count(rt) {
         return;
     }
     let mut outlook = Outlook::new();
     let mut seen = 0u64;
-    let first = pull_once(rt, alloc, node, other);
-    node.mailbox.note_asked(rt);
-    warn_of(rt, log, node, other, first, &mut outlook);
-    let mut round_ms = round_after(first, SHORT_ROUND_MS);
+    let mut round_ms = FIRST_ROUND_MS;
+    let mut pause_ms = PAUSE_MS;
     for _ in rt.forever() {
-        if node.mailbox.sleep(rt, Duration::from_millis(PAUSE_MS)) {
+        let began = now(rt);
+        let pulled = pull_once(rt, alloc, node, other);
+        if node.mailbox.sleep(rt, Duration::from_millis(pause_ms)) {
             return;
         }
+        let pulled = came_to(node, other, pulled);
+        warn_of(rt, log, node, other, began, pulled, &mut outlook);
+        round_ms = round_after(pulled, round_ms);
+        pause_ms = pause_after(pulled, round_ms);
         let time = Duration::from_millis(round_ms);
-        let Some(told) = node.news.wait_for(rt, other, seen, time) else {
+        let Some(told) = node.news.wait_for(rt, other.number(), seen, time) else {
             return;
         };
-        let pulled = pull_once(rt, alloc, node, other);
-        warn_of(rt, log, node, other, pulled, &mut outlook);
         seen = told;
-        round_ms = round_after(pulled, round_ms);
     }
 }

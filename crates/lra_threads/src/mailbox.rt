@@ -4,10 +4,10 @@
 ghost use Rattle.std.specs.Prelude.{◌≤◌};
 ghost use Rattle.lra_id.specs.declared.TheConstants.{MAX_NODES};
 
-use crate::plaints::{Plaint, Sought, drop_sought, forget_found, in_vain, note_sought, plaints_of};
+use crate::plaints::{Plaint, Sought, drop_sought, forget_found, note_sought, plaints_of};
 use lra_callback::Duties;
 use lra_heard::{Letter, Telling, Unheard};
-use lra_id::{Front, LraId, LraStatus};
+use lra_id::{Front, LraId, LraStatus, NodeId};
 use lra_mailbox::{Fill, MailboxState, Noted, OPENING_MS, Purged, Sweeping, Task, Wanted};
 use lra_sockets::now;
 use lra_turns::{Called, Due, Plight};
@@ -37,7 +37,10 @@ impl Held {
     ) -> Option<Plight> {
         match &came {
             Ok(letter) => drop_sought(&mut self.sought, &Called::of(letter.duty())),
-            Err(unheard) => note_sought(&mut self.sought, self.alloc, unheard.due.duty()),
+            Err(unheard) => {
+                let calls = self.state.calls();
+                note_sought(&mut self.sought, calls, self.alloc, unheard.due.duty());
+            }
         }
         self.state.hear(time, came, now)
     }
@@ -64,13 +67,21 @@ pub struct Mailbox {
 
 impl Mailbox {
     /// With nothing in it. Of the node's own front nothing is known yet. Where the others are in
-    /// processes of their own it is asked first, and then they are, before commands are entered.
-    pub fn new(alloc: Global, nodes: u8, are_apart: bool, sweeping: Sweeping) -> Mailbox
+    /// processes of their own it is asked first, and then they are, before commands are entered: for
+    /// a second, or until it has heard them all.
+    pub fn new(
+        alloc: Global,
+        me: NodeId,
+        nodes: u8,
+        are_apart: bool,
+        waits_for_all: bool,
+        sweeping: Sweeping,
+    ) -> Mailbox
         requires { (1 ≤ nodes) × (nodes ≤ MAX_NODES) }
     {
         let held = Held {
             alloc,
-            state: MailboxState::new(alloc, nodes, are_apart, sweeping),
+            state: MailboxState::new(alloc, me, nodes, are_apart, waits_for_all, sweeping),
             sought: Vec::new(alloc),
         };
         Mailbox {
@@ -163,8 +174,7 @@ impl Mailbox {
 
     /// How many are called in vain, and how long the one that is so for longest.
     pub fn in_vain<R: Wait>(&self, rt: &R, moment: Duration) -> (u64, Duration) {
-        let held = self.held.lock(rt);
-        in_vain(&held.sought, held.state.calls(), moment)
+        self.held.lock(rt).state.calls().in_vain(moment)
     }
 
     /// Those who are called in vain, who is so for longest first.
@@ -177,23 +187,29 @@ impl Mailbox {
         self.held.lock(rt).plaints(alloc, moment)
     }
 
-    /// Tells that another node was asked for the first time since the start; what it told is handed
-    /// over, if it did.
-    pub(crate) fn note_asked<R: Wait>(&self, rt: &R) {
+    /// Tells that another node answered, and what it told.
+    pub(crate) fn note_heard<R: Wait>(&self, rt: &R, other: NodeId, telling: &Telling) {
         let mut held = self.held.lock(rt);
-        held.state.note_asked();
+        held.state.note_heard(other, telling);
         self.came.notify_all();
     }
 
-    /// Waits until commands are entered, or until the program is to end; a second at most.
-    pub fn wait_to_enter<R: Wait + Clock>(&self, rt: &R) {
+    /// Tells that one that asks counts so many facts of this node.
+    pub(crate) fn hear_count<R: Wait>(&self, rt: &R, count: u64) {
+        self.held.lock(rt).state.hear_count(count);
+    }
+
+    /// Waits until commands are entered, or until the program is to end: for a second at most, and
+    /// not where the start has waited for that already. It says whether they are entered.
+    pub fn wait_to_enter<R: Wait + Clock>(&self, rt: &R) -> bool {
         let time = Duration::from_millis(OPENING_MS);
-        let _ = self.changed.wait_timeout_while(
+        let (held, _) = self.changed.wait_timeout_while(
             rt,
             self.held.lock(rt),
             time,
-            |held| !held.state.is_open() && !held.state.has_ended(),
+            |held| !held.state.is_open() && !held.state.is_late() && !held.state.has_ended(),
         );
+        held.state.is_open()
     }
 
     /// How many facts of each node this one has at least.
@@ -205,7 +221,7 @@ impl Mailbox {
     pub fn next<R: Wait + Clock>(&self, rt: &R) -> Task {
         let moment = now(rt);
         let mut held = self.held.lock(rt);
-        if held.state.open_if_due(moment) {
+        if held.state.open_if_due(moment) || held.state.is_late() {
             self.changed.notify_all();
         }
         if held.state.resume_calls(moment) {
@@ -225,8 +241,9 @@ impl Mailbox {
     }
 
     /// Notes what a call at the desk leaves to go on with.
-    pub fn note<R: Wait>(&self, rt: &R, noted: &Noted) {
-        self.held.lock(rt).state.note(noted);
+    pub fn note<R: Wait + Clock>(&self, rt: &R, noted: &Noted) {
+        let moment = now(rt);
+        self.held.lock(rt).state.note(noted, moment);
     }
 
     /// Wants a call made for operators: a question, or a command.

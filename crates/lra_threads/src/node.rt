@@ -3,10 +3,12 @@ ghost use Rattle.std.specs.Prelude.{◌≤◌};
 ghost use Rattle.lra_id.specs.declared.TheConstants.{MAX_NODES};
 
 use crate::counts::Counts;
+use crate::desk_watch::DeskWatch;
 use crate::mailbox::Mailbox;
 use crate::news::News;
 use crate::tally::Tally;
-use lra_id::{Front, NodeId};
+use lra_http::Bytes;
+use lra_id::{Front, LAST_NUMBER, MAX_NODES, NodeId};
 use lra_mailbox::{Keep, Sweeping};
 use lra_sockets::{AcceptQueue, Signal, Site, Sockets, StopReason, now};
 use std::alloc::Global;
@@ -26,6 +28,43 @@ const PAUSE_MS: u64 = 10;
 /// How often it tries that.
 const MAX_TURNS: u32 = 100;
 
+/// How a node deals with others, as its program was told.
+#[derive(Drop)]
+pub struct Manners {
+    /// Whether a start waits until all others were heard, without a bound.
+    pub waits_for_all: bool,
+    /// What a pull from each node says of whom it asks, in their order; nothing of one that isn't
+    /// here.
+    pub queries: Vec<String>,
+    /// The names by which operators may ask it besides `localhost` and addresses.
+    pub names: Vec<Bytes>,
+}
+
+impl Manners {
+    /// Those of a node of which nothing was told.
+    pub fn of_nobody(alloc: Global) -> Manners {
+        Manners {
+            waits_for_all: false,
+            queries: Vec::new(alloc),
+            names: Vec::new(alloc),
+        }
+    }
+}
+
+/// No refusal of what any node told.
+fn none_refused() -> [AtomicU64; MAX_NODES as usize] {
+    [
+        AtomicU64::new(0),
+        AtomicU64::new(0),
+        AtomicU64::new(0),
+        AtomicU64::new(0),
+        AtomicU64::new(0),
+        AtomicU64::new(0),
+        AtomicU64::new(0),
+        AtomicU64::new(0),
+    ]
+}
+
 /// What the threads of a node share besides the desk.
 #[derive(Drop)]
 pub struct Node {
@@ -33,10 +72,14 @@ pub struct Node {
     pub nodes: u8,
     pub site: Site,
     pub queue: AcceptQueue,
+    /// Connections of its operators.
+    pub operators: AcceptQueue,
     pub signal: Signal,
     pub tally: Tally,
     pub mailbox: Mailbox,
     pub counts: Counts,
+    /// Since when calls wait at its desk.
+    pub desk: DeskWatch,
     /// Where it hears that others have something new.
     pub news: Arc<News>,
     /// Where it tells that it has: where the nodes of its process hear it.
@@ -46,6 +89,9 @@ pub struct Node {
     is_shut: AtomicBool,
     /// How many calls of operators were made after they were answered that nobody knows (E18).
     late: AtomicU64,
+    /// Of each node the number of the refusal of what it told last, or 0.
+    refused: [AtomicU64; MAX_NODES as usize],
+    manners: Manners,
     /// When it started: milliseconds by the monotonic clock, and seconds since 1970.
     started_ms: AtomicU64,
     start_seconds: AtomicU64,
@@ -64,6 +110,7 @@ impl Node {
         tally: Tally,
         news: Arc<News>,
         told: Vec<Arc<News>>,
+        manners: Manners,
     ) -> Node
         requires { (1 ≤ nodes) × (nodes ≤ MAX_NODES) }
     {
@@ -71,24 +118,59 @@ impl Node {
             me,
             nodes,
             queue: AcceptQueue::new(alloc),
+            operators: AcceptQueue::new(alloc),
             signal: Signal::new(),
             tally,
             mailbox: Mailbox::new(
                 alloc,
+                me,
                 nodes,
                 nodes > 1 && site.is_apart(),
+                manners.waits_for_all,
                 Sweeping::new(alloc, me, keep, site.is_apart(), site.operate.is_some()),
             ),
             counts: Counts::new(),
+            desk: DeskWatch::new(),
             site,
             news,
             told,
             has_news: AtomicBool::new(false),
             is_shut: AtomicBool::new(false),
             late: AtomicU64::new(0),
+            refused: none_refused(),
+            manners,
             started_ms: AtomicU64::new(0),
             start_seconds: AtomicU64::new(0),
         }
+    }
+
+    /// The names by which operators may ask it besides `localhost` and addresses.
+    pub fn names(&self) -> &[Bytes] {
+        self.manners.names.as_slice()
+    }
+
+    /// What a pull from another node says of whom it asks, if anything.
+    pub(crate) fn query_of(&self, other: NodeId) -> &str {
+        let place = usize::from(other.number().saturating_sub(1));
+        match self.manners.queries.as_slice().get(place) {
+            Some(query) => query.as_str(),
+            None => "",
+        }
+    }
+
+    /// Notes by which refusal, by its number, what another node told was refused.
+    pub fn note_refused(&self, other: NodeId, number: u8) {
+        let place = usize::from(other.number().saturating_sub(1));
+        if let Some(refused) = self.refused.get(place) {
+            refused.store(u64::from(number), Ordering::SeqCst);
+        }
+    }
+
+    /// The number of that refusal, if there was one since this was last asked.
+    pub(crate) fn take_refused(&self, other: NodeId) -> Option<u64> {
+        let place = usize::from(other.number().saturating_sub(1));
+        let number = self.refused.get(place)?.swap(0, Ordering::SeqCst);
+        if number == 0 { None } else { Some(number) }
     }
 
     /// Its number, 1 to 8.
@@ -135,14 +217,17 @@ impl Node {
     }
 
     /// Why it enters no commands now, if it doesn't: `journal` from when the journal failed until a
-    /// fact was stored, `behind` where the other nodes aren't heard yet, `ending` where the program
-    /// is to end.
+    /// fact was stored, `disk` where a call waits for seconds, `behind` where the other nodes aren't
+    /// heard yet or have more of its facts, `ending` where the program is to end.
     pub fn unready<R: Wait + Clock>(&self, rt: &R) -> Option<&'static str> {
         if self.signal.has_ended(rt) {
             return Some("ending");
         }
         if self.is_shut() || self.tally.has_failed() || self.mailbox.is_spared(rt) {
             return Some("journal");
+        }
+        if self.desk.hangs(now(rt)).is_some() {
+            return Some("disk");
         }
         if self.mailbox.is_behind(rt) {
             return Some("behind");
@@ -163,7 +248,7 @@ impl Node {
             for news in self.told.iter() {
                 news.tell(rt, self.number());
             }
-            if self.nodes > 1 && self.site.is_apart() {
+            if self.site.is_apart() {
                 self.mailbox.want_count(rt);
             }
         }
@@ -171,7 +256,7 @@ impl Node {
 
     /// Hears how many facts of each node one has that asks this one. Where that is more of another
     /// node's than this one has, that node is asked. So who asks tells thereby that it has
-    /// something new.
+    /// something new. Where it is more of this node's own, a start waits for them.
     pub fn hear_front<R: Wait>(&self, rt: &R, front: &Front) {
         let known = self.mailbox.front(rt);
         let mut number = 0u8;
@@ -180,6 +265,15 @@ impl Node {
             if number != self.number() && *theirs > *ours {
                 self.news.tell(rt, number);
             }
+        }
+        self.hear_own_count(rt, front.count(self.me), known.count(self.me));
+    }
+
+    // Hears how many facts of this node's own one has that asks it, where it has so many itself. One
+    // that asks as if it had all that there can be tells nothing thereby.
+    fn hear_own_count<R: Wait>(&self, rt: &R, theirs: u64, ours: u64) {
+        if theirs > ours && theirs < LAST_NUMBER {
+            self.mailbox.hear_count(rt, theirs);
         }
     }
 
@@ -196,6 +290,7 @@ impl Node {
     pub fn end_program<R: Wait + Clock + Sockets>(&self, rt: &R) {
         let _is_first = self.signal.end(rt, StopReason::Program);
         self.queue.end(rt);
+        self.operators.end(rt);
         self.mailbox.end(rt);
         self.news.end(rt);
         self.knock(rt, self.site.own_door());

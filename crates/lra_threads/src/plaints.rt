@@ -7,7 +7,10 @@ use std::alloc::{AllocError, Global};
 use std::time::Duration;
 
 /// How many are remembered at most: the first.
-const MAX_SOUGHT: usize = 256;
+const MAX_SOUGHT: usize = 1_024;
+
+/// How many are told at most: those who are so for longest.
+const MAX_TOLD: usize = 256;
 
 /// One whose last call was in vain: who, for what, and where.
 #[derive(Drop)]
@@ -36,8 +39,9 @@ fn is_same(a: &Called, b: &Called) -> bool {
     a.id == b.id && a.member == b.member && a.of_end == b.of_end
 }
 
-/// Remembers whom a call for a duty was made to in vain. One for which there is no room is not.
-pub(crate) fn note_sought(sought: &mut Vec<Sought>, alloc: Global, duty: &Duty) {
+/// Remembers whom a call for a duty was made to in vain. One for which there is no room is not:
+/// those who are no longer called in vain make room.
+pub(crate) fn note_sought(sought: &mut Vec<Sought>, calls: &Calls, alloc: Global, duty: &Duty) {
     let who = Called::of(duty);
     let Ok(link) = String::from_str(alloc, duty.link.as_str()) else {
         return;
@@ -49,6 +53,9 @@ pub(crate) fn note_sought(sought: &mut Vec<Sought>, alloc: Global, duty: &Duty) 
             one.link = link;
             return;
         }
+    }
+    if sought.len() >= MAX_SOUGHT {
+        forget_found(sought, calls);
     }
     if sought.len() < MAX_SOUGHT {
         let _ = sought.push(Sought { who, kind, link });
@@ -91,7 +98,7 @@ fn plaint_of(
     }))
 }
 
-/// All as they are told at a moment: who was first called in vain stands first.
+/// Those who are told at a moment: who was first called in vain stands first.
 pub(crate) fn plaints_of(
     sought: &[Sought],
     calls: &Calls,
@@ -99,22 +106,10 @@ pub(crate) fn plaints_of(
     now: Duration,
 ) -> Result<Vec<Plaint>, AllocError> {
     let mut all = Vec::new(alloc);
-    for one in sought {
+    for one in sought.iter().take(MAX_TOLD) {
         if let Some(plaint) = plaint_of(one, calls, alloc, now)? {
             all.push(plaint)?;
         }
     }
     Ok(all)
-}
-
-/// How many are called in vain, and how long the one that is so for longest.
-pub(crate) fn in_vain(sought: &[Sought], calls: &Calls, now: Duration) -> (u64, Duration) {
-    let (mut count, mut oldest) = (0u64, Duration::from_millis(0));
-    for one in sought {
-        if let Some(vain) = calls.vain_of(&one.who) {
-            count = count.saturating_add(1);
-            oldest = oldest.max(now.saturating_sub(vain.since));
-        }
-    }
-    (count, oldest)
 }

@@ -1,5 +1,5 @@
-// The thread that warns of a home that fills up, of connections that were closed, and of calls that
-// were made after they were given up. It outlives the runs of its node.
+// The thread that warns of a home that fills up, of LRAs that failed, of connections that were
+// closed, and of calls that were made after they were given up. It outlives the runs of its node.
 
 use crate::node::Node;
 use log::{Log, warn};
@@ -23,6 +23,11 @@ const REFUSED: u64 = 101;
 
 /// How long a level isn't told again.
 const QUIET_MS: u64 = 60_000;
+
+/// The ranks of the statuses by which an LRA failed to close, or to cancel.
+const FAILED_TO_CLOSE: usize = 3;
+
+const FAILED_TO_CANCEL: usize = 6;
 
 /// What was told of a home.
 #[derive(Drop)]
@@ -111,20 +116,86 @@ impl Dropped {
     }
 }
 
+/// How many LRAs of a home failed, as was told, and when.
+#[derive(Drop)]
+struct Failures {
+    told: u64,
+    since: Option<Duration>,
+}
+
+/// How many of the LRAs that a home holds failed, of how many show each status by rank.
+fn failed_of(held: &[u64; 7]) -> u64 {
+    held[FAILED_TO_CLOSE].saturating_add(held[FAILED_TO_CANCEL])
+}
+
+impl Failures {
+    fn new() -> Failures {
+        Failures {
+            told: 0,
+            since: None,
+        }
+    }
+
+    /// Notes how many failed. It says whether that is to be told now: they are more than was told,
+    /// once a minute at most.
+    fn note(&mut self, count: u64, now: Duration) -> bool {
+        self.told = self.told.min(count);
+        let is_quiet = match self.since {
+            Some(since) => now.saturating_sub(since) < Duration::from_millis(QUIET_MS),
+            None => false,
+        };
+        if is_quiet || count <= self.told {
+            return false;
+        }
+        self.told = count;
+        self.since = Some(now);
+        true
+    }
+}
+
+/// Warns of a disk that hangs, and tells once it answers again. It gives for how long it hangs, as
+/// that is remembered.
+fn warn_of_disk<L: Log>(
+    log: &L,
+    number: u8,
+    hung: Option<Duration>,
+    hangs: Option<Duration>,
+) -> Option<Duration> {
+    match (hung, hangs) {
+        (None, Some(time)) => {
+            let seconds = time.as_secs();
+            warn!(log; "node {number}: a call has waited for its journal for {seconds} s: the disk hangs, or is slow");
+        }
+        (Some(time), None) => {
+            let seconds = time.as_secs();
+            warn!(log; "node {number}: its journal answers again, after {seconds} s");
+        }
+        _ => {}
+    }
+    hangs
+}
+
 /// Warns when three quarters and nine tenths of the home's places are taken, and when an LRA
 /// couldn't be begun, until the program is to end. It tells each once, and again once there was
-/// room and a minute is over. It warns of connections that were closed since no file was left, once
-/// a minute at most, and of calls of operators that were made after they were answered E18.
+/// room and a minute is over. It warns of LRAs that failed, and of connections that were closed
+/// since no file was left, each once a minute at most, of calls of operators that were made after
+/// they were answered E18, and of a disk that hangs.
 pub fn watch<R: Wait + Clock, L: Log>(rt: &R, log: &L, node: &Node) {
     let (mut warned, mut closed) = (Warned::new(), Dropped::new());
+    let (mut failures, mut hung) = (Failures::new(), None);
     for _ in rt.forever() {
         if node.mailbox.sleep(rt, Duration::from_millis(LOOK_MS)) {
             return;
         }
         let now = now(rt);
+        hung = warn_of_disk(log, node.number(), hung, node.desk.hangs(now));
         let fill = node.mailbox.fill(rt);
         if warned.note_fill(&fill, now) {
             warn_of(log, node.number(), &fill);
+        }
+        let failed = failed_of(&node.mailbox.held(rt));
+        if failures.note(failed, now) {
+            warn!(log; "node {}: LRAs of its home that failed to close or to cancel: {}", node.number(), failed);
         }
         if node.take_late() > 0 {
             warn!(log; "node {}: a call at the operator's port was made after it was answered E18", node.number());

@@ -12,3 +12,5 @@ mod OnceDue
 mod Puts
 mod Resumed
 mod Places
+mod Tested
+mod Waiting

@@ -31,7 +31,7 @@ all_begun test who slips kept =
     (All-weaker (IsKept test) (λ (slip : Slip). IsKept test (begun_to who slip)) (λ slip h. begun_by test (same_called slip.who who) slip h) slips kept)
 
 -- a host that is called next is one of them
-next_within : (now : Turns) (place : ℕ) → IsNext now (Some place) → place < length now.hosts
+pub next_within : (now : Turns) (place : ℕ) → IsNext now (Some place) → place < length now.hosts
 next_within now place next = search rules
 
 -- the first of a host is called, and the others wait on

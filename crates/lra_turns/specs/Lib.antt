@@ -1,5 +1,7 @@
 pub mod Calling
 pub mod Entering
+pub mod InVain
+pub mod Keys
 pub mod Latest
 pub mod Links
 pub mod Listing
@@ -10,3 +12,4 @@ pub mod Plights
 pub mod Resuming
 pub mod Slips
 pub mod Turns
+pub mod Waiting

@@ -4,6 +4,7 @@ use Rattle.std.specs.List.{position_from}
 use Rattle.std.specs.Str.{bytes_eq}
 use Rattle.lra_callback.specs.declared.duty.Duty.{Duty}
 use Rattle.lra_turns.specs.Links.{host_of}
+use Rattle.lra_turns.specs.declared.host.Busy.{Busy}
 use Rattle.lra_turns.specs.declared.pace.Pace.{Pace}
 use Rattle.lra_turns.specs.declared.pace.Pace.TheVariants.{Quick, Slow, Unknown}
 
@@ -41,6 +42,11 @@ is_slow Quick = false
 is_slow Unknown = false
 is_slow Slow = true
 
+abbrev pub is_quick : Pace → Bool
+is_quick Quick = true
+is_quick Unknown = false
+is_quick Slow = false
+
 abbrev pub is_unknown : Pace → Bool
 is_unknown Quick = false
 is_unknown Unknown = true
@@ -50,18 +56,34 @@ is_unknown Slow = false
 abbrev pub is_due : AtHost → Bool
 is_due host = nat_lt 0 (length host.due)
 
--- whether a call to it goes on, and it is slow
+-- whether a call to it goes on, and it is slow; or no quick answer of it is known
 abbrev pub is_called_slowly : AtHost → Bool
 is_called_slowly host = if is_slow host.pace then nat_lt 0 host.calls else false
 
--- how many calls to slow hosts go on: to each of them there is one at most
+abbrev pub is_called_unsurely : AtHost → Bool
+is_called_unsurely host = if is_quick host.pace then false else nat_lt 0 host.calls
+
+-- how many calls to slow hosts go on, and how many to those of which no quick answer is known: to each of them there is one at most
 abbrev pub slow_calls : List AtHost → ℕ
 slow_calls hosts = length (filter is_called_slowly hosts)
 
--- whether a thread may call there, while so many calls to slow hosts go on: somebody is to be called, it has less than its share, and
--- with its own no more than two slow ones go on
-abbrev pub may_be_called : ℕ → AtHost → Bool
-may_be_called slow host = if nat_lt host.calls (share host.pace) then (if is_slow host.pace then (if nat_lt slow 2 then is_due host else false) else is_due host) else false
+abbrev pub unsure_calls : List AtHost → ℕ
+unsure_calls hosts = length (filter is_called_unsurely hosts)
+
+-- how many calls go on to hosts that may hold a thread for long
+abbrev pub busy_with : List AtHost → Busy
+busy_with hosts = record { unsure = unsure_calls hosts; slow = slow_calls hosts }
+
+-- whether beside these a call may begin to a host that answers so: to a quick one always; to another where with it no more than three go
+-- on to such as aren't quick, and no more than two to slow ones
+abbrev pub has_room : Busy → Pace → Bool
+has_room busy Quick = true
+has_room busy Unknown = nat_lt busy.unsure 3
+has_room busy Slow = if nat_lt busy.slow 2 then nat_lt busy.unsure 3 else false
+
+-- whether a thread may call there, while these calls go on: somebody is to be called, it has less than its share, and there is room
+abbrev pub may_be_called : Busy → AtHost → Bool
+may_be_called busy host = if nat_lt host.calls (share host.pace) then (if has_room busy host.pace then is_due host else false) else false
 
 -- whether it was never called, and is to be
 abbrev pub is_new : AtHost → Bool
@@ -88,7 +110,7 @@ IsFirstOf count may before hosts (Some place) = IsChosen count may before hosts 
 
 -- the place of the host that has waited longest for its turn, of those that may be called
 abbrev pub IsLongest : List AtHost → Option ℕ → Type 0
-IsLongest hosts place = IsFirstOf (length hosts) (may_be_called (slow_calls hosts)) is_before hosts place
+IsLongest hosts place = IsFirstOf (length hosts) (may_be_called (busy_with hosts)) is_before hosts place
 
 -- the place of the host that came last, of those that were never called
 abbrev pub IsNewest : List AtHost → Option ℕ → Type 0
@@ -104,9 +126,13 @@ abbrev pub IsThatElseLongest : Option ℕ → List AtHost → Option ℕ → Typ
 IsThatElseLongest None hosts place = IsLongest hosts place
 IsThatElseLongest (Some that) hosts place = place ≡ Some that
 
--- the place of the host that is called next, if one may be: each second turn is that of the newest host that was never called
+-- whether it is the newest host's turn, if one was never called: each second turn is, where there is room for a call to such a host
+abbrev pub is_newest_turn : Turns → Bool
+is_newest_turn now = if now.is_for_new then has_room (busy_with now.hosts) Unknown else false
+
+-- the place of the host that is called next, if one may be
 abbrev pub IsNext : Turns → Option ℕ → Type 0
-IsNext now place = (newest : Option ℕ) × IsNewestNow now.is_for_new now.hosts newest × IsThatElseLongest newest now.hosts place
+IsNext now place = (newest : Option ℕ) × IsNewestNow (is_newest_turn now) now.hosts newest × IsThatElseLongest newest now.hosts place
 
 -- whether a host may be called, which is one that is called next
 abbrev pub MayTake : Turns → Bool → Type 0

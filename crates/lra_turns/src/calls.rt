@@ -1,9 +1,11 @@
 // Whom the threads that call are to call, whom they call, and whom only after a pause.
 ghost use Rattle.std.specs.Prelude.{◌≡◌, ◌<◌, ◌≤◌, ◌↔◌, ◌∷◌, [], Bool, IfSome, IsTrue, None, false, filter, length, map};
+ghost use Rattle.std.specs.Duration.{as_nanos};
 ghost use Rattle.std.specs.List.{list_any};
 ghost use Rattle.lra_turns.specs.Calling.{IsTakenFrom};
 ghost use Rattle.lra_turns.specs.Entering.{IsEntered};
 ghost use Rattle.lra_callback.specs.declared.duty.Duty.{Duty};
+ghost use Rattle.lra_turns.specs.InVain.{count_in_vain, longest_in_vain};
 ghost use Rattle.lra_turns.specs.Listing.{IsBrought, IsPlaced, PutsOne, PutsSome, recalled_all, remembered};
 ghost use Rattle.lra_turns.specs.Named.{AllKept, AllWaiting, IsKept, NamesNoOther, NamesOnly, Passes};
 ghost use Rattle.lra_turns.specs.Once.{HasEachOnce, MayBeCalled, NamesNobodyTwice, calls_of, current_of, dues_of, duties_for, slips_of};
@@ -17,7 +19,10 @@ ghost use Rattle.lra_turns.specs.Turns.{place_of as host_place};
 use crate::Pace;
 use crate::hosts::Hosts;
 use crate::plight::{Came, Plight, Vain};
-use crate::slip::{Called, Due, Slip, begin_each, forget_each, place_from, place_of};
+use crate::slip::{
+    Called, Due, Slip, begin_each, count_in_vain, forget_each, longest_in_vain, place_from,
+    place_of,
+};
 use lra_callback::{Duties, Duty};
 use std::alloc::Global;
 use std::marker::Model;
@@ -378,6 +383,18 @@ impl Calls {
     {
         let place = place_of(&self.slips, who)?;
         self.slips[place].vain
+    }
+
+    /// How many are called in vain now, and how long the one has been that is so for longest: its last calls came to nothing, and the first
+    /// of them was over so long ago.
+    pub fn in_vain(&self, now: Duration) -> (u64, Duration)
+        ensures count { result.0 ≡ count_in_vain self.now.slips }
+        ensures longest { as_nanos result.1 ≡ longest_in_vain now self.now.slips }
+    {
+        (
+            count_in_vain(&self.slips),
+            longest_in_vain(&self.slips, now),
+        )
     }
 
     /// When somebody is called next; none while it waits for a thread or is called, or if nothing is remembered of it.

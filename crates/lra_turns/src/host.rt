@@ -2,8 +2,9 @@
 ghost use Rattle.std.specs.Prelude.{◌≡◌, ◌<◌, [], IfNone, IfSome, if◌then◌else◌};
 ghost use Rattle.std.specs.List.{after_first};
 ghost use Rattle.std.specs.Str.{bytes_eq};
+ghost use Rattle.lra_turns.specs.Keys.{key_of};
 ghost use Rattle.lra_turns.specs.Links.{host_in, host_of, is_slash};
-ghost use Rattle.lra_turns.specs.Turns.{Begins, is_before, is_called_slowly, is_due, is_new, is_newer, is_slow, is_unknown, listed, may_be_called, newcomer, recalled, share, with_due, with_end, is_kept};
+ghost use Rattle.lra_turns.specs.Turns.{Begins, has_room, is_before, is_called_slowly, is_called_unsurely, is_due, is_new, is_newer, is_quick, is_slow, is_unknown, listed, may_be_called, newcomer, recalled, share, with_due, with_end, is_kept};
 
 use crate::Pace;
 use lra_callback::Duty;
@@ -13,6 +14,10 @@ use std::marker::Model;
 
 /// How many calls to slow hosts may go on at once: the other threads are left to those that answer at once.
 const MAX_SLOW: usize = 2;
+
+/// How many calls may go on at once to hosts of which no quick answer is known, slow ones among them. So of four threads one is always
+/// left to those that answered quickly, whoever else never answers.
+const MAX_UNSURE: usize = 3;
 
 /// What stands behind the first slash.
 fn past_slash(text: &str) -> &str
@@ -42,6 +47,18 @@ pub(crate) fn host_of(duty: &Duty) -> &str
     host_in(duty.link.as_str())
 }
 
+/// A number made of a name: names with other numbers are others, so that few have to be compared.
+pub(crate) fn key_of(name: &str) -> u64
+    ensures { result ≡ key_of name.now }
+{
+    let bytes = name.as_bytes();
+    let mut key: u64 = 0;
+    for place in 0..bytes.len() {
+        key = key.wrapping_mul(31).wrapping_add(bytes[place] as u64);
+    }
+    key
+}
+
 /// How many calls to a host may go on at once: two to a quick one.
 fn share(pace: Pace) -> usize
     ensures { result ≡ share pace }
@@ -58,16 +75,46 @@ fn is_slow(pace: Pace) -> bool
     matches!(pace, Pace::Slow)
 }
 
+fn is_quick(pace: Pace) -> bool
+    ensures { result ≡ is_quick pace }
+{
+    matches!(pace, Pace::Quick)
+}
+
 fn is_unknown(pace: Pace) -> bool
     ensures { result ≡ is_unknown pace }
 {
     matches!(pace, Pace::Unknown)
 }
 
+/// How many calls go on to hosts that may hold a thread for long.
+#[derive(Clone, Copy)]
+pub(crate) struct Busy {
+    /// To those of which no quick answer is known.
+    pub(crate) unsure: usize,
+    /// To the slow ones among them.
+    pub(crate) slow: usize,
+}
+
+impl Busy {
+    /// Whether beside these a call may begin to a host that answers so.
+    pub(crate) fn has_room(self, pace: Pace) -> bool
+        ensures { result ≡ has_room self pace }
+    {
+        match pace {
+            Pace::Quick => true,
+            Pace::Unknown => self.unsure < MAX_UNSURE,
+            Pace::Slow => self.slow < MAX_SLOW && self.unsure < MAX_UNSURE,
+        }
+    }
+}
+
 /// A host at which participants are to be called, or were when that was last asked.
 #[derive(Drop)]
 pub(crate) struct Host {
     name: String,
+    /// The name's number.
+    key: u64,
     /// Those whom a thread is to call there, in order.
     due: VecDeque<Duty>,
     calls: usize,
@@ -79,7 +126,8 @@ pub(crate) struct Host {
 }
 
 impl Model for Host {
-    ghost use Rattle.std.specs.Prelude.{◌≤◌, string_bytes};
+    ghost use Rattle.std.specs.Prelude.{◌≡◌, ◌≤◌, string_bytes};
+    ghost use Rattle.lra_turns.specs.Keys.{key_of};
     ghost use Rattle.lra_turns.specs.Turns.{AtHost, share};
 
     ghost Value = { AtHost };
@@ -93,7 +141,7 @@ impl Model for Host {
       is_listed = h.is_listed;
     } };
 
-    ghost invariant = { λ h. h.calls ≤ share h.pace };
+    ghost invariant = { λ h. (h.calls ≤ share h.pace) × (h.key ≡ key_of (string_bytes h.name)) };
 }
 
 impl Host {
@@ -102,10 +150,12 @@ impl Host {
         ensures { IfSome result (λ host. host ≡ newcomer duty turn) }
     {
         let name = String::from_str(alloc, host_of(&duty)).ok()?;
+        let key = key_of(name.as_str());
         let mut due = VecDeque::new(alloc);
         due.push_back(duty).ok()?;
         Some(Host {
             name,
+            key,
             due,
             calls: 0,
             pace: Pace::Unknown,
@@ -114,10 +164,14 @@ impl Host {
         })
     }
 
-    /// Whether it has this name.
-    pub(crate) fn is_named(&self, name: &str) -> bool
+    /// Whether it has this name, which has this number.
+    pub(crate) fn is_named(&self, key: u64, name: &str) -> bool
+        requires { key ≡ key_of name.now }
         ensures { result ≡ bytes_eq self.now.name name.now }
     {
+        if self.key != key {
+            return false;
+        }
         self.name.as_str() == name
     }
 
@@ -135,13 +189,18 @@ impl Host {
         is_slow(self.pace) && self.calls > 0
     }
 
-    /// Whether a thread may call there now, while so many calls to slow hosts go on.
-    pub(crate) fn may_be_called(&self, slow: usize) -> bool
-        ensures { result ≡ may_be_called slow self.now }
+    /// Whether a call to it goes on, and no quick answer of it is known.
+    pub(crate) fn is_called_unsurely(&self) -> bool
+        ensures { result ≡ is_called_unsurely self.now }
     {
-        self.calls < share(self.pace)
-            && (!is_slow(self.pace) || slow < MAX_SLOW)
-            && !self.due.is_empty()
+        !is_quick(self.pace) && self.calls > 0
+    }
+
+    /// Whether a thread may call there now, while so many other calls go on.
+    pub(crate) fn may_be_called(&self, busy: Busy) -> bool
+        ensures { result ≡ may_be_called busy self.now }
+    {
+        self.calls < share(self.pace) && busy.has_room(self.pace) && !self.due.is_empty()
     }
 
     /// Whether it was never called, and is to be.

@@ -1,10 +1,10 @@
 // The hosts at which participants are called. They have turns, so that none holds up others.
 ghost use Rattle.std.specs.Prelude.{◌≡◌, ◌<◌, ◌+◌, [], IfNone, IfSome, None, false, filter, length, map, slice_set};
 ghost use Rattle.std.specs.List.{list_any};
-ghost use Rattle.lra_turns.specs.Turns.{Begins, IsFirstOf, IsLongest, IsNewest, IsNewestNow, IsNext, IsPut, IsPutAt, IsTaken, MayTake, changed_at, host_at, is_before, is_due, is_kept, is_new, is_newer, listed, may_be_called, place_of, recalled, share, slow_calls, with_end, with_hosts};
+ghost use Rattle.lra_turns.specs.Turns.{Begins, IsFirstOf, IsLongest, IsNewest, IsNewestNow, IsNext, IsPut, IsPutAt, IsTaken, MayTake, busy_with, changed_at, host_at, is_before, is_due, is_kept, is_new, is_newer, is_newest_turn, listed, may_be_called, place_of, recalled, share, slow_calls, unsure_calls, with_end, with_hosts};
 
 use crate::Pace;
-use crate::host::{Host, host_of};
+use crate::host::{Busy, Host, host_of, key_of};
 use lra_callback::Duty;
 use std::alloc::Global;
 use std::marker::Model;
@@ -16,13 +16,33 @@ fn slow_calls(hosts: &[Host]) -> usize
     hosts.iter().filter(|host| host.is_called_slowly()).count()
 }
 
-/// The place of the one that has waited longer: the first of those before a place, or the one at that place, if it may be called.
-fn longer(hosts: &[Host], slow: usize, place: usize, first: Option<usize>) -> Option<usize>
-    requires within { place < length hosts.now }
-    requires first { IsFirstOf place (may_be_called slow) is_before hosts.now first }
-    ensures { IsFirstOf (place + 1) (may_be_called slow) is_before hosts.now result }
+/// How many calls go on to hosts of which no quick answer is known.
+fn unsure_calls(hosts: &[Host]) -> usize
+    ensures { result ≡ unsure_calls hosts.now }
 {
-    if !hosts[place].may_be_called(slow) {
+    hosts
+        .iter()
+        .filter(|host| host.is_called_unsurely())
+        .count()
+}
+
+/// How many calls go on to hosts that may hold a thread for long.
+fn busy_with(hosts: &[Host]) -> Busy
+    ensures { result ≡ busy_with hosts.now }
+{
+    Busy {
+        unsure: unsure_calls(hosts),
+        slow: slow_calls(hosts),
+    }
+}
+
+/// The place of the one that has waited longer: the first of those before a place, or the one at that place, if it may be called.
+fn longer(hosts: &[Host], busy: Busy, place: usize, first: Option<usize>) -> Option<usize>
+    requires within { place < length hosts.now }
+    requires first { IsFirstOf place (may_be_called busy) is_before hosts.now first }
+    ensures { IsFirstOf (place + 1) (may_be_called busy) is_before hosts.now result }
+{
+    if !hosts[place].may_be_called(busy) {
         return first;
     }
     let Some(other) = first else {
@@ -38,10 +58,10 @@ fn longer(hosts: &[Host], slow: usize, place: usize, first: Option<usize>) -> Op
 fn longest(hosts: &[Host]) -> Option<usize>
     ensures { IsLongest hosts.now result }
 {
-    let slow = slow_calls(hosts);
+    let busy = busy_with(hosts);
     let mut first: Option<usize> = None;
     for place in 0..hosts.len() {
-        first = longer(hosts, slow, place, first);
+        first = longer(hosts, busy, place, first);
     }
     first
 }
@@ -102,7 +122,13 @@ fn place_of(hosts: &[Host], duty: &Duty) -> Option<usize>
     ensures within { IfSome result (λ place. place < length hosts.now) }
 {
     let name = host_of(duty);
-    hosts.iter().position(|host| host.is_named(name))
+    let key = key_of(name);
+    for place in 0..hosts.len() {
+        if hosts[place].is_named(key, name) {
+            return Some(place);
+        }
+    }
+    None
 }
 
 /// Forgets those at which nobody is to be called.
@@ -155,12 +181,19 @@ impl Hosts {
         }
     }
 
+    /// Whether the next turn is that of the newest host that was never called, if there is one, and a thread is left for it.
+    fn is_newest_turn(&self) -> bool
+        ensures { result ≡ is_newest_turn self.now }
+    {
+        self.is_for_new && busy_with(&self.list).has_room(Pace::Unknown)
+    }
+
     /// The place of the host that is called next, if one may be. Each second turn is that of the newest host that was never called, so
     /// that many that never answer, and are called the first time, hold up no other for long; each has that turn once.
     fn next(&self) -> Option<usize>
         ensures { IsNext self.now result }
     {
-        let new = newest_now(self.is_for_new, &self.list);
+        let new = newest_now(self.is_newest_turn(), &self.list);
         match new {
             Some(place) => Some(place),
             None => longest(&self.list),

@@ -1,5 +1,5 @@
 // Laws of the definitions: each function does nothing, and its contract is the law.
-ghost use Rattle.std.specs.Prelude.{[], ◌≡◌, ◌<◌, ◌≤◌, Bool, List, None, Option, Some, ℕ, false, length, true};
+ghost use Rattle.std.specs.Prelude.{[], ◌≡◌, ◌+◌, ◌*◌, ◌<◌, ◌≤◌, Bool, List, None, Option, Some, ℕ, false, filter, length, map, true};
 ghost use Rattle.std.specs.List.{All};
 ghost use Rattle.lra_facts.specs.declared.fact.Fact.{Fact};
 ghost use Rattle.lra_forest.specs.Dues.{AreAll};
@@ -15,19 +15,23 @@ ghost use Rattle.lra_turns.specs.Once.{BeginsNoCall, BeginsOnce, HasEachOnce, Is
 ghost use Rattle.lra_turns.specs.Pausing.{IsBusyAt, IsFound, IsMissed};
 ghost use Rattle.lra_turns.specs.Resuming.{ResumesAt};
 ghost use Rattle.lra_turns.specs.Slips.{called_of, place_of, same_called};
+ghost use Rattle.lra_turns.specs.declared.host.Busy.{Busy as TheBusy};
 ghost use Rattle.lra_turns.specs.declared.pace.Pace.{Pace as ThePace};
+ghost use Rattle.lra_turns.specs.declared.pace.Pace.TheVariants.{Quick};
 ghost use Rattle.lra_turns.specs.declared.plight.Came.{Came as TheCame};
 ghost use Rattle.lra_turns.specs.declared.plight.Plight.{Plight as ThePlight};
 ghost use Rattle.lra_turns.specs.declared.slip.Called.{Called as TheCalled};
 ghost use Rattle.std.specs.declared.time.Duration.{Duration};
-ghost use Rattle.lra_turns.specs.Turns.{IsNext, Turns, host_at, is_new, may_be_called, slow_calls};
+ghost use Rattle.lra_turns.specs.Turns.{AtHost, BeginsAt, IsLongest, IsNext, IsPut, IsTaken, Turns, busy_with, changed_at, host_at, is_due, is_kept, is_new, is_newest_turn, listed, may_be_called, next_turn, recalled, share, unsure_calls, with_end};
+ghost use Rattle.lra_turns.specs.Turns.{place_of as host_place};
+ghost use Rattle.lra_turns.specs.Waiting.{LeavesOne, WaitsFor, ahead, all_calls};
 
 /// A host that was called has its turn again only behind each other that may be called and isn't called now: its last call began before
 /// that one's last, or before that one came.
 pub fn who_was_called_waits_for_the_others()
     ensures { (now : Turns) (place other : ℕ) → IsNext now (Some place) →
         is_new (host_at now.hosts place) ≡ false →
-        other < length now.hosts → may_be_called (slow_calls now.hosts) (host_at now.hosts other) ≡ true →
+        other < length now.hosts → may_be_called (busy_with now.hosts) (host_at now.hosts other) ≡ true →
         (host_at now.hosts other).calls ≡ 0 →
         ((host_at now.hosts place).calls ≡ 0) × ((host_at now.hosts place).turn ≤ (host_at now.hosts other).turn) }
 {}
@@ -35,7 +39,7 @@ pub fn who_was_called_waits_for_the_others()
 /// Who is called next may be called: somebody waits there, and it has less calls than its share.
 pub fn who_is_next_may_be_called()
     ensures { (now : Turns) (place : ℕ) → IsNext now (Some place) →
-        (place < length now.hosts) × (may_be_called (slow_calls now.hosts) (host_at now.hosts place) ≡ true) }
+        (place < length now.hosts) × (may_be_called (busy_with now.hosts) (host_at now.hosts place) ≡ true) }
 {}
 
 /// A duty that is taken is one of those for which somebody was to be called, and the others stay: each test that all pass, it passes, and
@@ -48,7 +52,66 @@ pub fn who_is_taken_was_named()
 /// While a host may be called, one is.
 pub fn nobody_waits_for_nothing()
     ensures { (now : Turns) (other : ℕ) → other < length now.hosts →
-        may_be_called (slow_calls now.hosts) (host_at now.hosts other) ≡ true → IsNext now None → ⊥ }
+        may_be_called (busy_with now.hosts) (host_at now.hosts other) ≡ true → IsNext now None → ⊥ }
+{}
+
+/// A host that answered quickly waits for no call to another: while somebody waits there, and it has less calls than its share, it may
+/// be called, whatever hosts hang. So one may be.
+pub fn a_quick_host_waits_for_no_call()
+    ensures may { (busy : TheBusy) (host : AtHost) → host.pace ≡ Quick →
+        host.calls < share Quick → is_due host ≡ true → may_be_called busy host ≡ true }
+    ensures next { (now : Turns) (place : ℕ) → place < length now.hosts →
+        (host_at now.hosts place).pace ≡ Quick → (host_at now.hosts place).calls < share Quick →
+        is_due (host_at now.hosts place) ≡ true → IsNext now None → ⊥ }
+{}
+
+/// One of four callers is left to hosts that answered quickly: whatever comes, three calls at most go on to others. Where a quick host
+/// turns out slow while another call to it goes on, that call is one of three that are left.
+pub fn one_caller_is_left_to_quick_hosts()
+    ensures none { LeavesOne [] }
+    ensures taken { (old new : Turns) (duty : Option Duty) →
+        IsTaken old new duty → LeavesOne old.hosts → LeavesOne new.hosts }
+    ensures ended { (duty : Duty) (pace : ThePace) (hosts : List AtHost) →
+        all_calls hosts ≤ 4 → LeavesOne hosts →
+        LeavesOne (changed_at (host_place duty hosts) (with_end pace) hosts) }
+    ensures put { (duty : Duty) (old new : Turns) (is_put : Bool) →
+        IsPut duty old new is_put → unsure_calls new.hosts ≡ unsure_calls old.hosts }
+    ensures noted { (duty : Duty) (hosts : List AtHost) →
+        unsure_calls (changed_at (host_place duty hosts) listed hosts) ≡ unsure_calls hosts }
+    ensures recalled { (hosts : List AtHost) →
+        unsure_calls (map recalled hosts) ≡ unsure_calls hosts }
+    ensures forgotten { (hosts : List AtHost) →
+        unsure_calls (filter is_kept hosts) ≡ unsure_calls hosts }
+{}
+
+/// A host waits for those alone whose turn isn't behind its own. Each turn, but for the newest's, that comes while it may be called and
+/// isn't called makes them one fewer, and nothing makes them more. So while it may be called at most twice as many calls begin, and one,
+/// before it has its turn.
+pub fn a_host_waits_for_those_before_it()
+    ensures by_turn { (now : Turns) (place : ℕ) →
+        is_newest_turn now ≡ false → IsNext now (Some place) → IsLongest now.hosts (Some place) }
+    ensures longest { (old new : Turns) (duty : Duty) (place other : ℕ) →
+        IsLongest old.hosts (Some place) → BeginsAt place duty old new → other < length old.hosts →
+        may_be_called (busy_with old.hosts) (host_at old.hosts other) ≡ true →
+        (host_at old.hosts other).calls ≡ 0 →
+        (host_at old.hosts other).turn < next_turn old.turns →
+        ahead (host_at old.hosts other).turn new.hosts + 1
+        ≡ ahead (host_at old.hosts other).turn old.hosts }
+    ensures taken { (turn : ℕ) (old new : Turns) (duty : Duty) → IsTaken old new (Some duty) →
+        turn < next_turn old.turns → ahead turn new.hosts ≤ ahead turn old.hosts }
+    ensures put { (turn : ℕ) (duty : Duty) (old new : Turns) (is_put : Bool) →
+        IsPut duty old new is_put → turn < next_turn old.turns →
+        ahead turn new.hosts ≡ ahead turn old.hosts }
+    ensures noted { (turn : ℕ) (duty : Duty) (hosts : List AtHost) →
+        ahead turn (changed_at (host_place duty hosts) listed hosts) ≡ ahead turn hosts }
+    ensures ended { (turn : ℕ) (duty : Duty) (pace : ThePace) (hosts : List AtHost) →
+        ahead turn (changed_at (host_place duty hosts) (with_end pace) hosts) ≡ ahead turn hosts }
+    ensures recalled { (turn : ℕ) (hosts : List AtHost) →
+        ahead turn (map recalled hosts) ≡ ahead turn hosts }
+    ensures forgotten { (turn : ℕ) (hosts : List AtHost) →
+        ahead turn (filter is_kept hosts) ≤ ahead turn hosts }
+    ensures in_all { (count turn : ℕ) (now : Turns) →
+        WaitsFor count turn now → count ≤ 2 * ahead turn now.hosts + 1 }
 {}
 
 /// All duties of a home, in their order, name nobody twice: that is the list that a node makes.

@@ -1,6 +1,7 @@
 // What is remembered of one who is to be called, is called, or is called again after a pause.
-ghost use Rattle.std.specs.Prelude.{◌≡◌, ◌+◌, ◌*◌, ◌<◌, ◌≤◌, IfNone, IfSome, None, Some, length, map, min, take, true};
+ghost use Rattle.std.specs.Prelude.{◌≡◌, ◌+◌, ◌*◌, ◌<◌, ◌≤◌, IfNone, IfSome, None, Some, length, map, max, min, take, true};
 ghost use Rattle.std.specs.Duration.{as_nanos, max_nanos};
+ghost use Rattle.lra_turns.specs.InVain.{count_in_vain, is_in_vain, longest_in_vain, time_in_vain};
 ghost use Rattle.lra_turns.specs.Once.{slips_of};
 ghost use Rattle.lra_turns.specs.Pausing.{missed, newest, slip_at};
 ghost use Rattle.lra_turns.specs.Slips.{IsPaused, IsRecalled, begun_to, called_of, fresh, is_called, is_over, made_to_wait, place_of, same_called, taken_back, until_in, without};
@@ -226,6 +227,52 @@ impl Slip {
         self.kept = None;
         self.is_listed = false;
     }
+
+    /// Whether its last call was in vain.
+    fn is_in_vain(&self) -> bool
+        ensures { result ≡ is_in_vain self.now }
+    {
+        self.vain.is_some()
+    }
+
+    /// How long it has been called in vain; no time, if its last call wasn't.
+    fn time_in_vain(&self, now: Duration) -> Duration
+        ensures { as_nanos result ≡ time_in_vain now self.now }
+    {
+        match self.vain {
+            Some(vain) => now.saturating_sub(vain.since),
+            None => Duration::ZERO,
+        }
+    }
+}
+
+/// How many are called in vain.
+pub(crate) fn count_in_vain(slips: &[Slip]) -> u64
+    ensures { result ≡ count_in_vain slips.now }
+{
+    slips.iter().filter(|slip| slip.is_in_vain()).count() as u64
+}
+
+/// The longer of two times.
+fn longer(one: Duration, other: Duration) -> Duration
+    ensures { as_nanos result ≡ max (as_nanos one) (as_nanos other) }
+{
+    if one.as_nanos() < other.as_nanos() {
+        other
+    } else {
+        one
+    }
+}
+
+/// How long the one has been called in vain that is so for longest.
+pub(crate) fn longest_in_vain(slips: &[Slip], now: Duration) -> Duration
+    ensures { as_nanos result ≡ longest_in_vain now slips.now }
+{
+    let mut longest = Duration::ZERO;
+    for place in 0..slips.len() {
+        longest = longer(longest, slips[place].time_in_vain(now));
+    }
+    longest
 }
 
 /// The place of a slip, from a place on.

@@ -1,1 +1,3 @@
+mod Directed
+mod Queries
 pub mod Workings

@@ -1,1 +1,3 @@
+pub mod Addressees
+pub mod Groups
 pub mod Working

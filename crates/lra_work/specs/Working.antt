@@ -1,17 +1,24 @@
 -- What a worker does: it serves connection after connection, up to the end of the arrivals or to a refusal that ends the run.
-use Rattle.std.specs.Prelude.{◌≡◌, ⊤, List, [], ◌∷◌, Option, Some, None, Result, Ok, Err}
+use Rattle.std.specs.Prelude.{◌≡◌, ⊤, ℕ, List, [], ◌∷◌, MatchBool, Option, Some, None, Result, Ok, Err}
 use Rattle.lra_facts.specs.declared.refusal.Refusal.{Refusal}
 use Rattle.lra_facts.specs.declared.refusal.Refusal.TheVariants.{JournalFailed, Stopped, RunFull, TrailLost}
 use Rattle.lra_http.specs.declared.Sink.{Ghosts as OfSink}
 use Rattle.lra_http.specs.declared.Source.{Ghosts as OfSource}
 use Rattle.lra_http.specs.declared.fault.Fault.{Fault}
 use Rattle.lra_http.specs.declared.message.Request.{Request}
+use Rattle.lra_book.specs.declared.calls.Call.{Call}
+use Rattle.lra_book.specs.declared.calls.Reply.{Reply}
 use Rattle.lra_book.specs.declared.clerk.Clerk.{Ghosts as OfClerk}
+use Rattle.lra_api.specs.Routes.{routed}
 use Rattle.lra_api.specs.Serving.{Makes}
 use Rattle.lra_api.specs.Serving as serving
 use Rattle.lra_api.specs.Streams.{IsReading}
 use Rattle.lra_api.specs.declared.serving.ServeError.{ServeError}
 use Rattle.lra_api.specs.declared.serving.ServeError.TheVariants.{Refused}
+use Rattle.lra_work.specs.Addressees.{is_misdirected, misdirected_answer}
+use Rattle.lra_work.specs.declared.addressee.Addressee.{Addressee}
+use Rattle.lra_work.specs.declared.addressee.Addressee.TheVariants.{Anyone, Node}
+use Rattle.lra_work.specs.declared.addressee.NodeName.{NodeName}
 use Rattle.lra_work.specs.declared.arrivals.Connection.{Connection}
 
 -- a refusal, if it ends the run in which it came: E18 to E21
@@ -27,28 +34,48 @@ abbrev pub ending_of : Result ⊤ ServeError → Option Refusal
 ending_of (Err (Refused refusal)) = ending_by refusal
 ending_of _ = None
 
+-- Serving. `same`: no call is made. `makes`: this call is made, once, and this comes of it
+
+-- A request is served by a node with a name: of a pull that is meant for another no call is made, and the text of that answer is
+-- written; each other request is served by the interface
+abbrev pub ServesNamed : {W : Type 0} → NodeName → (same : Type 0) → (makes : Call → Result Reply Refusal → Type 0) → OfSink W → (old new : W) → (now : ℕ) → Request → Result ⊤ ServeError → Type 0
+ServesNamed node same makes sink old new now request result =
+    MatchBool (is_misdirected node request)
+    (same × serving.Ends sink old new (misdirected_answer node) None result)
+    (serving.ServesRequest same makes sink old new (routed now request) result)
+
+-- where anyone may be meant, the interface serves all
+abbrev pub ServesRequest : {W : Type 0} → Addressee → (same : Type 0) → (makes : Call → Result Reply Refusal → Type 0) → OfSink W → (old new : W) → (now : ℕ) → Request → Result ⊤ ServeError → Type 0
+ServesRequest Anyone same makes sink old new now request result = serving.ServesRequest same makes sink old new (routed now request) result
+ServesRequest (Node node) same makes sink old new now request result = ServesNamed node same makes sink old new now request result
+
+-- what was read is served: a request so, and a fault by the interface
+abbrev pub ServesRead : {W : Type 0} → Addressee → (same : Type 0) → (makes : Call → Result Reply Refusal → Type 0) → OfSink W → (old new : W) → (now : ℕ) → Result Request Fault → Result ⊤ ServeError → Type 0
+ServesRead addressee same makes sink old new now (Ok request) result = ServesRequest addressee same makes sink old new now request result
+ServesRead addressee same makes sink old new now (Err f) result = same × serving.ServesFault sink old new f result
+
 -- One connection is served, with this ending: one request is read, the call that it asks for is made at the connection's moment,
--- once, and one answer is written
-abbrev pub Serves : {R W C : Type 0} → OfSource R → OfSink W → OfClerk C → Connection R W → (old new : C) → Option Refusal → Type 0
-Serves {R} {W} source sink clerk c old new ending =
+-- once, unless it is misdirected, and one answer is written
+abbrev pub Serves : {R W C : Type 0} → Addressee → OfSource R → OfSink W → OfClerk C → Connection R W → (old new : C) → Option Refusal → Type 0
+Serves {R} {W} addressee source sink clerk c old new ending =
     (reader : R) × (writer : W) × (read : Result Request Fault) × (result : Result ⊤ ServeError)
     × IsReading source c.reader reader read
-    × serving.Serves (new ≡ old) (Makes clerk old new c.now) sink c.writer writer c.now read result
+    × ServesRead addressee (new ≡ old) (Makes clerk old new c.now) sink c.writer writer c.now read result
     × (ending ≡ ending_of result)
 
 -- each of the connections was given and served, in order, and none of them ended the run
-abbrev pub ServesEach : {A R W C : Type 0} → (A → Option (Connection R W) → A → Type 0) → OfSource R → OfSink W → OfClerk C → A → C → List (Connection R W) → A → C → Type 0
-ServesEach gives source sink clerk a old [] b new = (b ≡ a) × (new ≡ old)
-ServesEach gives source sink clerk a old (c ∷ cs) b new =
-    (between : _) × (then_ : _) × gives a (Some c) between × Serves source sink clerk c old then_ None × ServesEach gives source sink clerk between then_ cs b new
+abbrev pub ServesEach : {A R W C : Type 0} → Addressee → (A → Option (Connection R W) → A → Type 0) → OfSource R → OfSink W → OfClerk C → A → C → List (Connection R W) → A → C → Type 0
+ServesEach addressee gives source sink clerk a old [] b new = (b ≡ a) × (new ≡ old)
+ServesEach addressee gives source sink clerk a old (c ∷ cs) b new =
+    (between : _) × (then_ : _) × gives a (Some c) between × Serves addressee source sink clerk c old then_ None × ServesEach addressee gives source sink clerk between then_ cs b new
 
 -- the last arrival: none, or a connection whose service ended the run
-abbrev pub Ends : {A R W C : Type 0} → (A → Option (Connection R W) → A → Type 0) → OfSource R → OfSink W → OfClerk C → A → C → A → C → Option Refusal → Type 0
-Ends gives source sink clerk a old b new None = gives a None b × (new ≡ old)
-Ends gives source sink clerk a old b new (Some refusal) =
-    (c : Connection _ _) × gives a (Some c) b × Serves source sink clerk c old new (Some refusal)
+abbrev pub Ends : {A R W C : Type 0} → Addressee → (A → Option (Connection R W) → A → Type 0) → OfSource R → OfSink W → OfClerk C → A → C → A → C → Option Refusal → Type 0
+Ends addressee gives source sink clerk a old b new None = gives a None b × (new ≡ old)
+Ends addressee gives source sink clerk a old b new (Some refusal) =
+    (c : Connection _ _) × gives a (Some c) b × Serves addressee source sink clerk c old new (Some refusal)
 
 -- What a worker did between the arrivals a and b, with its clerk before and after
-abbrev pub Works : {A R W C : Type 0} → (A → Option (Connection R W) → A → Type 0) → OfSource R → OfSink W → OfClerk C → A → C → A → C → Option Refusal → Type 0
-Works gives source sink clerk a old b new ending =
-    (cs : List (Connection _ _)) × (last : _) × (then_ : _) × ServesEach gives source sink clerk a old cs last then_ × Ends gives source sink clerk last then_ b new ending
+abbrev pub Works : {A R W C : Type 0} → Addressee → (A → Option (Connection R W) → A → Type 0) → OfSource R → OfSink W → OfClerk C → A → C → A → C → Option Refusal → Type 0
+Works addressee gives source sink clerk a old b new ending =
+    (cs : List (Connection _ _)) × (last : _) × (then_ : _) × ServesEach addressee gives source sink clerk a old cs last then_ × Ends addressee gives source sink clerk last then_ b new ending

@@ -2,11 +2,18 @@
 //! any clerk and any gate.
 #![tactic(auto)]
 
+mod addressee;
 mod arrivals;
 mod gate;
 mod gated;
+mod group;
+pub mod laws;
+mod misdirected;
+mod serving;
 mod working;
 
+pub use addressee::{Addressee, NodeName, query_to};
 pub use arrivals::{Arrivals, Connection};
 pub use gate::{Gate, Open};
+pub use group::{GroupName, is_group_name};
 pub use working::{ending_by, work};

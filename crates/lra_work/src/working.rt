@@ -3,8 +3,9 @@ ghost use Rattle.std.specs.Prelude.{◌≡◌};
 ghost use Rattle.lra_work.specs.Working.{Serves, Works, ending_by, ending_of};
 
 use crate::gated::Gated;
-use crate::{Arrivals, Connection, Gate};
-use lra_api::{Paths, ServeError, serve_one};
+use crate::serving::serve_one;
+use crate::{Addressee, Arrivals, Connection, Gate};
+use lra_api::{Paths, ServeError};
 use lra_book::Clerk;
 use lra_facts::Refusal;
 use lra_http::{Sink, Source};
@@ -39,20 +40,30 @@ fn serve<S: Source + Drop, W: Sink + Drop, C: Clerk>(
     paths: &Paths,
     connection: Connection<S, W>,
     clerk: &mut C,
+    addressee: &Addressee,
 ) -> Option<Refusal>
-    ensures { Serves S.Source W.Sink C.Clerk connection clerk.old clerk.new result }
+    ensures { Serves addressee.now S.Source W.Sink C.Clerk connection clerk.old clerk.new result }
 {
     let Connection {
         mut reader,
         mut writer,
         now,
     } = connection;
-    ending_of(serve_one(alloc, paths, &mut reader, &mut writer, clerk, now))
+    ending_of(serve_one(
+        alloc,
+        paths,
+        addressee,
+        &mut reader,
+        &mut writer,
+        clerk,
+        now,
+    ))
 }
 
 /// Serves each connection that `next` gives, in order, up to none or to the first refusal that ends
 /// the run, E18 to E21. It gives the clerk back, and that refusal. The gate is asked before and
-/// after each of the clerk's calls.
+/// after each of the clerk's calls. A pull that is meant for another node than the addressee is
+/// refused with status 421, and no call is made for it.
 pub fn work<A: Arrivals, C: Clerk + Drop, G: Gate, R: Wait>(
     rt: &R,
     alloc: Global,
@@ -60,8 +71,9 @@ pub fn work<A: Arrivals, C: Clerk + Drop, G: Gate, R: Wait>(
     connections: &mut A,
     clerk: C,
     gate: &G,
+    addressee: &Addressee,
 ) -> (C, Option<Refusal>)
-    ensures { Works A.Arrivals.gives A.Reader.Source
+    ensures { Works addressee.now A.Arrivals.gives A.Reader.Source
         A.Writer.Sink C.Clerk connections.old clerk connections.new result.0 result.1 }
 {
     let mut gated = Gated { clerk, gate };
@@ -69,7 +81,7 @@ pub fn work<A: Arrivals, C: Clerk + Drop, G: Gate, R: Wait>(
         let Some(connection) = connections.next() else {
             return (gated.clerk, None);
         };
-        match serve(alloc, paths, connection, &mut gated) {
+        match serve(alloc, paths, connection, &mut gated, addressee) {
             None => {}
             Some(refusal) => return (gated.clerk, Some(refusal)),
         }

@@ -52,6 +52,12 @@ fn a_caller_is_called(rt: HostRuntime) -> Result<(), Fail> {
 fn a_pull_without_an_answer(rt: HostRuntime) {
     let mut reader = OverRead::new(b"".as_slice());
     let mut writer = OverWrite::new(Vec::new(rt.alloc()));
-    let pulled = pull(rt.alloc(), &mut reader, &mut writer, &Front::zero(1));
+    let pulled = pull(
+        rt.alloc(),
+        &mut reader,
+        &mut writer,
+        "?to=2",
+        &Front::zero(1),
+    );
     assert_eq!(rt; pulled.err(), Some(PullError::Fault(Fault::Cut)));
 }

@@ -30,6 +30,10 @@ impl Stores for InMemory {
             Err(_) => Err(Unopened::NoMemory),
         }
     }
+
+    fn is_there(&self, _number: u8) -> Result<(), Unopened> {
+        Ok(())
+    }
 }
 
 /// An input that ends once a flag is set.

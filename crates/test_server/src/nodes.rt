@@ -169,10 +169,13 @@ fn group(alloc: Global) -> Option<Members>
         peers,
         listen: None,
         operate: None,
+        names: String::new(alloc),
         keep: Keep {
             ended: Some(0),
             failed: None,
         },
+        group: None,
+        anew: false,
     })
 }
 

@@ -5,7 +5,7 @@ use lra_api::Paths;
 use lra_book::{Book, Desk, DeskClerk, DeskPass, Reply, Run};
 use lra_http::{OverRead, OverWrite};
 use lra_id::{LraStatus, NodeId};
-use lra_work::{Arrivals, Connection, Gate, work};
+use lra_work::{Addressee, Arrivals, Connection, Gate, work};
 use sqlite::{Alter, Connection as Database};
 use std::alloc::Global;
 use std::marker::Brand;
@@ -101,7 +101,8 @@ fn serve<J: Run, S: Alter, R: Wait + Clock, G: Gate>(
     let Ok(paths) = Paths::new(alloc) else {
         return clerk.into_pass();
     };
-    let (clerk, _ending) = work(rt, alloc, &paths, &mut given, clerk, gate);
+    let anyone = Addressee::anyone();
+    let (clerk, _ending) = work(rt, alloc, &paths, &mut given, clerk, gate, &anyone);
     clerk.into_pass()
 }
 

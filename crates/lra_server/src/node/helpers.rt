@@ -1,6 +1,7 @@
 // The threads of a node that outlive its runs.
 
 use log::Log;
+use lra_id::NodeId;
 use lra_sockets::Sockets;
 use lra_threads::{Node, accept, call_out, follow, pull_in_turn, watch};
 use std::alloc::{AllocError, Global};
@@ -70,7 +71,11 @@ fn help<R: Wait + Clock + Sockets, L: Log>(
         Role::Call => call_out(rt, log, alloc, node),
         Role::Accept => accept(rt, node, listener),
         Role::Pull => pull_in_turn(rt, alloc, node),
-        Role::Follow(number) => follow(rt, log, alloc, node, number),
+        Role::Follow(number) => {
+            if let Ok(other) = NodeId::new(number) {
+                follow(rt, log, alloc, node, other);
+            }
+        }
     }
 }
 

@@ -1,7 +1,10 @@
 // Where the journals of nodes lie.
 
 use sqlite::{Alter, Connection, Error, ErrorCode, FileFrom, FileStore, Start};
+use std::alloc::Global;
 use std::fmt;
+use std::fs::File;
+use std::io::ErrorKind;
 use std::string::String;
 
 /// Why a journal can't be opened.
@@ -17,6 +20,10 @@ pub enum Unopened {
     NoMemory,
     /// It is no database, or one of other tables; or the disk failed as it was read.
     NoJournal,
+    /// The file that was open before is gone.
+    Missing,
+    /// It has fewer facts than the one that was open before.
+    Older,
     /// It isn't this node's journal: behind so many rows comes one that breaks the format, or that
     /// another node wrote.
     Broken(u64),
@@ -41,6 +48,8 @@ impl fmt::Display for Unopened {
             Unopened::NoJournal => {
                 f.write_str("it is no database, or one of other tables, or the disk failed")
             }
+            Unopened::Missing => f.write_str("its file is gone"),
+            Unopened::Older => f.write_str("the file there has fewer facts than the one before"),
             Unopened::Broken(place) => {
                 write!(
                     f,
@@ -57,6 +66,10 @@ pub trait Stores {
 
     /// Opens the journal of a node, or makes it.
     fn open(&self, number: u8) -> Result<Connection<Self::Store>, Unopened>;
+
+    /// Whether its file is there, and can be read; or why not. (A second method that gives a
+    /// connection costs `main` of a program more steps than a check may take.)
+    fn is_there(&self, number: u8) -> Result<(), Unopened>;
 }
 
 /// A folder in which node I has its journal in the file `node-I.db`. The program says what it
@@ -89,18 +102,40 @@ fn unopened_by(error: Error) -> Unopened {
     }
 }
 
+/// Why a journal can't be opened whose file can't be.
+fn unread_by(kind: ErrorKind) -> Unopened {
+    match kind {
+        ErrorKind::NotFound => Unopened::Missing,
+        _ => Unopened::NoFile,
+    }
+}
+
+/// The path of a node's journal in a folder. (It is a function of no type: see docs/PROVING.md,
+/// "assumed of this thread alone".)
+fn file_of(alloc: Global, folder: &str, number: u8) -> Result<String, Unopened> {
+    match format!(in alloc; "{folder}/node-{number}.db") {
+        Ok(file) => Ok(file),
+        Err(_) => Err(Unopened::NoMemory),
+    }
+}
+
 impl<T: Start + Send + Copy> Stores for Folder<T> {
     type Store = FileStore<FileFrom<T>>;
 
     fn open(&self, number: u8) -> Result<Connection<FileStore<FileFrom<T>>>, Unopened> {
-        let folder = self.path.as_str();
-        let Ok(file) = format!(in self.host.alloc(); "{folder}/node-{number}.db") else {
-            return Err(Unopened::NoMemory);
-        };
+        let file = file_of(self.host.alloc(), self.path.as_str(), number)?;
         // (a new file has no sums)
         match Connection::open_from(&self.host, file.as_str(), false, self.start) {
             Ok(connection) => Ok(connection),
             Err((error, _)) => Err(unopened_by(error)),
+        }
+    }
+
+    fn is_there(&self, number: u8) -> Result<(), Unopened> {
+        let file = file_of(self.host.alloc(), self.path.as_str(), number)?;
+        match File::open(&self.host, file.as_str()) {
+            Ok(_file) => Ok(()),
+            Err(error) => Err(unread_by(error.kind())),
         }
     }
 }

@@ -1,5 +1,6 @@
 // A node's book, opened, and opened again once its journal has failed.
 ghost use Rattle.std.specs.Prelude.{◌≡◌, IfOk, IfSome, None};
+ghost use Rattle.lra_id.specs.Fronts.{IsBelow};
 
 use crate::node::Failure;
 use crate::node::backoff::Backoff;
@@ -10,10 +11,11 @@ use crate::shared::Shared;
 use log::{Log, warn};
 use lra_book::Book;
 use lra_facts::Refusal;
-use lra_id::MAX_NODES;
+use lra_id::{Front, MAX_NODES};
 use lra_sockets::{Sockets, now};
 use lra_threads::Node;
 use lra_work::{Open, work};
+use sqlite::{Alter, Connection};
 use std::alloc::Global;
 use std::sync::Wait;
 use std::time::{Clock, Duration};
@@ -29,11 +31,41 @@ pub fn open_book<S: Stores>(
 ) -> Result<Book<S::Store>, Unopened>
     ensures { IfOk result (λ b. b.opening ≡ None) }
 {
+    let connection = stores.open(node.number())?;
+    book_over(alloc, node, connection)
+}
+
+/// The same of one that was open before, and had these facts at least. It makes no file, and takes
+/// none with fewer facts.
+fn book_again<S: Stores>(
+    alloc: Global,
+    stores: &S,
+    node: &Node,
+    had: &Front,
+) -> Result<Book<S::Store>, Unopened>
+    ensures { IfOk result (λ b. (b.opening ≡ None) × IsBelow had.now b.records.front) }
+{
+    stores.is_there(node.number())?;
+    let connection = stores.open(node.number())?;
+    let book = book_over(alloc, node, connection)?;
+    if !had.below(&book.front()) {
+        return Err(Unopened::Older);
+    }
+    Ok(book)
+}
+
+/// The book of a node over a connection to its journal.
+fn book_over<S: Alter + Drop>(
+    alloc: Global,
+    node: &Node,
+    connection: Connection<S>,
+) -> Result<Book<S>, Unopened>
+    ensures { IfOk result (λ b. b.opening ≡ None) }
+{
     let me = node.me;
     if me.number() > node.nodes || node.nodes > MAX_NODES {
         return Err(Unopened::Broken(0));
     }
-    let connection = stores.open(me.number())?;
     match Book::open(alloc, connection, me, usize::from(node.nodes)) {
         Ok(book) => Ok(book),
         Err((Refusal::BadFrame(place), _)) => Err(Unopened::Broken(place)),
@@ -82,6 +114,7 @@ fn refuse_for<R: Wait + Clock + Sockets>(
             &mut connections,
             Closed::new(alloc),
             &Open,
+            &shared.addressee,
         );
         connections.close_served();
         if ending.is_none() {
@@ -90,9 +123,9 @@ fn refuse_for<R: Wait + Clock + Sockets>(
     }
 }
 
-/// The book of a node whose journal was closed, opened again once that can be done; none where the
-/// program is to end before. Meanwhile each request is refused. Each time it is longer before it
-/// tries again.
+/// The book of a node whose journal was closed, with these facts at least, opened again once that can
+/// be done; none where the program is to end before. Meanwhile each request is refused. Each time it
+/// is longer before it tries again.
 pub fn reopened<R, L: Log, S: Stores>(
     rt: &R,
     log: &L,
@@ -100,6 +133,7 @@ pub fn reopened<R, L: Log, S: Stores>(
     node: &Node,
     stores: &S,
     shared: &Shared,
+    had: &Front,
     backoff: &mut Backoff,
 ) -> Result<Option<Book<S::Store>>, Failure>
 where
@@ -111,7 +145,7 @@ where
         if node.signal.has_ended(rt) {
             return Ok(None);
         }
-        let why = match open_book(alloc, stores, node) {
+        let why = match book_again(alloc, stores, node, had) {
             Ok(book) => {
                 node.note_shut(false);
                 backoff.end_rest();

@@ -1,5 +1,6 @@
 // What a node's threads know of it, as its operators are told.
 
+use lra_http::Bytes;
 use lra_metrics::{calls_of, metrics_of};
 use lra_operate::State;
 use lra_threads::Node;
@@ -27,8 +28,15 @@ impl<'n, R: Wait + Clock> State for Known<'n, R> {
 
     ghost causes = { λ k cause. cause ≡ option_copied k.cause };
 
-    // What the threads know stands under locks, of which no clause tells.
+    // What the threads know stands under locks, of which no clause tells; nor does one of the names
+    // that the program was given.
+    ghost named = { λ _ _. ⊤ };
+
     ghost tells = { λ _ _ _. ⊤ };
+
+    fn names(&self) -> &[Bytes] {
+        self.node.names()
+    }
 
     fn health(&self, alloc: Global) -> Result<Vec<u8>, AllocError> {
         let mut body = Vec::from_slice(alloc, b"{\"node\":")?;

@@ -7,7 +7,7 @@ use crate::run::noting::enters;
 use log::{Log, warn};
 use lra_book::{Call, Clerk, Receipt, Reply};
 use lra_facts::{Command, CommandReply, Refusal};
-use lra_id::LraId;
+use lra_id::{Act, LraId, Outcome};
 use lra_mailbox::Wanted;
 use lra_threads::Node;
 use std::alloc::Global;
@@ -71,20 +71,39 @@ fn warn_of<L: Log>(log: &L, number: u8, id: LraId, member: u8, what: &str) {
     warn!(log; "node {number}: an operator says that /lra/{text}/member/{member} {what}");
 }
 
-/// Tells of it, where a command says that a participant forgot, or that it was told.
+/// What is reported of an act.
+fn reported(act: Act, outcome: Outcome) -> &'static str {
+    match (act, outcome) {
+        (Act::Complete, Outcome::Busy) => "is completing",
+        (Act::Complete, Outcome::Done) => "completed",
+        (Act::Complete, Outcome::Failed) => "failed to complete",
+        (Act::Compensate, Outcome::Busy) => "is compensating",
+        (Act::Compensate, Outcome::Done) => "compensated",
+        (Act::Compensate, Outcome::Failed) => "failed to compensate",
+    }
+}
+
+/// Tells of it, where a command speaks in a participant's place: of an act, that it forgot, or that
+/// it was told.
 fn warn_by<L: Log>(log: &L, number: u8, command: &Command) {
     match command {
+        Command::Report {
+            id,
+            member,
+            act,
+            outcome,
+        } => warn_of(log, number, *id, *member, reported(*act, *outcome)),
         Command::Forgot { id, member } => warn_of(log, number, *id, *member, "forgot"),
         Command::Told { id, member } => warn_of(log, number, *id, *member, "was told of the end"),
         _ => {}
     }
 }
 
-/// Whether a forgot or a told was entered.
+/// Whether a report, a forgot or a told was entered.
 fn is_entered(reply: &Reply) -> bool {
     matches!(
         reply,
-        Reply::Command(CommandReply::Forgotten | CommandReply::Told)
+        Reply::Command(CommandReply::Reported | CommandReply::Forgotten | CommandReply::Told)
     )
 }
 

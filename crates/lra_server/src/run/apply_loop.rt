@@ -8,6 +8,7 @@ ghost use Rattle.lra_server.specs.Noting.{duties_in};
 ghost use Rattle.lra_server.specs.Entering.{Counts, DoesEach, DoesTask, EntersLetter, IsMade, IsMadeAndCopied, IsMadeInMemory, MakesIf, fits, told};
 
 use crate::operators::errands::{Errand, Errands};
+use crate::run::counting::refused_by;
 use crate::run::refusals::stop_reason_of;
 use crate::run::sweeping::sweep;
 use lra_book::{Call, Clerk, PullBody, Reply};
@@ -73,10 +74,13 @@ fn take<R: Wait + Clock, C: Clerk>(
 ) -> Result<(), Refusal>
     ensures { IsMade C.Clerk clerk.old clerk.new (TakeDelta telling) result }
 {
-    let front = telling.front();
+    let (front, from) = (telling.front(), telling.from());
     clerk.call(alloc, Call::Take(telling.into_delta()), unix_millis(rt))?;
     if is_taken(clerk.reply()) {
         node.mailbox.learn(rt, &front);
+    }
+    if let Some(number) = refused_by(clerk.reply()) {
+        node.note_refused(from, number);
     }
     Ok(())
 }

@@ -2,8 +2,8 @@
 ghost use Rattle.std.specs.Prelude.{⊤};
 
 use lra_sockets::{
-    BufferedSocket, Cutoff, PendingConnection, REQUEST_MS, Readiness, SharedSocket, SocketReader,
-    SocketWriter, Sockets, Times, unix_millis,
+    BufferedSocket, Cutoff, Limit, PendingConnection, REQUEST_MS, Readiness, SharedSocket,
+    SocketReader, SocketWriter, Sockets, Times, unix_millis,
 };
 use lra_threads::Node;
 use lra_work::{Arrivals, Connection};
@@ -14,10 +14,11 @@ use std::sync::Wait;
 use std::time::{Clock, Duration};
 use std::{io, thread};
 
-/// How long a request may take of which all is there: nothing more is waited for.
+/// How long is waited for more of a request of which all is there: nothing more is to come.
 const WHOLE_REQUEST_MS: u64 = 50;
 
-/// How long its answer may take.
+/// How long a worker may take to write its answer. What its client doesn't take at once is sent on
+/// without it.
 const ANSWER_MS: u64 = 10_000;
 
 /// How long is waited for a connection where no run is on, before it is looked whether the program
@@ -109,15 +110,16 @@ impl<'a, R: Wait + Clock> Connections<'a, R> {
         }
     }
 
-    // A reader and a writer over a socket, on which a request may take so long to be read. It is
-    // kept, to be closed when it is served.
-    fn buffer(&mut self, stream: TcpStream, reading_ms: u64) -> io::Result<Buffered<'a, R>> {
+    // A reader and a writer over a socket, on which a request may be silent for so long. It is kept,
+    // to be closed when it is served.
+    fn buffer(&mut self, stream: TcpStream, silence_ms: u64) -> io::Result<Buffered<'a, R>> {
         let times = Times {
-            reading: Duration::from_millis(reading_ms),
-            writing: Duration::from_millis(ANSWER_MS),
+            reading: Limit::of_silence(silence_ms, REQUEST_MS),
+            writing: Limit::of_millis(ANSWER_MS),
         };
-        let (signal, cutoff) = (&self.node.signal, Cutoff::RunEnd(&self.node.queue));
-        let buffered = BufferedSocket::new(self.rt, self.alloc, signal, cutoff, stream, times)?;
+        let (signal, queue) = (&self.node.signal, Some(&self.node.queue));
+        let (rt, alloc, cutoff) = (self.rt, self.alloc, Cutoff::RunEnd);
+        let buffered = BufferedSocket::new(rt, alloc, signal, cutoff, queue, stream, times)?;
         let (reader, writer, socket) = buffered.into_parts();
         self.served = Some(socket);
         Ok(Connection {
@@ -125,21 +127,6 @@ impl<'a, R: Wait + Clock> Connections<'a, R> {
             writer,
             now: unix_millis(self.rt),
         })
-    }
-
-    // A connection that was served, as it waits for its end: to be sent the rest of its answer, or
-    // to be read on.
-    fn waiting(&self, socket: SharedSocket) -> io::Result<PendingConnection> {
-        let (stream, kept) = socket.into_parts();
-        if kept.is_empty() {
-            return PendingConnection::closing(self.rt, stream);
-        }
-        let now = self.rt.monotonic()?;
-        PendingConnection::sending(
-            stream,
-            kept,
-            now.saturating_add(Duration::from_millis(ANSWER_MS)),
-        )
     }
 
     // Notes that a long request is read as it comes, until it is served.
@@ -154,18 +141,8 @@ impl<'a, R: Wait + Clock> Connections<'a, R> {
             self.is_reading = false;
             self.node.queue.note_read();
         }
-        let Some(socket) = self.served.take() else {
-            return;
-        };
-        if socket.kept() == 0 && socket.is_done() {
-            return;
-        }
-        if let Some(socket) = Rc::into_inner(socket) {
-            if let Ok(pending) = self.waiting(socket) {
-                if let Readiness::Pending(pending) = pending.look(self.rt, false) {
-                    let _waiting = self.node.queue.put_back(self.rt, pending);
-                }
-            }
+        if let Some(socket) = self.served.take() {
+            self.node.queue.close(self.rt, socket);
         }
     }
 }

@@ -12,6 +12,7 @@ use lra_facts::Refusal;
 use lra_id::{Front, LraId, MAX_NODES};
 use lra_mailbox::Noted;
 use lra_peer::front_of_pull;
+use lra_sockets::now as moment;
 use lra_threads::{Asked, Node};
 use std::alloc::Global;
 use std::sync::Wait;
@@ -36,7 +37,9 @@ pub struct CountingClerk<'n, R, C: Clerk> {
     rt: &'n R,
     node: &'n Node,
     clerk: C,
-    /// Whether commands are held back while the journal is spared.
+    /// At which place its thread is noted while it waits at the desk.
+    place: usize,
+    /// Whether commands are held back while the journal is spared, or the others aren't heard.
     holds: bool,
     /// Whether one was since that was last asked.
     held: bool,
@@ -45,23 +48,25 @@ pub struct CountingClerk<'n, R, C: Clerk> {
 impl<'n, R, C: Clerk> CountingClerk<'n, R, C> {
     /// Of the thread that enters what others hear. It holds nothing back: before the others are
     /// heard, and while the journal is spared, it has nothing to enter.
-    pub fn new(rt: &'n R, node: &'n Node, clerk: C) -> CountingClerk<'n, R, C> {
+    pub fn new(rt: &'n R, node: &'n Node, clerk: C, place: usize) -> CountingClerk<'n, R, C> {
         CountingClerk {
             rt,
             node,
             clerk,
+            place,
             holds: false,
             held: false,
         }
     }
 
-    /// Of a worker. While the journal is spared after a failure it refuses commands (E19), and asks
-    /// the clerk all else.
-    pub fn of_worker(rt: &'n R, node: &'n Node, clerk: C) -> CountingClerk<'n, R, C> {
+    /// Of a worker. While the journal is spared after a failure, and while the others aren't heard
+    /// or have more of the node's facts, it refuses commands (E19), and asks the clerk all else.
+    pub fn of_worker(rt: &'n R, node: &'n Node, clerk: C, place: usize) -> CountingClerk<'n, R, C> {
         CountingClerk {
             rt,
             node,
             clerk,
+            place,
             holds: true,
             held: false,
         }
@@ -80,6 +85,7 @@ impl<'n, R, C: Clerk> CountingClerk<'n, R, C> {
             rt: _,
             node: _,
             clerk,
+            place: _,
             holds: _,
             held: _,
         } = self;
@@ -129,15 +135,27 @@ fn front_of(node: &Node, call: &Call) -> Option<Front> {
     front_of_pull(usize::from(node.nodes), body.as_slice()).ok()
 }
 
+/// Whether nothing of the node's own is entered now: the journal is spared, or the other nodes
+/// aren't heard or have more of its facts, for which it waits a little.
+fn is_held_back<R: Wait + Clock>(rt: &R, node: &Node) -> bool {
+    node.mailbox.is_spared(rt) || (node.site.is_apart() && !node.mailbox.wait_to_enter(rt))
+}
+
 /// Notes what the other threads are to go on with.
-fn note<R: Wait>(rt: &R, node: &Node, noted: &Noted) {
+fn note<R: Wait + Clock>(rt: &R, node: &Node, noted: &Noted) {
     if is_any(noted) {
         node.mailbox.note(rt, noted);
     }
 }
 
 /// Notes what the other threads and nodes are to go on with after a reply (`Node::pass_on`).
-fn tell<R: Wait>(rt: &R, node: &Node, reply: &Reply, completes: bool, freed: &Option<LraId>) {
+fn tell<R: Wait + Clock>(
+    rt: &R,
+    node: &Node,
+    reply: &Reply,
+    completes: bool,
+    freed: &Option<LraId>,
+) {
     if let Reply::Gave(delta) = reply {
         node.mailbox.count(rt, &delta.front());
     }
@@ -166,17 +184,15 @@ impl<'n, R: Wait + Clock, C: Clerk + Drop> Clerk for CountingClerk<'n, R, C> {
         let (is_move, completes, asked) = (call.is_move(), is_completion(&call), asked_by(&call));
         let weight = weight_of_call(&call);
         let (front, freed) = (front_of(self.node, &call), freed_by(&call));
-        if self.holds && enters(&call) {
-            if self.node.mailbox.is_spared(self.rt) {
-                self.held = true;
-                tell_refused(self.rt, self.node, asked, &Refusal::Stopped);
-                return Err(Refusal::Stopped);
-            }
-            if self.node.site.is_apart() {
-                self.node.mailbox.wait_to_enter(self.rt);
-            }
+        if self.holds && enters(&call) && is_held_back(self.rt, self.node) {
+            self.held = true;
+            tell_refused(self.rt, self.node, asked, &Refusal::Stopped);
+            return Err(Refusal::Stopped);
         }
-        match self.clerk.call(alloc, call, now) {
+        self.node.desk.begin(self.place, moment(self.rt));
+        let outcome = self.clerk.call(alloc, call, now);
+        self.node.desk.end(self.place);
+        match outcome {
             Ok(()) => {
                 let reply = self.clerk.reply();
                 let calls = weight.saturating_add(weight_of_reply(reply));

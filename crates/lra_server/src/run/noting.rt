@@ -1,6 +1,6 @@
 // What a call at the desk leaves for the threads to go on with.
 ghost use Rattle.std.specs.Prelude.{◌≡◌};
-ghost use Rattle.lra_server.specs.Noting.{became_by, became_of, enters, freed_by, is_completion, is_own, is_stored, news_by, news_of, noted_by, told_by};
+ghost use Rattle.lra_server.specs.Noting.{became_by, became_of, enters, freed_by, is_completion, is_own, is_stored, is_taken, news_by, news_of, noted_by, told_by};
 
 use lra_book::{Call, Reply};
 use lra_facts::{Command, CommandReply, Refusal};
@@ -53,6 +53,7 @@ fn news_by(completes: bool, reply: &CommandReply) -> News
 {
     match reply {
         CommandReply::Decided(_, _) | CommandReply::Forgotten => News::Others,
+        CommandReply::Told => News::OfCompletion,
         CommandReply::Reported => {
             if completes {
                 News::OfCompletion
@@ -104,6 +105,13 @@ fn became_of(reply: &Reply) -> Became
     }
 }
 
+/// Whether a frame was taken.
+fn is_taken(reply: &Reply) -> bool
+    ensures { result ≡ is_taken reply.now }
+{
+    matches!(reply, Reply::Took)
+}
+
 /// What a call leaves that reported a completion or didn't, said that a participant was told, or
 /// didn't, and was replied so.
 pub fn noted_by(completes: bool, freed: &Option<LraId>, reply: &Reply) -> Noted
@@ -113,12 +121,16 @@ pub fn noted_by(completes: bool, freed: &Option<LraId>, reply: &Reply) -> Noted
         news: news_of(completes, reply),
         became: became_of(reply),
         freed: *freed,
+        took: is_taken(reply),
     }
 }
 
 /// Whether that is anything.
 pub fn is_any(noted: &Noted) -> bool {
-    noted.news != News::Nobody || noted.became != Became::Nothing || noted.freed.is_some()
+    noted.news != News::Nobody
+        || noted.became != Became::Nothing
+        || noted.freed.is_some()
+        || noted.took
 }
 
 /// Whether a fact was stored before this reply.
@@ -137,5 +149,5 @@ pub fn is_stored(reply: &Reply) -> bool
 pub fn is_own_fact(reply: &Reply) -> bool
     ensures { result ≡ is_own reply.now }
 {
-    is_stored(reply) && !matches!(reply, Reply::Took)
+    is_stored(reply) && !is_taken(reply)
 }

@@ -33,7 +33,7 @@ fn refusal_of(reply: &CommandReply) -> Option<Refusal> {
 /// What comes of a purge that is refused.
 fn put_off_by(refusal: Refusal) -> Purged {
     match refusal {
-        Refusal::NotHeld => Purged::Gone,
+        Refusal::NotHeld => Purged::Missing,
         Refusal::NotRoot => Purged::Nested,
         Refusal::StillToForget(id, _) | Refusal::StillToTell(id, _) => Purged::Waits(id),
         _ => Purged::Later,

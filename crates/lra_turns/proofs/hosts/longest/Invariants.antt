@@ -3,4 +3,4 @@ use Rattle.lra_turns.proofs.hosts.longest.Given as goal
 
 -- the first of the hosts so far
 abbrev pub invariant-loop-place : goal.invariant-loop-place
-invariant-loop-place l = IsFirstOf l.place (may_be_called l.slow) is_before l.hosts l.first
+invariant-loop-place l = IsFirstOf l.place (may_be_called l.busy) is_before l.hosts l.first

@@ -6,9 +6,9 @@ pub loop-preserved : goal.loop-preserved
 loop-preserved g c =
     let cs = c.loop.invariant.0 in (
       cs ++ c.in-Some-next.connection ∷ [],
-      served_next g.A.Arrivals.gives g.A.Reader.Source g.A.Writer.Sink g.C.Clerk c.args.connections.now c.args.clerk cs c.loop.connections c.loop.gated.clerk
+      served_next c.args.addressee.now g.A.Arrivals.gives g.A.Reader.Source g.A.Writer.Sink g.C.Clerk c.args.connections.now c.args.clerk cs c.loop.connections c.loop.gated.clerk
           c.in-Some-next.connection c.next-in-loop.new.self c.serve.new.clerk.clerk c.loop.invariant.1 c.in-Some-next.ensures
-          (ungated g.A.Reader.Source g.A.Writer.Sink g.C.Clerk (λ x. x.clerk) c.in-Some-next.connection c.loop.gated c.serve.new.clerk None c.in-None-serve.ensures),
+          (ungated c.args.addressee.now g.A.Reader.Source g.A.Writer.Sink g.C.Clerk (λ x. x.clerk) c.in-Some-next.connection c.loop.gated c.serve.new.clerk None c.in-None-serve.ensures),
     )
 
 pub returns-in-Some-serve : goal.returns-in-Some-serve
@@ -20,6 +20,6 @@ returns-in-Some-serve g c = (
   (
     c.in-Some-next.connection,
     c.in-Some-next.ensures,
-    ungated g.A.Reader.Source g.A.Writer.Sink g.C.Clerk (λ x. x.clerk) c.in-Some-next.connection c.loop.gated c.serve.new.clerk (Some c.in-Some-serve.refusal) c.in-Some-serve.ensures,
+    ungated c.args.addressee.now g.A.Reader.Source g.A.Writer.Sink g.C.Clerk (λ x. x.clerk) c.in-Some-next.connection c.loop.gated c.serve.new.clerk (Some c.in-Some-serve.refusal) c.in-Some-serve.ensures,
   ),
 )

@@ -5,4 +5,4 @@ use Rattle.lra_work.proofs.working.work.Given as goal
 
 abbrev pub invariant-loop : goal.invariant-loop
 invariant-loop g l =
-    (cs : List (Connection _ _)) × ServesEach g.A.Arrivals.gives g.A.Reader.Source g.A.Writer.Sink g.C.Clerk l.fn.connections l.fn.clerk cs l.connections l.gated.clerk
+    (cs : List (Connection _ _)) × ServesEach l.addressee g.A.Arrivals.gives g.A.Reader.Source g.A.Writer.Sink g.C.Clerk l.fn.connections l.fn.clerk cs l.connections l.gated.clerk

@@ -1,0 +1,161 @@
+// Whose requests an operator's port takes: those of operators, and of their page.
+ghost use Rattle.std.specs.Prelude.{◌≡◌, ◌<◌, IfOk, IfSome, length};
+ghost use Rattle.std.specs.Option.{option_copied};
+ghost use Rattle.std.specs.List.{list_any, position_from};
+ghost use Rattle.lra_operate.specs.Doors.{foreign_answer, host_part, is_address, is_behind, is_bracketed, is_colon, is_foreign, is_foreign_host, is_foreign_origin, is_named, is_of_a_call, is_other_byte, is_own_host, is_own_origin, is_same, value_in};
+
+use http::StatusCode;
+use lra_api::{Answer, Body, with_body};
+use lra_http::{Bytes, Fields};
+use std::alloc::{AllocError, Global};
+
+/// Whether two texts are one, in whichever case.
+fn is_same(one: &[u8], other: &[u8]) -> bool
+    ensures { result ≡ is_same one.now other.now }
+{
+    one.eq_ignore_ascii_case(other)
+}
+
+fn is_colon(byte: u8) -> bool
+    ensures { result ≡ is_colon byte }
+{
+    byte == b':'
+}
+
+/// The place of the first colon of a host, if it has one.
+fn colon_in(host: &[u8]) -> Option<usize>
+    ensures place { result ≡ position_from is_colon 0 host.now }
+    ensures within { IfSome result (λ place. place < length host.now) }
+{
+    host.iter().position(|byte| is_colon(*byte))
+}
+
+/// What stands before the port of a host; all of it where there is none.
+fn host_part(host: &[u8]) -> &[u8]
+    ensures { result.now ≡ host_part host.now }
+{
+    match colon_in(host) {
+        Some(place) => &host[..place],
+        None => host,
+    }
+}
+
+/// Whether a byte is none of an address by version 4 of IP.
+fn is_other_byte(byte: u8) -> bool
+    ensures { result ≡ is_other_byte byte }
+{
+    byte != b'.' && !byte.is_ascii_digit()
+}
+
+fn is_bracketed(host: &[u8]) -> bool
+    ensures { result ≡ is_bracketed host.now }
+{
+    !host.is_empty() && host[0] == b'['
+}
+
+fn has_other_byte(part: &[u8]) -> bool
+    ensures { result ≡ list_any is_other_byte part.now }
+{
+    part.iter().any(|byte| is_other_byte(*byte))
+}
+
+/// Whether a host is an address: one in brackets, or one of digits and points, before its port.
+fn is_address(host: &[u8]) -> bool
+    ensures { result ≡ is_address host.now }
+{
+    is_bracketed(host) || !has_other_byte(host_part(host))
+}
+
+/// Whether a host without its port is one of these names.
+fn is_named(names: &[Bytes], part: &[u8]) -> bool
+    ensures { result ≡ is_named names.now part.now }
+{
+    names.iter().any(|name| is_same(part, name.as_slice()))
+}
+
+/// Whether a request for this host is for the node: by an address, as `localhost`, or by one of these
+/// names. A page of another site comes by a name of its own.
+fn is_own_host(names: &[Bytes], host: &[u8]) -> bool
+    ensures { result ≡ is_own_host names.now host.now }
+{
+    let part = host_part(host);
+    is_address(host) || (is_same(part, b"localhost") || is_named(names, part))
+}
+
+/// Whether an origin is this host behind a scheme.
+fn is_behind(scheme: &[u8], host: &[u8], origin: &[u8]) -> bool
+    ensures { result ≡ is_behind scheme.now host.now origin.now }
+{
+    if origin.len() < scheme.len() {
+        return false;
+    }
+    is_same(&origin[..scheme.len()], scheme) && is_same(&origin[scheme.len()..], host)
+}
+
+/// Whether an origin is a page of this host.
+fn is_own_origin(host: &[u8], origin: &[u8]) -> bool
+    ensures { result ≡ is_own_origin host.now origin.now }
+{
+    is_behind(b"http://", host, origin) || is_behind(b"https://", host, origin)
+}
+
+/// Whether a request is for another host, if it names one.
+fn is_foreign_host(names: &[Bytes], host: Option<&[u8]>) -> bool
+    ensures { result ≡ is_foreign_host names.now (option_copied host.entry) }
+{
+    match host {
+        Some(host) => !is_own_host(names, host),
+        None => false,
+    }
+}
+
+/// Whether a request comes from a page of another host, if it comes from a page.
+fn is_foreign_origin(host: Option<&[u8]>, origin: Option<&[u8]>) -> bool
+    ensures { result ≡ is_foreign_origin (option_copied host.entry) (option_copied origin.entry) }
+{
+    match (origin, host) {
+        (None, _) => false,
+        (Some(origin), Some(host)) => !is_own_origin(host, origin),
+        (Some(_), None) => true,
+    }
+}
+
+/// The value of a field.
+fn value_in<'a>(fields: &'a Fields, name: &str) -> Option<&'a [u8]>
+    ensures { option_copied result ≡ value_in name.now fields.now }
+{
+    fields.value(name.as_bytes())
+}
+
+/// Whether a request is a coordinator's own call to a link, of an LRA or of its end.
+fn is_of_a_call(fields: &Fields) -> bool
+    ensures { result ≡ is_of_a_call fields.now }
+{
+    value_in(fields, "Long-Running-Action").is_some()
+        || value_in(fields, "Long-Running-Action-Ended").is_some()
+}
+
+/// Whether a request with these fields is none of an operator's, nor of the operators' page: a
+/// coordinator's own call, one for another host, or one from a page of another host.
+pub(crate) fn is_foreign(names: &[Bytes], fields: &Fields) -> bool
+    ensures { result ≡ is_foreign names.now fields.now }
+{
+    let host = value_in(fields, "Host");
+    is_of_a_call(fields)
+        || (is_foreign_host(names, host) || is_foreign_origin(host, value_in(fields, "Origin")))
+}
+
+/// The answer to such a request.
+pub(crate) fn foreign_answer<'a>(alloc: Global) -> Result<Answer<'a>, AllocError>
+    ensures { IfOk result (λ response. response ≡ foreign_answer) }
+{
+    let body = Body::of_bytes(Vec::from_slice(alloc, b"{\"refused\":\"Foreign\"}")?);
+    let fields = Vec::new(alloc);
+    with_body(
+        alloc,
+        StatusCode::FORBIDDEN,
+        fields,
+        "application/json",
+        body,
+    )
+}

@@ -1,0 +1,37 @@
+-- How long hosts wait for their turn.
+use Rattle.std.specs.Prelude.{◌≡◌, ◌≤◌, ◌<◌, ℕ, Bool, List, Some, filter, length, nat_le, suc, true, zero, ⊤}
+use Rattle.std.specs.List.{sum_by}
+use Rattle.lra_callback.specs.declared.duty.Duty.{Duty}
+use Rattle.lra_turns.specs.Turns.{AtHost, IsTaken, Turns, busy_with, host_at, may_be_called, next_turn, unsure_calls}
+
+-- whether a host's turn isn't behind the one of this number
+abbrev pub is_ahead : ℕ → AtHost → Bool
+is_ahead turn host = nat_le host.turn turn
+
+-- how many hosts' turns aren't, with that of the host itself whose turn it is
+abbrev pub ahead : ℕ → List AtHost → ℕ
+ahead turn hosts = length (filter (is_ahead turn) hosts)
+
+-- how many calls go on in all
+abbrev pub all_calls : List AtHost → ℕ
+all_calls hosts = sum_by (λ (host : AtHost). host.calls) hosts
+
+-- One of four callers is left to hosts that answered quickly: three calls at most go on to others.
+abbrev pub LeavesOne : List AtHost → Type 0
+LeavesOne hosts = unsure_calls hosts ≤ 3
+
+-- a host whose turn has this number waits for it: it may be called, and isn't called now
+pub record IsWaiting (turn : ℕ) (now : Turns) : Type 0 where
+  pub place : ℕ
+  pub within : place < length now.hosts
+  pub its : (host_at now.hosts place).turn ≡ turn
+  pub may : may_be_called (busy_with now.hosts) (host_at now.hosts place) ≡ true
+  pub idle : (host_at now.hosts place).calls ≡ 0
+  pub came : turn < next_turn now.turns
+
+-- so many calls begin one after another, before each of which that host waits; and what comes between them makes those that are ahead
+-- no more, and leaves it whose turn is next
+unfoldable pub WaitsFor : ℕ → ℕ → Turns → Type 0
+WaitsFor zero turn now = ⊤
+WaitsFor (suc count) turn now =
+    IsWaiting turn now × ((duty : Duty) × (mid : Turns) × (next : Turns) × IsTaken now mid (Some duty) × (next.is_for_new ≡ mid.is_for_new) × (ahead turn next.hosts ≤ ahead turn mid.hosts) × WaitsFor count turn next)

@@ -1,0 +1,38 @@
+-- What the functions that read the arguments meet.
+use Rattle.std.specs.Prelude.{◌≡◌, ◌≢◌, ⊤, ℕ, List, [], ◌∷◌, ◌++◌, ◌⊎◌, codes, false, option_copied}
+use Rattle.lra_words.specs.Arguments.{Choices, Texts, has}
+use Rattle.lra_words.specs.declared.choices.Chosen.{Chosen}
+use Rattle.lra_words.specs.declared.texts.Given.{Given}
+
+-- a word is one byte, or two with a hyphen between them
+abbrev pub IsOneOrTwo : List ℕ → (first last : ℕ) → Type 0
+IsOneOrTwo word first last = ((word ≡ first ∷ []) × (last ≡ first)) ⊎ (word ≡ first ∷ 45 ∷ last ∷ [])
+
+-- the first of some words doesn't begin so
+abbrev pub IsNotSaid : List ℕ → List (List ℕ) → Type 0
+IsNotSaid name words = (text : List ℕ) (others : List (List ℕ)) → words ≡ (name ++ text) ∷ others → ⊥
+
+-- the first of some words is another one
+abbrev pub IsNotFirst : List ℕ → List (List ℕ) → Type 0
+IsNotFirst word words = (others : List (List ℕ)) → words ≡ word ∷ others → ⊥
+
+-- the first of some words has no `=`, and isn't `anew`
+abbrev pub IsUnnamed : List (List ℕ) → Type 0
+IsUnnamed [] = ⊤
+IsUnnamed (word ∷ words) = (has 61 word ≡ false) × (word ≢ codes "anew")
+
+-- the texts that words were found to give
+abbrev pub texts_in : Given → Texts
+texts_in it = record {
+  listen = option_copied it.listen;
+  operate = option_copied it.operate;
+  names = option_copied it.names;
+  ended = option_copied it.ended;
+  failed = option_copied it.failed;
+  group = option_copied it.group;
+  anew = it.anew;
+}
+
+-- what is chosen by words
+abbrev pub chosen : Chosen → Choices
+chosen it = record { listen = it.listen; operate = it.operate; names = it.names.now; ended = it.ended; failed = it.failed; group = option_copied it.group; anew = it.anew }

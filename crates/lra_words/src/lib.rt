@@ -1,0 +1,11 @@
+//! The words of a command line that run members of a group: which nodes, where their journals lie,
+//! what is chosen for them, and where all nodes are reached.
+#![tactic(auto)]
+
+mod asked;
+mod choices;
+mod texts;
+mod words;
+
+pub use asked::{Asked, asked_by};
+pub use words::Unasked;

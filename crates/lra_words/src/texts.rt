@@ -1,0 +1,89 @@
+// What stands behind the names of words.
+ghost use Rattle.std.specs.Prelude.{◌≡◌, ◌++◌, ◌∷◌, ℕ, Bool, List, Option, MatchOption, map, option_copied, string_bytes};
+ghost use Rattle.lra_words.specs.Arguments.{Texts, flagged, in_words, said};
+ghost use Rattle.lra_words.specs.Readings.{IsNotFirst, IsNotSaid, IsUnnamed, texts_in};
+
+/// What the first of some words says behind a name, and the words behind it; nothing where it
+/// doesn't begin with the name.
+fn said_by<'a>(name: &str, words: &'a [String]) -> Option<(&'a str, &'a [String])>
+    ensures { MatchOption result (IsNotSaid name.now (map string_bytes words.now))
+        (λ parts. map string_bytes words.now ≡ (name.now ++ parts.0.now) ∷ map string_bytes parts.1.now) }
+{
+    let Some((first, others)) = words.split_first() else {
+        return None;
+    };
+    let Some(text) = first.as_str().strip_prefix(name) else {
+        return None;
+    };
+    Some((text, others))
+}
+
+/// What the first of some words says behind a name, if it begins with that, and the words behind.
+fn text_of<'a>(name: &str, words: &'a [String]) -> (Option<&'a str>, &'a [String])
+    ensures one { (text : Option (List ℕ)) (others : List (List ℕ)) → IsNotSaid name.now others →
+        map string_bytes words.now ≡ said name.now text ++ others →
+        (option_copied result.0 ≡ text) × (map string_bytes result.1.now ≡ others) }
+    ensures is { map string_bytes words.now
+        ≡ said name.now (option_copied result.0) ++ map string_bytes result.1.now }
+{
+    let Some((text, others)) = said_by(name, words) else {
+        return (None, words);
+    };
+    (Some(text), others)
+}
+
+/// Whether the first of some words is this one, and the words behind it.
+fn flag_of<'a>(word: &str, words: &'a [String]) -> (bool, &'a [String])
+    ensures one { (flag : Bool) (others : List (List ℕ)) → IsNotFirst word.now others →
+        map string_bytes words.now ≡ flagged word.now flag ++ others →
+        (result.0 ≡ flag) × (map string_bytes result.1.now ≡ others) }
+    ensures is { map string_bytes words.now ≡ flagged word.now result.0 ++ map string_bytes result.1.now }
+{
+    let Some((first, others)) = words.split_first() else {
+        return (false, words);
+    };
+    if first.as_str() != word {
+        return (false, words);
+    }
+    (true, others)
+}
+
+/// What stands behind the name of each word, whether `anew` is there, and the addresses.
+#[derive(Clone, Copy)]
+pub(crate) struct Given<'a> {
+    pub listen: Option<&'a str>,
+    pub operate: Option<&'a str>,
+    pub names: Option<&'a str>,
+    pub ended: Option<&'a str>,
+    pub failed: Option<&'a str>,
+    pub group: Option<&'a str>,
+    pub anew: bool,
+    pub addresses: &'a [String],
+}
+
+/// What the words behind the folder give.
+pub(crate) fn given_by(words: &[String]) -> Given<'_>
+    ensures one { (texts : Texts) (addresses : List (List ℕ)) → IsUnnamed addresses →
+        map string_bytes words.now ≡ in_words texts addresses →
+        (texts_in result ≡ texts) × (map string_bytes result.addresses.now ≡ addresses) }
+    ensures are { map string_bytes words.now
+        ≡ in_words (texts_in result) (map string_bytes result.addresses.now) }
+{
+    let (listen, rest) = text_of("listen=", words);
+    let (operate, rest) = text_of("operate=", rest);
+    let (names, rest) = text_of("names=", rest);
+    let (ended, rest) = text_of("keep=", rest);
+    let (failed, rest) = text_of("keep-failed=", rest);
+    let (group, rest) = text_of("group=", rest);
+    let (anew, addresses) = flag_of("anew", rest);
+    Given {
+        listen,
+        operate,
+        names,
+        ended,
+        failed,
+        group,
+        anew,
+        addresses,
+    }
+}

@@ -1,0 +1,135 @@
+// Single words of the command line.
+ghost use Rattle.std.specs.Prelude.{◌≡◌, ◌≢◌, ◌<◌, ◌≤◌, ◌^◌, ◌∷◌, [], ◌++◌, ℕ, List, false, IsTrue, MatchBool, MatchOption, MatchResult, Some, length, slice_index};
+ghost use Rattle.std.specs.Fmt.{decimal};
+ghost use Rattle.lra_words.specs.Arguments.{IsHost, SaysPeer, has, host_text, reached};
+ghost use Rattle.lra_words.specs.declared.words.Unasked.TheVariants as unasked;
+
+use lra_sockets::Peer;
+use std::alloc::Global;
+
+/// Why the words of a command line ask for no node.
+#[derive(Clone, Copy, PartialEq, Eq, Debug)]
+pub enum Unasked {
+    OtherWords,
+    NoMemory,
+}
+
+/// The number that a word spells in decimal, without leading zeros. `lra_script` reads one from
+/// bytes, by a function that is private there.
+pub fn number_of(word: &str) -> Option<u64>
+    ensures { MatchOption result ((n : ℕ) → n < 2 ^ 64 → word.now ≡ decimal n → ⊥)
+        (λ n. word.now ≡ decimal n) }
+{
+    if !is_canonical(word.as_bytes()) {
+        return None;
+    }
+    match word.parse::<u64>() {
+        Ok(number) => Some(number),
+        Err(_) => None,
+    }
+}
+
+fn is_canonical(word: &[u8]) -> bool
+    ensures plain { IsTrue result →
+        (slice_index word.now 0 ≡ 43 → ⊥) × (slice_index word.now 0 ≡ 48 → length word.now ≡ 1) }
+    ensures odd { (IsTrue result → ⊥) → (slice_index word.now 0 ≡ 43 → length word.now ≡ 0) →
+        (slice_index word.now 0 ≡ 48) × (length word.now ≢ 1) }
+{
+    if word.is_empty() {
+        return true;
+    }
+    word[0] != b'+' && (word[0] != b'0' || word.len() == 1)
+}
+
+/// The port that a word spells.
+fn port_of(word: &str) -> Option<u16>
+    ensures { MatchOption result ((port : ℕ) → 1 ≤ port → port < 2 ^ 16 → word.now ≡ decimal port → ⊥)
+        (λ port. (1 ≤ port) × (word.now ≡ decimal port)) }
+{
+    let Some(number) = number_of(word) else {
+        return None;
+    };
+    if number == 0 || number > u64::from(u16::MAX) {
+        return None;
+    }
+    Some(number as u16)
+}
+
+fn has(text: &str, byte: u8) -> bool
+    ensures { result ≡ has byte text.now }
+{
+    text.as_bytes().contains(&byte)
+}
+
+fn is_host(text: &str) -> bool
+    ensures { MatchBool result (IsHost text.now) (IsHost text.now → ⊥) }
+{
+    !text.is_empty() && !has(text, b'=') && !has(text, b'[') && !has(text, b']')
+}
+
+/// What stands in brackets, where a text is that.
+fn in_brackets(text: &str) -> Option<&str>
+    ensures { MatchOption result ((host : List ℕ) → text.now ≡ 91 ∷ (host ++ 93 ∷ []) → ⊥)
+        (λ host. text.now ≡ 91 ∷ (host.now ++ 93 ∷ [])) }
+{
+    let Some(rest) = text.strip_prefix('[') else {
+        return None;
+    };
+    rest.strip_suffix(']')
+}
+
+/// The host that an address begins with.
+fn host_of(text: &str) -> Option<&str>
+    ensures { MatchOption result ((host : List ℕ) → IsHost host → text.now ≡ host_text host → ⊥)
+        (λ host. IsHost host.now × (text.now ≡ host_text host.now)) }
+{
+    let Some(host) = in_brackets(text) else {
+        if has(text, b':') || !is_host(text) {
+            return None;
+        }
+        return Some(text);
+    };
+    if !has(host, b':') || !is_host(host) {
+        return None;
+    }
+    Some(host)
+}
+
+/// What stands before the last colon, and behind it.
+fn at_last_colon(word: &str) -> Option<(&str, &str)>
+    ensures { MatchOption result (has 58 word.now ≡ false)
+        (λ parts. (word.now ≡ parts.0.now ++ 58 ∷ parts.1.now) × (has 58 parts.1.now ≡ false)) }
+{
+    word.rsplit_once(':')
+}
+
+/// The host and the port that a word says.
+fn parts_of(word: &str) -> Option<(&str, u16)>
+    ensures { MatchOption result ((peer : List ℕ × ℕ) → SaysPeer word.now peer → ⊥)
+        (λ parts. SaysPeer word.now (parts.0.now, parts.1)) }
+{
+    let Some((before, behind)) = at_last_colon(word) else {
+        return None;
+    };
+    let Some(host) = host_of(before) else {
+        return None;
+    };
+    let Some(port) = port_of(behind) else {
+        return None;
+    };
+    Some((host, port))
+}
+
+/// Where the node is reached that a word names.
+pub fn peer_of(alloc: Global, word: &str) -> Result<Peer, Unasked>
+    ensures { MatchResult result (λ peer. SaysPeer word.now (reached peer))
+        (λ fault. fault ≡ unasked.OtherWords → (peer : List ℕ × ℕ) → SaysPeer word.now peer → ⊥) }
+{
+    let Some((host, port)) = parts_of(word) else {
+        return Err(Unasked::OtherWords);
+    };
+    match String::from_str(alloc, host) {
+        Ok(host) => Ok(Peer { host, port }),
+        Err(_) => Err(Unasked::NoMemory),
+    }
+}

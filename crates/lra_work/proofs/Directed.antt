@@ -1,0 +1,136 @@
+-- At which nodes a pull is misdirected.
+use Rattle.std.specs.Prelude.{IfSome, nat_le, nat_lt, not}
+use Rattle.std.proofs.Common.{◌≡◌, ◌≢◌, ◌⊎◌, ◌∙◌, ℕ, ◌+◌, ◌<◌, ◌≤◌, Bool, true, false, ◌&&◌, ◌||◌, ◌==◌, List, [], ◌∷◌, ◌++◌, length, codes, Option, Some, None, IsTrue, ap, arith, inl, inr, refl, sym}
+use Rattle.std.specs.Fmt.{decimal}
+use Rattle.std.specs.Str.{bytes_eq}
+use Rattle.std.proofs.lemmas.Bool.{cases_eq, lt-ltb}
+use Rattle.std.proofs.lemmas.Bool.Decides.{nat_tests}
+use Rattle.std.proofs.lemmas.Fmt.{decimal_digit}
+use Rattle.lra_id.specs.Ids.{IsNodeNumber}
+use Rattle.lra_http.specs.declared.message.Request.{Request}
+use Rattle.lra_peer.specs.Texts.{pull_target}
+use Rattle.lra_api.specs.Paths.{query_of}
+use Rattle.lra_work.specs.Addressees.{are_other, asks_other, group_in, is_misdirected, is_number, is_other, is_other_group, is_other_number, names_other, number_in, query_to}
+use Rattle.lra_work.specs.Groups.{is_group_name}
+use Rattle.lra_work.specs.declared.addressee.NodeName.{NodeName}
+
+-- the digit of a number
+abbrev digit : ℕ → ℕ
+digit n = 48 + n
+
+no_ampersand : (n : ℕ) → (digit n == 38) ≡ false
+no_ampersand n = grind (arith, nat_tests)
+
+is_a_number : (n : ℕ) → 1 ≤ n → n ≤ 8 → is_number (digit n ∷ []) ≡ true
+is_a_number n some few =
+    let low : nat_le 49 (digit n) ≡ true = grind (arith, nat_tests) in
+    let high : nat_le (digit n) 57 ≡ true = grind (arith, nat_tests) in
+    rw (low, high) refl
+
+shifted : (n me : ℕ) → (digit n == digit me) ≡ (n == me)
+shifted n me = settle (cases_eq n me)
+  where
+    settle : (n ≡ me) ⊎ (n ≢ me) → (digit n == digit me) ≡ (n == me)
+    settle (inl is) =
+        let one : (digit n == digit me) ≡ true = grind (arith, nat_tests) in
+        let two : (n == me) ≡ true = grind (arith, nat_tests) in
+        one ∙ sym two
+    settle (inr not_) =
+        let one : (digit n == digit me) ≡ false = grind (arith, nat_tests) in
+        let two : (n == me) ≡ false = grind (arith, nat_tests) in
+        one ∙ sym two
+
+and_true : (b : Bool) → (b && true) ≡ b
+and_true true = refl
+and_true false = refl
+
+same_digit : (n me : ℕ) → bytes_eq (digit n ∷ []) (digit me ∷ []) ≡ (n == me)
+same_digit n me = and_true (digit n == digit me) ∙ shifted n me
+
+-- the number of another node
+pub other_number : (me read : ℕ) (number own : List ℕ) → read ≡ me → me ≤ 8 → own ≡ digit read ∷ [] → not (bytes_eq number own) ≡ is_other_number me number
+other_number me read number own same few is =
+    ap (λ (t : List ℕ). not (bytes_eq number t)) (is ∙ ap (λ (n : ℕ). digit n ∷ []) same ∙ sym (decimal_digit me (omega (arith, few))))
+
+numbered : (n : ℕ) → 1 ≤ n → n ≤ 8 → number_in (codes "to=" ++ digit n ∷ []) ≡ Some (digit n ∷ [])
+numbered n some few = let is = is_a_number n some few in rw is refl
+
+grouped : (name : List ℕ) → IsTrue (is_group_name name) → group_in (codes "group=" ++ name) ≡ Some name
+grouped name is = rw is refl
+
+alone : (node : NodeName) (n : ℕ) → names_other node (codes "to=" ++ digit n ∷ []) ≡ is_other node (number_in (codes "to=" ++ digit n ∷ []))
+alone node n = let no_amp = no_ampersand n in rw no_amp refl
+
+both : (node : NodeName) (n : ℕ) (name : List ℕ)
+    → names_other node (codes "to=" ++ (digit n ∷ (codes "&group=" ++ name))) ≡ are_other node (number_in (codes "to=" ++ digit n ∷ [])) (group_in (codes "group=" ++ name))
+both node n name =
+    let no_amp = no_ampersand n in
+    let size : ℕ = length (codes "to=" ++ (digit n ∷ (codes "&group=" ++ name))) in
+    let long : nat_lt 4 size ≡ true = lt-ltb 4 size (omega arith) in
+    rw (no_amp, long) refl
+
+or_false : (b : Bool) → b ≡ (b || false)
+or_false true = refl
+or_false false = refl
+
+no_group : (own : Option (List ℕ)) → is_other_group own None ≡ false
+no_group (Some own) = refl
+no_group None = refl
+
+-- which query names another node
+asks_alone : (node : NodeName) (to : ℕ) → node.me ≤ 8 → 1 ≤ to → to ≤ 8 → names_other node (codes "to=" ++ decimal to) ≡ (not (to == node.me) || is_other_group node.group None)
+asks_alone node to me some few =
+    let own : decimal node.me ≡ digit node.me ∷ [] = decimal_digit node.me (omega (arith, me)) in
+    let text : decimal to ≡ digit to ∷ [] = decimal_digit to (omega (arith, few)) in
+    ap (λ (t : List ℕ). names_other node (codes "to=" ++ t)) text
+    ∙ alone node to
+    ∙ ap (is_other node) (numbered to some few)
+    ∙ ap (λ (t : List ℕ). not (bytes_eq (digit to ∷ []) t)) own
+    ∙ ap not (same_digit to node.me)
+    ∙ or_false (not (to == node.me))
+    ∙ ap (λ (b : Bool). not (to == node.me) || b) (sym (no_group node.group))
+
+asks_both : (node : NodeName) (to : ℕ) (name : List ℕ) → node.me ≤ 8 → 1 ≤ to → to ≤ 8 → IsTrue (is_group_name name)
+    → names_other node (codes "to=" ++ (decimal to ++ (codes "&group=" ++ name))) ≡ (not (to == node.me) || is_other_group node.group (Some name))
+asks_both node to name me some few is =
+    let own : decimal node.me ≡ digit node.me ∷ [] = decimal_digit node.me (omega (arith, me)) in
+    let text : decimal to ≡ digit to ∷ [] = decimal_digit to (omega (arith, few)) in
+    ap (λ (t : List ℕ). names_other node (codes "to=" ++ (t ++ (codes "&group=" ++ name)))) text
+    ∙ both node to name
+    ∙ ap (λ (o : Option (List ℕ)). are_other node o (group_in (codes "group=" ++ name))) (numbered to some few)
+    ∙ ap (are_other node (Some (digit to ∷ []))) (grouped name is)
+    ∙ ap (λ (t : List ℕ). not (bytes_eq (digit to ∷ []) t) || is_other_group node.group (Some name)) own
+    ∙ ap (λ (b : Bool). not b || is_other_group node.group (Some name)) (same_digit to node.me)
+
+query_behind : (rest : List ℕ) → query_of (codes "/peer/pull?" ++ rest) ≡ Some rest
+query_behind rest =
+    let size : ℕ = length (codes "/peer/pull?" ++ rest) in
+    let long : nat_lt 10 size ≡ true = lt-ltb 10 size (omega arith) in
+    rw long refl
+
+asks : (node : NodeName) (to : ℕ) (group : Option (List ℕ)) → IsNodeNumber node.me → IsNodeNumber to → IfSome group (λ name. IsTrue (is_group_name name))
+    → asks_other node (query_of (pull_target (query_to to group))) ≡ (not (to == node.me) || is_other_group node.group group)
+asks node to None me number names =
+    ap (asks_other node) (query_behind (codes "to=" ++ decimal to)) ∙ asks_alone node to me.1 number.0 number.1
+asks node to (Some name) me number names =
+    ap (asks_other node) (query_behind (codes "to=" ++ (decimal to ++ (codes "&group=" ++ name)))) ∙ asks_both node to name me.1 number.0 number.1 names
+
+-- Requests
+
+-- with the method and the path of a pull
+abbrev pull_with : (target : List ℕ) → Request → Request
+pull_with target request = record { method = codes "POST"; target = target; fields = request.fields; body = request.body }
+
+pulls : (node : NodeName) (to : ℕ) (group : Option (List ℕ)) (request : Request)
+    → is_misdirected node (pull_with (pull_target (query_to to group)) request) ≡ asks_other node (query_of (pull_target (query_to to group)))
+pulls node to None request = refl
+pulls node to (Some name) request = refl
+
+pub misdirected : (node : NodeName) (to : ℕ) (group : Option (List ℕ)) (request : Request) → IsNodeNumber node.me → IsNodeNumber to → IfSome group (λ name. IsTrue (is_group_name name))
+    → request.method ≡ codes "POST" → request.target ≡ pull_target (query_to to group)
+    → is_misdirected node request ≡ (not (to == node.me) || is_other_group node.group group)
+misdirected node to group request me number names method target =
+    ap (λ (m : List ℕ). is_misdirected node (record { method = m; target = request.target; fields = request.fields; body = request.body })) method
+    ∙ ap (λ (t : List ℕ). is_misdirected node (pull_with t request)) target
+    ∙ pulls node to group request
+    ∙ asks node to group me number names

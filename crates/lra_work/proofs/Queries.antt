@@ -1,0 +1,135 @@
+-- The query of a pull that is meant for a node may stand in a target.
+use Rattle.std.specs.Prelude.{IfSome, IsUtf8, nat_le, nat_lt, slice_index}
+use Rattle.std.proofs.Common.{◌≡◌, ◌∙◌, ◌⊎◌, ℕ, zero, suc, ◌+◌, ◌<◌, ◌≤◌, Bool, true, false, ◌&&◌, ◌||◌, ◌==◌, List, [], ◌∷◌, ◌++◌, length, codes, Option, Some, None, IsTrue, ap, arith, inl, inr, refl, sym, subst, All}
+use Rattle.std.specs.Char.{is_ascii_alphanumeric}
+use Rattle.std.specs.Fmt.{decimal}
+use Rattle.std.specs.Int.{is_in_range}
+use Rattle.std.specs.List.{list_all}
+use Rattle.std.specs.Str.{IsAscii}
+use Rattle.std.proofs.lemmas.Bool.Decides.{nat_tests}
+use Rattle.std.proofs.lemmas.Fmt.{decimal_digit}
+use Rattle.std.proofs.lemmas.List.Sums.{AllPass-from_list_all}
+use Rattle.std.proofs.lemmas.Str.{IsUtf8-from_ascii}
+use Rattle.httparse.specs.Grammar.{is_uri_byte}
+use Rattle.lra_id.specs.Ids.{IsNodeNumber}
+use Rattle.lra_peer.specs.Texts.{IsQuery}
+use Rattle.lra_work.specs.Addressees.{query_to}
+use Rattle.lra_work.specs.Groups.{is_group_name, is_name_byte}
+
+both : (a b : Bool) → (a && b) ≡ true → (a ≡ true) × (b ≡ true)
+both true true e = (refl, refl)
+both true false e = absurd cc
+both false b e = absurd cc
+
+one_of : (a b : Bool) → (a || b) ≡ true → (a ≡ true) ⊎ (b ≡ true)
+one_of true b e = inl refl
+one_of false b e = inr e
+
+-- a visible byte of ASCII
+abbrev IsVisible : ℕ → Type 0
+IsVisible b = (33 ≤ b) × (b ≤ 126)
+
+below : (a b : ℕ) → nat_le a b ≡ true → a ≤ b
+below a b e = grind (arith, nat_tests)
+
+same : (a b : ℕ) → (a == b) ≡ true → a ≡ b
+same a b e = grind (arith, nat_tests)
+
+in_range : (lo hi b : ℕ) → 33 ≤ lo → hi ≤ 126 → is_in_range lo hi b ≡ true → IsVisible b
+in_range lo hi b low high e =
+    let p = both (nat_le lo b) (nat_le b hi) e in
+    let from = below lo b p.0 in
+    let to = below b hi p.1 in
+    (omega (arith, low, from), omega (arith, high, to))
+
+of_letter : (b : ℕ) → is_ascii_alphanumeric b ≡ true → IsVisible b
+of_letter b e = settle (one_of (is_in_range 48 57 b || is_in_range 65 90 b) (is_in_range 97 122 b) e)
+  where
+    first : (is_in_range 48 57 b ≡ true) ⊎ (is_in_range 65 90 b ≡ true) → IsVisible b
+    first (inl is) = in_range 48 57 b (omega arith) (omega arith) is
+    first (inr is) = in_range 65 90 b (omega arith) (omega arith) is
+
+    settle : ((is_in_range 48 57 b || is_in_range 65 90 b) ≡ true) ⊎ (is_in_range 97 122 b ≡ true) → IsVisible b
+    settle (inl is) = first (one_of (is_in_range 48 57 b) (is_in_range 65 90 b) is)
+    settle (inr is) = in_range 97 122 b (omega arith) (omega arith) is
+
+is_byte : (b n : ℕ) → 33 ≤ n → n ≤ 126 → (b == n) ≡ true → IsVisible b
+is_byte b n low high e = let is = same b n e in (omega (arith, low, is), omega (arith, high, is))
+
+of_name : (b : ℕ) → is_name_byte b ≡ true → IsVisible b
+of_name b e = settle (one_of (is_ascii_alphanumeric b) ((b == 46) || ((b == 95) || (b == 45))) e)
+  where
+    last : ((b == 95) ≡ true) ⊎ ((b == 45) ≡ true) → IsVisible b
+    last (inl is) = is_byte b 95 (omega arith) (omega arith) is
+    last (inr is) = is_byte b 45 (omega arith) (omega arith) is
+
+    mark : ((b == 46) ≡ true) ⊎ (((b == 95) || (b == 45)) ≡ true) → IsVisible b
+    mark (inl is) = is_byte b 46 (omega arith) (omega arith) is
+    mark (inr is) = last (one_of (b == 95) (b == 45) is)
+
+    settle : (is_ascii_alphanumeric b ≡ true) ⊎ (((b == 46) || ((b == 95) || (b == 45))) ≡ true) → IsVisible b
+    settle (inl is) = of_letter b is
+    settle (inr is) = mark (one_of (b == 46) ((b == 95) || (b == 45)) is)
+
+-- it may stand in a target, and is ASCII
+abbrev is_plain : ℕ → Bool
+is_plain b = is_uri_byte b && nat_lt b 128
+
+visible_plain : (b : ℕ) → IsVisible b → is_plain b ≡ true
+visible_plain b (low, high) =
+    let from : nat_lt 32 b ≡ true = grind (arith, nat_tests) in
+    let del : (b == 127) ≡ false = grind (arith, nat_tests) in
+    let to : nat_lt b 128 ≡ true = grind (arith, nat_tests) in
+    rw (from, del, to) refl
+
+names_plain : (name : List ℕ) → list_all is_name_byte name ≡ true → list_all is_plain name ≡ true
+names_plain [] e = refl
+names_plain (b ∷ name) e =
+    let p = both (is_name_byte b) (list_all is_name_byte name) e in
+    let first = visible_plain b (of_name b p.0) in
+    let rest = names_plain name p.1 in
+    rw (first, rest) refl
+
+plain_uri : (text : List ℕ) → list_all is_plain text ≡ true → list_all is_uri_byte text ≡ true
+plain_uri [] e = refl
+plain_uri (b ∷ text) e =
+    let p = both (is_plain b) (list_all is_plain text) e in
+    let first = (both (is_uri_byte b) (nat_lt b 128) p.0).0 in
+    let rest = plain_uri text p.1 in
+    rw (first, rest) refl
+
+low_byte : (b : ℕ) → nat_lt b 128 ≡ true → b < 128
+low_byte b e = grind (arith, nat_tests)
+
+plain_ascii : (text : List ℕ) → list_all is_plain text ≡ true → IsAscii text
+plain_ascii [] e i = omega arith
+plain_ascii (b ∷ text) e zero = low_byte b (both (is_uri_byte b) (nat_lt b 128) (both (is_plain b) (list_all is_plain text) e).0).1
+plain_ascii (b ∷ text) e (suc i) = plain_ascii text (both (is_plain b) (list_all is_plain text) e).1 i
+
+is_a_query : (text : List ℕ) → list_all is_plain text ≡ true → length text ≤ 16000 → IsQuery text
+is_a_query text plain short = record {
+  text = IsUtf8-from_ascii text (plain_ascii text plain);
+  bytes = AllPass-from_list_all is_uri_byte text (plain_uri text plain);
+  short = short;
+}
+
+-- the name of a group has at most 64 bytes, each of which is plain
+name_parts : (name : List ℕ) → IsTrue (is_group_name name) → (length name ≤ 64) × (list_all is_plain name ≡ true)
+name_parts name is =
+    let p = both (nat_le 1 (length name)) (nat_le (length name) 64 && list_all is_name_byte name) is in
+    let q = both (nat_le (length name) 64) (list_all is_name_byte name) p.1 in
+    (below (length name) 64 q.0, names_plain name q.1)
+
+pub query_fits : (to : ℕ) (group : Option (List ℕ)) → IsNodeNumber to → IfSome group (λ name. IsTrue (is_group_name name)) → IsQuery (query_to to group)
+query_fits to None number names =
+    let text : decimal to ≡ (48 + to) ∷ [] = decimal_digit to (omega (arith, number.1)) in
+    let plain : is_plain (48 + to) ≡ true = visible_plain (48 + to) (omega arith, omega (arith, number.1)) in
+    subst (λ (t : List ℕ). IsQuery (codes "?to=" ++ t)) (sym text) (is_a_query (codes "?to=" ++ (48 + to) ∷ []) (rw plain refl) (omega arith))
+query_fits to (Some name) number names =
+    let text : decimal to ≡ (48 + to) ∷ [] = decimal_digit to (omega (arith, number.1)) in
+    let plain : is_plain (48 + to) ≡ true = visible_plain (48 + to) (omega arith, omega (arith, number.1)) in
+    let parts = name_parts name names in
+    let bytes = parts.1 in
+    let short = parts.0 in
+    subst (λ (t : List ℕ). IsQuery (codes "?to=" ++ (t ++ (codes "&group=" ++ name)))) (sym text)
+    (is_a_query (codes "?to=" ++ ((48 + to) ∷ (codes "&group=" ++ name))) (rw (plain, bytes) refl) (omega (arith, short)))

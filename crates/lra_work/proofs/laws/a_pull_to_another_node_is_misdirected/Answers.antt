@@ -1,0 +1,9 @@
+use Rattle.lra_work.proofs.Directed.{misdirected}
+use Rattle.lra_work.proofs.Queries.{query_fits}
+use Rattle.lra_work.proofs.laws.a_pull_to_another_node_is_misdirected.Goals as goal
+
+pub returns-clause-exact : goal.returns-clause-exact
+returns-clause-exact c = misdirected
+
+pub returns-clause-query : goal.returns-clause-query
+returns-clause-query c = query_fits

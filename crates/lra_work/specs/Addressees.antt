@@ -1,0 +1,93 @@
+-- Which pulls are meant for another node than the one that reads them.
+use Rattle.std.specs.Prelude.{◌&&◌, ◌||◌, ◌==◌, ◌++◌, ℕ, Bool, true, false, List, [], ◌∷◌, codes, drop, length, not, nat_le, nat_lt, take, Option, Some, None, if◌then◌else◌}
+use Rattle.std.specs.Fmt.{decimal}
+use Rattle.std.specs.Char.{is_ascii_digit}
+use Rattle.std.specs.List.{after_first, before_first, list_all, position_or_len}
+use Rattle.std.specs.Str.{bytes_eq}
+use Rattle.lra_http.specs.ByteResponses.{Response}
+use Rattle.lra_http.specs.declared.message.Request.{Request}
+use Rattle.lra_api.specs.Answers.{error_answer}
+use Rattle.lra_api.specs.Paths.{path_of, query_of}
+use Rattle.lra_work.specs.Groups.{is_group_name}
+use Rattle.lra_work.specs.declared.addressee.NodeName.{NodeName}
+
+-- Whom a query names
+
+-- a number from 1 on, in decimal without leading zeros
+abbrev pub is_number : List ℕ → Bool
+is_number [] = false
+is_number (d ∷ ds) = (nat_le 49 d && nat_le d 57) && list_all is_ascii_digit ds
+
+abbrev pub if_number : List ℕ → Option (List ℕ)
+if_number text = if is_number text then Some text else None
+
+abbrev pub if_group : List ℕ → Option (List ℕ)
+if_group text = if is_group_name text then Some text else None
+
+-- `to=` and a number; `group=` and a name
+abbrev pub number_in : List ℕ → Option (List ℕ)
+number_in text = if bytes_eq (take 3 text) (codes "to=") then if_number (drop 3 text) else None
+
+abbrev pub group_in : List ℕ → Option (List ℕ)
+group_in text = if bytes_eq (take 6 text) (codes "group=") then if_group (drop 6 text) else None
+
+-- Whether that is another node
+
+abbrev pub is_other_number : ℕ → List ℕ → Bool
+is_other_number me number = not (bytes_eq number (decimal me))
+
+-- where one of both has no group, it can't be another
+abbrev pub is_other_group : (own group : Option (List ℕ)) → Bool
+is_other_group (Some own) (Some group) = not (bytes_eq own group)
+is_other_group (Some own) None = false
+is_other_group None group = false
+
+abbrev pub is_other : NodeName → Option (List ℕ) → Bool
+is_other node (Some number) = is_other_number node.me number
+is_other node None = false
+
+abbrev pub are_other : NodeName → (number group : Option (List ℕ)) → Bool
+are_other node (Some number) (Some group) = is_other_number node.me number || is_other_group node.group (Some group)
+are_other node (Some number) None = false
+are_other node None group = false
+
+abbrev pub is_ampersand : ℕ → Bool
+is_ampersand b = b == 38
+
+-- of `to=N` and `to=N&group=G`; no other query names a node
+abbrev pub names_other : NodeName → (query : List ℕ) → Bool
+names_other node query =
+    if nat_lt (position_or_len is_ampersand query) (length query)
+    then are_other node (number_in (before_first is_ampersand query)) (group_in (after_first is_ampersand query))
+    else is_other node (number_in query)
+
+abbrev pub asks_other : NodeName → (query : Option (List ℕ)) → Bool
+asks_other node (Some query) = names_other node query
+asks_other node None = false
+
+-- Requests
+
+abbrev pub is_pull : Request → Bool
+is_pull request = bytes_eq request.method (codes "POST") && bytes_eq (path_of request.target) (codes "/peer/pull")
+
+-- a pull that names another node, or another group where the node has one
+abbrev pub is_misdirected : NodeName → Request → Bool
+is_misdirected node request = is_pull request && asks_other node (query_of request.target)
+
+-- Answers
+
+-- which node this is
+abbrev pub text_by : (me : ℕ) → (group : Option (List ℕ)) → List ℕ
+text_by me (Some group) = codes "Misdirected: this is node " ++ (decimal me ++ (codes " of group " ++ group))
+text_by me None = codes "Misdirected: this is node " ++ decimal me
+
+abbrev pub node_text : NodeName → List ℕ
+node_text node = text_by node.me node.group
+
+abbrev pub misdirected_answer : NodeName → Response
+misdirected_answer node = error_answer 421 [] (node_text node)
+
+-- the query of a pull that is meant for a node, and for a group where there is one
+abbrev pub query_to : ℕ → (group : Option (List ℕ)) → List ℕ
+query_to to (Some group) = codes "?to=" ++ (decimal to ++ (codes "&group=" ++ group))
+query_to to None = codes "?to=" ++ decimal to

@@ -1,0 +1,69 @@
+// As whom a node is asked.
+ghost use Rattle.std.specs.Prelude.{◌≡◌, IfOk, string_bytes};
+ghost use Rattle.std.specs.Option.{option_copied};
+ghost use Rattle.lra_work.specs.Addressees.{node_text, query_to};
+ghost use Rattle.lra_work.specs.declared.addressee.Addressee.TheVariants.{Anyone as Nobody, Node as OneNode};
+
+use crate::GroupName;
+use lra_id::NodeId;
+use std::alloc::{AllocError, Global};
+
+/// A node's number, and the name of its group if it has one.
+#[derive(Drop)]
+pub struct NodeName {
+    pub me: NodeId,
+    pub group: Option<GroupName>,
+}
+
+/// As whom a node is asked. One that has a name refuses the pulls that are meant for another.
+#[derive(Drop)]
+pub enum Addressee {
+    /// Whoever is meant: nothing is refused.
+    Anyone,
+    /// This node alone.
+    Node(NodeName),
+}
+
+impl Addressee {
+    /// Refuses nothing.
+    pub fn anyone() -> Addressee
+        ensures { result ≡ Nobody }
+    {
+        Addressee::Anyone
+    }
+
+    /// Refuses pulls that name another node; and another group, where this node has one.
+    pub fn of(me: NodeId, group: Option<GroupName>) -> Addressee
+        ensures { result ≡ OneNode (record { me = me; group = group }) }
+    {
+        Addressee::Node(NodeName { me, group })
+    }
+}
+
+/// The text that tells which node this is.
+pub(crate) fn node_text(alloc: Global, node: &NodeName) -> Result<String, AllocError>
+    ensures { IfOk result (λ text. string_bytes text ≡ node_text node.now) }
+{
+    let me = node.me;
+    match &node.group {
+        Some(group) => {
+            let group = group.as_str();
+            format!(in alloc; "Misdirected: this is node {me} of group {group}")
+        }
+        None => format!(in alloc; "Misdirected: this is node {me}"),
+    }
+}
+
+/// The query of a pull that is meant for a node, and for a group where there is one: `?to=2` or
+/// `?to=2&group=shop`. Errors: out of memory.
+pub fn query_to(alloc: Global, to: NodeId, group: Option<&GroupName>) -> Result<String, AllocError>
+    ensures { IfOk result (λ query. string_bytes query ≡ query_to to (option_copied group.entry)) }
+{
+    match group {
+        Some(group) => {
+            let group = group.as_str();
+            format!(in alloc; "?to={to}&group={group}")
+        }
+        None => format!(in alloc; "?to={to}"),
+    }
+}

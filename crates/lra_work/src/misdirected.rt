@@ -1,0 +1,133 @@
+// Which pulls are meant for another node than the one that reads them.
+ghost use Rattle.std.specs.Prelude.{◌≡◌, Some};
+ghost use Rattle.std.specs.Char.{is_ascii_digit};
+ghost use Rattle.std.specs.List.{list_all};
+ghost use Rattle.std.specs.Option.{option_copied};
+ghost use Rattle.lra_work.specs.Addressees.{are_other, asks_other, group_in, is_misdirected, is_number, is_other, is_other_group, is_other_number, is_pull, names_other, number_in};
+
+use crate::{GroupName, NodeName, is_group_name};
+use lra_api::{path_of, query_of};
+use lra_http::Request;
+use lra_id::NodeId;
+
+fn are_digits(bytes: &[u8]) -> bool
+    ensures { result ≡ list_all is_ascii_digit bytes.now }
+{
+    bytes.iter().all(|byte| byte.is_ascii_digit())
+}
+
+/// Whether a text is a number from 1 on, in decimal without leading zeros.
+fn is_number(text: &str) -> bool
+    ensures { result ≡ is_number text.now }
+{
+    match text.as_bytes().split_first() {
+        Some((first, rest)) => {
+            if *first < b'1' || *first > b'9' {
+                return false;
+            }
+            are_digits(rest)
+        }
+        None => false,
+    }
+}
+
+/// The number behind `to=`.
+fn number_in(text: &str) -> Option<&str>
+    ensures { option_copied result ≡ number_in text.now }
+{
+    let Some(number) = text.strip_prefix("to=") else {
+        return None;
+    };
+    if is_number(number) {
+        Some(number)
+    } else {
+        None
+    }
+}
+
+/// The name behind `group=`.
+fn group_in(text: &str) -> Option<&str>
+    ensures { option_copied result ≡ group_in text.now }
+{
+    let Some(group) = text.strip_prefix("group=") else {
+        return None;
+    };
+    if is_group_name(group) {
+        Some(group)
+    } else {
+        None
+    }
+}
+
+/// Whether this is the number of another node.
+fn is_other_number(me: NodeId, number: &str) -> bool
+    ensures { result ≡ is_other_number me number.now }
+{
+    let own = [b'0' + me.number()];
+    number.as_bytes() != own.as_slice()
+}
+
+fn is_other(node: &NodeName, number: Option<&str>) -> bool
+    ensures { result ≡ is_other node.now (option_copied number.entry) }
+{
+    match number {
+        Some(number) => is_other_number(node.me, number),
+        None => false,
+    }
+}
+
+/// Whether this is another group, where the node has one.
+fn is_other_group(own: &Option<GroupName>, group: &str) -> bool
+    ensures { result ≡ is_other_group own.now (Some group.now) }
+{
+    match own {
+        Some(own) => own.as_str() != group,
+        None => false,
+    }
+}
+
+fn are_other(node: &NodeName, number: Option<&str>, group: Option<&str>) -> bool
+    ensures { result ≡ are_other node.now (option_copied number.entry) (option_copied group.entry) }
+{
+    match (number, group) {
+        (Some(number), Some(group)) => {
+            is_other_number(node.me, number) || is_other_group(&node.group, group)
+        }
+        _ => false,
+    }
+}
+
+/// Whether a query names another node, or another group.
+fn names_other(node: &NodeName, query: &str) -> bool
+    ensures { result ≡ names_other node.now query.now }
+{
+    match query.split_once('&') {
+        Some((first, second)) => are_other(node, number_in(first), group_in(second)),
+        None => is_other(node, number_in(query)),
+    }
+}
+
+fn asks_other(node: &NodeName, query: Option<&str>) -> bool
+    ensures { result ≡ asks_other node.now (option_copied query.entry) }
+{
+    match query {
+        Some(query) => names_other(node, query),
+        None => false,
+    }
+}
+
+fn is_pull(request: &Request) -> bool
+    ensures { result ≡ is_pull request.now }
+{
+    request.method.as_str() == "POST" && path_of(request.target.as_str()) == "/peer/pull"
+}
+
+/// Whether a request is a pull that is meant for another node.
+pub(crate) fn is_misdirected(node: &NodeName, request: &Request) -> bool
+    ensures { result ≡ is_misdirected node.now request.now }
+{
+    if !is_pull(request) {
+        return false;
+    }
+    asks_other(node, query_of(request.target.as_str()))
+}

@@ -1,0 +1,107 @@
+// One request over a connection, where it may be meant for another node.
+ghost use Rattle.std.specs.Prelude.{◌≡◌, IfOk, None, Result};
+ghost use Rattle.lra_http.specs.declared.fault.Fault.{Fault as TheFault};
+ghost use Rattle.lra_http.specs.declared.message.Request.{Request as TheRequest};
+ghost use Rattle.lra_api.specs.Serving.{Ends, Makes};
+ghost use Rattle.lra_api.specs.Streams.{IsReading};
+ghost use Rattle.lra_api.specs.Texts.{refusal_body as refused_body};
+ghost use Rattle.lra_work.specs.Addressees.{misdirected_answer};
+ghost use Rattle.lra_work.specs.Working.{ServesNamed, ServesRead, ServesRequest};
+
+use crate::addressee::node_text;
+use crate::misdirected::is_misdirected;
+use crate::{Addressee, NodeName};
+use http::StatusCode;
+use lra_api::{Answer, Body, Paths, ServeError, end, serve_fault, serve_request, with_body};
+use lra_book::Clerk;
+use lra_http::{MAX_BODY_BYTES, Request, Sink, Source, read_request};
+use std::alloc::{AllocError, Global};
+
+/// The body that names a refusal.
+#[tactic(auto, unfolding(lra_api::specs::Texts::refusal_body))]
+fn refusal_body(alloc: Global, text: &str) -> Result<Vec<u8>, AllocError>
+    ensures { IfOk result (λ body. body.items ≡ refused_body text.now) }
+{
+    let body = format!(in alloc; "{{\"refused\":\"{text}\"}}")?;
+    Ok(body.into_bytes())
+}
+
+/// The answer to a pull that is meant for another node.
+fn misdirected_answer<'a>(alloc: Global, node: &NodeName) -> Result<Answer<'a>, AllocError>
+    ensures { IfOk result (λ response. response ≡ misdirected_answer node.now) }
+{
+    let text = node_text(alloc, node)?;
+    let body = Body::of_bytes(refusal_body(alloc, text.as_str())?);
+    let status = StatusCode::MISDIRECTED_REQUEST;
+    with_body(alloc, status, Vec::new(alloc), "application/json", body)
+}
+
+/// Refuses a pull that is meant for another node.
+fn end_misdirected<W: Sink>(
+    alloc: Global,
+    writer: &mut W,
+    node: &NodeName,
+) -> Result<(), ServeError>
+    ensures { Ends W.Sink writer.old writer.new (misdirected_answer node.now) None result }
+{
+    let made = misdirected_answer(alloc, node);
+    end(alloc, writer, made, None)
+}
+
+/// Serves a request by a node that has a name.
+fn serve_named<W: Sink, C: Clerk>(
+    alloc: Global,
+    paths: &Paths,
+    node: &NodeName,
+    writer: &mut W,
+    clerk: &mut C,
+    request: &Request,
+    now: u64,
+) -> Result<(), ServeError>
+    ensures { ServesNamed node.now (clerk.new ≡ clerk.old)
+        (Makes C.Clerk clerk.old clerk.new now) W.Sink writer.old writer.new now request.now result }
+{
+    if is_misdirected(node, request) {
+        return end_misdirected(alloc, writer, node);
+    }
+    serve_request(alloc, paths, writer, clerk, request, now)
+}
+
+fn serve_by<W: Sink, C: Clerk>(
+    alloc: Global,
+    paths: &Paths,
+    addressee: &Addressee,
+    writer: &mut W,
+    clerk: &mut C,
+    request: &Request,
+    now: u64,
+) -> Result<(), ServeError>
+    ensures { ServesRequest addressee.now (clerk.new ≡ clerk.old)
+        (Makes C.Clerk clerk.old clerk.new now) W.Sink writer.old writer.new now request.now result }
+{
+    match addressee {
+        Addressee::Anyone => serve_request(alloc, paths, writer, clerk, request, now),
+        Addressee::Node(node) => serve_named(alloc, paths, node, writer, clerk, request, now),
+    }
+}
+
+/// Reads one request and writes one answer, as `lra_api::serve_one`, unless the request is a pull
+/// that is meant for another node: then no call is made, and status 421 is written.
+pub(crate) fn serve_one<R: Source, W: Sink, C: Clerk>(
+    alloc: Global,
+    paths: &Paths,
+    addressee: &Addressee,
+    reader: &mut R,
+    writer: &mut W,
+    clerk: &mut C,
+    now: u64,
+) -> Result<(), ServeError>
+    ensures { (read : Result TheRequest TheFault) × IsReading R.Source reader.old reader.new read
+        × ServesRead addressee.now (clerk.new ≡ clerk.old)
+        (Makes C.Clerk clerk.old clerk.new now) W.Sink writer.old writer.new now read result }
+{
+    match read_request(alloc, reader, MAX_BODY_BYTES) {
+        Ok(request) => serve_by(alloc, paths, addressee, writer, clerk, &request, now),
+        Err(fault) => serve_fault(alloc, writer, fault),
+    }
+}

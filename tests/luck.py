@@ -1,0 +1,626 @@
+#!/usr/bin/env python3
+"""Gives members bad luck, and looks what comes of it: python3 tests/luck.py [PROGRAM] [--rounds N] [TEST..].
+
+A member starts over an older copy of its journal, beside others that start late, behind a slow line or a line that
+loses the first tries; a journal's file goes away, or an older one comes in its place; a disk hangs; clients read
+nothing, send slowly, or say nothing; hosts of participants hang; a name has an address that is silent; addresses lead
+to the wrong node. PROGRAM is crates/lra_member/out/lra_member, or --unproved (tools/unproved.py). In restored members
+start N times, 10 by default. Each check prints a line; the status is 1 where one fails. Standard library alone, some
+three minutes; a compiler for C is wanted for hangs, and root for names: without them these are skipped."""
+import contextlib
+import glob
+import os
+import random
+import re
+import resource
+import shutil
+import socket
+import subprocess
+import sys
+import threading
+import time
+import typing
+from collections.abc import Callable, Iterable
+
+sys.path.insert(0, os.path.dirname(os.path.dirname(os.path.abspath(__file__))))
+from tools import checks, unproved
+from tools.node import SLOW, Group, Json, comes_to, exchange, request
+from tools.operated import Operated
+from tools.ports import HOST, free_row
+
+PULL = b"POST /peer/pull HTTP/1.1\r\nHost: p\r\nContent-Length: 9\r\n\r\n\x01" + bytes(8)
+# Holds every write to a disk as long as a file is there.
+HOLDER = """
+#define _GNU_SOURCE
+#include <dlfcn.h>
+#include <stdlib.h>
+#include <unistd.h>
+static void hold(void) { while (access(getenv("HELD_BY"), F_OK) == 0) usleep(10000); }
+int fsync(int f) { hold(); return ((int (*)(int))dlsym(RTLD_NEXT, "fsync"))(f); }
+int fdatasync(int f) { hold(); return ((int (*)(int))dlsym(RTLD_NEXT, "fdatasync"))(f); }
+"""
+
+
+class Relay:
+    """Hands connections on to a port, each after a delay, the first few not at all, and what comes back at so many
+    bytes a second."""
+
+    def __init__(self, port: int, delay: float = 0, lost: int = 0, rate: float = 0) -> None:
+        self.port, self.delay, self.lost, self.rate = port, delay, lost, rate
+        self.listener = socket.create_server((HOST, 0), backlog=64)
+        self.own = self.listener.getsockname()[1]
+        threading.Thread(target=self.take, daemon=True).start()
+
+    def take(self) -> None:
+        with contextlib.suppress(OSError):
+            while True:
+                line = self.listener.accept()[0]
+                if self.lost > 0:
+                    self.lost -= 1
+                    line.close()
+                else:
+                    threading.Thread(target=self.hand_on, args=(line,), daemon=True).start()
+
+    def hand_on(self, line: socket.socket) -> None:
+        time.sleep(self.delay)
+        with contextlib.suppress(OSError), line, socket.create_connection((HOST, self.port), 30) as other:
+            threading.Thread(target=pump, args=(line, other, 0), daemon=True).start()
+            pump(other, line, self.rate)
+
+    def close(self) -> None:
+        self.listener.close()
+
+
+def pump(source: socket.socket, sink: socket.socket, rate: float) -> None:
+    """Hands on what comes, up to its end."""
+    with contextlib.suppress(OSError):
+        while piece := source.recv(1024 if rate else 65536):
+            sink.sendall(piece)
+            time.sleep(len(piece) / rate if rate else 0)
+        sink.shutdown(socket.SHUT_WR)
+
+
+class Relayed(Operated):
+    """Members that reach one another through relays."""
+
+    def __init__(self, count: int, folder: str, *options: str) -> None:
+        super().__init__(count, folder, *options)
+        self.relays = [Relay(port) for port in self.ports]
+        self.addresses = [f"{HOST}:{relay.own}" for relay in self.relays]
+
+    def run(self, number: int, options: Iterable[str] | None = None, word: str | None = None) -> None:
+        given = self.options if options is None else options
+        words = [f"listen={HOST}:{self.ports[number - 1]}", f"operate={HOST}:{self.doors[number - 1]}", *given]
+        Group.run(self, number, words, word)
+
+
+def files_of(folder: str) -> list[str]:
+    return glob.glob(f"{folder}/node-*.db*")
+
+
+def copy(source: str, target: str) -> None:
+    """Puts the files of a journal in place of those of another."""
+    os.makedirs(target, exist_ok=True)
+    for file in files_of(target):
+        os.remove(file)
+    for file in files_of(source):
+        shutil.copy(file, target)
+
+
+def limit_files(process: subprocess.Popen, size: int) -> None:
+    """Has a process write no further than that into any file; -1 for no bound."""
+    hard = resource.prlimit(process.pid, resource.RLIMIT_FSIZE)[1]
+    resource.prlimit(process.pid, resource.RLIMIT_FSIZE, (hard if size < 0 else size, hard))
+
+
+def hanging_hosts(count: int) -> list[socket.socket]:
+    """Hosts that take a connection and never answer."""
+    return [socket.create_server((HOST, 0), backlog=16) for _ in range(count)]
+
+
+def silent_server(port: int) -> list[socket.socket]:
+    """A port at another loopback address whose queue is full, so that a try to connect isn't answered."""
+    server = socket.socket()
+    server.bind(("127.0.0.2", port))
+    server.listen(0)
+    lines = [socket.socket() for _ in range(4)]
+    for line in lines:
+        line.setblocking(False)
+        line.connect_ex(("127.0.0.2", port))
+    time.sleep(0.1)
+    return [server, *lines]
+
+
+class TestLuck(checks.Checked):
+    needs = (Group,)
+    # How often members start over an older journal.
+    rounds = 10
+
+    def members(self, count: int, *options: str) -> Operated:
+        return self.group(count, *options, kind=Operated)
+
+    def behind(self, count: int, *options: str) -> Relayed:
+        return self.group(count, *options, kind=Relayed)
+
+    def takes(self, group: Group, node: int, seconds: float = 30) -> str | None:
+        """The LRA that is begun at a node, once it enters commands; none where it doesn't within a time."""
+        found: list[str] = []
+
+        def begins() -> bool:
+            with contextlib.suppress(OSError):
+                status, body = request_json(group, node, "POST", "/lra")
+                if status == 201:
+                    found.append(body["lra"])
+            return bool(found)
+
+        return found[0] if comes_to(seconds, begins) else None
+
+    # ---- restores
+
+    def test_restored(self) -> None:
+        """Three members start together, one over an older copy of its journal, in any order, behind a line that loses
+        the first tries, or a slow one."""
+        group, dice = self.behind(3), random.Random(78)
+        group.start()
+        backup = f"{self.folder}/backup"
+        twice, strange = [], []
+        for turn in range(self.rounds):
+            group.end(2)
+            copy(f"{self.folder}/2", backup)
+            group.start(2)
+            known = [self.takes(group, 2) for _ in range(3)]
+            self.check(f"round {turn}: what node 2 begins is shown by all",
+                       all(lra and group.all_come_to(lra, "Active") is not None for lra in known), known)
+            group.kill(1, 2, 3)
+            copy(backup, f"{self.folder}/2")
+            for relay in group.relays:
+                relay.delay, relay.lost = dice.choice((0, 0, 0.05, 0.15)), dice.choice((0, 0, 1, 2))
+            for number in dice.sample((1, 2, 3), 3):
+                group.run(number)
+                time.sleep(dice.choice((0, 0.05, 0.15)))
+            lra = self.takes(group, 2)
+            for relay in group.relays:
+                relay.delay, relay.lost = 0, 0
+            for number in (1, 2, 3):
+                comes_to(SLOW, lambda number=number: group.is_reached(number))
+            if lra is None or lra in known:
+                twice.append((turn, lra, known))
+            if not comes_to(30, group.are_alike):
+                strange.append((turn, [group.shown(node) for node in (1, 2, 3)]))
+            for one in [lra, *known]:
+                group.finish(2, one) if one else None
+                comes_to(10, lambda one=one: group.purge(2, one)[0] in (204, 410))
+        self.check(f"of {self.rounds} starts over an older journal none gives a number twice", not twice, twice)
+        self.check("and all nodes show the same behind each", not strange, strange)
+
+    def test_anew(self) -> None:
+        """A member over an older journal that is told so waits for all others, however late they are; one that isn't
+        told waits as long as somebody is known to have more of its facts."""
+        group = self.members(3)
+        group.start()
+        group.end(2)
+        backup = f"{self.folder}/backup"
+        copy(f"{self.folder}/2", backup)
+        group.start(2)
+        known = [self.takes(group, 2) for _ in range(3)]
+        self.check("what it begins is shown by all",
+                   all(lra and group.all_come_to(lra, "Active") is not None for lra in known), known)
+        group.kill(1, 2, 3)
+        copy(backup, f"{self.folder}/2")
+        group.start(2, options=["anew"])
+        time.sleep(2.5)
+        self.check("alone it takes no command", self.takes(group, 2, 1) is None)
+        self.check("it says why", group.told(2, "/ready") == (503, {"ready": False, "cause": "behind"}),
+                   group.told(2, "/ready"))
+        self.check("it answers questions", request_json(group, 2, "GET", "/lra")[0] == 200)
+        began = time.monotonic()
+        refused = [request_json(group, 2, "POST", "/lra")[0] for _ in range(8)]
+        self.check("and refuses commands at once", refused == [503] * 8 and time.monotonic() - began < 2, refused)
+        group.start(1)
+        time.sleep(1.5)
+        self.check("beside one of two it takes none either", self.takes(group, 2, 1) is None)
+        group.start(3)
+        lra = self.takes(group, 2)
+        self.check("beside both it does, with a new number", lra and lra not in known, (lra, known))
+        self.check("all show the same", comes_to(30, group.are_alike))
+        self.check("and it is ready", comes_to(10, lambda: group.at(2, "/ready").status == 200))
+
+    # ---- disks
+
+    def test_missing(self) -> None:
+        """The file of a journal goes away, and an older one comes in its place, while its node runs."""
+        group = self.members(1)
+        group.start()
+        group.end(1)
+        folder, away, backup = f"{self.folder}/1", f"{self.folder}/away", f"{self.folder}/backup"
+        copy(folder, backup)
+        group.start(1)
+        lras = [group.begin(1) for _ in range(3)]
+        limit_files(group.processes[1], 1)
+        shutil.move(folder, away)
+        os.mkdir(folder)
+        request_json(group, 1, "POST", "/lra")
+        limit_files(group.processes[1], -1)
+        line = "node 1: its journal can't be opened again yet: its file is gone"
+        self.check("it tells that the file is gone", comes_to(10, lambda: line in group.lines(1)), group.log(1))
+        time.sleep(1.5)
+        self.check("it makes none", os.listdir(folder) == [], os.listdir(folder))
+        seen = request_json(group, 1, "POST", "/lra")
+        self.check("and takes no command", seen == (503, {"refused": "E19 Stopped"}), seen)
+        copy(backup, folder)
+        line = "node 1: its journal can't be opened again yet: the file there has fewer facts than the one before"
+        self.check("it takes no older file", comes_to(10, lambda: line in group.lines(1)), group.log(1))
+        shutil.rmtree(folder)
+        shutil.move(away, folder)
+        lra = self.takes(group, 1)
+        self.check("with the file back it goes on", lra and lra not in lras, (lra, lras))
+        shown = group.shown(1)
+        self.check("and has all that was answered", all(one in shown for one in lras), shown)
+        self.same("it ends", [0], group.end(1))
+
+    def test_hangs(self) -> None:
+        """A disk hangs."""
+        compiler = shutil.which("cc") or shutil.which("gcc")
+        if not compiler:
+            self.skipTest("no compiler for C")
+        library, flag = f"{self.folder}/held.so", f"{self.folder}/held"
+        subprocess.run([compiler, "-shared", "-fPIC", "-o", library, "-x", "c", "-", "-ldl"], input=HOLDER.encode(),
+                       check=True)
+        group = self.members(1)
+        os.environ.update(LD_PRELOAD=library, HELD_BY=flag)
+        try:
+            group.start()
+        finally:
+            del os.environ["LD_PRELOAD"]
+        group.begin(1)
+        self.check("it is ready", comes_to(5, lambda: group.at(1, "/ready").status == 200))
+        with open(flag, "w", encoding="utf-8"):
+            pass
+        waits = threading.Thread(target=lambda: request_json(group, 1, "POST", "/lra"), daemon=True)
+        waits.start()
+        time.sleep(0.5)
+        if not waits.is_alive():
+            self.skipTest("the holder holds nothing")
+        seen = (503, {"ready": False, "cause": "disk"})
+        self.check("it says that its disk hangs", comes_to(9, lambda: group.told(1, "/ready") == seen),
+                   group.told(1, "/ready"))
+        self.check("it lives", group.at(1, "/health").status == 200)
+        hangs = re.compile(r"node 1: a call has waited for its journal for \d+ s: the disk hangs, or is slow")
+        self.check("it tells it", comes_to(5, lambda: any(map(hangs.fullmatch, group.lines(1)))), group.log(1))
+        os.remove(flag)
+        self.check("it goes on", comes_to(10, lambda: group.at(1, "/ready").status == 200))
+        again = re.compile(r"node 1: its journal answers again, after \d+ s")
+        self.check("and tells that", comes_to(5, lambda: any(map(again.fullmatch, group.lines(1)))), group.log(1))
+
+    # ---- whoever is slow
+
+    def test_readers(self) -> None:
+        """Twenty-four clients read nothing of a long frame."""
+        group, link = self.members(1), f"http://{HOST}:9/" + "c" * 100
+        group.start()
+        # (a program that isn't proved takes minutes to fill a home)
+        is_slow = "unproved" in Group.program
+        for _ in range(8 if is_slow else 256):
+            lra = group.begin(1)
+            for _ in range(32):
+                group.join(1, lra, compensate=link, complete=link, status=link, forget=link, after=link)
+        lines = []
+        for _ in range(24):
+            line = socket.socket()
+            line.setsockopt(socket.SOL_SOCKET, socket.SO_RCVBUF, 4096)
+            line.connect(group.address(1))
+            line.sendall(PULL)
+            lines.append(line)
+        slowest = slowest_of(lambda: group.ask(1, "GET", f"/lra/{lra}"), 12)
+        self.check(f"beside 24 that read nothing of a frame a question takes {slowest:.2f} s at most", slowest < 1)
+        for line in lines:
+            line.close()
+        whole = exchange(group.address(1), PULL.replace(b"\r\n\r\n", b"\r\nConnection: close\r\n\r\n", 1))
+        stated = int(re.search(rb"Content-Length: (\d+)", whole)[1])  # type: ignore[index]
+        came = len(whole) - whole.index(b"\r\n\r\n") - 4
+        is_so = stated == came and (is_slow or came > 4_000_000)
+        self.check(f"a frame of {stated:,} bytes comes whole to one who reads", is_so, came)
+
+    def test_heads(self) -> None:
+        """Twenty clients send long requests slowly, and others whole ones of up to 16 KB."""
+        group = self.members(1)
+        group.start()
+        lra = group.begin(1)
+        slow = [socket.create_connection(group.address(1)) for _ in range(20)]
+        ended = threading.Event()
+
+        def trickle() -> None:
+            head = b"GET /lra HTTP/1.1\r\nHost: x\r\nCookie: " + b"c" * 5000
+            for at in range(0, len(head), 250):
+                for line in slow:
+                    with contextlib.suppress(OSError):
+                        line.sendall(head[at : at + 250])
+                if ended.wait(0.2):
+                    return
+
+        threading.Thread(target=trickle, daemon=True).start()
+        time.sleep(0.3)
+        for size in (5_000, 10_000, 16_000):
+            cookie = b"Cookie: " + b"c" * size
+            text = b"GET /lra/" + lra.encode() + b" HTTP/1.1\r\nHost: x\r\n" + cookie + b"\r\n\r\n"
+            began, answers = time.monotonic(), []
+            for _ in range(8):
+                with contextlib.suppress(OSError):
+                    answers.append(exchange(group.address(1), text)[:12])
+            took = time.monotonic() - began
+            is_so = answers == [b"HTTP/1.1 200"] * 8 and took < 2
+            self.check(f"8 requests of {size:,} bytes are answered in {took:.2f} s", is_so, answers)
+        ended.set()
+
+    def test_hosts(self) -> None:
+        """Ninety-six hosts hang."""
+        group, part = self.members(1), self.participant()
+        group.start()
+        hosts = hanging_hosts(96)
+        for first in range(0, 96, 32):
+            lra = group.begin(1)
+            for host in hosts[first : first + 32]:
+                link = f"http://{HOST}:{host.getsockname()[1]}/c"
+                group.join(1, lra, compensate=link, complete=link)
+            group.finish(1, lra)
+        time.sleep(1)
+        lra = group.begin(1)
+        for place in range(6):
+            group.join(1, lra, compensate=part.url, complete=f"{part.url}/{place}")
+        began = time.monotonic()
+        group.finish(1, lra)
+        called = comes_to(60, lambda: len(part.made(lra)) == 6)
+        took = time.monotonic() - began
+        self.check(f"beside 96 hosts that hang six participants of another are called in {took:.1f} s",
+                   called and took < 15, part.made(lra))
+
+    def test_silent(self) -> None:
+        """Twenty-four connections to the operators' port say nothing, and others read nothing."""
+        group = self.members(1)
+        group.start()
+        lines = [socket.create_connection((HOST, group.doors[0])) for _ in range(24)]
+        slowest = slowest_of(lambda: group.at(1, "/health"), 2)
+        self.check(f"beside 24 silent ones /health takes {slowest:.2f} s at most", slowest < 0.5)
+        for line in lines:
+            line.sendall(b"GET /metrics HTTP/1.1\r\nHost: localhost\r\n\r\n")
+        slowest = slowest_of(lambda: group.at(1, "/metrics"), 2)
+        self.check(f"beside 24 that don't read it takes {slowest:.2f} s", slowest < 0.5)
+
+    # ---- lines and names
+
+    def test_line(self) -> None:
+        """A long frame comes over a slow line."""
+        group, link = self.behind(2), f"http://{HOST}:9/" + "c" * 100
+        group.start(1)
+        for _ in range(8):
+            lra = group.begin(1)
+            for _ in range(32):
+                group.join(1, lra, compensate=link, complete=link, status=link)
+        group.relays[0].rate = 6_000
+        group.start(2)
+        began = time.monotonic()
+        took = group.comes_to(2, lra, "Active", SLOW)
+        self.check(f"it is taken, after {took or 0:.0f} s", took is not None and time.monotonic() - began > 12, took)
+
+    def test_names(self) -> None:
+        """A name has two addresses, of which the first is silent."""
+        if os.geteuid() or not shutil.which("unshare"):
+            self.skipTest("this user may not have a table of names of its own")
+        part = self.participant()
+        silent = silent_server(part.port)
+        hosts = f"{self.folder}/hosts"
+        with open(hosts, "w", encoding="utf-8") as file:
+            file.write("127.0.0.1 localhost\n127.0.0.2 twofold\n127.0.0.1 twofold\n")
+        port = free_row(1)[0]
+        script = f"mount --bind {hosts} /etc/hosts && exec {Group.program} 1 {self.folder} {HOST}:{port}"
+        process = subprocess.Popen(["unshare", "-m", "sh", "-c", script], stdin=subprocess.PIPE,
+                                   stderr=subprocess.PIPE)
+        self.addCleanup(process.kill)
+        comes_to(SLOW, lambda: process.poll() is not None or is_up(port))
+        if process.poll() is not None:
+            self.skipTest("this user may not mount a table of names")
+        lra = request((HOST, port), "POST", "/lra").json()["lra"]
+        links = f'{{"compensate":"http://twofold:{part.port}/c"}}'
+        request((HOST, port), "PUT", f"/lra/{lra}/join", links)
+        began = time.monotonic()
+        request((HOST, port), "PUT", f"/lra/{lra}/cancel")
+        called = comes_to(20, lambda: bool(part.made(lra)))
+        took = time.monotonic() - began
+        self.check(f"the participant is called at the second, after {took:.1f} s", called and took < 5, took)
+        for line in silent:
+            line.close()
+
+    # ---- operators
+
+    def test_told(self) -> None:
+        """What an operator says of a listener counts at once, at whatever node it is said."""
+        group, part = self.members(2, "keep=0"), self.participant(status=503)
+        group.start()
+
+        def waiting() -> str:
+            lra = group.begin(1)
+            group.join(1, lra, compensate=f"{part.url}/c", after=f"{part.url}/{lra}")
+            part.answers["/c"] = 200
+            group.finish(1, lra, "cancel")
+            self.check("the listener is called in vain",
+                       comes_to(20, lambda: any(call["lra"] == lra for call in group.calls(1))), group.calls(1))
+            return lra
+
+        for node in (1, 2):
+            lra = waiting()
+            time.sleep(3)
+            seen = group.at(node, f"/lra/{lra}/member/1/told", "PUT").status
+            self.check(f"it is said at node {node} that it was told", seen == 204, seen)
+            took = time.monotonic()
+            gone = comes_to(20, lambda: group.is_gone(1, lra))
+            took = time.monotonic() - took
+            self.check(f"its LRA is purged {took:.1f} s later", gone and took < 3, group.status(1, lra))
+            time.sleep(1)
+            called = len(part.made(lra))
+            self.check("it isn't listed", not group.calls(1), group.calls(1))
+            time.sleep(4)
+            self.check("nor called again", len(part.made(lra)) == called, part.made(lra))
+
+    def test_vain(self) -> None:
+        """Metrics know who is called in vain, whatever was reported of others."""
+        group = self.members(1)
+        group.start()
+        gone = free_row(1)[0]
+        lras = []
+        for _ in range(9):
+            lra = group.begin(1)
+            for place in range(32):
+                group.join(1, lra, compensate=f"http://{HOST}:{gone}/c", complete=f"http://{HOST}:{gone}/{place}")
+            group.finish(1, lra)
+            lras.append(lra)
+
+        def vain() -> float:
+            return group.samples(1)[("lra_callbacks_vain",)]
+
+        self.check("288 are called in vain", comes_to(60, lambda: vain() == 288), vain())
+        self.check("256 of them are told", len(group.calls(1)) == 256, len(group.calls(1)))
+        report = '{"act":"complete","outcome":"done"}'
+        for member in (1, 2, 3):
+            request((HOST, group.doors[0]), "PUT", f"/lra/{lras[0]}/member/{member}/report", report)
+        self.check("with three reported still 256", comes_to(2, lambda: vain() == 285) and len(group.calls(1)) == 256,
+                   (vain(), len(group.calls(1))))
+        for lra in lras:
+            for member in range(1, 33):
+                request((HOST, group.doors[0]), "PUT", f"/lra/{lra}/member/{member}/report", report)
+        self.check("with all reported nobody is", comes_to(5, lambda: vain() == 0), vain())
+        lra = group.begin(1)
+        group.join(1, lra, compensate=f"http://{HOST}:{gone}/one")
+        group.finish(1, lra, "cancel")
+        self.check("one more is seen", comes_to(10, lambda: vain() == 1), vain())
+        self.check("and told", [call["lra"] for call in group.calls(1)] == [lra], group.calls(1))
+
+    def test_counts(self) -> None:
+        """A sole node counts its facts, and roots alone as purged."""
+        group, part = self.members(1, "keep=0"), self.participant()
+        group.start()
+        root = group.begin(1)
+        nested = [group.begin(1, parent=root) for _ in range(3)]
+        for lra in nested:
+            group.join(1, lra, compensate=f"{part.url}/c")
+        group.finish(1, root, "cancel")
+        self.check("the root is purged", comes_to(20, lambda: group.is_gone(1, root)), group.status(1, root))
+        time.sleep(1)
+        samples = group.samples(1)
+        self.check("one root is counted", samples[("lra_swept_total", "came=gone")] == 1, samples)
+        facts = {key: value for key, value in samples.items() if key[0] == "lra_front"}
+        self.check("its facts are counted", sum(facts.values()) >= 9, facts)
+
+    def test_foreign(self) -> None:
+        """The operators' port is for operators: no participant's link, no stranger's page, no foreign host."""
+        group = self.members(1, "names=ops.example,lra1")
+        part = self.participant(status=503)
+        group.start()
+        lra = group.begin(1)
+        group.join(1, lra, compensate=f"{part.url}/c", after=f"http://{HOST}:{group.doors[0]}/lra/{lra}/member/1/told")
+        part.answers["/c"] = 200
+        group.finish(1, lra, "cancel")
+        self.check("it is cancelled", group.comes_to(1, lra, "Cancelled") is not None)
+        self.check("a link to the port is called in vain",
+                   comes_to(10, lambda: any(call["kind"] == "after" for call in group.calls(1))), group.calls(1))
+        own = f"{HOST}:{group.doors[0]}"
+        for fields, wanted in (
+            ({"Host": "evil.example"}, 403),
+            ({"Host": "evil.example", "Origin": "http://evil.example"}, 403),
+            ({"Origin": "http://evil.example"}, 403),
+            ({"Origin": "null"}, 403),
+            ({"Long-Running-Action": "urn:uuid:" + lra}, 403),
+            ({"long-running-action-ended": "urn:uuid:" + lra}, 403),
+            ({}, 200),
+            ({"Origin": f"http://{own}"}, 200),
+            ({"Host": "localhost"}, 200),
+            ({"Host": "[::1]:8170"}, 200),
+            ({"Host": "10.0.0.2"}, 200),
+            ({"Host": "OPS.example:8170"}, 200),
+            ({"Host": "lra1"}, 200),
+            ({"Host": "lra2"}, 403),
+        ):
+            seen = request((HOST, group.doors[0]), "GET", "/health", None, fields)
+            self.check(f"asked with {fields} it answers {wanted}", seen.status == wanted, seen)
+        seen = request((HOST, group.doors[0]), "POST", "/lra", "", {"Origin": "http://evil.example"})
+        self.check("a stranger's page begins no LRA", seen.status == 403 and len(group.shown(1)) == 1, seen)
+
+    # ---- peers
+
+    def test_peers(self) -> None:
+        """Addresses lead to the node itself, to another number, and to another group's node."""
+        group = self.group(3, "group=shop", kind=Misled)
+        group.start()
+        lra = group.begin(1)
+        wanted = "node 1: node {} isn't there: another node answers, or one of another group"
+        self.check("its own address is told",
+                   comes_to(15, lambda: wanted.format(2) in group.lines(1)), group.log(1))
+        self.check("node 3 hears node 1", group.comes_to(3, lra, "Active") is not None)
+        other = self.group_in("other", 3, "group=travel")
+        other.addresses = [group.addresses[0], other.addresses[1], other.addresses[2]]
+        other.start(2)
+        line = "node 2: node 1 isn't there: another node answers, or one of another group"
+        self.check("another group's node is told", comes_to(15, lambda: line in other.lines(2)), other.log(2))
+        self.check("and isn't taken", other.shown(2) == {}, other.shown(2))
+        plain = self.group_in("plain", 3)
+        plain.addresses = [group.addresses[0], plain.addresses[1], plain.addresses[2]]
+        plain.start(2)
+        self.check("one that tells no group is taken", plain.comes_to(2, lra, "Active") is not None, plain.log(2))
+
+    def group_in(self, name: str, count: int, *options: str) -> Group:
+        made = Group(count, self.folder_in(name), *options)
+        self.addCleanup(made.__exit__)
+        return made
+
+
+class Misled(Operated):
+    """Members of which node 1 finds itself at the address of node 2."""
+
+    def addresses_for(self, number: int) -> list[str]:
+        if number != 1:
+            return self.addresses
+        own = f"localhost:{self.ports[0]}"
+        return [self.addresses[0], own, self.addresses[2]]
+
+    def start(self, *numbers: int, options: Iterable[str] | None = None, word: str | None = None) -> typing.Self:
+        return super().start(*(numbers or (1, 3)), options=options, word=word)
+
+
+def request_json(group: Group, node: int, method: str, path: str) -> tuple[int, Json]:
+    """The status and the JSON of one answer, whatever it is."""
+    answer = request(group.address(node), method, path)
+    return answer.status, answer.json()
+
+
+def slowest_of(ask: Callable[[], object], seconds: float) -> float:
+    """The longest that something takes which is done again and again."""
+    slowest, end = 0.0, time.monotonic() + seconds
+    while time.monotonic() < end:
+        began = time.monotonic()
+        ask()
+        slowest = max(slowest, time.monotonic() - began)
+        time.sleep(0.02)
+    return slowest
+
+
+def is_up(port: int) -> bool:
+    with contextlib.suppress(OSError), socket.create_connection((HOST, port), 1):
+        return True
+    return False
+
+
+def main() -> int:
+    given = sys.argv[1:]
+    if "--rounds" in given:
+        at = given.index("--rounds")
+        TestLuck.rounds = int(given[at + 1])
+        del given[at : at + 2]
+    words = checks.words_of(TestLuck)
+    for word in given:
+        if word not in words:
+            Group.program = unproved.program_of(word, "lra_member")
+    checks.need(Group)
+    return checks.run(TestLuck, words=[word for word in given if word in words])
+
+
+if __name__ == "__main__":
+    sys.exit(main())
