@@ -60,6 +60,18 @@ counts_all s t node world kept still hear is =
         subst (λ (k : ℕ). get_or (front_of t node) k 0 ≡ get_or (all_counted t.history) k 0) place
         (counts from some there ∙ sym (all_at t.history (from - 1)))
 
+-- and without that stillness, all that was entered before
+pub brings : (s t : State) → IsWorld s → IsKeptBy s t → AllHear s t → (node from : ℕ) → IsNode s node → IsNode s from → length (entries_of s.history from) ≤ count (front_of t node) from
+brings s t world kept hear node from is giver =
+    let had = (world.current from giver.some giver.there).own in
+    omega (arith, had, heard)
+  where
+    heard : count (front_of s from) from ≤ count (front_of t node) from
+    heard = elim (same_or_not from node) [
+      | inl same ↦ subst (λ (n : ℕ). count (front_of s n) from ≤ count (front_of t node) from) (sym same) (kept.risen node is from)
+      | inr other ↦ hear from node giver is other from
+    ]
+
 -- so any two of them took the same
 pub took_all : (s t : State) (one other : ℕ) → IsWorld s → IsKeptBy s t → t.history ≡ s.history → AllHear s t → IsNode s one → IsNode s other → TookTheSame t one other
 took_all s t one other world kept still hear is too =
@@ -86,3 +98,7 @@ pub round_agrees : (s t : State) (events : List Event) (replies : List Reply) (o
 round_agrees s t events replies one other world runs still round is too =
     let kept = run_keeps s t events replies world runs in
     nodes_agree t one other kept.world (took_all s t one other world kept still (round_hears s t events replies world runs round) is too)
+
+pub round_brings : (s t : State) (events : List Event) (replies : List Reply) (node from : ℕ) → IsWorld s → Runs s events replies t → IsRound s events replies → IsNode s node → IsNode s from → length (entries_of s.history from) ≤ count (front_of t node) from
+round_brings s t events replies node from world runs round is giver =
+    brings s t world (run_keeps s t events replies world runs) (round_hears s t events replies world runs round) node from is giver

@@ -31,7 +31,7 @@ use Rattle.lra_world.specs.declared.event.Reply.TheVariants.{Answered}
 use Rattle.lra_world.specs.Headline.{IsNode}
 use Rattle.lra_world.specs.Worlds.{IsWorld, State, front_of, reply_at, set_of}
 use Rattle.lra_progress.specs.Calls.{IsCallUnder, answers_left, asks_to_act, is_answered}
-use Rattle.lra_progress.specs.Ends.{AreAnswers, CanPurge, IsAnswer, answer_to}
+use Rattle.lra_progress.specs.Ends.{AreAnswers, CanPurge, GetsAnswered, IsAnswer, answer_to}
 use Rattle.lra_progress.proofs.AnswersInTheWorld.{IsDecidedAt, decided_later, less_later}
 use Rattle.lra_progress.proofs.AnswersLeft.{after_known, forget_known, owed_after, owed_forget, uncalled}
 use Rattle.lra_progress.proofs.EndsAccepted.{end_accepted, held_covered, number_free}
@@ -160,3 +160,19 @@ pub can_purge : (s : State) (root : Id) (verdict : Verdict) → IsWorld s → Is
     → count (front_of s root.home) root.home + answers_left (set_of s root.home) root < last_number → CanPurge s root.home root (answers_left (set_of s root.home) root)
 can_purge s root verdict world is held top wants free =
     purges_by (answers_left (set_of s root.home) root) root verdict s (record { world = world; there = is; top = top; wants = wants }) held (omega arith) free
+
+-- and one answer more can be heard, where somebody is to be called
+pub can_answer : (s : State) (node : ℕ) (root : Id) (call : Duty) → IsWorld s → IsNode s node → IsCallUnder (set_of s node) root call → count (front_of s node) node < last_number → (t : State) × GetsAnswered node root s t
+can_answer s node root call world is due free =
+    let c = answer_to call.kind call.id call.member call.act in
+    let taken = accepted (set_of s node) (front_of s node) node root call (closed_counted s.history (front_of s node) (world.current node is.some is.there).closed) due free in
+    let made = entering s node c world is taken in
+    let answered = known call.kind node (count (front_of s node) node + 1) call.id call.member call.act (set_of s node) (set_of made.state node) made.more in (
+      made.state,
+      record {
+        events = Acting node c ∷ [];
+        replies = Answered (reply_at s node c) ∷ [];
+        runs = (made.state, made.steps, refl);
+        hears = record { call = call; due = due; answered = answered };
+      },
+    )

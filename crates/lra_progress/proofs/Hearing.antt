@@ -39,14 +39,14 @@ frame_stays s t number frame (Joined node other is m e) at = ap (λ (u : State).
 frame_stays s t number frame (Posted version node base is nodes below e) at =
     ap (λ (u : State). frame_at u number) e ∙ frame_more s version node base number frame at
 
-frame_kept : (s t : State) (events : List Event) (replies : List Reply) (number : ℕ) (frame : SentFrame) → Runs s events replies t → frame_at s number ≡ Some frame → frame_at t number ≡ Some frame
+pub frame_kept : (s t : State) (events : List Event) (replies : List Reply) (number : ℕ) (frame : SentFrame) → Runs s events replies t → frame_at s number ≡ Some frame → frame_at t number ≡ Some frame
 frame_kept s t [] [] number frame runs at = ap (λ (u : State). frame_at u number) runs ∙ at
 frame_kept s t [] (reply ∷ replies) number frame runs at = absurd runs
 frame_kept s t (event ∷ events) [] number frame runs at = absurd runs
 frame_kept s t (event ∷ events) (reply ∷ replies) number frame runs at =
     frame_kept runs.0 t events replies number frame runs.2 (frame_stays s runs.0 number frame (step_moves s runs.0 event reply runs.1) at)
 
-frame_new : (s : State) (version : Version) (node : ℕ) (base : List ℕ) → frame_at (with_frame s version node base) (length s.sent + 1) ≡ Some (record { version = version; base = base; front = front_of s node })
+pub frame_new : (s : State) (version : Version) (node : ℕ) (base : List ℕ) → frame_at (with_frame s version node base) (length s.sent + 1) ≡ Some (record { version = version; base = base; front = front_of s node })
 frame_new s version node base =
     let some : ((length s.sent + 1) == 0) ≡ false = grind (arith, nat_tests) in
     let place : length s.sent + 1 - 1 ≡ length s.sent = omega arith in

@@ -17,11 +17,11 @@ none_at zero i = refl
 none_at (suc n) zero = refl
 none_at (suc n) (suc i) = none_at n i
 
-nothing_below : (n : ℕ) (v : List ℕ) → IsBelow (replicate n 0) v
+pub nothing_below : (n : ℕ) (v : List ℕ) → IsBelow (replicate n 0) v
 nothing_below n v node = let none : count (replicate n 0) node ≡ 0 = none_at n (node - 1) in omega (arith, none)
 
 -- it never needs a later version
-two_tells : (s : State) (node : ℕ) (base : List ℕ) → NeedsLater s node base Two → ⊥
+pub two_tells : (s : State) (node : ℕ) (base : List ℕ) → NeedsLater s node base Two → ⊥
 two_tells s node base needs = let wrong = needs.2 in cc
 
 sends_so : (s t : State) (node : ℕ) (reply : Reply) → Sends s node (replicate (nodes_of s) 0) Two reply t → reply ≡ Sent (length s.sent + 1)

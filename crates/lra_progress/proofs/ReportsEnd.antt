@@ -41,14 +41,14 @@ use Rattle.lra_history.specs.Replies.{Accepted, judge}
 use Rattle.lra_world.specs.Worlds.{IsWorld, State, Steps, front_of, reply_at, set_of, with_command}
 use Rattle.lra_world.proofs.Moving.{IsKeptBy, run_keeps}
 use Rattle.lra_progress.specs.Calls.{HearsAnEnd, IsActUnder, IsUnderWay, asks_to_act, open_under, saga_of}
-use Rattle.lra_progress.specs.Ends.{AreAnswers, CanEnd, IsAnswer, answer_to}
+use Rattle.lra_progress.specs.Ends.{AreAnswers, CanEnd, GoesOn, IsAnswer, answer_to}
 use Rattle.lra_progress.proofs.ActsAsked.{cancels}
 use Rattle.lra_progress.proofs.EndsAccepted.{end_accepted}
 use Rattle.lra_progress.proofs.EndsInTheWorld.{earlier_set, world_falls}
 use Rattle.lra_progress.proofs.Entering.{HasEntered, entering}
 use Rattle.lra_progress.proofs.Hearing.{still_node}
 use Rattle.lra_progress.proofs.OpenUnder.{ended_none}
-use Rattle.lra_progress.proofs.UnderWay.{ended_under, in_under, open_calls, saga_above, saga_none, saga_some, under_in, way_open}
+use Rattle.lra_progress.proofs.UnderWay.{ended_under, in_under, open_calls, saga_above, saga_none, saga_some, under_in, way_calls, way_open}
 
 -- One report more
 
@@ -278,3 +278,21 @@ can_end s node l world is way free =
     chained =
         ap (λ (X : List Fact). chain X l) (sym same)
         ∙ kept_chain t.history (front_of s node) (front_of t node) grown l (ap (λ (X : List Fact). is_begun X l) same ∙ held_begun S l held)
+
+-- and one end more can be heard
+pub can_go_on : (s : State) (node : ℕ) (l : Id) → IsWorld s → IsNode s node → IsUnderWay (set_of s node) l → count (front_of s node) node < last_number → (t : State) × GoesOn node (saga_of (set_of s node) l) s t
+can_go_on s node l world is way free =
+    let settled : IsSettled (set_of s node) = closed_settled s.history world.lawful (front_of s node) (world.current node is.some is.there).closed in
+    let a = saga_of (set_of s node) l in
+    let held : is_held (set_of s node) a ≡ true = held_above (set_of s node) settled.whole a (suc l.num) l (omega arith) (saga_above (set_of s node) settled.whole.nested l) (way_open (set_of s node) l way).held in
+    let call = way_calls (set_of s node) l settled way in
+    let made = report s node a call.0 world is held call.1 free in (
+      made.state,
+      record {
+        events = Acting node (Report call.0.id call.0.member call.0.act Done) ∷ [];
+        replies = Answered (reply_at s node (Report call.0.id call.0.member call.0.act Done)) ∷ [];
+        runs = (made.state, made.steps, refl);
+        wants = made.still.wants;
+        hears = made.hears;
+      },
+    )

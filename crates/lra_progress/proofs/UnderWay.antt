@@ -40,7 +40,7 @@ use Rattle.lra_callback.specs.CallDuties.{IsDuty}
 use Rattle.lra_callback.specs.ViewDuties.{duties_of}
 use Rattle.lra_callback.proofs.Viewed.{all_of_view}
 use Rattle.lra_world.specs.Headline.{IsNode}
-use Rattle.lra_world.specs.Worlds.{IsWorld, State, front_of, set_of}
+use Rattle.lra_world.specs.Worlds.{IsViewOf, IsWorld, State, front_of, set_of}
 use Rattle.lra_progress.specs.Calls.{IsActUnder, IsUnderWay, saga_of}
 use Rattle.lra_progress.proofs.ActsAsked.{call_due, cancels, open_cancelled, open_closing}
 use Rattle.lra_progress.proofs.DueInASaga.{IsPending, participant_by, some_due, tells_pending, told_pending}
@@ -256,6 +256,11 @@ way_listed S view l settled stands way =
 pub way_world : (s : State) (node : ℕ) (l : Id) → IsWorld s → IsNode s node → IsUnderWay (set_of s node) l → (call : Duty) × IsActUnder (set_of s node) (saga_of (set_of s node) l) call
 way_world s node l world is way =
     way_calls (set_of s node) l (closed_settled s.history world.lawful (front_of s node) (world.current node is.some is.there).closed) way
+
+-- and at its home it stands in that node's list
+pub way_home : (s : State) (view : View) (l : Id) → IsWorld s → IsNode s l.home → IsViewOf s.history (front_of s l.home) view → IsUnderWay (set_of s l.home) l → (call : Duty) × In call (duties_of view l.home) × IsActUnder (set_of s l.home) (saga_of (set_of s l.home) l) call
+way_home s view l world is views way =
+    way_listed (set_of s l.home) view l (closed_settled s.history world.lawful (front_of s l.home) (world.current l.home is.some is.there).closed) views.stands way
 
 -- An LRA ends with that for which it waits
 

@@ -1,3 +1,6 @@
+pub mod Asked
+pub mod CallRounds
 pub mod Calls
+pub mod Diagram
 pub mod Ends
 pub mod Rounds

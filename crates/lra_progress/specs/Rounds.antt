@@ -1,13 +1,16 @@
 -- A round in the world: each node takes a frame of each other.
-use Rattle.std.specs.Prelude.{◌≡◌, ◌⊎◌, ℕ, Bool, true, false, List, ◌∷◌, length, map}
+use Rattle.std.specs.Prelude.{◌≡◌, ◌⊎◌, ℕ, Bool, true, false, List, ◌∷◌, length, map, replicate}
 use Rattle.lra_history.specs.Histories.{Entry, History}
+use Rattle.lra_history.specs.Views.{View}
+use Rattle.lra_delta.specs.Frames.{frame_of}
+use Rattle.lra_delta.specs.Typed.{IsTyped}
 use Rattle.lra_delta.specs.declared.version.Version.{Version}
 use Rattle.lra_world.specs.declared.event.Event.{Event}
 use Rattle.lra_world.specs.declared.event.Event.TheVariants.{Act, Deliver, Send, Tick}
 use Rattle.lra_world.specs.declared.event.Reply.{Reply}
 use Rattle.lra_world.specs.declared.event.Reply.TheVariants.{Sent, Took}
 use Rattle.lra_world.specs.Headline.{IsNode}
-use Rattle.lra_world.specs.Worlds.{State}
+use Rattle.lra_world.specs.Worlds.{IsViewOf, Runs, State, front_of, nodes_of}
 
 -- the event is one of these, with this reply
 abbrev pub Occurs : Event → Reply → List Event → List Reply → Type 0
@@ -26,6 +29,19 @@ pub record HearsOf (from to : ℕ) (events : List Event) (replies : List Reply) 
 -- in these events each node sends a frame to each other, and that takes it
 abbrev pub IsRound : State → List Event → List Reply → Type 0
 IsRound s events replies = (from to : ℕ) → IsNode s from → IsNode s to → (from ≡ to → ⊥) → HearsOf from to events replies
+
+-- each node's numbers and texts fit into a frame since nothing
+abbrev pub CanTell : State → Type 0
+CanTell s = (node : ℕ) → IsNode s node → (view : View) × IsViewOf s.history (front_of s node) view × IsTyped (frame_of view (replicate (nodes_of s) 0))
+
+-- such a round leads on from here, and enters nothing
+pub record HasRound (s : State) : Type 0 where
+  pub state : State
+  pub events : List Event
+  pub replies : List Reply
+  pub runs : Runs s events replies state
+  pub round : IsRound s events replies
+  pub still : state.history ≡ s.history
 
 -- only such an event may enter something
 abbrev pub may_enter : Event → Bool

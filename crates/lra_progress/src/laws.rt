@@ -1,5 +1,9 @@
 //! Laws of progress: each function does nothing, and its contract is the law. None speaks of time,
 //! and none supposes that anything is fair.
+pub mod asked;
+pub mod bound;
+pub mod diagram;
+
 ghost use Rattle.std.specs.Prelude.{◌≡◌, ◌⊎◌, ◌≤◌, ◌<◌, ◌+◌, ◌↔◌, ℕ, List, Some, false, is_some, length, replicate, true};
 ghost use Rattle.std.specs.List.{list_any};
 ghost use Rattle.lra_id.specs.Fronts.{IsBelow, count};
@@ -13,7 +17,7 @@ ghost use Rattle.lra_facts.specs.Lists.{In};
 ghost use Rattle.lra_facts.specs.Sets.{is_ended, is_held, is_root, want};
 ghost use Rattle.lra_facts.specs.declared.command.Command.TheVariants.{Purge, Report};
 ghost use Rattle.lra_history.specs.Growth.{IsSettled};
-ghost use Rattle.lra_history.specs.Histories.{History, IsClosed, IsLawful, facts};
+ghost use Rattle.lra_history.specs.Histories.{History, IsClosed, IsLawful, entries_of, facts};
 ghost use Rattle.lra_history.specs.Replies.{Accepted, judge};
 ghost use Rattle.lra_history.specs.Views.{IsCounted, StandsFor, View};
 ghost use Rattle.lra_replica.specs.ViewDues.{compensations_of, completions_of};
@@ -26,17 +30,19 @@ ghost use Rattle.lra_world.specs.declared.event.Event.TheVariants.{Deliver, Send
 ghost use Rattle.lra_world.specs.declared.event.Reply.{Reply};
 ghost use Rattle.lra_world.specs.declared.event.Reply.TheVariants.{Sent, Took};
 ghost use Rattle.lra_world.specs.Headline.{Agree, IsNode};
-ghost use Rattle.lra_world.specs.Worlds.{IsEncoded, IsWorld, Runs, SentFrame, State, Steps, frame_at, front_of, nodes_of, set_of};
+ghost use Rattle.lra_world.specs.Worlds.{IsEncoded, IsViewOf, IsWorld, Runs, SentFrame, State, Steps, frame_at, front_of, nodes_of, set_of};
 ghost use Rattle.lra_progress.specs.Calls.{HearsAnEnd, IsActUnder, IsCallUnder, IsUnderWay, answers_left, asks_to_act, open_under, saga_of};
-ghost use Rattle.lra_progress.specs.Ends.{CanEnd, CanPurge, GetAnswered, GoOn, last_state};
-ghost use Rattle.lra_progress.specs.Rounds.{HearsOf, IsRound, all_counted, may_enter};
+ghost use Rattle.lra_progress.specs.Ends.{CanEnd, CanPurge, GetAnswered, GetsAnswered, GoOn, GoesOn, last_state};
+ghost use Rattle.lra_progress.specs.Rounds.{CanTell, HasRound, HearsOf, IsRound, all_counted, may_enter};
 
-/// Nothing is stuck. Where an LRA shows Closing or Cancelling, a participant is to be called now,
-/// to complete or to compensate. It is one of this LRA or of one nested in it; or, where an LRA
-/// above it is cancelled, one under the topmost of these. That is so of every set that a node may
-/// hold, and at each node in each state of the world. The home's list of calls has that call: by
-/// the clause `next` of `lra_callback::pick` that list is `duties_of` of the replica's view. And
-/// the participant is one that `complete_duties` or `next_compensations` lists for that view.
+/// Nothing decided is stuck. Where an LRA shows Closing or Cancelling by a set, a participant is to
+/// be called by that set, to complete or to compensate. It is one of this LRA or of one nested in
+/// it; or, where an LRA above it is cancelled, one under the topmost of these. That is so of every
+/// set that a node may hold, and at each node in each state of the world. The home alone calls, by
+/// its own set. So where its home shows it so, the home's list has that call now (`home`): by the
+/// clause `next` of `lra_callback::pick` that list is `duties_of` of the replica's view. Another
+/// node may show Closing of what has ended at its home, until a frame of that comes. And the
+/// participant is one that `complete_duties` or `next_compensations` lists for that view.
 pub fn nothing_is_stuck()
     ensures set { (S : List Fact) (l : Id) → IsSettled S → IsUnderWay S l →
         (call : Duty) × IsActUnder S (saga_of S l) call }
@@ -46,6 +52,10 @@ pub fn nothing_is_stuck()
     ensures listed { (S : List Fact) (view : View) (l : Id) →
         IsSettled S → StandsFor S view → IsUnderWay S l →
         (call : Duty) × In call (duties_of view l.home) × IsActUnder S (saga_of S l) call }
+    ensures home { (s : State) (view : View) (l : Id) → IsWorld s → IsNode s l.home →
+        IsViewOf s.history (front_of s l.home) view → IsUnderWay (set_of s l.home) l →
+        (call : Duty) × In call (duties_of view l.home)
+        × IsActUnder (set_of s l.home) (saga_of (set_of s l.home) l) call }
     ensures due { (view : View) (home : ℕ) (call : Duty) →
         In call (duties_of view home) → asks_to_act call.kind ≡ true →
         In (due_of call) (completions_of view home) ⊎ In (due_of call) (compensations_of view home) }
@@ -108,14 +118,20 @@ pub fn after_so_many_ends_it_has_ended()
 
 /// What is under way can be ended. From each state of the world answers alone lead to where the LRA
 /// has ended, each to a call that is due then, entered at one node that holds it. There are at most
-/// as many as participants are open where it waits, and the node needs so many numbers.
+/// as many as participants are open where it waits, and the node needs so many numbers. And from
+/// each such state one end more can be heard (`on`), so that `after_so_many_ends_it_has_ended`
+/// speaks of something.
 pub fn what_is_under_way_can_be_ended()
-    ensures { (s : State) (node : ℕ) (l : Id) →
+    ensures ends { (s : State) (node : ℕ) (l : Id) →
         IsWorld s → IsNode s node → IsUnderWay (set_of s node) l →
         count (front_of s node) node
         + open_under (set_of s node) (saga_of (set_of s node) l) < last_number →
         CanEnd s node l (saga_of (set_of s node) l)
         (open_under (set_of s node) (saga_of (set_of s node) l)) }
+    ensures on { (s : State) (node : ℕ) (l : Id) →
+        IsWorld s → IsNode s node → IsUnderWay (set_of s node) l →
+        count (front_of s node) node < last_number →
+        (t : State) × GoesOn node (saga_of (set_of s node) l) s t }
 {}
 
 /// A decided tree goes on until it is purged: somebody in it is to be called, or its root can be
@@ -152,13 +168,17 @@ pub fn a_decided_tree_waits_for_so_many_answers()
 
 /// A decided tree can be purged. From each state of the world answers alone lead to where the
 /// root's home accepts the purge, each to a call that is due then, entered at that home. There are
-/// at most as many as are left, and the home needs so many numbers.
+/// at most as many as are left, and the home needs so many numbers. Wherever a call is due, its
+/// answer can be heard (`on`).
 pub fn a_decided_tree_can_be_purged()
-    ensures { (s : State) (root : Id) (verdict : TheVerdict) → IsWorld s → IsNode s root.home →
+    ensures purged { (s : State) (root : Id) (verdict : TheVerdict) → IsWorld s → IsNode s root.home →
         is_held (set_of s root.home) root ≡ true → is_root (set_of s root.home) root ≡ true →
         want (set_of s root.home) root ≡ Some verdict → count (front_of s root.home) root.home
         + answers_left (set_of s root.home) root < last_number →
         CanPurge s root.home root (answers_left (set_of s root.home) root) }
+    ensures on { (s : State) (node : ℕ) (root : Id) (call : Duty) →
+        IsWorld s → IsNode s node → IsCallUnder (set_of s node) root call →
+        count (front_of s node) node < last_number → (t : State) × GetsAnswered node root s t }
 {}
 
 /// A frame brings all that its sender had. Whatever happens meanwhile, a node that takes a frame
@@ -180,6 +200,20 @@ pub fn one_round_makes_all_alike()
     ensures agree { (s t : State) (events : List Event) (replies : List Reply) (one other : ℕ) →
         IsWorld s → Runs s events replies t → t.history ≡ s.history → IsRound s events replies →
         IsNode s one → IsNode s other → Agree t one other }
+{}
+
+/// One round brings what was entered before it, whatever is entered meanwhile: each node counts at
+/// the end all that each node had entered at the start. So nobody's view is older than one round.
+pub fn one_round_brings_what_was_entered()
+    ensures { (s t : State) (events : List Event) (replies : List Reply) (node from : ℕ) →
+        IsWorld s → Runs s events replies t → IsRound s events replies → IsNode s node →
+        IsNode s from → length (entries_of s.history from) ≤ count (front_of t node) from }
+{}
+
+/// A round can be made from each state, where what the nodes hold fits into frames: each node sends
+/// one since nothing, and each takes them all.
+pub fn a_round_can_be_made()
+    ensures { (s : State) → IsWorld s → CanTell s → HasRound s }
 {}
 
 /// Where no command and no tick comes, nothing is entered: frames and restarts leave the history as

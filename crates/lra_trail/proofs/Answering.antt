@@ -3,7 +3,7 @@ use Rattle.std.proofs.Common.{◌≡◌, inl, inr, ◌≤◌, ◌-◌, ◌∙◌
 use Rattle.std.proofs.lemmas.List.{length-replicate}
 use Rattle.lra_id.specs.Ids.{Id}
 use Rattle.lra_id.specs.declared.status.LraStatus.{LraStatus}
-use Rattle.lra_id.specs.declared.status.LraStatus.TheVariants.{Cancelled, Closed, FailedToCancel, FailedToClose}
+use Rattle.lra_id.specs.declared.status.LraStatus.TheVariants.{Cancelled, Cancelling, Closed, Closing, FailedToCancel, FailedToClose}
 use Rattle.lra_id.specs.declared.status.MemberStatus.{MemberStatus}
 use Rattle.lra_facts.specs.declared.refusal.Refusal.{Refusal}
 use Rattle.lra_history.specs.Histories.{Entry}
@@ -11,7 +11,7 @@ use Rattle.lra_history.specs.Views.{StandsFor, View, empty_view}
 use Rattle.lra_history.proofs.ClosedSets.{closed_counted}
 use Rattle.lra_history.proofs.OneViewOfASet.{one_front}
 use Rattle.lra_history.proofs.PatchedHistories.{empty_view_in}
-use Rattle.lra_world.specs.Headline.{IsNode, ShowsCancelled, ShowsClosed, member_at, shown_at}
+use Rattle.lra_world.specs.Headline.{IsNode, ShowsCancel, ShowsClose, member_at, shown_at}
 use Rattle.lra_world.specs.Worlds.{IsViewOf, IsWorld, State, front_of, nodes_of, set_of, start}
 use Rattle.lra_world.proofs.Moving.{same_at, start_is}
 use Rattle.lra_book.specs.declared.calls.Call.{Call}
@@ -22,7 +22,7 @@ use Rattle.lra_book.specs.Next.{IsNext, member_reply, status_reply}
 use Rattle.lra_book.specs.OfSets.{IsReplyOf}
 use Rattle.lra_book.proofs.RepliesOfSets.{reply_of_set}
 use Rattle.lra_trail.specs.NodeTrails.{IsServed}
-use Rattle.lra_trail.specs.Servers.{AnswersCancelled, AnswersClosed}
+use Rattle.lra_trail.specs.Servers.{Answers, AnswersCancel, AnswersClose}
 use Rattle.lra_trail.proofs.OwnCommands.{settled_of, there_in}
 
 pub answers : (me now : ℕ) (s : State) (a b : View) (call : Call) (reply : Reply) → IsServed me s a → IsNext me a call now reply b → IsReplyOf (set_of s me) (front_of s me) me call now reply b
@@ -92,12 +92,17 @@ starts_served nodes me is =
           (record { stands = (empty_view_in nodes me is.some there).stands; counts = refl });
     }
 
--- What ended closed or cancelled
+-- What closes and what is cancelled
 
-pub shows_closed : (me : ℕ) (s : State) (a : View) (l : Id) → IsServed me s a → AnswersClosed me a l → ShowsClosed s me l
-shows_closed me s a l served (now, (b, inl closed)) = inl (shown me now s a b l l Closed served closed).1
-shows_closed me s a l served (now, (b, inr failed)) = inr (shown me now s a b l l FailedToClose served failed).1
+shows : (me : ℕ) (s : State) (a : View) (l : Id) (status : LraStatus) → IsServed me s a → Answers me a l status → shown_at s me l ≡ Ok status
+shows me s a l status served (now, (b, next)) = (shown me now s a b l l status served next).1
 
-pub shows_cancelled : (me : ℕ) (s : State) (a : View) (l : Id) → IsServed me s a → AnswersCancelled me a l → ShowsCancelled s me l
-shows_cancelled me s a l served (now, (b, inl cancelled)) = inl (shown me now s a b l l Cancelled served cancelled).1
-shows_cancelled me s a l served (now, (b, inr failed)) = inr (shown me now s a b l l FailedToCancel served failed).1
+pub shows_close : (me : ℕ) (s : State) (a : View) (l : Id) → IsServed me s a → AnswersClose me a l → ShowsClose s me l
+shows_close me s a l served (inl closing) = inl (shows me s a l Closing served closing)
+shows_close me s a l served (inr (inl closed)) = inr (inl (shows me s a l Closed served closed))
+shows_close me s a l served (inr (inr failed)) = inr (inr (shows me s a l FailedToClose served failed))
+
+pub shows_cancel : (me : ℕ) (s : State) (a : View) (l : Id) → IsServed me s a → AnswersCancel me a l → ShowsCancel s me l
+shows_cancel me s a l served (inl cancelling) = inl (shows me s a l Cancelling served cancelling)
+shows_cancel me s a l served (inr (inl cancelled)) = inr (inl (shows me s a l Cancelled served cancelled))
+shows_cancel me s a l served (inr (inr failed)) = inr (inr (shows me s a l FailedToCancel served failed))

@@ -8,16 +8,16 @@ use Rattle.lra_world.specs.Worlds.{Runs, State}
 use Rattle.lra_book.specs.Trails.{LeadsTo}
 use Rattle.lra_trail.specs.NodeTrails.{Follows, IsServed, WasSent, event_of}
 use Rattle.lra_trail.specs.Servers.{AnswersConverge, AreOneRun, AreServed, AreTrails, AreTurnReplies, TakeTurns, Turn, events_in, trail_at}
-use Rattle.lra_trail.proofs.Answering.{shows_cancelled, shows_closed}
+use Rattle.lra_trail.proofs.Answering.{shows_cancel, shows_close}
 use Rattle.lra_trail.proofs.Played.{IsMeant, converges, entry_meant}
 
-same_test : (n : ℕ) → (n == n) ≡ true
+pub same_test : (n : ℕ) → (n == n) ≡ true
 same_test n = grind (arith, nat_tests)
 
-same_node : (n k : ℕ) → (n == k) ≡ true → n ≡ k
+pub same_node : (n k : ℕ) → (n == k) ≡ true → n ≡ k
 same_node n k e = grind (arith, nat_tests)
 
-other_node : (n k : ℕ) → (n == k) ≡ false → n ≡ k → ⊥
+pub other_node : (n k : ℕ) → (n == k) ≡ false → n ≡ k → ⊥
 other_node n k e same = never (n == k) (ap (λ (m : ℕ). n == m) (sym same) ∙ same_test n) e
   where
     never : (b : Bool) → b ≡ true → b ≡ false → ⊥
@@ -110,7 +110,7 @@ answers_converge s t views ends turns trails =
     record {
       equal = λ one other took. (run.converges.agree one other took).view (ends one) (ends other) (run.served one took.one_node).holds (run.served other took.other_node).holds;
       cancelled_late = λ one other l before now closed cancelled.
-          whole.cancelled_late one other l before now (shows_closed one s (views one) l (trails.served one before) closed) (shows_cancelled other t (ends other) l (run.served other now) cancelled);
+          whole.cancelled_late one other l before now (shows_close one s (views one) l (trails.served one before) closed) (shows_cancel other t (ends other) l (run.served other now) cancelled);
       closed_late = λ one other l before now cancelled closed.
-          whole.closed_late one other l before now (shows_cancelled one s (views one) l (trails.served one before) cancelled) (shows_closed other t (ends other) l (run.served other now) closed);
+          whole.closed_late one other l before now (shows_cancel one s (views one) l (trails.served one before) cancelled) (shows_close other t (ends other) l (run.served other now) closed);
     }

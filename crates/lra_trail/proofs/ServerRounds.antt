@@ -1,8 +1,8 @@
 -- A trail counts what it took, and gives what it counted; so one round makes all servers alike.
-use Rattle.std.proofs.Common.{◌≡◌, inl, inr, ℕ, List, [], ◌∷◌, sym, ap, subst, ◌∙◌, arith, Bool, true, false, Option, Some, None, Result, Ok, Err, ◌+◌, length}
+use Rattle.std.proofs.Common.{◌≡◌, inl, inr, ℕ, List, [], ◌∷◌, sym, ap, subst, ◌∙◌, arith, Bool, true, false, Option, Some, None, Result, Ok, Err, ◌⊎◌, ◌≤◌, ◌+◌, length}
 use Rattle.std.specs.List.{list_any}
 use Rattle.std.specs.Option.{option_map_or}
-use Rattle.lra_id.specs.Fronts.{IsBelow, meet_fronts}
+use Rattle.lra_id.specs.Fronts.{IsBelow, count, meet_fronts}
 use Rattle.lra_id.specs.Ids.{Id}
 use Rattle.lra_facts.specs.declared.refusal.Refusal.{Refusal}
 use Rattle.lra_facts.specs.Lists.{In}
@@ -12,6 +12,7 @@ use Rattle.lra_facts.specs.declared.command.Command.{Command}
 use Rattle.lra_facts.specs.declared.command.Command.TheVariants.{Begin, Decide, Forgot, Join, Leave, Purge, Report, Told}
 use Rattle.lra_history.specs.Changes.{fresh_record, one_change, two_changes}
 use Rattle.lra_history.specs.Growth.{record_after}
+use Rattle.lra_history.specs.Histories.{entries_of}
 use Rattle.lra_history.specs.Next.{change_nested, change_on, change_record, changed, judge_on, next_fact_on, next_view, no_change, overdue_on, shown_on, view_by}
 use Rattle.lra_history.specs.Readings.{by_view}
 use Rattle.lra_history.specs.Replies.{Accepted, AlreadyKnown, Denied, Judgement}
@@ -31,10 +32,10 @@ use Rattle.lra_book.specs.declared.calls.Reply.TheVariants.{Gave, Took}
 use Rattle.lra_book.specs.Next.{IsNext, IsTakeReply, pull_reply, shows_so, view_expired, view_swept}
 use Rattle.lra_book.specs.Trails.{LeadsTo, entry}
 use Rattle.lra_progress.specs.Rounds.{all_counted, may_enter}
-use Rattle.lra_progress.proofs.AllCounted.{AllHear, counts_all, took_all}
+use Rattle.lra_progress.proofs.AllCounted.{AllHear, brings, counts_all, took_all}
 use Rattle.lra_progress.proofs.FramesEnterNothing.{run_same}
 use Rattle.lra_trail.specs.NodeTrails.{IsServed}
-use Rattle.lra_trail.specs.ServerRounds.{IsServerRound}
+use Rattle.lra_trail.specs.ServerRounds.{HasCall, IsServerRound}
 use Rattle.lra_trail.specs.Servers.{AreOneRun, AreTrails, Turn, events_in, trail_at}
 use Rattle.lra_trail.proofs.ManyServers.{answers_converge, one_run}
 
@@ -143,7 +144,12 @@ took_below me a (e ∷ es) b frame now (mid, next, legal) (inr later) = took_bel
 
 -- A round
 
-module _ (s t : State) (views ends : ℕ → View) (turns : List Turn) (trails : AreTrails s views turns t ends) (still : t.history ≡ s.history) (round : IsServerRound s turns) where
+-- what is told is counted at the end
+heard_below : (to : ℕ) (a : View) (turns : List Turn) (end : View) (frame : Frame) → LeadsTo to a (trail_at to turns) end → HasCall (trail_at to turns) (Take frame) Took ⊎ IsBelow frame.front end.front → IsBelow frame.front end.front
+heard_below to a turns end frame legal (inl took) = took_below to a (trail_at to turns) end frame took.0 legal took.1
+heard_below to a turns end frame legal (inr counts) = counts
+
+module _ (s t : State) (views ends : ℕ → View) (turns : List Turn) (trails : AreTrails s views turns t ends) (round : IsServerRound s turns ends) where
   run : AreOneRun s turns t ends
   run = one_run s t views ends turns trails
 
@@ -157,16 +163,22 @@ module _ (s t : State) (views ends : ℕ → View) (turns : List Turn) (trails :
   all_hear from to one other apart =
       let tells = round from to one other apart in
       let gave = gave_above from (views from) (trail_at from turns) (ends from) tells.asked tells.frame tells.gave.0 (trails.legal from one) tells.gave.1 in
-      let took = took_below to (views to) (trail_at to turns) (ends to) tells.frame tells.took.0 (trails.legal to other) tells.took.1 in
+      let took = heard_below to (views to) turns (ends to) tells.frame (trails.legal to other) tells.heard in
       subst (λ (v : List ℕ). IsBelow v (front_of t to)) (trails.served from one).holds.counts
       (subst (IsBelow (views from).front) (served to other).holds.counts (further (views from).front tells.frame.front (ends to).front gave took))
 
-  pub servers_count : (node : ℕ) → IsNode s node → (ends node).front ≡ all_counted t.history
-  servers_count node is = (served node is).holds.counts ∙ counts_all s t node trails.world kept still all_hear is
+  -- each node counts at the end what each had entered before
+  pub servers_bring : (node from : ℕ) → IsNode s node → IsNode s from → length (entries_of s.history from) ≤ count (ends node).front from
+  servers_bring node from is giver =
+      subst (λ (v : List ℕ). length (entries_of s.history from) ≤ count v from) (sym (served node is).holds.counts) (brings s t trails.world kept all_hear node from is giver)
 
-  pub servers_alike : (one other : ℕ) → IsNode s one → IsNode s other → ends one ≡ ends other
-  servers_alike one other is too =
-      (answers_converge s t views ends turns trails).equal one other (took_all s t one other trails.world kept still all_hear is too)
+  module _ (still : t.history ≡ s.history) where
+    pub servers_count : (node : ℕ) → IsNode s node → (ends node).front ≡ all_counted t.history
+    servers_count node is = (served node is).holds.counts ∙ counts_all s t node trails.world kept still all_hear is
+
+    pub servers_alike : (one other : ℕ) → IsNode s one → IsNode s other → ends one ≡ ends other
+    servers_alike one other is too =
+        (answers_converge s t views ends turns trails).equal one other (took_all s t one other trails.world kept still all_hear is too)
 
 -- without a command and a tick nothing is entered
 pub servers_quiet : (s t : State) (views ends : ℕ → View) (turns : List Turn) → AreTrails s views turns t ends → list_any may_enter (events_in turns) ≡ false → t.history ≡ s.history

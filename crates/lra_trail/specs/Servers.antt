@@ -1,7 +1,8 @@
 -- A server at each node of the world: nothing happens but their calls.
 use Rattle.std.specs.Prelude.{◌≡◌, ◌⊎◌, ◌==◌, ℕ, List, [], ◌∷◌, if◌then◌else◌}
 use Rattle.lra_id.specs.Ids.{Id}
-use Rattle.lra_id.specs.declared.status.LraStatus.TheVariants.{Cancelled, Closed, FailedToCancel, FailedToClose}
+use Rattle.lra_id.specs.declared.status.LraStatus.{LraStatus}
+use Rattle.lra_id.specs.declared.status.LraStatus.TheVariants.{Cancelled, Cancelling, Closed, Closing, FailedToCancel, FailedToClose}
 use Rattle.lra_history.specs.Views.{View}
 use Rattle.lra_world.specs.declared.event.Event.{Event}
 use Rattle.lra_world.specs.declared.event.Reply.{Reply}
@@ -64,22 +65,24 @@ pub record AreOneRun (s : State) (turns : List Turn) (t : State) (ends : ℕ →
 
 -- What servers answer
 
--- by its view a node answers of an LRA that it ended closed: by its own verdict it is Closed, or failed to be
-abbrev pub AnswersClosed : (node : ℕ) → View → Id → Type 0
-AnswersClosed node a l =
-    (now : ℕ) × ((b : View) × (IsNext node a (Status l) now (Shown l Closed) b ⊎ IsNext node a (Status l) now (Shown l FailedToClose) b))
+-- by its view a node answers that an LRA shows this
+abbrev pub Answers : (node : ℕ) → View → Id → LraStatus → Type 0
+Answers node a l status = (now : ℕ) × ((b : View) × IsNext node a (Status l) now (Shown l status) b)
 
--- or that it ended cancelled
-abbrev pub AnswersCancelled : (node : ℕ) → View → Id → Type 0
-AnswersCancelled node a l =
-    (now : ℕ) × ((b : View) × (IsNext node a (Status l) now (Shown l Cancelled) b ⊎ IsNext node a (Status l) now (Shown l FailedToCancel) b))
+-- that it is to close, or did, or failed to
+abbrev pub AnswersClose : (node : ℕ) → View → Id → Type 0
+AnswersClose node a l = Answers node a l Closing ⊎ Answers node a l Closed ⊎ Answers node a l FailedToClose
+
+-- that it is to be cancelled, or was, or failed to be
+abbrev pub AnswersCancel : (node : ℕ) → View → Id → Type 0
+AnswersCancel node a l = Answers node a l Cancelling ⊎ Answers node a l Cancelled ⊎ Answers node a l FailedToCancel
 
 -- What holds of the servers' answers, whatever was called between the views and those at the end. Two nodes that took the same
--- facts have equal views, so they answer the same. And of no LRA one node answers that it ended closed and one that it ended
--- cancelled, the one before and the other after, unless an LRA in which it is nested was cancelled
+-- facts have equal views, so they answer the same. And of no LRA one node answers that it closes and one that it is cancelled,
+-- the one before and the other after, unless an LRA in which it is nested was cancelled
 pub record AnswersConverge (s : State) (views : ℕ → View) (t : State) (ends : ℕ → View) : Type 0 where
   pub equal : (one other : ℕ) → TookTheSame t one other → ends one ≡ ends other
   pub cancelled_late : (one other : ℕ) (l : Id) → IsNode s one → IsNode t other →
-      AnswersClosed one (views one) l → AnswersCancelled other (ends other) l → IsAncestorCancelled t l
+      AnswersClose one (views one) l → AnswersCancel other (ends other) l → IsAncestorCancelled t l
   pub closed_late : (one other : ℕ) (l : Id) → IsNode s one → IsNode t other →
-      AnswersCancelled one (views one) l → AnswersClosed other (ends other) l → IsAncestorCancelled t l
+      AnswersCancel one (views one) l → AnswersClose other (ends other) l → IsAncestorCancelled t l

@@ -1,5 +1,7 @@
 //! Laws of a node in the world: each function does nothing, and its contract is the law.
+pub mod crashes;
 pub mod rounds;
+pub mod upgrades;
 
 ghost use Rattle.std.specs.Prelude.{◌≡◌, ◌≤◌, ◌⊎◌, ℕ, List, Ok, Some, length};
 ghost use Rattle.lra_id.specs.declared.TheConstants.{MAX_NODES};

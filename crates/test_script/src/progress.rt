@@ -90,9 +90,35 @@ const ONE_ROUND_AFTER_THREE_WAYS: [(&str, &str); 36] = [
     ("front 1", "front 4 1 3"),
 ];
 
+// The home alone calls, by its own set: another node shows Closing until it hears of the end.
+const ANOTHER_NODE_LAGS_BEHIND_THE_HOME: [(&str, &str); 13] = [
+    ("begin 1 0", "began 1.1"),
+    (
+        "join 1 1.1 compensate=http://p/c complete=http://p/k",
+        "joined 1",
+    ),
+    ("close 1 1.1", "Closing"),
+    ("send 1 0 0", "frame 1"),
+    ("deliver 1 2", "took"),
+    ("answer 1 1.1 1 complete 200", "Done reported"),
+    ("show 1 1.1", "Closed"),
+    ("show 2 1.1", "Closing"),
+    ("duties 1", "none"),
+    ("duties 2", "none"),
+    ("send 1 0 0", "frame 2"),
+    ("deliver 2 2", "took"),
+    ("show 2 1.1", "Closed"),
+];
+
 #[test]
 fn a_tree_and_its_duties(rt: HostRuntime) -> Result<(), Fail> {
     assert!(rt; plays(rt.alloc(), 1, &A_TREE_IS_ENDED_BY_ITS_DUTIES_ALONE)?);
+    Ok(())
+}
+
+#[test]
+fn what_another_node_shows(rt: HostRuntime) -> Result<(), Fail> {
+    assert!(rt; plays(rt.alloc(), 2, &ANOTHER_NODE_LAGS_BEHIND_THE_HOME)?);
     Ok(())
 }
 

@@ -1,25 +1,59 @@
 //! Laws of rounds: what servers hold once each has heard of each other.
-ghost use Rattle.std.specs.Prelude.{◌≡◌, ℕ, List, false};
+ghost use Rattle.std.specs.Prelude.{◌≡◌, ◌≤◌, ◌<◌, ◌+◌, ℕ, List, false, length};
 ghost use Rattle.std.specs.List.{list_any};
+ghost use Rattle.lra_id.specs.Fronts.{count};
+ghost use Rattle.lra_id.specs.Ids.{Id, last_number};
+ghost use Rattle.lra_id.specs.declared.TheConstants.{MAX_NODES};
+ghost use Rattle.lra_history.specs.Histories.{entries_of};
 ghost use Rattle.lra_history.specs.Views.{View};
 ghost use Rattle.lra_world.specs.Headline.{IsNode};
-ghost use Rattle.lra_world.specs.Worlds.{State};
+ghost use Rattle.lra_world.specs.Worlds.{IsWorld, State, front_of, nodes_of, set_of};
+ghost use Rattle.lra_progress.specs.CallRounds.{IsCallRound};
+ghost use Rattle.lra_progress.specs.Calls.{IsUnderWay, open_under, saga_of};
 ghost use Rattle.lra_progress.specs.Rounds.{all_counted, may_enter};
-ghost use Rattle.lra_trail.specs.ServerRounds.{IsServerRound};
-ghost use Rattle.lra_trail.specs.Servers.{AreTrails, Turn, events_in};
+ghost use Rattle.lra_trail.specs.ServerRounds.{FitIntoFrames, HasServerRound, IsServerRound};
+ghost use Rattle.lra_trail.specs.Servers.{AreServed, AreTrails, Turn, events_in};
 
-/// One round makes all servers alike. Each node of the world is a server. Nothing is entered in
-/// these turns, as where no command is accepted and no LRA expires, and in them each node gives
-/// each other a frame, which takes it. Then each node counts at the end all that was ever entered.
-/// So all hold one view.
+use lra_history::laws::rising::what_is_at_its_end_stays_there;
+use lra_progress::laws::{a_tree_goes_on_until_it_is_purged, what_is_under_way_can_be_ended};
+
+/// One round makes all servers alike. Each node of the world is a server. In these turns each node
+/// gives each other a frame, which takes it or counts already all that it counts: a server leaves
+/// out a frame of which nothing is new. Then each node counts at the end all that was entered
+/// before them, whatever is entered meanwhile (`brings`). Where nothing is, as where no command is
+/// accepted and no LRA expires, each counts all that was ever entered. So all hold one view.
 pub fn one_round_makes_all_servers_alike()
+    ensures brings { (s t : State) (views ends : ℕ → View) (turns : List Turn) (node from : ℕ) →
+        AreTrails s views turns t ends → IsServerRound s turns ends → IsNode s node →
+        IsNode s from → length (entries_of s.history from) ≤ count (ends node).front from }
     ensures all { (s t : State) (views ends : ℕ → View) (turns : List Turn) (node : ℕ) →
-        AreTrails s views turns t ends → t.history ≡ s.history → IsServerRound s turns →
+        AreTrails s views turns t ends → t.history ≡ s.history → IsServerRound s turns ends →
         IsNode s node → (ends node).front ≡ all_counted t.history }
     ensures alike { (s t : State) (views ends : ℕ → View) (turns : List Turn) (one other : ℕ) →
-        AreTrails s views turns t ends → t.history ≡ s.history → IsServerRound s turns →
+        AreTrails s views turns t ends → t.history ≡ s.history → IsServerRound s turns ends →
         IsNode s one → IsNode s other → ends one ≡ ends other }
     ensures quiet { (s t : State) (views ends : ℕ → View) (turns : List Turn) →
         AreTrails s views turns t ends → list_any may_enter (events_in turns) ≡ false →
         t.history ≡ s.history }
 {}
+
+/// A round of servers can be made from each state, where what the nodes hold fits into frames: each
+/// node is asked for a frame since nothing, and each takes them all.
+pub fn a_round_of_servers_can_be_made()
+    ensures { (s : State) (views : ℕ → View) → IsWorld s → AreServed s views →
+        nodes_of s ≤ MAX_NODES → FitIntoFrames s views → HasServerRound s views }
+{}
+
+/// A round of calls can be made from each state in which an LRA is under way: answers alone lead to
+/// where the end of each call to act under it was heard. The node needs so many numbers.
+pub fn a_round_of_calls_can_be_made()
+    ensures { (s : State) (node : ℕ) (l : Id) →
+        IsWorld s → IsNode s node → IsUnderWay (set_of s node) l →
+        count (front_of s node) node
+        + open_under (set_of s node) (saga_of (set_of s node) l) < last_number →
+        (t : State) × IsCallRound node l s t }
+{
+    a_tree_goes_on_until_it_is_purged();
+    what_is_at_its_end_stays_there();
+    what_is_under_way_can_be_ended();
+}

@@ -1,0 +1,28 @@
+-- What a participant is to be asked now, at a node of the world.
+use Rattle.std.specs.Prelude.{◌≡◌, ℕ, true}
+use Rattle.lra_id.specs.Ids.{Id}
+use Rattle.lra_id.specs.declared.outcome.Act.{Act}
+use Rattle.lra_callback.specs.declared.answer.Kind.{Kind}
+use Rattle.lra_callback.specs.declared.duty.Duty.{Duty}
+use Rattle.lra_callback.specs.CallDuties.{IsDuty}
+use Rattle.lra_world.specs.Worlds.{State, set_of}
+use Rattle.lra_progress.specs.Calls.{asks_to_act}
+
+-- the node is to make this call now, to the participant m of l
+pub record IsCallTo (s : State) (node : ℕ) (l : Id) (m : ℕ) (call : Duty) : Type 0 where
+  pub due : IsDuty node (set_of s node) call
+  pub lra : call.id ≡ l
+  pub member : call.member ≡ m
+
+-- it is to ask that participant for the act: to do it, or how far it is with that
+pub record IsAskedFor (s : State) (node : ℕ) (l : Id) (m : ℕ) (act : Act) : Type 0 where
+  pub call : Duty
+  pub due : IsCallTo s node l m call
+  pub asks : asks_to_act call.kind ≡ true
+  pub acts : call.act ≡ act
+
+-- it is to make a call of this kind to that participant
+pub record IsCalledTo (s : State) (node : ℕ) (l : Id) (m : ℕ) (kind : Kind) : Type 0 where
+  pub call : Duty
+  pub due : IsCallTo s node l m call
+  pub so : call.kind ≡ kind

@@ -1,0 +1,62 @@
+//! Laws of what a participant is asked: what one who writes a service may rely on. By the clause
+//! `listed` a call is due just where the home lists it.
+ghost use Rattle.std.specs.Prelude.{◌≡◌, ◌↔◌, ℕ, List, false, true};
+ghost use Rattle.lra_id.specs.Ids.{Id};
+ghost use Rattle.lra_id.specs.declared.outcome.Act.{Act as TheAct};
+ghost use Rattle.lra_id.specs.declared.outcome.Act.TheVariants.{Compensate, Complete};
+ghost use Rattle.lra_facts.specs.Duties.{is_pending};
+ghost use Rattle.lra_facts.specs.Lists.{In};
+ghost use Rattle.lra_facts.specs.Sets.{heard, is_root};
+ghost use Rattle.lra_history.specs.Views.{View};
+ghost use Rattle.lra_callback.specs.declared.answer.Kind.TheVariants.{After, Forget};
+ghost use Rattle.lra_callback.specs.declared.duty.Duty.{Duty};
+ghost use Rattle.lra_callback.specs.CallDuties.{IsDuty};
+ghost use Rattle.lra_callback.specs.ViewDuties.{duties_of};
+ghost use Rattle.lra_world.specs.declared.event.Event.{Event};
+ghost use Rattle.lra_world.specs.declared.event.Reply.{Reply};
+ghost use Rattle.lra_world.specs.Headline.{IsAncestorCancelled, IsNode};
+ghost use Rattle.lra_world.specs.Worlds.{IsViewOf, IsWorld, Runs, State, front_of, set_of};
+ghost use Rattle.lra_progress.specs.Asked.{IsAskedFor, IsCalledTo};
+
+/// What a participant is asked goes one way, whatever happens. Once it was to be asked to
+/// compensate, no node is to ask it to complete. Once a node heard the end of an act, that node
+/// doesn't ask for the act again. Once it was to be called to forget, or to hear of the end, it is
+/// asked for no act any more.
+pub fn what_is_asked_goes_one_way()
+    ensures compensated { (s t : State) (events : List Event) (replies : List Reply)
+        (one other : ℕ) (l : Id) (m : ℕ) → IsWorld s → Runs s events replies t → IsNode s one →
+        IsNode t other → IsAskedFor s one l m Compensate → IsAskedFor t other l m Complete → ⊥ }
+    ensures ended { (s t : State) (events : List Event) (replies : List Reply)
+        (node : ℕ) (l : Id) (m : ℕ) (act : TheAct) → IsWorld s → Runs s events replies t →
+        IsNode s node → is_pending (heard (set_of s node) l m act) ≡ false →
+        IsAskedFor t node l m act → ⊥ }
+    ensures forgets { (s t : State) (events : List Event) (replies : List Reply)
+        (node : ℕ) (l : Id) (m : ℕ) (act : TheAct) → IsWorld s → Runs s events replies t →
+        IsNode s node → IsCalledTo s node l m Forget → IsAskedFor t node l m act → ⊥ }
+    ensures hears { (s t : State) (events : List Event) (replies : List Reply)
+        (node : ℕ) (l : Id) (m : ℕ) (act : TheAct) → IsWorld s → Runs s events replies t →
+        IsNode s node → IsCalledTo s node l m After → IsAskedFor t node l m act → ⊥ }
+{}
+
+/// A participant is asked for both acts only where an LRA above its own was cancelled, and then to
+/// complete first, by the clause `compensated`. So one of a root is asked for one of the two only.
+pub fn both_acts_are_asked_only_so()
+    ensures above { (s t : State) (events : List Event) (replies : List Reply)
+        (one other : ℕ) (l : Id) (m : ℕ) → IsWorld s → Runs s events replies t →
+        IsNode s one → IsNode t other → IsAskedFor s one l m Complete →
+        IsAskedFor t other l m Compensate → IsAncestorCancelled t l }
+    ensures root { (s t : State) (events : List Event) (replies : List Reply)
+        (one other : ℕ) (l : Id) (m : ℕ) → IsWorld s → Runs s events replies t →
+        IsNode s one → IsNode t other → is_root (set_of s one) l ≡ true →
+        IsAskedFor s one l m Complete → IsAskedFor t other l m Compensate → ⊥ }
+{}
+
+/// A call is due at a node just where the list that the node makes of its view has it. It is one to
+/// a participant of an LRA of that node: its home.
+pub fn a_call_is_listed_where_it_is_due()
+    ensures listed { (s : State) (node : ℕ) (view : View) (call : Duty) →
+        IsWorld s → IsNode s node → IsViewOf s.history (front_of s node) view →
+        In call (duties_of view node) ↔ IsDuty node (set_of s node) call }
+    ensures home { (s : State) (node : ℕ) (call : Duty) →
+        IsDuty node (set_of s node) call → call.id.home ≡ node }
+{}

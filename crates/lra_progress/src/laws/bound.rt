@@ -1,0 +1,62 @@
+//! A bound in rounds of calls: everyone who is to act is called at once, and gives an end. Time is
+//! not spoken of: a round is as long as the slowest answer.
+ghost use Rattle.std.specs.Prelude.{◌≡◌, ◌≤◌, ◌-◌, ℕ, List, Some, length, true};
+ghost use Rattle.lra_id.specs.Ids.{Id};
+ghost use Rattle.lra_id.specs.declared.outcome.Verdict.{Verdict as TheVerdict};
+ghost use Rattle.lra_id.specs.declared.outcome.Verdict.TheVariants.{Close};
+ghost use Rattle.lra_facts.specs.Duties.{topmost_cancelled};
+ghost use Rattle.lra_facts.specs.Sets.{is_ended, is_root, is_under, want};
+ghost use Rattle.lra_world.specs.Headline.{IsNode};
+ghost use Rattle.lra_world.specs.Worlds.{IsWorld, State, set_of};
+ghost use Rattle.lra_progress.specs.Calls.{open_under, saga_of};
+ghost use Rattle.lra_progress.specs.CallRounds.{GoInRounds, IsCallRound, compensations_left};
+ghost use Rattle.lra_progress.specs.Ends.{last_state};
+
+/// A decided tree ends in as many rounds as it has participants to compensate, and in one round
+/// where it has none. Those that complete all do so in the first round; compensations go one after
+/// another at worst. It counts those that are open at the start.
+pub fn a_decided_tree_ends_in_so_many_rounds()
+    ensures ends { (s : State) (ts : List State)
+        (node : ℕ) (root : Id) (verdict : TheVerdict) → IsWorld s → IsNode s node →
+        is_root (set_of s node) root ≡ true → want (set_of s node) root ≡ Some verdict →
+        GoInRounds node root s ts → 1 ≤ length ts →
+        compensations_left (set_of s node) root ≤ length ts →
+        is_ended (set_of (last_state s ts) node) root ≡ true }
+    ensures falls { (s t : State) (node : ℕ) (root : Id) (verdict : TheVerdict) →
+        IsWorld s → IsNode s node → is_root (set_of s node) root ≡ true →
+        want (set_of s node) root ≡ Some verdict → IsCallRound node root s t →
+        open_under (set_of t node) root ≤ compensations_left (set_of s node) root - 1 }
+    ensures few { (s : State) (node : ℕ) (l : Id) →
+        compensations_left (set_of s node) l ≤ open_under (set_of s node) l }
+{}
+
+/// So does each LRA that waits for none but those under itself, and still does at the end: no LRA
+/// above it was cancelled meanwhile. One that is to close is such a one, as long as it is to close.
+pub fn a_saga_ends_in_so_many_rounds()
+    ensures alone { (s : State) (ts : List State)
+        (node : ℕ) (l : Id) (verdict : TheVerdict) → IsWorld s → IsNode s node →
+        want (set_of s node) l ≡ Some verdict →
+        want (set_of (last_state s ts) node) l ≡ Some verdict →
+        saga_of (set_of (last_state s ts) node) l ≡ l → GoInRounds node l s ts → 1 ≤ length ts →
+        compensations_left (set_of s node) l ≤ length ts →
+        is_ended (set_of (last_state s ts) node) l ≡ true }
+    ensures closing { (s : State) (ts : List State) (node : ℕ) (l : Id) → IsWorld s →
+        IsNode s node → want (set_of s node) l ≡ Some Close →
+        want (set_of (last_state s ts) node) l ≡ Some Close → GoInRounds node l s ts →
+        1 ≤ length ts → compensations_left (set_of s node) l ≤ length ts →
+        is_ended (set_of (last_state s ts) node) l ≡ true }
+{}
+
+/// Sagas go side by side: a decided tree ends in as many rounds as its longest saga has
+/// participants to compensate. A saga is all under an LRA that is the topmost cancelled one of its
+/// chain. Where there is none, one round is enough.
+pub fn a_decided_tree_ends_with_its_longest_saga()
+    ensures { (s : State) (ts : List State)
+        (node : ℕ) (root : Id) (verdict : TheVerdict) → IsWorld s → IsNode s node →
+        is_root (set_of s node) root ≡ true → want (set_of s node) root ≡ Some verdict →
+        GoInRounds node root s ts → 1 ≤ length ts →
+        ((top : Id) → is_under (set_of s node) root top ≡ true →
+        topmost_cancelled (set_of s node) top ≡ Some top →
+        compensations_left (set_of s node) top ≤ length ts) →
+        is_ended (set_of (last_state s ts) node) root ≡ true }
+{}

@@ -1,0 +1,84 @@
+-- Servers that are killed: beside their turns, calls whose answers are lost.
+use Rattle.std.specs.Prelude.{◌≡◌, ◌⊎◌, ◌==◌, ℕ, List, [], ◌∷◌, if◌then◌else◌}
+use Rattle.lra_history.specs.Views.{View}
+use Rattle.lra_world.specs.Headline.{IsNode}
+use Rattle.lra_world.specs.Worlds.{IsWorld, State}
+use Rattle.lra_book.specs.declared.calls.Call.{Call}
+use Rattle.lra_book.specs.declared.calls.Reply.{Reply}
+use Rattle.lra_book.specs.Next.{IsFoundBehind, IsNext}
+use Rattle.lra_book.specs.Trails.{entry}
+use Rattle.lra_trail.specs.NodeTrails.{Arrival, Follows, IsReplied, IsServed, WasSent, event_of}
+use Rattle.lra_trail.specs.Servers.{AreServed, Turn}
+
+-- a call whose answer nobody hears, since its node stops in it: what was asked, with the frame that came where it takes one, and the
+-- view that the node's next start finds
+pub record LostCall : Type 0 where
+  pub node : ℕ
+  pub asked : Call
+  pub moment : ℕ
+  pub frame : Arrival
+  pub found : View
+
+abbrev pub lost_call : (node : ℕ) → Call → (now : ℕ) → (frame : Arrival) → (found : View) → LostCall
+lost_call node asked now frame found = record { node = node; asked = asked; moment = now; frame = frame; found = found }
+
+-- what happens next: a turn, or a lost call
+pub data Happening : Type 0 where
+  Heard : Turn → Happening
+  Lost : LostCall → Happening
+
+-- A lost call can come next at a node with the view a: its start finds that, or the view of a reply, whose frame was sent if it takes
+-- one. A start finds nothing else, by a law of lra_book
+pub record CanBeLost (s : State) (a : View) (lost : LostCall) : Type 0 where
+  pub node : IsNode s lost.node
+  pub behind : IsFoundBehind lost.node a lost.asked lost.moment lost.found
+  pub sent : (reply : Reply) → IsNext lost.node a lost.asked lost.moment reply lost.found → WasSent s lost.frame lost.asked reply
+
+-- the world goes on as before the call, or as its entry's event leaves it; and the node is served by what was found
+pub record GoesOn (s : State) (a : View) (lost : LostCall) (t : State) : Type 0 where
+  pub moved : (t ≡ s) ⊎ IsReplied lost.node s a lost.asked lost.moment lost.frame lost.found t
+  pub served : IsServed lost.node t lost.found
+
+-- an entry can come next at a node with the view a, and leads to the view b
+pub record CanBeHeard (s : State) (a : View) (turn : Turn) (b : View) : Type 0 where
+  pub node : IsNode s turn.node
+  pub next : IsNext turn.node a turn.entry.call turn.entry.moment turn.entry.reply b
+  pub sent : WasSent s turn.frame turn.entry.call turn.entry.reply
+
+-- the node at which it happens
+abbrev pub place_of : Happening → ℕ
+place_of (Heard turn) = turn.node
+place_of (Lost lost) = lost.node
+
+-- at its node it leads from state s and the view a to state t and the view b
+abbrev pub Happens : State → (a : View) → Happening → State → (b : View) → Type 0
+Happens s a (Heard turn) t b = CanBeHeard s a turn b × Follows s (event_of turn.node turn.frame turn.entry) t
+Happens s a (Lost lost) t b = CanBeLost s a lost × GoesOn s a lost t × (b ≡ lost.found)
+
+-- the view of one node is another
+abbrev pub with_view : (views : ℕ → View) → ℕ → View → (ℕ → View)
+with_view views node next k = if node == k then next else views k
+
+-- all this happens from state s and these views on, and leads to state t, in which the nodes have the views of the end
+abbrev pub HappenAll : State → (views : ℕ → View) → List Happening → State → (ends : ℕ → View) → Type 0
+HappenAll s views [] t ends = (t ≡ s) × ((node : ℕ) → IsNode s node → ends node ≡ views node)
+HappenAll s views (first ∷ rest) t ends =
+    (mid : State) × ((next : View) × Happens s (views (place_of first)) first mid next
+    × HappenAll mid (with_view views (place_of first) next) rest t ends)
+
+-- a server at each node of the world, any of which may be killed at any time
+pub record AreTrailsWithCrashes (s : State) (views : ℕ → View) (happened : List Happening) (t : State) (ends : ℕ → View) : Type 0 where
+  pub world : IsWorld s
+  pub served : AreServed s views
+  pub happen : HappenAll s views happened t ends
+
+-- the lost call as a turn, as if it had been answered so
+abbrev pub turn_of : LostCall → Reply → Turn
+turn_of lost reply = record { node = lost.node; entry = entry lost.asked lost.moment reply; frame = lost.frame }
+
+-- the turns are those that were answered, in their order; and a lost call is none among them, or is there with some reply
+abbrev pub Keeps : List Happening → (turns : List Turn) → Type 0
+Keeps [] turns = turns ≡ []
+Keeps (Heard turn ∷ happened) turns = (rest : List Turn) × (turns ≡ turn ∷ rest) × Keeps happened rest
+Keeps (Lost lost ∷ happened) turns =
+    Keeps happened turns ⊎ ((reply : Reply) × ((rest : List Turn) × (turns ≡ turn_of lost reply ∷ rest) × Keeps happened rest))

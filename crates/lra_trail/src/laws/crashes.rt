@@ -1,0 +1,197 @@
+//! Laws of servers that are killed: calls are lost, and starts find what was stored.
+ghost use Rattle.std.specs.Prelude.{◌≡◌, ◌≤◌, ◌⊎◌, ℕ, List, [], ◌∷◌, ◌++◌, false, length, true};
+ghost use Rattle.sqlite.specs.Held.{Held};
+ghost use Rattle.sqlite.specs.Tree.{Trees};
+ghost use Rattle.lra_id.specs.declared.TheConstants.{MAX_NODES};
+ghost use Rattle.lra_id.specs.Fronts.{IsBelow};
+ghost use Rattle.lra_id.specs.Ids.{Id};
+ghost use Rattle.lra_id.specs.declared.outcome.Act.TheVariants.{Compensate};
+ghost use Rattle.lra_facts.specs.declared.command.Command.{Command};
+ghost use Rattle.lra_facts.specs.declared.fact.Fact.{Fact};
+ghost use Rattle.lra_facts.specs.Lists.{In};
+ghost use Rattle.lra_facts.specs.Sets.{is_held};
+ghost use Rattle.lra_history.specs.Growth.{IsSettled};
+ghost use Rattle.lra_history.specs.Histories.{History, IsClosed, IsLawful, facts};
+ghost use Rattle.lra_history.specs.Replies.{body_for};
+ghost use Rattle.lra_history.specs.Views.{View};
+ghost use Rattle.lra_callback.specs.declared.duty.Duty.{Duty};
+ghost use Rattle.lra_callback.specs.CallDuties.{IsDuty};
+ghost use Rattle.lra_callback.specs.ViewDuties.{duties_of};
+ghost use Rattle.lra_world.specs.declared.event.Event.{Event};
+ghost use Rattle.lra_world.specs.declared.event.Reply.{Reply};
+ghost use Rattle.lra_world.specs.Headline.{IsNode};
+ghost use Rattle.lra_world.specs.Worlds.{IsWorld, Runs, State, set_of};
+ghost use Rattle.lra_progress.specs.Calls.{IsActUnder};
+ghost use Rattle.lra_journal.specs.Ruled.{AreTyped};
+ghost use Rattle.lra_book.specs.Books.{AreRuled, BookState, IsBook, IsStartedBehind};
+ghost use Rattle.lra_book.specs.declared.calls.Call.{Call as TheCall};
+ghost use Rattle.lra_book.specs.declared.calls.Call.TheVariants.{Command as Enter};
+ghost use Rattle.lra_book.specs.declared.calls.Entry.{Entry};
+ghost use Rattle.lra_book.specs.declared.calls.Reply.{Reply as BookReply};
+ghost use Rattle.lra_book.specs.Next.{IsNext};
+ghost use Rattle.lra_trail.specs.Crashes.{AreTrailsWithCrashes, CanBeHeard, CanBeLost, GoesOn, Happening, Heard, Keeps, Lost, LostCall, lost_call, with_view};
+ghost use Rattle.lra_trail.specs.LastingCalls.{HasToCompensate, IsDone, IsEnded, IsEndedOrWaits, IsKept, IsNotLost, IsOvertaken, IsStillDue, IsToCompensate, ends_call};
+ghost use Rattle.lra_trail.specs.NodeTrails.{Arrival, Here, IsPlayed, IsServed, WasSent};
+ghost use Rattle.lra_trail.specs.Servers.{AnswersConverge, AreOneRun, AreServed, AreTrails, Turn};
+
+use crate::laws::what_a_node_holds_keeps_the_rules;
+use lra_book::laws::a_start_finds_the_records_before_or_after;
+use lra_history::laws::rising::what_is_at_its_end_stays_there;
+use lra_progress::laws::{a_tree_goes_on_until_it_is_purged, nothing_is_stuck};
+use sqlite::Alter;
+
+/// Servers that are killed are servers that are not. At each node of the world is a server, and any
+/// may stop in any call, whose answer is lost; its next start finds the view before the call or
+/// behind it. Then all that happened is one run without a stop. It has each turn that was answered,
+/// in order, and each lost call is in it with some reply, or isn't. So the headline holds of what
+/// the servers answer. And the definition isn't empty: it holds of nothing that happened, and goes
+/// on with each turn and each lost call that can come next, as from each lost call the world does.
+pub fn servers_with_crashes_are_one_world()
+    ensures trails { (s t : State) (views ends : ℕ → View) (happened : List Happening) →
+        AreTrailsWithCrashes s views happened t ends →
+        (turns : List Turn) × Keeps happened turns × AreTrails s views turns t ends }
+    ensures run { (s t : State) (views ends : ℕ → View) (happened : List Happening) →
+        AreTrailsWithCrashes s views happened t ends →
+        (turns : List Turn) × Keeps happened turns × AreOneRun s turns t ends }
+    ensures answers { (s t : State) (views ends : ℕ → View) (happened : List Happening) →
+        AreTrailsWithCrashes s views happened t ends → AnswersConverge s views t ends }
+    ensures goes_on { (s : State) (a : View) (lost : LostCall) →
+        IsServed lost.node s a → CanBeLost s a lost → (t : State) × GoesOn s a lost t }
+    ensures begins { (s : State) (views : ℕ → View) →
+        IsWorld s → AreServed s views → AreTrailsWithCrashes s views [] s views }
+    ensures turn { (s t : State) (views ends : ℕ → View)
+        (happened : List Happening) (turn : Turn) (b : View) →
+        AreTrailsWithCrashes s views happened t ends → CanBeHeard t (ends turn.node) turn b →
+        (u : State) × AreTrailsWithCrashes s views
+        (happened ++ Heard turn ∷ []) u (with_view ends turn.node b) }
+    ensures crash { (s t : State) (views ends : ℕ → View)
+        (happened : List Happening) (lost : LostCall) →
+        AreTrailsWithCrashes s views happened t ends → CanBeLost t (ends lost.node) lost →
+        (u : State) × AreTrailsWithCrashes s views
+        (happened ++ Lost lost ∷ []) u (with_view ends lost.node lost.found) }
+{}
+
+/// A stop in a call is a lost call. The node's book kept the view of what the node holds, and it was
+/// stopped in a call, or its journal failed there. A start then finds rows that a stop may leave, by
+/// the clauses of the journal and of the book. What they stand for is what the next start of a lost
+/// call finds. That a frame of the call was sent is left to ask, and that the views keep the rules
+/// of rows; they do where the node's records and those behind the call have the types of records.
+pub fn a_stop_in_a_call_is_a_lost_call<S: Alter>()
+    ensures lost { (s : State) (old : BookState S) (asked : TheCall)
+        (now : ℕ) (frame : Arrival) (left : Held S) (db : Trees) (found : View) →
+        IsServed old.me s old.records → IsBook S.Store old → AreRuled old asked now →
+        IsStartedBehind S.Store old asked now left db found →
+        ((reply : BookReply) →
+        IsNext old.me old.records asked now reply found → WasSent s frame asked reply) →
+        CanBeLost s old.records (lost_call old.me asked now frame found) }
+    ensures ruled { (s : State) (old : BookState S) (asked : TheCall) (now : ℕ) (frame : Arrival) →
+        IsServed old.me s old.records → length old.records.front ≤ MAX_NODES →
+        AreTyped old.records →
+        ((reply : BookReply) (b : View) → IsNext old.me old.records asked now reply b →
+        WasSent s frame asked reply × (length b.front ≤ MAX_NODES) × AreTyped b) →
+        AreRuled old asked now }
+{
+    a_start_finds_the_records_before_or_after::<S>();
+    what_a_node_holds_keeps_the_rules();
+}
+
+/// A turn that can come makes a trail: alone at its node, or of all servers. So what is said of
+/// trails is said of something.
+pub fn a_turn_that_can_come_is_a_trail()
+    ensures played { (me : ℕ) (s : State) (a b : View) (entry : Entry) (frame : Arrival) →
+        IsServed me s a → IsNext me a entry.call entry.moment entry.reply b →
+        WasSent s frame entry.call entry.reply →
+        (t : State) × IsPlayed me s a (Here entry frame ∷ []) t b }
+    ensures trails { (s : State) (views : ℕ → View) (turn : Turn) (b : View) →
+        AreServed s views → CanBeHeard s (views turn.node) turn b →
+        (t : State) × AreTrails s views (turn ∷ []) t (with_view views turn.node b) }
+{}
+
+/// No crash loses a compensation. A participant is to compensate at its LRA's home, now or when its
+/// turn comes. Whatever servers do, and however often they are killed: its end was heard, or it is to
+/// compensate still, and one of its saga is on the home's list of calls. A home purges no tree before.
+/// So it is for one that was on the list itself where its home is killed in one call: by what the next
+/// start finds it is on the list still, or its end was heard, or it waits so in its saga, which a
+/// cancel above made greater.
+pub fn no_crash_loses_a_compensation()
+    ensures each { (s t : State) (views ends : ℕ → View)
+        (happened : List Happening) (node : ℕ) (l : Id) (m : ℕ) →
+        AreTrailsWithCrashes s views happened t ends → IsNode s node →
+        l.home ≡ node → HasToCompensate (set_of s node) l m →
+        IsEndedOrWaits node (set_of t node) (ends node) l m }
+    ensures lost { (s t : State) (a : View) (lost : LostCall) (call : Duty) →
+        IsServed lost.node s a → GoesOn s a lost t →
+        In call (duties_of a lost.node) → IsToCompensate call →
+        IsNotLost lost.node (set_of t lost.node) lost.found call }
+    ensures servers { (s t : State) (views ends : ℕ → View)
+        (happened : List Happening) (node : ℕ) (call : Duty) →
+        AreTrailsWithCrashes s views happened t ends → IsNode s node →
+        In call (duties_of (views node) node) → IsToCompensate call →
+        IsNotLost node (set_of t node) (ends node) call }
+{
+    nothing_is_stuck();
+    what_is_at_its_end_stays_there();
+}
+
+/// No call is lost. A call that was due is due still; or it was answered, or its LRA was
+/// purged; or a cancel overtook it, as an LRA above all those was cancelled that had been. A
+/// completion isn't called then. A compensation is still to be made: it waits in the greater saga,
+/// of which somebody is to be called now. So it is of two closed sets of one history, the one inside
+/// the other; at each node of the world, whatever happens; of servers that are killed; and of one
+/// lost call.
+pub fn no_call_is_lost()
+    ensures sets { (h : History) (v w : List ℕ) (home : ℕ) (call : Duty) →
+        IsLawful h → IsClosed h v → IsClosed h w → IsBelow v w →
+        IsDuty home (facts h v) call → IsKept home (facts h v) (facts h w) call }
+    ensures world { (s t : State) (events : List Event) (replies : List Reply)
+        (node : ℕ) (call : Duty) → IsWorld s → Runs s events replies t → IsNode s node →
+        IsDuty node (set_of s node) call → IsKept node (set_of s node) (set_of t node) call }
+    ensures servers { (s t : State) (views ends : ℕ → View)
+        (happened : List Happening) (node : ℕ) (call : Duty) →
+        AreTrailsWithCrashes s views happened t ends → IsNode s node →
+        In call (duties_of (views node) node) → IsKept node (set_of s node) (set_of t node) call }
+    ensures lost { (s t : State) (a : View) (lost : LostCall) (call : Duty) →
+        IsServed lost.node s a → GoesOn s a lost t → In call (duties_of a lost.node) →
+        IsKept lost.node (set_of s lost.node) (set_of t lost.node) call }
+    ensures waits { (S T : List Fact) (call : Duty) → IsSettled T → (o : IsOvertaken S T call) →
+        call.act ≡ Compensate → (next : Duty) × IsActUnder T o.top next }
+{
+    nothing_is_stuck();
+    what_is_at_its_end_stays_there();
+}
+
+/// Only its answer, a cancel or a purge ends a call. What was due is due still, unless a fact was
+/// entered since that ends it: the answer to it, a purge of an LRA of its chain or, where it asks to
+/// act, a cancel of one. So it is of two closed sets, and of servers that are killed. A lost command
+/// ends a call only by its own fact: each other call is due still.
+pub fn only_an_answer_a_cancel_or_a_purge_ends_a_call()
+    ensures sets { (h : History) (v w : List ℕ) (home : ℕ) (call : Duty) →
+        IsLawful h → IsClosed h v → IsClosed h w → IsBelow v w → IsDuty home (facts h v) call →
+        IsStillDue home (facts h w) call ⊎ IsEnded (facts h v) (facts h w) call }
+    ensures servers { (s t : State) (views ends : ℕ → View)
+        (happened : List Happening) (node : ℕ) (call : Duty) →
+        AreTrailsWithCrashes s views happened t ends → IsNode s node →
+        In call (duties_of (views node) node) →
+        IsStillDue node (set_of t node) call ⊎ IsEnded (set_of s node) (set_of t node) call }
+    ensures lost { (s t : State) (a : View) (lost : LostCall) (c : Command) (call : Duty) →
+        IsServed lost.node s a → GoesOn s a lost t →
+        lost.asked ≡ Enter c → In call (duties_of a lost.node) →
+        IsStillDue lost.node (set_of t lost.node) call
+        ⊎ (ends_call (set_of t lost.node) call (body_for (set_of s lost.node) c) ≡ true) }
+{
+    what_is_at_its_end_stays_there();
+}
+
+/// A purge loses no call. Where an LRA was purged at its home since a call to one of its participants
+/// was on the home's list, the call was answered before; or it asked to complete, and the LRA was
+/// cancelled before.
+pub fn a_purge_loses_no_call()
+    ensures { (s t : State) (views ends : ℕ → View)
+        (happened : List Happening) (node : ℕ) (call : Duty) →
+        AreTrailsWithCrashes s views happened t ends → IsNode s node →
+        In call (duties_of (views node) node) →
+        is_held (set_of t node) call.id ≡ false → IsDone (set_of t node) call }
+{
+    a_tree_goes_on_until_it_is_purged();
+    what_is_at_its_end_stays_there();
+}
