@@ -1,0 +1,10 @@
+mod FoundFields
+mod GivenLinks
+mod OneAnswer
+mod OneBody
+mod OneMore
+mod OwnIds
+mod Parts
+mod Shorts
+mod StatusNames
+mod Targets

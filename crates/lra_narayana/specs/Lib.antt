@@ -1,0 +1,10 @@
+pub mod Carrying
+pub mod Chunks
+pub mod Framings
+pub mod Kinds
+pub mod Links
+pub mod Naming
+pub mod Opening
+pub mod Repeats
+pub mod Saying
+pub mod Seals

@@ -1,0 +1,36 @@
+-- Which calls of a node are made again, after what came of them.
+use Rattle.std.specs.Prelude.{⊤, Bool, true, false}
+use Rattle.lra_narayana.specs.declared.repeat.Came.{Came}
+use Rattle.lra_narayana.specs.declared.repeat.Came.TheVariants as came
+use Rattle.lra_narayana.specs.declared.repeat.Repeat.{Repeat}
+use Rattle.lra_narayana.specs.declared.repeat.Repeat.TheVariants as calls
+
+-- a node may have acted on the call
+abbrev pub MayBeMade : Came → Type 0
+MayBeMade came.DidNothing = ⊥
+MayBeMade came.Unsure = ⊤
+MayBeMade came.Answered = ⊤
+MayBeMade came.Unsent = ⊥
+MayBeMade came.Unheard = ⊤
+MayBeMade came.NoMemory = ⊥
+
+-- one that was not sent is sent, but a begin, which goes to another node
+abbrev pub is_again_unsent : Repeat → Bool
+is_again_unsent calls.Never = false
+is_again_unsent calls.Unsent = true
+is_again_unsent calls.Always = true
+
+-- one that may have been made is made again if that does no harm
+abbrev pub is_harmless : Repeat → Bool
+is_harmless calls.Never = false
+is_harmless calls.Unsent = false
+is_harmless calls.Always = true
+
+-- a call that came to this is made again
+abbrev pub is_again : Came → Repeat → Bool
+is_again came.DidNothing repeat = true
+is_again came.Unsure repeat = is_harmless repeat
+is_again came.Answered repeat = false
+is_again came.Unsent repeat = is_again_unsent repeat
+is_again came.Unheard repeat = is_harmless repeat
+is_again came.NoMemory repeat = false

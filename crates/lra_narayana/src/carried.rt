@@ -1,0 +1,265 @@
+// Links that carry a participant's own, sealed: http://VIA/KSEAL/REST.
+ghost use Rattle.std.specs.Prelude.{◌≡◌, ◌≢◌, ◌≤◌, ◌+◌, ◌++◌, ℕ, List, IfErr, IfOk, IfSome, MatchOption, None, Some, Err, ◌∷◌, length, option_map, string_bytes};
+ghost use Rattle.url.specs.Parts.{Parts, serialize};
+ghost use Rattle.lra_narayana.specs.Kinds.{query_text};
+ghost use Rattle.lra_narayana.specs.Opening.{IsOpened};
+ghost use Rattle.lra_narayana.specs.Carrying.{Carries, IsCarrying, IsOwn, IsWritten, address_of, host_for, is_plain};
+ghost use Rattle.lra_narayana.specs.declared.kind.Kind.{Kind};
+ghost use Rattle.lra_narayana.specs.declared.kind.Query.TheVariants.{Own, Jakarta, Javax};
+ghost use Rattle.lra_narayana.specs.declared.carried.TheConstants.{MOST_LINK};
+ghost use Rattle.lra_narayana.specs.declared.carried.Uncarried.TheVariants as uncarried;
+
+use crate::seal::{Key, is_same, seal_of};
+use crate::short::{Short, behind, shortened, spelled};
+use crate::{Kind, Query};
+use lra_id::LraId;
+use sha2::{Digest, Sha256};
+use std::alloc::{AllocError, Global};
+use url::{ParseError, Position, Url};
+
+/// The most bytes of a link that a node keeps.
+pub const MOST_LINK: usize = 127;
+
+/// How many bytes stand between two slashes at the front of a target: the letter, and the eight of
+/// the seal.
+const HEAD: usize = 9;
+
+/// Where nodes reach the gateway.
+#[derive(Drop)]
+pub struct Via {
+    /// The host, or none where each host of participants has an address of its own of the loopback
+    /// interface, since a node gives each host its turn.
+    pub host: Option<String>,
+    pub port: u16,
+}
+
+/// Why a link isn't carried.
+#[derive(Clone, Copy, PartialEq, Eq, Debug)]
+pub enum Uncarried {
+    /// Memory ran out.
+    NoMemory,
+    /// It is no URL, or none at which a participant can be called.
+    Unfit,
+    /// The carried link would have this many bytes more than 127.
+    TooLong(usize),
+    /// The short forms are ambiguous, or `url` would write the carried link otherwise than it stands.
+    Unwritten,
+}
+
+/// A participant's link, as it was carried.
+#[derive(Drop)]
+pub struct Opened {
+    pub kind: Kind,
+    /// As `url` writes it.
+    pub link: String,
+}
+
+fn is_plain(url: &Url) -> bool
+    ensures { result ≡ is_plain url.now }
+{
+    url.scheme() == "http"
+        && url.username().is_empty()
+        && url.password().is_none()
+        && url.fragment().is_none()
+        && !url.as_str().as_bytes().contains(&b'\\')
+}
+
+/// The URL of a participant's link.
+fn own_of(alloc: Global, link: &str) -> Result<Url, Uncarried>
+    ensures own { IfOk result (λ own. IsOwn link.now own) }
+    ensures refused { IfErr result (λ e. e ≢ uncarried.NoMemory →
+        (e ≡ uncarried.Unfit) × ((own : Parts) → IsOwn link.now own → ⊥)) }
+{
+    match Url::parse(alloc, link) {
+        Ok(url) if is_plain(&url) => Ok(url),
+        Err(ParseError::OutOfMemory | ParseError::Overflow) => Err(Uncarried::NoMemory),
+        _ => Err(Uncarried::Unfit),
+    }
+}
+
+/// The form of a link's query, and the link without a query that the form adds.
+fn form_of(kind: Kind, link: &str) -> (Query, &str)
+    ensures parts { link.now ≡ result.1.now ++ query_text kind result.0 }
+    ensures own { result.0 ≡ Own → (front : List ℕ) →
+        (link.now ≢ front ++ query_text kind Jakarta) × (link.now ≢ front ++ query_text kind Javax) }
+{
+    if let Some(front) = link.strip_suffix(kind.query(Query::Jakarta)) {
+        return (Query::Jakarta, front);
+    }
+    if let Some(front) = link.strip_suffix(kind.query(Query::Javax)) {
+        return (Query::Javax, front);
+    }
+    (Query::Own, link)
+}
+
+/// The address at which a node finds the gateway for a participant's host.
+fn host_for(alloc: Global, named: &Option<String>, host: &str) -> Result<String, AllocError>
+    ensures { IfOk result (λ text. string_bytes text ≡ host_for (option_map string_bytes named.now) host.now) }
+{
+    if let Some(name) = named {
+        return String::from_str(alloc, name.as_str());
+    }
+    let digest = Sha256::digest(host.as_bytes());
+    let (a, b, c) = (digest[0], digest[1], digest[2] % 254 + 1);
+    format!(in alloc; "127.{a}.{b}.{c}")
+}
+
+/// The target that carries a link; none where the short forms are ambiguous.
+fn target_of(
+    alloc: Global,
+    key: &Key,
+    shorts: &[Short],
+    kind: Kind,
+    id: LraId,
+    link: &str,
+) -> Result<Option<String>, AllocError>
+    ensures { IfOk result (λ target. IfSome target
+        (λ text. Carries key.now.bytes shorts.now id (string_bytes text) kind link.now)) }
+{
+    let Some(whole) = behind("http://", link) else {
+        return Ok(None);
+    };
+    let (form, long) = form_of(kind, whole);
+    let rest = shortened(alloc, shorts, long)?;
+    let same = spelled(alloc, shorts, rest.as_str())?;
+    if !is_same(same.as_bytes(), long.as_bytes()) {
+        return Ok(None);
+    }
+    let seal = seal_of(alloc, key, kind, id, link)?;
+    let (letter, seal, rest) = (kind.letter(form), seal.as_str(), rest.as_str());
+    let target = format!(in alloc; "/{letter}{seal}/{rest}")?;
+    Ok(Some(target))
+}
+
+/// Why a carried link can't be given to a node; nothing where it can.
+fn fault_in(alloc: Global, text: &str) -> Option<Uncarried>
+    ensures good { result ≡ None → (length text.now ≤ MOST_LINK) × IsWritten text.now }
+    ensures long { (bytes : ℕ) → result ≡ Some (uncarried.TooLong bytes) →
+        (length text.now ≡ MOST_LINK + bytes) × (1 ≤ bytes) }
+    ensures unwritten { result ≡ Some uncarried.Unwritten → IsWritten text.now → ⊥ }
+    ensures fit { result ≢ Some uncarried.Unfit }
+{
+    if text.len() > MOST_LINK {
+        return Some(Uncarried::TooLong(text.len() - MOST_LINK));
+    }
+    // A node keeps a link as `url` writes it, and so it has to be written already.
+    match Url::parse(alloc, text) {
+        Ok(url) if is_same(url.as_str().as_bytes(), text.as_bytes()) => None,
+        Err(ParseError::OutOfMemory | ParseError::Overflow) => Some(Uncarried::NoMemory),
+        _ => Some(Uncarried::Unwritten),
+    }
+}
+
+/// A carried link, whether or not a node can keep it; none where the short forms are ambiguous.
+fn written(
+    alloc: Global,
+    key: &Key,
+    via: &Via,
+    shorts: &[Short],
+    kind: Kind,
+    id: LraId,
+    own: &Url,
+) -> Result<Option<String>, AllocError>
+    ensures { IfOk result (λ text. IfSome text (λ text. (target : List ℕ) ×
+        Carries key.now.bytes shorts.now id target kind (serialize own.now)
+        × (string_bytes text ≡ address_of (option_map string_bytes via.now.host) via.now.port own.now ++ target))) }
+{
+    let Some(target) = target_of(alloc, key, shorts, kind, id, own.as_str())? else {
+        return Ok(None);
+    };
+    let named = own.slice(Position::BeforeHost, Position::AfterPort);
+    let host = host_for(alloc, &via.host, named)?;
+    let (host, port, target) = (host.as_str(), via.port, target.as_str());
+    let text = format!(in alloc; "http://{host}:{port}{target}")?;
+    Ok(Some(text))
+}
+
+/// The link that a node is given for a participant's own link, of this kind and in this LRA. It has
+/// at most 127 bytes, and `url` writes it as it stands, since a node keeps what `url` writes. The
+/// first of the short forms that fits is taken, so give the longest first.
+pub fn carry(
+    alloc: Global,
+    key: &Key,
+    via: &Via,
+    shorts: &[Short],
+    kind: Kind,
+    id: LraId,
+    link: &str,
+) -> Result<String, Uncarried>
+    ensures carried { IfOk result (λ text. IsCarrying key.now.bytes (option_map string_bytes via.now.host) via.now.port
+        shorts.now kind id link.now (string_bytes text)) }
+    ensures short { IfOk result (λ text. length (string_bytes text) ≤ MOST_LINK) }
+    ensures written { IfOk result (λ text. IsWritten (string_bytes text)) }
+    // It is refused as too long by what it has too much.
+    ensures long { (bytes : ℕ) → result ≡ Err (uncarried.TooLong bytes) → (1 ≤ bytes) × ((text : List ℕ)
+        × IsCarrying key.now.bytes (option_map string_bytes via.now.host) via.now.port shorts.now kind id link.now text
+        × (length text ≡ MOST_LINK + bytes)) }
+    ensures unfit { result ≡ Err uncarried.Unfit → (own : Parts) → IsOwn link.now own → ⊥ }
+    ensures fit { IfOk result (λ _. (own : Parts) × IsOwn link.now own) }
+{
+    let own = own_of(alloc, link)?;
+    let Ok(carried) = written(alloc, key, via, shorts, kind, id, &own) else {
+        return Err(Uncarried::NoMemory);
+    };
+    let Some(text) = carried else {
+        return Err(Uncarried::Unwritten);
+    };
+    match fault_in(alloc, text.as_str()) {
+        Some(fault) => Err(fault),
+        None => Ok(text),
+    }
+}
+
+/// The letter, the seal and the rest of a target; none where it isn't so parted.
+fn parts_of(target: &str) -> Option<(u8, &[u8], &str)>
+    ensures { MatchOption result ((letter : ℕ) (seal rest : List ℕ) → length seal ≡ 8 →
+        target.now ≢ 47 ∷ letter ∷ (seal ++ 47 ∷ rest))
+        (λ p. (target.now ≡ 47 ∷ p.0 ∷ (p.1.now ++ 47 ∷ p.2.now)) × (length p.1.now ≡ 8)) }
+{
+    let Some(after) = behind("/", target) else {
+        return None;
+    };
+    let Some((head, tail)) = after.split_at_checked(HEAD) else {
+        return None;
+    };
+    let Some(rest) = behind("/", tail) else {
+        return None;
+    };
+    let head = head.as_bytes();
+    Some((head[0], &head[1..], rest))
+}
+
+/// The participant's own link that a target carries, sealed by this key for this LRA. None where it
+/// carries none: then the call isn't forwarded. What is proved is that a target opens just where it
+/// is one that `carry` makes of that link under this key, for this LRA and with the seal that belongs
+/// to it. That nobody without the key can write that seal is no theorem, but what is believed of HMAC.
+///
+/// The seal is of the whole link, so a changed table of short forms leads nowhere else: a target is
+/// then refused.
+pub fn open(
+    alloc: Global,
+    key: &Key,
+    shorts: &[Short],
+    id: LraId,
+    target: &str,
+) -> Result<Option<Opened>, AllocError>
+    ensures sealed { IfOk result (λ it. IfSome it (λ it.
+        Carries key.now.bytes shorts.now id target.now it.kind (string_bytes it.link))) }
+    ensures opens { (kind : Kind) (link : List ℕ) → Carries key.now.bytes shorts.now id target.now kind link →
+        IfOk result (λ it. IsOpened it kind link) }
+{
+    let Some((letter, seal, rest)) = parts_of(target) else {
+        return Ok(None);
+    };
+    let Some((kind, form)) = Kind::from_letter(letter) else {
+        return Ok(None);
+    };
+    let long = spelled(alloc, shorts, rest)?;
+    let (long, query) = (long.as_str(), kind.query(form));
+    let link = format!(in alloc; "http://{long}{query}")?;
+    let wanted = seal_of(alloc, key, kind, id, link.as_str())?;
+    if !is_same(seal, wanted.as_bytes()) {
+        return Ok(None);
+    }
+    Ok(Some(Opened { kind, link }))
+}

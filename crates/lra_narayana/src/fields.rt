@@ -1,0 +1,132 @@
+// The fields of a head.
+ghost use Rattle.std.specs.Prelude.{◌≡◌, ◌≤◌, List, ℕ, ◌∷◌, [], ◌++◌, IfOk, IfSome, IsTrue, All, length, map, slice_index};
+ghost use Rattle.lra_http.specs.Bodies.{max_body_bytes};
+ghost use Rattle.lra_http.specs.HeadFields.{values};
+ghost use Rattle.httparse.specs.Spans.{IsHeaderWithin, header_bytes};
+ghost use Rattle.lra_narayana.specs.Framings.{IsFound, IsLength, SayFraming, last_value};
+
+use crate::broken::Broken;
+use httparse::spans::HeaderSpan;
+use lra_http::MAX_BODY_BYTES;
+use std::alloc::Global;
+
+/// How a body ends.
+#[derive(Clone, Copy, PartialEq, Eq, Debug)]
+pub enum Framing {
+    Length(usize),
+    Chunks,
+    /// With the connection, so that a cut one can't be told from a whole one.
+    End,
+}
+
+/// What the search for a field finds.
+#[derive(Clone, Copy)]
+enum Found<'a> {
+    Absent,
+    Sole(&'a [u8]),
+    Several,
+}
+
+/// What is found once one more is.
+fn with_one<'b>(found: Found<'b>, text: &'b [u8]) -> Found<'b>
+    ensures { (texts : List (List ℕ)) →
+        IsFound found.entry texts → IsFound result (texts ++ text.now ∷ []) }
+{
+    match found {
+        Found::Absent => Found::Sole(text),
+        _ => Found::Several,
+    }
+}
+
+/// What is found of a name, in whichever case.
+fn sole<'b>(bytes: &'b [u8], headers: &[HeaderSpan], name: &[u8]) -> Found<'b>
+    requires { All (IsHeaderWithin (length bytes.now)) headers.now }
+    ensures { IsFound result (values name.now (map (header_bytes bytes.now) headers.now)) }
+{
+    let mut found = Found::Absent;
+    for header in headers {
+        if header.name.of(bytes).eq_ignore_ascii_case(name) {
+            found = with_one(found, header.value.of(bytes));
+        }
+    }
+    found
+}
+
+/// Whether a text has no plus at its front, which `parse` would pass over.
+fn is_unsigned(text: &[u8]) -> bool
+    ensures { IsTrue result → slice_index text.now 0 ≡ 43 → ⊥ }
+{
+    text.is_empty() || text[0] != b'+'
+}
+
+/// The length that a text states, if it is within the limit.
+fn length_in(text: &[u8]) -> Option<usize>
+    ensures most { IfSome result (λ size. size ≤ max_body_bytes) }
+    ensures length { IfSome result (λ size. IsLength text.now size) }
+{
+    if !is_unsigned(text) {
+        return None;
+    }
+    let Ok(word) = str::from_utf8(text) else {
+        return None;
+    };
+    match word.parse::<usize>() {
+        Ok(size) if size <= MAX_BODY_BYTES => Some(size),
+        _ => None,
+    }
+}
+
+/// How the body ends as the fields say, or so where they don't say; nothing where they say it badly.
+pub(crate) fn framing_in(head: &[u8], headers: &[HeaderSpan], unsaid: Framing) -> Option<Framing>
+    requires { All (IsHeaderWithin (length head.now)) headers.now }
+    ensures { IfSome result (λ framing.
+        SayFraming unsaid (map (header_bytes head.now) headers.now) framing) }
+{
+    let length = sole(head, headers, b"content-length");
+    let coding = sole(head, headers, b"transfer-encoding");
+    match (length, coding) {
+        (Found::Absent, Found::Absent) => Some(unsaid),
+        (Found::Sole(text), Found::Absent) => match length_in(text) {
+            Some(size) => Some(Framing::Length(size)),
+            None => None,
+        },
+        (Found::Absent, Found::Sole(text)) => {
+            if text.eq_ignore_ascii_case(b"chunked") {
+                Some(Framing::Chunks)
+            } else {
+                None
+            }
+        }
+        _ => None,
+    }
+}
+
+/// These bytes as a text.
+pub(crate) fn text_of(alloc: Global, bytes: &[u8]) -> Result<String, Broken>
+    ensures { IfOk result (λ text. text.bytes.items ≡ bytes.now) }
+{
+    match str::from_utf8(bytes) {
+        Ok(text) => Ok(String::from_str(alloc, text)?),
+        Err(_) => Err(Broken::Bad),
+    }
+}
+
+/// The last value of a field of this name, in whichever case; empty where there is none.
+pub(crate) fn value_in(
+    alloc: Global,
+    head: &[u8],
+    headers: &[HeaderSpan],
+    name: &[u8],
+) -> Result<String, Broken>
+    requires { All (IsHeaderWithin (length head.now)) headers.now }
+    ensures { IfOk result (λ text. text.bytes.items
+        ≡ last_value (values name.now (map (header_bytes head.now) headers.now))) }
+{
+    let mut last = b"".as_slice();
+    for header in headers {
+        if header.name.of(head).eq_ignore_ascii_case(name) {
+            last = header.value.of(head);
+        }
+    }
+    text_of(alloc, last)
+}

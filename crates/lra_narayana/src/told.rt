@@ -1,0 +1,193 @@
+// What a node is told of a participant's answer. It is never stronger than what the participant said.
+ghost use Rattle.std.specs.Prelude.{◌≡◌, ◌≢◌, ◌↔◌, IfSome, MatchOption, None, Some};
+ghost use Rattle.lra_id.specs.declared.status.MemberStatus.{MemberStatus};
+ghost use Rattle.lra_id.specs.Names.{member_name};
+ghost use Rattle.lra_narayana.specs.Saying.{IsAct, IsHeardDone, SaysBusy, SaysDone, SaysFailed, bare, again, plain, told_by_word, told_compensate, told_complete, told_in, act_rows, passed_rows, status_rows, told_of, told_of_whole, told_word, unquoted, without_leading, without_trailing};
+ghost use Rattle.lra_narayana.specs.declared.kind.Kind.TheVariants as kinds;
+ghost use Rattle.lra_narayana.specs.declared.told.Answer.TheVariants.{Whole};
+
+use crate::Kind;
+use lra_id::MemberStatus;
+
+/// What came of the call of a participant.
+#[derive(Clone, Copy, PartialEq, Eq, Debug)]
+pub enum Answer {
+    /// A whole answer: its code, and the status that its body names, if it names one.
+    Whole(u16, Option<MemberStatus>),
+    /// One that was cut, that ends with the connection, or that is too long.
+    Broken,
+    /// No connection came.
+    Unreached,
+    /// None came in time.
+    Late,
+}
+
+/// The code and, of a status, the word with which a node is answered.
+#[derive(Clone, Copy, PartialEq, Eq, Debug)]
+pub struct Told {
+    pub code: u16,
+    pub word: Option<MemberStatus>,
+}
+
+/// The text without the blanks at its start.
+fn without_leading(text: &[u8]) -> &[u8]
+    ensures { result.now ≡ without_leading text.now }
+{
+    let mut rest = text;
+    while let [b' ' | b'\t' | b'\r' | b'\n', after @ ..] = rest {
+        rest = after;
+    }
+    rest
+}
+
+/// The text without the blanks at its end.
+fn without_trailing(text: &[u8]) -> &[u8]
+    ensures { result.now ≡ without_trailing text.now }
+{
+    let mut rest = text;
+    while let [before @ .., b' ' | b'\t' | b'\r' | b'\n'] = rest {
+        rest = before;
+    }
+    rest
+}
+
+fn unquoted(text: &[u8]) -> &[u8]
+    ensures { result.now ≡ unquoted text.now }
+{
+    match text {
+        [b'"', inner @ .., b'"'] => inner,
+        _ => text,
+    }
+}
+
+/// The status that a body names, if it names one: its name (MicroProfile LRA 2.0,
+/// `ParticipantStatus`), in double quotes or bare, with spaces, tabs and ends of lines around it.
+pub fn word_in(body: &[u8]) -> Option<MemberStatus>
+    ensures { MatchOption result ((word : MemberStatus) → bare body.now ≢ member_name word)
+        (λ word. bare body.now ≡ member_name word) }
+{
+    let Ok(text) = str::from_utf8(unquoted(without_trailing(without_leading(body)))) else {
+        return None;
+    };
+    match MemberStatus::from_name(text) {
+        Ok(status) => Some(status),
+        Err(_) => None,
+    }
+}
+
+fn plain(code: u16) -> Told
+    ensures { result ≡ plain code }
+{
+    Told { code, word: None }
+}
+
+/// A node calls again.
+fn again() -> Told
+    ensures { result ≡ again }
+{
+    plain(503)
+}
+
+/// What a 200 to compensate counts as. Without a word it is done, since most services answer with a
+/// text of their own.
+fn told_compensate(word: Option<MemberStatus>) -> Told
+    ensures table { result ≡ told_by_word told_compensate word }
+    ensures none { result.word ≡ None }
+{
+    match word {
+        None | Some(MemberStatus::Compensated) => plain(200),
+        Some(MemberStatus::Compensating) => plain(202),
+        Some(MemberStatus::FailedToCompensate) => plain(409),
+        _ => again(),
+    }
+}
+
+/// What a 200 to complete counts as.
+fn told_complete(word: Option<MemberStatus>) -> Told
+    ensures table { result ≡ told_by_word told_complete word }
+    ensures none { result.word ≡ None }
+{
+    match word {
+        None | Some(MemberStatus::Completed) => plain(200),
+        Some(MemberStatus::Completing) => plain(202),
+        Some(MemberStatus::FailedToComplete) => plain(409),
+        _ => again(),
+    }
+}
+
+fn told_of_act(code: u16, good: Told) -> Told
+    ensures table { result ≡ told_in (act_rows good) code }
+    ensures none { good.word ≡ None → result.word ≡ None }
+{
+    match code {
+        200 | 204 => good,
+        202 | 404 | 409 | 410 => plain(code),
+        _ => again(),
+    }
+}
+
+fn told_word(word: Option<MemberStatus>) -> Told
+    ensures table { result ≡ told_word word }
+    ensures word { result.word ≡ word }
+{
+    match word {
+        Some(_) => Told { code: 200, word },
+        None => again(),
+    }
+}
+
+fn told_of_status(code: u16, good: Told) -> Told
+    ensures table { result ≡ told_in (status_rows good) code }
+    ensures word { IfSome result.word (λ w. (code ≡ 200) × (good.word ≡ Some w)) }
+{
+    match code {
+        200 => good,
+        202 | 404 | 410 => plain(code),
+        _ => again(),
+    }
+}
+
+fn passed(code: u16) -> Told
+    ensures table { result ≡ told_in passed_rows code }
+    ensures none { result.word ≡ None }
+{
+    match code {
+        200 | 202 | 204 | 404 | 410 => plain(code),
+        _ => again(),
+    }
+}
+
+fn told_of_whole(kind: Kind, code: u16, word: Option<MemberStatus>) -> Told
+    ensures table { result ≡ told_of_whole kind code word }
+    ensures word { IfSome result.word
+        (λ w. (kind ≡ kinds.Status) × ((code ≡ 200) × (word ≡ Some w))) }
+{
+    match kind {
+        Kind::Compensate => told_of_act(code, told_compensate(word)),
+        Kind::Complete => told_of_act(code, told_complete(word)),
+        Kind::Status => told_of_status(code, told_word(word)),
+        Kind::Forget | Kind::After => passed(code),
+    }
+}
+
+/// What a node is told of what came of a call of this kind: 502 where no connection came, 504 where
+/// no answer came in time, and 503, after which it calls again, of all that counts for nothing.
+pub fn told_of(kind: Kind, answer: Answer) -> Told
+    ensures table { result ≡ told_of kind answer }
+    // It is told as done, going on or failed just where the participant said so.
+    ensures done { IsAct kind → (IsHeardDone result.code ↔ SaysDone kind answer) }
+    ensures busy { IsAct kind → ((result.code ≡ 202) ↔ SaysBusy kind answer) }
+    ensures failed { IsAct kind → ((result.code ≡ 409) ↔ SaysFailed kind answer) }
+    // A word is told just where the participant named it when it was asked for its status.
+    ensures word { IfSome result.word
+        (λ word. (kind ≡ kinds.Status) × (answer ≡ Whole 200 (Some word))) }
+    ensures told { (word : MemberStatus) → kind ≡ kinds.Status → answer ≡ Whole 200 (Some word) →
+        result.word ≡ Some word }
+{
+    match answer {
+        Answer::Whole(code, word) => told_of_whole(kind, code, word),
+        Answer::Broken => again(),
+        Answer::Unreached => plain(502),
+        Answer::Late => plain(504),
+    }
+}
