@@ -6,7 +6,7 @@ http.createServer((request, response) => {
   request.on("data", (part) => { body += part; });
   request.on("end", () => {
     console.log([request.method, request.url, request.headers["long-running-action"] || "", body].join(" ").trimEnd());
-    // A length, since the coordinator takes no answer in chunks: Node sends chunks where none is set and write was called.
+    // A length, since the coordinator takes no answer in chunks: Node sends chunks after a writeHead that sets none.
     response.writeHead(200, { "Content-Length": 0 });
     response.end();
   });

@@ -15,6 +15,8 @@ TESTS = ["test_answers", "test_calls", "test_script", "test_server"]
 # The crates of each layer, and last what they are.
 LAYERS = [
     ("lra_node", "lra_member", "lra_play", "the programs"),
+    ("lra_words", "the words of `lra_member`"),
+    ("lra_narayana", "what services of Narayana's interface write and read"),
     ("lra_server", "the server over its journals"),
     ("lra_metrics", "what threads know, as text"),
     ("lra_threads", "threads, and what they share"),

@@ -1,6 +1,6 @@
 #!/usr/bin/env python3
 """Lists the sentences of the pages that have over 30 words: python3 docs/sentences.py [PAGE..]. With --check it fails
-where there is one, and where all pages together have over 31,000 words. Code in a line counts as one word, and blocks
+where there is one, and where a page has more words than it may. Code in a line counts as one word, and blocks
 of code aren't looked at. With --words it prints how many words each page has, and all of them: what stands between
 spaces and has a letter. Standard library alone."""
 import os
@@ -12,7 +12,21 @@ sys.path.insert(0, os.path.dirname(os.path.dirname(os.path.abspath(__file__))))
 from tools import repo
 
 MOST = 30
-MOST_WORDS = 31_000
+# How many words a page may have: who needs more first asks what its reader can do without.
+MOST_WORDS = {
+    "README.md": 950,
+    "CONTRIBUTING.md": 1_300,
+    "docs/HTTP.md": 2_700,
+    "docs/OPERATING.md": 4_200,
+    "docs/FORMATS.md": 2_400,
+    "docs/THEOREMS.md": 7_200,
+    "docs/MODEL.md": 6_500,
+    "docs/ARCHITECTURE.md": 2_500,
+    "docs/DECISIONS.md": 3_000,
+    "docs/PROVING.md": 3_100,
+}
+# Any other.
+FEW_WORDS = 1_000
 
 
 def pieces(text: str) -> Iterator[tuple[int, str]]:
@@ -73,8 +87,10 @@ def main() -> int:
         print(f"{sum(counts.values()):7,} all")
         return 0
     found = list(long_ones(named or pages))
-    if not named and sum(counts.values()) > MOST_WORDS:
-        found.append(f"all pages together have {sum(counts.values()):,} words, over {MOST_WORDS:,}")
+    for page, count in counts.items():
+        most = MOST_WORDS.get(page, FEW_WORDS)
+        if not named and count > most:
+            found.append(f"{page} has {count:,} words, over {most:,}")
     print("\n".join(found) or "ok")
     return 1 if found and "--check" in sys.argv[1:] else 0
 

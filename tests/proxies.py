@@ -213,6 +213,24 @@ class TestProxies(checks.Checked):
         self.check("nobody pulls by that name", b" 404 " in line, line)
         group.end()
 
+    def test_a_node_is_down(self) -> None:
+        """Three nodes behind one nginx, of which one is down: nobody who begins sees it, and nothing is begun twice."""
+        group, front = self.group(3), free_row(1)[0]
+        group.start()
+        self.nginx(self.folder, one_name_file(front, group.ports))
+        wait_for(front, 60)
+        group.kill(2)
+        answers = [ask(front, "POST", "/lra", {}) for _ in range(12)]
+        codes = [code for code, _ in answers]
+        self.check("each begin is answered by another node", codes == [201] * 12, codes)
+        begun = {body["lra"] for code, body in answers if code == 201}
+        self.check("and made once", comes_to(10, lambda: self.held(group.ports[0]) == begun), begun)
+        group.end(1, 3)
+
+    def held(self, port: int) -> set[str]:
+        """All that a node shows on its first page."""
+        return {lra["lra"] for lra in ask(port, "GET", "/lra")[1]["lras"]}
+
     def goes_home(self, front: int, lra: str) -> None:
         """Calls for an LRA, by the one name."""
 

@@ -1,8 +1,10 @@
 #!/usr/bin/env python3
 """Tests the participants of demo/ in each language that is installed: python3 tests/services.py [PROGRAM]. Each joins
-an LRA with all links, is told to complete, and hears of the end; and another, which it compensates. PROGRAM is
-crates/lra_node/out/lra_node, or --unproved (tools/unproved.py). Each check prints a line; the status is 1 where one
-fails. Standard library alone."""
+an LRA with all links, is told to complete, and hears of the end; and another, which it compensates. Then what
+docs/HTTP.md says of the lengths that Node.js and Java state. PROGRAM is crates/lra_node/out/lra_node, or --unproved
+(tools/unproved.py). Each check prints a line; the status is 1 where one fails. Standard library alone."""
+import contextlib
+import http.client
 import os
 import shutil
 import subprocess
@@ -10,14 +12,62 @@ import sys
 import tempfile
 
 sys.path.insert(0, os.path.dirname(os.path.dirname(os.path.abspath(__file__))))
-from tools import checks, unproved
+from tools import checks, repo, unproved
 from tools.node import Server, comes_to
 from tools.ports import HOST, free_row, is_open
 from tools.repo import TOP
 
 
+# Services that answer a path of their own each, in the ways that a service's author may choose.
+NODE = """
+require("http").createServer((request, response) => {
+  if (request.url === "/head") { response.writeHead(200); response.end(); }
+  else if (request.url === "/head-length") { response.writeHead(200, {"Content-Length": 0}); response.end(); }
+  else if (request.url === "/end") { response.statusCode = 200; response.end(); }
+  else { response.write("x"); response.end(); }
+}).listen(Number(process.argv[1]), "127.0.0.1");
+"""
+JAVA = """
+import com.sun.net.httpserver.HttpServer;
+import java.net.InetSocketAddress;
+class Lengths {
+    public static void main(String[] args) throws Exception {
+        HttpServer server = HttpServer.create(new InetSocketAddress("127.0.0.1", Integer.parseInt(args[0])), 0);
+        server.createContext("/", exchange -> {
+            exchange.sendResponseHeaders(200, exchange.getRequestURI().getPath().equals("/none") ? -1 : 0);
+            exchange.close();
+        });
+        server.start();
+    }
+}
+"""
+
+
+def states_length(port: int, path: str) -> bool:
+    """Whether an answer states a length: then it counts."""
+    with contextlib.closing(http.client.HTTPConnection(HOST, port, timeout=10)) as connection:
+        connection.request("PUT", path, headers={"Connection": "close"})
+        response = connection.getresponse()
+        response.read()
+        return response.headers["Content-Length"] is not None and response.headers["Transfer-Encoding"] is None
+
+
 class TestServices(checks.Checked):
     needs = (Server,)
+
+    def states(self, command: list[str], name: str, wanted: dict[str, bool]) -> None:
+        """Which of the answers of a service state a length."""
+        if not shutil.which(command[0]):
+            self.skipTest(f"there is no {command[0]}")
+        port = free_row(1)[0]
+        service = subprocess.Popen([*command, str(port)], stdin=subprocess.DEVNULL)
+        try:
+            self.check(f"{name} listens", comes_to(60, lambda: is_open(port)))
+            seen = {path: states_length(port, path) for path in wanted}
+        finally:
+            service.kill()
+            service.wait()
+        self.check(f"{name} states a length just where the page says so", seen == wanted, seen)
 
     def ends(self, server: Server, url: str, word: str) -> tuple[str, str | None]:
         """An LRA that a participant joins and that ends so. Its id, and what is shown of it once it is purged."""
@@ -59,6 +109,15 @@ class TestServices(checks.Checked):
 
     def test_java(self) -> None:
         self.is_called("java", "Participant.java")
+
+    def test_lengths_of_node_js(self) -> None:
+        self.states(["node", "-e", NODE], "Node.js",
+                    {"/head": False, "/head-length": True, "/end": True, "/write": False})
+
+    def test_lengths_of_java(self) -> None:
+        with tempfile.TemporaryDirectory() as folder:
+            repo.write(f"{folder}/Lengths.java", JAVA)
+            self.states(["java", f"{folder}/Lengths.java"], "Java", {"/none": True, "/zero": False})
 
 
 def main() -> int:
