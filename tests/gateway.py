@@ -37,6 +37,10 @@ KEEP = "keep=60000"
 FULL = ("compensate", "complete", "status", "forget", "after", "leave")
 NONE = "00000000-0000-8001-8000-0000000fffff"
 OTHERS = "http://other:8080/lra-coordinator/0_ffff7f000001_9edb_65f0c1_2"
+# What participants answer who can't compensate, and answers to it that aren't one of done.
+FAILED: tuple[Reply, ...] = (409, (200, b"FailedToCompensate"), (200, b"\"FailedToCompensate\""),
+                             (409, b"FailedToCompensate"))
+ODD: tuple[Reply, ...] = ((200, b"Completed"), (200, b"Active"), 404, 500, 302, 412, (200, b"x" * 70_000))
 # What a client of Java asks that would rather speak HTTP/2.
 UPGRADE = ("Connection: Upgrade, HTTP2-Settings", "Upgrade: h2c", "HTTP2-Settings: AAMAAABkAAQAAP__")
 
@@ -356,14 +360,11 @@ class TestGateway(checks.Checked):
     def test_failed(self) -> None:
         """Who says that it can't isn't called again, and the LRA shows it."""
         client = self.up()
-        cases: tuple[Reply, ...] = (409, (200, b"FailedToCompensate"), (200, b"\"FailedToCompensate\""),
-                                    (409, b"FailedToCompensate"))
-        for reply in cases:
+        for reply in FAILED:
             trip = self.service("compensate", "forget")
             trip.say("compensate", reply)
             lra = self.joined(trip)
-            client.end(lra, "cancel")
-            self.is_shown(lra, "FailedToCancel", str(reply))
+            self.same(f"{reply}", "FailedToCancel", client.end(lra, "cancel"))
             self.check("forget is called", trip.is_called("forget"))
             self.same("and compensate once", 1, len(trip.of("compensate")))
         trip = self.service()
@@ -377,9 +378,8 @@ class TestGateway(checks.Checked):
     def test_odd(self) -> None:
         """Answers that aren't one of done: it is called again after each."""
         client = self.up("wait=0")
-        odd: tuple[Reply, ...] = ((200, b"Completed"), (200, b"Active"), 404, 500, 302, 412, (200, b"x" * 70_000))
         services = []
-        for reply in odd:
+        for reply in ODD:
             trip = self.service()
             trip.say("compensate", reply, 410)
             lra = self.joined(trip)
@@ -393,7 +393,7 @@ class TestGateway(checks.Checked):
         """An answer that is cut, or whose end can't be told, isn't one of done."""
         client, head = self.up("wait=0"), b"HTTP/1.1 200 OK\r\n"
         cut = (head + b"\r\nCompe", head + b"\r\n", head + b"Transfer-Encoding: chunked\r\n\r\n5\r\nCompe\r\n",
-               head + b"Content-Length: 9\r\n\r\nabc", head + b"Transfer-Encoding: chunked\r\n\r\n", b"HTTP/1.1 20", b"")
+               head + b"Transfer-Encoding: chunked\r\n\r\n", head + b"Content-Length: 9\r\n\r\nabc", b"HTTP/1.1 20", b"")
         last = head + b"Transfer-Encoding: chunked\r\n\r\n12\r\nFailedToCompensate\r\n0\r\n\r\n"
         roughs = []
         for answer in cut:
@@ -410,7 +410,8 @@ class TestGateway(checks.Checked):
         """A participant that answers in chunks counts: by each act, with a body and without one, behind an interim
         answer, in pieces that come late."""
         client, head = self.up(), b"HTTP/1.1 200 OK\r\nTransfer-Encoding: chunked\r\n\r\n"
-        answers = (head + b"0\r\n\r\n", head + chunks_of(b"all is well"), b"HTTP/1.1 100 Continue\r\n\r\n" + head + b"0\r\n\r\n",
+        answers = (head + b"0\r\n\r\n", head + chunks_of(b"all is well"),
+                   b"HTTP/1.1 100 Continue\r\n\r\n" + head + b"0\r\n\r\n",
                    head + b"B;a=\"b\"\r\nCompensated\r\n0\r\nTrailer: x\r\n\r\n")
         for answer in answers:
             rough = self.rough(answer)
@@ -500,7 +501,7 @@ class TestGateway(checks.Checked):
         """Link texts that can be carried, and those that can't."""
         client, trip = self.up(), self.service()
         lra = client.start()
-        bad = ("<https://h/c>; rel=\"compensate\"", "<http://u@h/c>; rel=compensate", "nothing", "", "<>; rel=compensate",
+        bad = ("<https://h/c>; rel=\"compensate\"", "<http://u@h/c>; rel=compensate", "nothing", "", "<>; rel=after",
                "<http://h/c#f>; rel=compensate", "<http://h/k>; rel=\"complete\"", "<h/c>; rel=compensate",
                "<http://h/a\\b>; rel=compensate", "<http://h/c>; rel=\"leave\"")
         for link in bad:
@@ -543,7 +544,7 @@ class TestGateway(checks.Checked):
 
     def test_short(self) -> None:
         """A front that the configuration names makes room."""
-        trip = self.service(root="/lra-participant/com.example.booking.reservations.BookingResource.of.the.travel.agency")
+        trip = self.service(root="/lra-participant/com.example.booking.reservations.BookingResource.of.the.travels")
         named = trip.base().removeprefix("http://")
         client = self.up(f"short=t={named}", f"short=u={HOST}:1/other")
         lra = client.start()
@@ -597,7 +598,8 @@ class TestGateway(checks.Checked):
         client = self.up()
         uid = uid_of(client.start())
         for path in ("/", "/lra", "/lra-coordinators/start", f"/{uid}/status", f"/lra-coordinator/{uid}/x",
-                     f"/lra-coordinator/{uid}/close/x", "/lra-coordinator/x/status", "/lra-coordinator/nested/x/status"):
+                     f"/lra-coordinator/{uid}/close/x", "/lra-coordinator/x/status",
+                     f"/lra-coordinator/nested/{uid}/status"):
             self.same(f"no path: {path}", 404, client.send("GET", path).status)
         for method, path in (("PATCH", uid), ("DELETE", uid), ("POST", f"{uid}/close"), ("GET", f"{uid}/close"),
                              ("PUT", f"{uid}/status"), ("GET", f"{uid}/remove"), ("PUT", "/lra-coordinator"),
@@ -661,21 +663,22 @@ class TestGateway(checks.Checked):
         begun = client.send("POST", "start", "", *UPGRADE)
         self.same("a start", 201, begun.status)
         lra = begun.fields["Location"]
-        link = f"<{trip.url}/compensate?Camel-Saga-Compensate=direct://undo&id=1>; rel=compensate,<{trip.url}/complete>; rel=complete"
+        query = "Camel-Saga-Compensate=direct://undo&id=1"
+        link = f"<{trip.url}/compensate?{query}>; rel=compensate,<{trip.url}/complete>; rel=complete"
         path = urllib.parse.urlsplit(lra).path
         head = head_of("PUT", path, "x", (f"Link: {link}", *UPGRADE, "Transfer-Encoding: chunked"))
         with client.connect() as line:
             line.sendall(head + chunks_of(link.encode()))
             self.same("a join", 200, answer_over(line, "PUT").status)
         self.same("a cancel", (200, "Cancelled"), self.ended(lra, "cancel"))
-        self.same("its call", ["/compensate?Camel-Saga-Compensate=direct://undo&id=1"], trip.paths())
+        self.same("its call", [f"/compensate?{query}"], trip.paths())
 
     def test_silent(self) -> None:
         """Clients that say nothing, or half of what they have to say, hold up nobody."""
         client, trip = self.up(), self.service()
         host = f"{HOST}:{client.port}"
         half = head_of("PUT", f"/lra-coordinator/{NONE}?TimeLimit=0", host, (), 100)
-        for what, text in (("silent", b""), ("in the midst of a head", half[:60]), ("in the midst of a body", half + b"x")):
+        for what, text in (("silent", b""), ("in the midst of a head", half[:60]), ("behind a head", half + b"x")):
             lines = [client.connect() for _ in range(64)]
             for line in lines:
                 line.sendall(text)
@@ -714,9 +717,9 @@ class TestGateway(checks.Checked):
         field = f"Long-Running-Action: urn:uuid:{uid_of(lra)}"
         for text in forged:
             self.same(f"forged: {text}", 403, asked_at(address, "PUT", text, field))
-        for what, text in (("another LRA", f"Long-Running-Action: urn:uuid:{uid_of(other)}"), ("none", "X: y"),
-                           ("no id", "Long-Running-Action: x"), ("another's end", f"Long-Running-Action-Ended: {other}")):
-            self.same(f"replayed for {what}", 403, asked_at(address, "PUT", target, text))
+        for text in (f"Long-Running-Action: urn:uuid:{uid_of(other)}", f"Long-Running-Action-Ended: {other}",
+                     "Long-Running-Action: x", "X: y"):
+            self.same(f"replayed with {text}", 403, asked_at(address, "PUT", target, text))
         for method in ("GET", "DELETE", "POST"):
             self.same(f"replayed by {method}", 403, asked_at(address, method, target, field))
         self.same("nobody was called", [], trip.calls)
@@ -778,25 +781,26 @@ class TestGateway(checks.Checked):
 
     def test_hung(self) -> None:
         """Participants that take longer than a node waits hold up no others, and are called again."""
-        client, slow = self.up("wait=0"), [self.service(pause=9.6) for _ in range(3)]
+        client, slow = self.up("wait=0"), [self.service(pause=10.5) for _ in range(3)]
         held = [self.joined(trip) for trip in slow]
         for lra in held:
             client.end(lra)
+        self.check("each is called", all(trip.is_called("complete") for trip in slow))
+        time.sleep(0.1)
         for trip in slow:
-            trip.is_called("complete")
-        good, worst = self.service(), 0.0
-        for _ in range(9):
+            trip.pause = 0
+        good, took, until = self.service(), [], time.monotonic() + 5
+        while time.monotonic() < until and len(took) < 9:
             lra = self.joined(good)
             began = time.monotonic()
             client.end(lra)
             client.comes_to(lra, "Closed")
-            worst = max(worst, time.monotonic() - began)
-        self.check(f"beside three of them an LRA of another closes within {worst:.1f} s", worst < 3)
-        for trip in slow:
-            trip.pause = 0
+            took.append(time.monotonic() - began)
+        self.same("one call is made of each meanwhile", [1] * 3, [len(trip.of("complete")) for trip in slow])
+        self.check(f"beside them {len(took)} LRAs of another close within {max(took):.1f} s", max(took) < 3)
         for lra in held:
             self.is_shown(lra, "Closed")
-        self.same("each was called twice", [2] * 3, [len(trip.of("complete")) for trip in slow])
+        self.same("each was called once more", [2] * 3, [len(trip.of("complete")) for trip in slow])
 
     def test_crowd(self) -> None:
         """Twenty-four LRAs by eight threads."""
@@ -817,7 +821,8 @@ class TestGateway(checks.Checked):
         with concurrent.futures.ThreadPoolExecutor(8) as pool:
             lras = list(pool.map(one, codes))
         took = time.monotonic() - began
-        ends = [client.comes_to(lra, "Cancelled" if code == 500 else "Closed") for lra, code in zip(lras, codes, strict=True)]
+        statuses = ["Cancelled" if code == 500 else "Closed" for code in codes]
+        ends = [client.comes_to(lra, status) for lra, status in zip(lras, statuses, strict=True)]
         self.check(f"all end as they are to, in {took:.1f} s", all(ends), ends)
         self.same("each has its own id", 24, len(set(lras)))
         self.same("one call each", (16, 8), (len(trip.of("complete")), len(trip.of("compensate"))))
@@ -840,7 +845,8 @@ class TestGateway(checks.Checked):
             client.join(one, trip.link())
             rows.append((begun - began, time.monotonic() - begun, seconds_of(client.end, one)))
         start, join, close = (in_median(column) for column in zip(*rows, strict=True))
-        self.check(f"a start {start:.1f} ms, a join {join:.1f} ms, a close {close:.1f} ms", max(start, join, close) < 1000)
+        what = f"a start {start:.1f} ms, a join {join:.1f} ms, a close {close:.1f} ms"
+        self.check(what, max(start, join, close) < 1000)
 
     # ---- kills
 
@@ -868,7 +874,7 @@ class TestGateway(checks.Checked):
 
     def test_home(self) -> None:
         """A node is killed: questions and begins go to others, a close waits for it to be back."""
-        client, trip = self.up(), self.service()
+        client, trip = self.up("again=30000"), self.service()
         lra = self.joined(trip)
         home = home_of(uid_of(lra))
         self.check("the others know it", self.nodes.all_come_to(uid_of(lra), "Active") is not None)
@@ -1062,8 +1068,9 @@ class TestGateway(checks.Checked):
         listen, base, calls, group = good
         wrong: tuple[Sequence[str], ...] = (
             (), good[1:], good[:3], (base, listen, calls, group), (*good, "more=1"), (*good, HOST), (listen, *good),
-            (listen, "base=lra", calls, group), (listen, "base=http://", calls, group), (listen, base, "calls=0", group),
-            (listen, base, "calls=65536", group), (listen, base, f"calls={HOST}:{gateway.calls}", group),
+            (listen, "base=lra", calls, group), (listen, "base=http://", calls, group),
+            (listen, base, "calls=0", group), (listen, base, "calls=65536", group),
+            (listen, base, f"calls={HOST}:{gateway.calls}", group),
             (listen, base, calls, "limit=x", group), (listen, base, calls, "again=1", "wait=1", group),
             (listen, base, calls, "short=t", group), (listen, base, calls, "group="), (listen, base, calls, "group=h"),
             (*good, *[f"group={nodes}"] * 8), (listen, base, calls, f"group={','.join([nodes] * 3)}"), ("--help",))
@@ -1075,8 +1082,8 @@ class TestGateway(checks.Checked):
             self.same(f"no key: {key}", 2, ended(gateway, good, key)[0])
         with socket.create_server((HOST, gateway.port)):
             self.same("a port that is taken", 1, ended(gateway, good)[0])
-        whole = (listen, f"{base}/", calls, "limit=1", "wait=2", "again=3", "allow=h,i:80", "short=a=h:80/p", "short=b=i:1/q",
-                 f"group={nodes}", "group=h:80/81,i:80")
+        whole = (listen, f"{base}/", calls, "limit=1", "wait=2", "again=3", "allow=h,i:80", "short=a=h:80/p",
+                 "short=b=i:1/q", f"group={nodes}", "group=h:80/81,i:80")
         self.same("all words", (0, False), has_usage(ended(gateway, whole)))
         gateway.start()
         self.same("its end", 0, gateway.end())

@@ -122,8 +122,8 @@ def run(*kinds: type[unittest.TestCase], words: Iterable[str] = ()) -> int:
     chosen = [(kind, one) for word in words for kind, one in every if one == word]
     result = Lines()
     unittest.TestSuite(kind(f"test_{word}") for kind, word in chosen or every).run(result)
-    failed = len(result.failures) + len(result.errors)
-    print(f"{failed} failed")
+    failed = {getattr(test, "test_case", test).id() for test, _ in [*result.failures, *result.errors]}
+    print(f"{result.testsRun} tests, {len(failed)} failed")
     return 1 if failed else 0
 
 

@@ -54,8 +54,8 @@ class Gateway:
     def run(self) -> None:
         """Starts the process, and doesn't wait for it."""
         with open(self.path_of_log(), "ab") as log:
-            self.process = subprocess.Popen([self.program, *self.words()], stdin=subprocess.PIPE, stdout=log, stderr=log,
-                                            env={**os.environ, KEY_NAME: KEY})
+            self.process = subprocess.Popen([self.program, *self.words()], stdin=subprocess.PIPE, stdout=log,
+                                            stderr=log, env={**os.environ, KEY_NAME: KEY})
 
     def start(self) -> typing.Self:
         """Starts it, and waits until it takes connections."""

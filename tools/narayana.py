@@ -68,11 +68,11 @@ class Client:
     def send(self, method: str, target: str, body: str | None = None, *fields: str) -> Answer:
         """One request, to a target below the coordinator's path, or a whole path."""
         path = target if target.startswith("/") else f"/lra-coordinator/{target}"
-        content = None if body is None else body.encode()
-        typed = () if not body and method != "PUT" else ("Content-Type: text/plain",)
-        head = head_of(method, path, f"{HOST}:{self.port}", (*typed, *fields), None if content is None else len(content))
+        content = (body or "").encode()
+        typed = ("Content-Type: text/plain",) if method == "PUT" else ()
+        length = None if body is None else len(content)
         with self.connect() as line:
-            line.sendall(head + (content or b""))
+            line.sendall(head_of(method, path, f"{HOST}:{self.port}", (*typed, *fields), length) + content)
             return answer_over(line, method)
 
     def start(self, parent: str = "", limit: int = 0) -> str:
