@@ -393,7 +393,8 @@ class TestGateway(checks.Checked):
         """An answer that is cut, or whose end can't be told, isn't one of done."""
         client, head = self.up("wait=0"), b"HTTP/1.1 200 OK\r\n"
         cut = (head + b"\r\nCompe", head + b"\r\n", head + b"Transfer-Encoding: chunked\r\n\r\n5\r\nCompe\r\n",
-               head + b"Transfer-Encoding: chunked\r\n\r\n", head + b"Content-Length: 9\r\n\r\nabc", b"HTTP/1.1 20", b"")
+               head + b"Transfer-Encoding: chunked\r\n\r\n", head + b"Content-Length: 9\r\n\r\nabc",
+               b"HTTP/1.1 20", b"")
         last = head + b"Transfer-Encoding: chunked\r\n\r\n12\r\nFailedToCompensate\r\n0\r\n\r\n"
         roughs = []
         for answer in cut:
