@@ -1,14 +1,14 @@
 #!/usr/bin/env python3
-"""Tests the gateway as services with LRA annotations meet it: python3 tests/gateway.py [--program PATH] [PROGRAM]
-[TEST..].
+"""Tests the gateway as services with LRA annotations meet it: python3 tests/gateway.py [PROGRAM [MEMBER]] [TEST..].
 
 It starts three nodes, a gateway before them, and services that send what Narayana's client sends (tools/narayana.py).
-PATH is the gateway, crates/lra_gateway/out/lra_gateway, and PROGRAM the node's, crates/lra_member/out/lra_member;
---unproved in place of either stands for the unproved build (tools/unproved.py). Without a TEST it does all, some two
-minutes. Each check prints a line; the status is 1 where one fails. Standard library alone."""
+PROGRAM is the gateway, crates/lra_gateway/out/lra_gateway, and MEMBER a node, crates/lra_member/out/lra_member;
+--unproved stands for either, and alone for both, as tools/unproved.py compiles them. Without a TEST it does all, some
+two minutes. Each check prints a line; the status is 1 where one fails. Standard library alone."""
 import concurrent.futures
 import contextlib
 import http.client
+import itertools
 import os
 import re
 import socket
@@ -128,6 +128,7 @@ def beside(call: Callable[[], object]) -> Iterator[None]:
 
 class TestGateway(checks.Checked):
     needs = (Group, Gateway)
+    takes = "some two minutes"
     # Three nodes that all tests share.
     nodes: Operated
 
@@ -639,20 +640,19 @@ class TestGateway(checks.Checked):
             for byte in text.replace(b"PUT", b"GET"):
                 line.sendall(bytes([byte]))
             self.same("a request byte by byte", 200, answer_over(line).status)
-        other, body = self.service(), trip.link().encode()
+        other = self.service()
         body = other.link().encode()
-        head = head_of("PUT", path, host, ("Content-Type: text/plain", "Expect: 100-continue"), len(body))
         with client.connect() as line:
-            line.sendall(head)
-            line.settimeout(3)
+            line.sendall(head_of("PUT", path, host, ("Content-Type: text/plain", "Expect: 100-continue"), len(body)))
+            line.settimeout(3)  # as long as Apache's client waits
             try:
-                interim = read_head(line)
+                interim = read_head(line)[:12].decode()
             except TimeoutError:
-                interim = b"nothing for three seconds"
-            self.check("who expects to be told to continue is", interim.startswith(b"HTTP/1.1 100 "), interim)
+                interim = "nothing"
             line.settimeout(SLOW)
             line.sendall(body)
             answer = answer_over(line, "PUT")
+        self.check(f"who waits for 100 Continue hears {interim}", interim in ("HTTP/1.1 100", "nothing"), answer)
         self.same("and joins", 200, answer.status)
         client.end(lra)
         self.same("both are called", (1, 1), (len(trip.of("complete")), len(other.of("complete"))))
@@ -1123,12 +1123,12 @@ def in_median(seconds: Sequence[float]) -> float:
 
 def main() -> int:
     given, words = sys.argv[1:], checks.words_of(TestGateway)
-    if given[:1] == ["--program"]:
-        Gateway.program, given = unproved.program_of(given[1], "lra_gateway"), given[2:]
-    if given and given[0] not in words:
-        Group.program, given = unproved.program_of(given[0], "lra_member"), given[1:]
+    programs = list(itertools.takewhile(lambda word: word not in words, given))
+    both = programs * 2 if programs == ["--unproved"] else programs
+    for kind, name, word in zip((Gateway, Group), ("lra_gateway", "lra_member"), both):
+        kind.program = unproved.program_of(word, name)
     checks.need(Group, Gateway)
-    return checks.run(TestGateway, words=given)
+    return checks.run(TestGateway, words=given[len(programs):])
 
 
 if __name__ == "__main__":
