@@ -790,7 +790,7 @@ class TestGateway(checks.Checked):
         time.sleep(0.1)
         for trip in slow:
             trip.pause = 0
-        good, took, until = self.service(), [], time.monotonic() + 5
+        good, took, until = self.service(), [], time.monotonic() + 3
         while time.monotonic() < until and len(took) < 9:
             lra = self.joined(good)
             began = time.monotonic()
@@ -1077,7 +1077,7 @@ class TestGateway(checks.Checked):
             (*good, *[f"group={nodes}"] * 8), (listen, base, calls, f"group={','.join([nodes] * 3)}"), ("--help",))
         for words in wrong:
             status, text = ended(gateway, words)
-            is_so = status == 2 and text.startswith("usage: lra_gateway ")
+            is_so = status == 2 and text.startswith("usage: ") and "lra_gateway listen=" in text
             self.check(f"other words: {' '.join(words)[:100]}", is_so, (status, text[-200:]))
         for key in (None, "", KEY[:62], KEY + "00", KEY[:63] + "g"):
             self.same(f"no key: {key}", 2, ended(gateway, good, key)[0])
