@@ -49,10 +49,12 @@ class Rough:
     """A participant that answers each call with the next of some texts, and closes; with the last of them again and
     again."""
 
-    def __init__(self, *answers: bytes) -> None:
+    def __init__(self, *answers: bytes, host: str = HOST) -> None:
         self.answers, self.count = answers, 0
-        self.listener = socket.create_server((HOST, 0), backlog=64)
-        self.url = f"http://{HOST}:{self.listener.getsockname()[1]}"
+        family = socket.AF_INET6 if ":" in host else socket.AF_INET
+        self.listener = socket.create_server((host, 0), family=family, backlog=64)
+        self.port = self.listener.getsockname()[1]
+        self.url = f"http://{HOST}:{self.port}"
         threading.Thread(target=self.take, daemon=True).start()
 
     def take(self) -> None:
@@ -163,8 +165,8 @@ class TestGateway(checks.Checked):
         self.addCleanup(made.close)
         return made
 
-    def rough(self, *answers: bytes) -> Rough:
-        made = Rough(*answers)
+    def rough(self, *answers: bytes, host: str = HOST) -> Rough:
+        made = Rough(*answers, host=host)
         self.addCleanup(made.close)
         return made
 
@@ -420,6 +422,31 @@ class TestGateway(checks.Checked):
             lra = client.start()
             client.join(lra, link_to(f"{rough.url}/c"))
             self.same(f"{answer[17:]!r}", "Cancelled", client.end(lra, "cancel"))
+            self.same("one call", 1, rough.count)
+
+    def test_gone(self) -> None:
+        """A participant that is away is called again until it is there; and those at a name, and at an address of
+        IPv6."""
+        client, trip = self.up("wait=0"), self.service()
+        lra = self.joined(trip)
+        trip.close()
+        client.end(lra)
+        home = home_of(uid_of(lra))
+        self.check("nobody is reached", comes_to(SLOW, lambda: "502" in [c["came"] for c in self.nodes.calls(home)]),
+                   self.nodes.calls(home))
+        self.same("it waits", "Closing", client.status(lra))
+        trip.open()
+        self.is_shown(lra, "Closed", "with the participant back")
+        done = b"HTTP/1.1 204 No Content\r\n\r\n"
+        for host, name in ((HOST, "localhost"), ("::1", "[::1]")):
+            try:
+                rough = self.rough(done, host=host)
+            except OSError:
+                continue  # there is no IPv6
+            lra = client.start()
+            client.join(lra, link_to(f"http://{name}:{rough.port}/c"))
+            client.end(lra, "cancel")
+            self.is_shown(lra, "Cancelled", name)
             self.same("one call", 1, rough.count)
 
     def test_after(self) -> None:
