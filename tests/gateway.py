@@ -708,8 +708,10 @@ class TestGateway(checks.Checked):
         client, trip = self.up(), self.service()
         host = f"{HOST}:{client.port}"
         half = head_of("PUT", f"/lra-coordinator/{NONE}?TimeLimit=0", host, (), 100)
-        # (on a machine that has much else to do a start takes its time without them too)
-        most = max(2, 4 * statistics.median(seconds_of(client.start) for _ in range(3)))
+        # (on a machine that has much else to do both take their time without them too)
+        starts = [seconds_of(client.start) for _ in range(3)]
+        closes = [seconds_of(client.end, self.joined(trip)) for _ in range(3)]
+        to_start, to_close = (max(2, 4 * statistics.median(times)) for times in (starts, closes))
         for what, texts in (("silent", (b"",)), ("in the midst of a head", (half[:60],)),
                             ("behind a head", (half + b"x",)), ("of both", (b"", half[:60]))):
             lines = [client.connect() for _ in range(64) for _ in texts]
@@ -717,10 +719,10 @@ class TestGateway(checks.Checked):
                 line.sendall(text)
             time.sleep(0.2)
             took = seconds_of(client.start)
-            self.check(f"beside {len(lines)} that are {what} a start takes {took:.2f} s", took < most, most)
+            self.check(f"beside {len(lines)} that are {what} a start takes {took:.2f} s", took < to_start, to_start)
             lra = self.joined(trip)
             took = seconds_of(client.end, lra)
-            self.check(f"and a close {took:.2f} s", took < most, most)
+            self.check(f"and a close {took:.2f} s", took < to_close, to_close)
             for line in lines:
                 line.close()
 
