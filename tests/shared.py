@@ -14,9 +14,10 @@ from email.message import Message
 sys.path.insert(0, os.path.dirname(os.path.dirname(os.path.abspath(__file__))))
 from tools import checks, repo, unproved
 from tools.load import Noted, misled
+from tools.narayana import Annotated, Client, head_of, method_in, uid_of
 from tools.node import ask, comes_to, exchange, home_of, without_starts
 from tools.page import squeeze
-from tools.participant import Participant, Reply
+from tools.participant import Participant, Reply, chunks_of
 from tools.ports import HOST, free_row, is_free, is_open, listens_at
 
 LRA = "00000000-0000-8002-8000-000000000001"
@@ -101,6 +102,26 @@ class TestNode(checks.Checked):
         part.open()
         self.same("open again", (404, {}), ask(part.port, "GET", "/a"))
         part.close()
+
+    def test_annotated(self) -> None:
+        """A service answers by its script, in chunks, and gives links; a client's requests are those of Narayana's."""
+        service = Annotated("compensate", "forget", root="/a")
+        service.say("compensate", 503, (200, b"Compensated"))
+        client = Client(service.port)
+        answers = [client.send("PUT", f"/a/compensate?method=x&n={n}", "") for n in range(3)]
+        self.same("by its script", [(503, ""), (200, "Compensated"), (200, "Compensated")],
+                  [(answer.status, answer.text) for answer in answers])
+        self.same("in chunks", "chunked", answers[1].fields.get("Transfer-Encoding"))
+        self.same("its calls", 3, len(service.of("compensate")))
+        self.same("a text in chunks", b"3\r\nCom\r\n2\r\npe\r\n0\r\n\r\n", chunks_of(b"Compe"))
+        link = '<{}/a/forget?method=javax.ws.rs.DELETE>; rel="forget"; title="forget URI"; type="text/plain"'
+        self.same("a link", link.format(service.url), service.link("javax").split(",")[1])
+        self.same("a method", "forget", method_in("/a/forget?method=/x"))
+        self.same("an id", f"{LRA}.2", uid_of(f"http://h/lra-coordinator/{LRA}.2?ParentLRA=http://h/x"))
+        head = (b"PUT /a HTTP/1.1\r\nNarayana-LRA-API-version: 1.0\r\nLink: <x>\r\nContent-Length: 0\r\nHost: h\r\n"
+                b"Connection: Keep-Alive\r\n")
+        self.same("a head", head, head_of("PUT", "/a", "h", ("Link: <x>",), 0)[:len(head)])
+        service.close()
 
     def test_ask(self) -> None:
         """Who is between two runs is asked again."""
