@@ -970,6 +970,21 @@ class TestGateway(checks.Checked):
         wrong = {call.lra for call in trip.of("compensate")} & set(lras)
         self.check("none to compensate", not wrong, wrong)
 
+    def test_ends(self) -> None:
+        """It ends with its input, whatever it is at: no call is lost by that either."""
+        client, slow = self.up(), self.service(pause=6)
+        lra, lines = self.joined(slow), [client.connect() for _ in range(8)]
+        with beside(lambda: no_answer(client.end, lra)):
+            self.check("a participant is called", slow.is_called("complete"))
+            took = seconds_of(self.gateway.end)
+            self.same("its status", 0, self.gateway.end())
+            self.check(f"it ends after {took:.1f} s", took < 5, took)
+        slow.pause = 0
+        for line in lines:
+            line.close()
+        self.gateway.start()
+        self.is_shown(lra, "Closed")
+
     # ---- several groups, several gateways
 
     def test_groups(self) -> None:
@@ -1116,6 +1131,12 @@ class TestGateway(checks.Checked):
         gateway.start()
         self.same("its end", 0, gateway.end())
         self.check("its port is free then", not is_open(gateway.port))
+
+
+def no_answer(call: Callable[..., object], *words: typing.Any) -> None:
+    """Makes a call that may find nobody in the end."""
+    with contextlib.suppress(Declined, OSError, http.client.HTTPException):
+        call(*words)
 
 
 def has_usage(ended: tuple[int, str]) -> tuple[int, bool]:
