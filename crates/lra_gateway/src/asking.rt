@@ -12,11 +12,14 @@ use std::alloc::{AllocError, Global};
 use std::time::Duration;
 use std::{str, thread};
 
-/// How long a node may take to be reached, in milliseconds.
-const REACH_MS: u64 = 2_000;
+/// How long a node may take to be reached, and to answer, in milliseconds: a service waits for ten
+/// seconds.
+const REACH_MS: u64 = 1_500;
 
-/// How long it may take to answer, in milliseconds: a service waits for ten seconds.
-const ANSWER_MS: u64 = 9_000;
+const ANSWER_MS: u64 = 6_000;
+
+/// How long another gateway may take, which may ask its node again.
+const HANDED_MS: u64 = 9_500;
 
 /// How long to wait before a call is made again, in milliseconds.
 const PAUSE_MS: u64 = 100;
@@ -115,15 +118,16 @@ fn answer_of(alloc: Global, response: &Response) -> Result<Answer, Fail> {
     })
 }
 
-/// One call of a port.
+/// One call of a port, whose answer may take so many milliseconds.
 fn call_once<R: Host>(
     agent: &Agent<R>,
     host: &str,
     port: u16,
     request: &CallRequest,
+    ms: u64,
 ) -> Result<Response, Fail> {
     match connect(agent, host, port, REACH_MS) {
-        Ok(stream) => call(agent, stream, request, ANSWER_MS),
+        Ok(stream) => call(agent, stream, request, ms),
         Err(_) => Err(Fail::Unsent),
     }
 }
@@ -135,7 +139,7 @@ fn ask_once<R: Host>(
     port: u16,
     request: &CallRequest,
 ) -> Result<Answer, Fail> {
-    let response = call_once(agent, host, port, request)?;
+    let response = call_once(agent, host, port, request, ANSWER_MS)?;
     answer_of(agent.alloc, &response)
 }
 
@@ -169,8 +173,7 @@ pub fn ask<R: Host>(
     let until = moment(agent.rt, agent.gateway.again);
     for _ in agent.rt.forever() {
         let answer = ask_once(agent, host, port, &request);
-        let is_over = moment(agent.rt, 0) >= until || agent.gateway.signal.has_ended(agent.rt);
-        if is_over || !is_again(came_of(&answer), question.repeat) {
+        if !is_again(came_of(&answer), question.repeat) || agent.is_over(until) {
             return answer;
         }
         thread::sleep(agent.rt, Duration::from_millis(PAUSE_MS));
@@ -206,12 +209,11 @@ pub fn hand_over<R: Host>(
 ) -> Result<Response, Fail> {
     let until = moment(agent.rt, agent.gateway.again);
     for _ in agent.rt.forever() {
-        let came = call_once(agent, peer.host.as_str(), peer.port, request);
+        let came = call_once(agent, peer.host.as_str(), peer.port, request, HANDED_MS);
         let Err(fail) = came else {
             return came;
         };
-        let is_over = moment(agent.rt, 0) >= until || agent.gateway.signal.has_ended(agent.rt);
-        if is_over || !is_again(came_to(fail), repeat) {
+        if !is_again(came_to(fail), repeat) || agent.is_over(until) {
             return Err(fail);
         }
         thread::sleep(agent.rt, Duration::from_millis(PAUSE_MS));

@@ -17,6 +17,9 @@ const FIRST_LOOK_MS: u64 = 5;
 /// The longest.
 const LAST_LOOK_MS: u64 = 50;
 
+/// How long to wait before all nodes are asked again, in milliseconds.
+const PAUSE_MS: u64 = 100;
+
 /// Whether a node told something of an LRA.
 fn is_told(came: &Result<Answer, Fail>) -> bool {
     match came {
@@ -47,9 +50,22 @@ pub fn status_of<R: Host>(agent: &Agent<R>, lra: &Lra) -> Result<Answer, Fail> {
     last
 }
 
+/// What an LRA shows, looked at again for some time where no node tells anything.
+pub fn status_in_time<R: Host>(agent: &Agent<R>, lra: &Lra) -> Result<Answer, Fail> {
+    let until = moment(agent.rt, agent.gateway.again);
+    for _ in agent.rt.forever() {
+        let came = status_of(agent, lra);
+        if is_told(&came) || agent.is_over(until) {
+            return came;
+        }
+        thread::sleep(agent.rt, Duration::from_millis(PAUSE_MS));
+    }
+    unreachable!()
+}
+
 /// The status of an LRA: `GET /lra-coordinator/UID/status`.
 pub fn status<R: Host>(agent: &Agent<R>, lra: &Lra) -> Result<Reply, Fail> {
-    let answer = status_of(agent, lra)?;
+    let answer = status_in_time(agent, lra)?;
     if answer.code != 200 {
         return Ok(refusal(agent.alloc, &answer)?);
     }
@@ -85,8 +101,7 @@ fn wait_for_end<R: Host>(agent: &Agent<R>, lra: &Lra, first: LraStatus) -> LraSt
     let mut shown = first;
     let mut pause = FIRST_LOOK_MS;
     for _ in agent.rt.forever() {
-        let is_over = moment(agent.rt, 0) >= until || agent.gateway.signal.has_ended(agent.rt);
-        if is_over || !is_to_end(shown) {
+        if !is_to_end(shown) || agent.is_over(until) {
             return shown;
         }
         thread::sleep(agent.rt, Duration::from_millis(pause));

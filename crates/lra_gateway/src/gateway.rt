@@ -50,12 +50,21 @@ pub struct Gateway {
     pub groups: Vec<Group>,
     pub signal: Signal,
     turn: AtomicU64,
+    /// The second after that of the last complaint.
+    quiet: AtomicU64,
 }
 
 impl Gateway {
     /// Which group's turn it is to begin an LRA, by its place.
     pub fn next_turn(&self) -> usize {
         self.turn.fetch_add(1, Ordering::SeqCst) as usize
+    }
+
+    /// Whether a complaint may be told in this second: one may.
+    pub fn may_complain(&self, second: u64) -> bool {
+        self.quiet
+            .fetch_max(second.saturating_add(1), Ordering::SeqCst)
+            <= second
     }
 
     /// The group of a number, if there is one.
@@ -167,5 +176,6 @@ pub fn gateway_of(alloc: Global, asked: Asked, key: &Key) -> Result<Gateway, All
         groups,
         signal: Signal::new(),
         turn: AtomicU64::new(0),
+        quiet: AtomicU64::new(0),
     })
 }

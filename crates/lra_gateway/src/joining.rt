@@ -193,15 +193,14 @@ fn links_text<'a>(errand: &'a Errand) -> &'a str {
 /// Joins: `PUT /lra-coordinator/UID?TimeLimit=MS`, with a `Link` field or a body.
 pub fn join<R: Host>(agent: &Agent<R>, errand: &Errand, lra: &Lra) -> Result<Reply, Fail> {
     if time_in(said(errand.query(), "TimeLimit")) != Some(0) {
-        let _ = eprintln!(agent.rt; "lra_gateway: a participant's own TimeLimit isn't kept");
+        agent.complain("a participant's own TimeLimit isn't kept");
     }
     match carry_all(agent, lra, links_text(errand)) {
         Ok(links) => join_with(agent, lra, &links),
         Err(Untaken::NoMemory) => Err(Fail::NoMemory),
         Err(Untaken::Told(text)) => {
-            let text = text.as_str();
-            let _ = eprintln!(agent.rt; "lra_gateway: a join was refused: {text}");
-            Ok(plain(agent.alloc, 400, text)?)
+            agent.complain(text.as_str());
+            Ok(plain(agent.alloc, 400, text.as_str())?)
         }
     }
 }

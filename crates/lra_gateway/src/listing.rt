@@ -2,7 +2,7 @@
 
 use crate::agent::{Agent, Host};
 use crate::asking::{Answer, Question, ask_node, ask_now, look_at};
-use crate::ending::{is_to_end, status_of};
+use crate::ending::{is_to_end, status_in_time};
 use crate::exchange::Fail;
 use crate::gateway::Group;
 use crate::handing::{Errand, hand};
@@ -65,7 +65,7 @@ fn push_data<R: Host>(
 
 /// What is known of an LRA: `GET /lra-coordinator/UID`.
 pub fn info<R: Host>(agent: &Agent<R>, lra: &Lra) -> Result<Reply, Fail> {
-    let answer = status_of(agent, lra)?;
+    let answer = status_in_time(agent, lra)?;
     let Ok(status) = LraStatus::from_name(answer.text("status")) else {
         return Ok(refusal(agent.alloc, &answer)?);
     };

@@ -159,8 +159,7 @@ fn begin_top<R: Host>(agent: &Agent<R>, errand: &Errand, limit: u64) -> Result<R
         if let Begun::Told(reply) = begin_in_turn(agent, errand, body.as_str())? {
             return Ok(reply);
         }
-        let is_over = moment(agent.rt, 0) >= until || agent.gateway.signal.has_ended(agent.rt);
-        if is_over || errand.handed_for.is_some() {
+        if errand.handed_for.is_some() || agent.is_over(until) {
             return Ok(failure(agent.alloc, Fail::Unsent)?);
         }
         thread::sleep(agent.rt, Duration::from_millis(PAUSE_MS));
