@@ -21,8 +21,8 @@ MOST_WORDS = {
     "docs/FORMATS.md": 2_400,
     "docs/THEOREMS.md": 7_200,
     "docs/MODEL.md": 6_500,
-    "docs/ARCHITECTURE.md": 2_500,
-    "docs/DECISIONS.md": 3_000,
+    "docs/ARCHITECTURE.md": 2_600,
+    "docs/DECISIONS.md": 3_200,
     "docs/PROVING.md": 3_100,
 }
 # Any other.

@@ -144,7 +144,7 @@ pub fn call<R: Host>(
     ms: u64,
 ) -> Result<Response, Fail> {
     let Some((mut reader, mut writer)) = buffered(agent, stream, ms) else {
-        return Err(Fail::NoMemory);
+        return Err(Fail::Unsent);
     };
     if !send(agent.alloc, &mut writer, request) {
         return Err(Fail::Unheard);
@@ -163,7 +163,7 @@ pub fn call_participant<R: Host>(
     ms: u64,
 ) -> Result<lra_narayana::Response, Broken> {
     let Some((mut reader, mut writer)) = buffered(agent, stream, ms) else {
-        return Err(Broken::NoMemory);
+        return Err(Broken::Bad);
     };
     if !send(agent.alloc, &mut writer, request) {
         return Err(Broken::Bad);
