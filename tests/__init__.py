@@ -5,7 +5,7 @@ import unittest
 
 # What needs no program, and then what does.
 MODULES = ("room", "shared", "memory", "openapi", "words", "metrics", "shapes", "written", "page",
-           "serve", "member", "operate", "services", "readme", "proxies", "fair", "hostile")
+           "serve", "member", "operate", "services", "readme", "proxies", "gateway", "fair", "hostile")
 
 
 def load_tests(loader: unittest.TestLoader, found: unittest.TestSuite, pattern: str | None) -> unittest.TestSuite:

@@ -9,6 +9,7 @@ import typing
 import unittest
 from collections.abc import Iterable
 
+from tools.gateway import Gateway
 from tools.node import Group, Server
 from tools.participant import Participant
 
@@ -19,7 +20,7 @@ class Checked(unittest.TestCase):
     # Whether each check prints a line.
     is_told = False
     # The programs that have to be built, and how long all takes where that is long.
-    needs: tuple[type[Server] | type[Group], ...] = ()
+    needs: tuple[type[Server] | type[Group] | type[Gateway], ...] = ()
     takes: str | None = None
 
     @classmethod
@@ -121,12 +122,12 @@ def run(*kinds: type[unittest.TestCase], words: Iterable[str] = ()) -> int:
     chosen = [(kind, one) for word in words for kind, one in every if one == word]
     result = Lines()
     unittest.TestSuite(kind(f"test_{word}") for kind, word in chosen or every).run(result)
-    failed = len(result.failures) + len(result.errors)
-    print(f"{failed} failed")
+    failed = {getattr(test, "test_case", test).id() for test, _ in [*result.failures, *result.errors]}
+    print(f"{result.testsRun} tests, {len(failed)} failed")
     return 1 if failed else 0
 
 
-def need(*kinds: type[Server] | type[Group]) -> None:
+def need(*kinds: type[Server] | type[Group] | type[Gateway]) -> None:
     """Ends a test at once where one of its programs isn't there."""
     for kind in kinds:
         if not os.access(kind.program, os.X_OK):

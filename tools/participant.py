@@ -26,6 +26,12 @@ class Call(typing.NamedTuple):
     at: float
 
 
+def chunks_of(body: bytes) -> bytes:
+    """A body in two chunks, or as many as it has bytes for, and the last one."""
+    pieces = [piece for piece in (body[:3], body[3:]) if piece]
+    return b"".join(b"%x\r\n%s\r\n" % (len(piece), piece) for piece in pieces) + b"0\r\n\r\n"
+
+
 class QuietServer(http.server.ThreadingHTTPServer):
     """Says nothing of a client that is gone."""
 
@@ -37,10 +43,11 @@ class QuietServer(http.server.ThreadingHTTPServer):
 
 
 class Participant:
-    """Listens, answers a call with what `answers` has for its path, else with a status, and remembers it."""
+    """Listens, answers a call with what `answers` has for its path, else with a status, and remembers it. In chunks it
+    answers as many servers do: a body comes in two, and the connection stays open."""
 
-    def __init__(self, port: int = 0, status: int = 200, pause: float = 0) -> None:
-        self.status, self.pause = status, pause
+    def __init__(self, port: int = 0, status: int = 200, pause: float = 0, in_chunks: bool = False) -> None:
+        self.status, self.pause, self.in_chunks = status, pause, in_chunks
         self.answers: dict[str, Reply] = {}
         self.calls: list[Call] = []
         self.port = port
@@ -51,13 +58,18 @@ class Participant:
         participant = self
 
         class Handler(http.server.BaseHTTPRequestHandler):
+            protocol_version = "HTTP/1.1" if participant.in_chunks else "HTTP/1.0"
+
             def handle_call(self) -> None:
                 body = self.rfile.read(int(self.headers.get("Content-Length") or 0))
                 code, text = participant.hear(self.command, self.path, self.headers, body)
                 self.send_response(code)
-                self.send_header("Content-Length", str(len(text)))
+                if not participant.in_chunks:
+                    self.send_header("Content-Length", str(len(text)))
+                elif code != 204:
+                    self.send_header("Transfer-Encoding", "chunked")
                 self.end_headers()
-                self.wfile.write(text)
+                self.wfile.write(text if not participant.in_chunks else b"" if code == 204 else chunks_of(text))
 
             do_PUT = do_GET = do_POST = do_DELETE = handle_call
 

@@ -1,0 +1,1162 @@
+#!/usr/bin/env python3
+"""Tests the gateway as services with LRA annotations meet it: python3 tests/gateway.py [PROGRAM [MEMBER]] [TEST..].
+
+It starts three nodes, a gateway before them, and services that send what Narayana's client sends (tools/narayana.py).
+PROGRAM is the gateway, crates/lra_gateway/out/lra_gateway, and MEMBER a node, crates/lra_member/out/lra_member;
+--unproved stands for either, and alone for both, as tools/unproved.py compiles them. Without a TEST it does all, some
+two minutes. Each check prints a line; the status is 1 where one fails. Standard library alone."""
+import concurrent.futures
+import contextlib
+import http.client
+import itertools
+import os
+import re
+import socket
+import statistics
+import subprocess
+import sys
+import tempfile
+import threading
+import time
+import typing
+import urllib.parse
+from collections.abc import Callable, Iterator, Sequence
+
+sys.path.insert(0, os.path.dirname(os.path.dirname(os.path.abspath(__file__))))
+from tools import checks, unproved
+from tools.gateway import KEY, KEY_NAME, Gateway, doors_of
+from tools.narayana import (Annotated, Client, Context, Declined, answer_over, code_of, head_of, insist, invoke, quoted,
+                            uid_of)
+from tools.node import SLOW, Answer, Group, Json, comes_to, home_of
+from tools.operated import Operated
+from tools.participant import Reply, chunks_of
+from tools.ports import HOST, free_row, is_open
+
+# Nobody purges here.
+KEEP = "keep=60000"
+FULL = ("compensate", "complete", "status", "forget", "after", "leave")
+NONE = "00000000-0000-8001-8000-0000000fffff"
+OTHERS = "http://other:8080/lra-coordinator/0_ffff7f000001_9edb_65f0c1_2"
+# What participants answer who can't compensate, and answers to it that aren't one of done.
+FAILED: tuple[Reply, ...] = (409, (200, b"FailedToCompensate"), (200, b"\"FailedToCompensate\""),
+                             (409, b"FailedToCompensate"))
+ODD: tuple[Reply, ...] = ((200, b"Completed"), (200, b"Active"), 404, 500, 302, 412, (200, b"x" * 70_000))
+# What a client of Java asks that would rather speak HTTP/2.
+UPGRADE = ("Connection: Upgrade, HTTP2-Settings", "Upgrade: h2c", "HTTP2-Settings: AAMAAABkAAQAAP__")
+
+
+class Rough:
+    """A participant that answers each call with the next of some texts, and closes; with the last of them again and
+    again."""
+
+    def __init__(self, *answers: bytes, host: str = HOST) -> None:
+        self.answers, self.count = answers, 0
+        family = socket.AF_INET6 if ":" in host else socket.AF_INET
+        self.listener = socket.create_server((host, 0), family=family, backlog=64)
+        self.port = self.listener.getsockname()[1]
+        self.url = f"http://{HOST}:{self.port}"
+        threading.Thread(target=self.take, daemon=True).start()
+
+    def take(self) -> None:
+        with contextlib.suppress(OSError):
+            while True:
+                line = self.listener.accept()[0]
+                with contextlib.suppress(OSError), line:
+                    read_head(line)
+                    self.count += 1
+                    line.sendall(self.answers[min(self.count, len(self.answers)) - 1])
+
+    def close(self) -> None:
+        self.listener.close()
+
+
+def read_head(line: socket.socket) -> bytes:
+    """The head that comes over a connection, or what comes of it."""
+    head = b""
+    while not head.endswith(b"\r\n\r\n") and (byte := line.recv(1)):
+        head += byte
+    return head
+
+
+def link_to(url: str, word: str = "compensate") -> str:
+    """A link as short as one can be."""
+    return f"<{url}>; rel=\"{word}\""
+
+
+def own_address() -> str | None:
+    """An address of this machine other than the loopback's, if it has one."""
+    with socket.socket(socket.AF_INET, socket.SOCK_DGRAM) as probe:
+        try:
+            probe.connect(("198.51.100.1", 9))
+        except OSError:
+            return None
+        found = probe.getsockname()[0]
+    return None if found.startswith("127.") else found
+
+
+def asked_at(address: tuple[str, int], method: str, target: str, *fields: str) -> int:
+    """The code of an answer to what a node might send; 0 where the connection is closed without one."""
+    lines = [f"{method} {target} HTTP/1.1", f"Host: {address[0]}:{address[1]}", *fields, "Content-Length: 0",
+             "Connection: close", "", ""]
+    try:
+        with socket.create_connection(address, SLOW) as line:
+            line.sendall("\r\n".join(lines).encode())
+            return answer_over(line, method).status
+    except (OSError, http.client.HTTPException):
+        return 0
+
+
+def with_node(carried: str) -> tuple[tuple[str, int], str]:
+    """Where a node calls a carried link, and with which target."""
+    parts = urllib.parse.urlsplit(carried)
+    return (parts.hostname or "", parts.port or 80), urllib.parse.urlunsplit(("", "", *parts[2:4], ""))
+
+
+def seconds_of(call: Callable[..., object], *words: typing.Any) -> float:
+    """How long a call takes."""
+    began = time.monotonic()
+    call(*words)
+    return time.monotonic() - began
+
+
+@contextlib.contextmanager
+def beside(call: Callable[[], object]) -> Iterator[None]:
+    """Makes a call meanwhile, and waits for its end."""
+    with concurrent.futures.ThreadPoolExecutor() as pool:
+        future = pool.submit(call)
+        yield
+        future.result()
+
+
+class TestGateway(checks.Checked):
+    needs = (Group, Gateway)
+    takes = "some two minutes"
+    # Three nodes that all tests share.
+    nodes: Operated
+
+    @classmethod
+    def setUpClass(cls) -> None:
+        super().setUpClass()
+        folder = cls.enterClassContext(tempfile.TemporaryDirectory())
+        cls.nodes = cls.enterClassContext(Operated(3, folder, KEEP))
+
+    # ---- what stands
+
+    def members(self) -> Operated:
+        """The nodes, of which those are started that don't run."""
+        running = [number for number, process in self.nodes.processes.items() if process.poll() is None]
+        away = [number for number in (1, 2, 3) if number not in running]
+        return self.nodes.start(*away) if away else self.nodes
+
+    def front(self, groups: Sequence[Sequence[str]], *options: str, base: str = "", via: str = "") -> Gateway:
+        """A gateway that is killed with the test, and isn't started yet."""
+        made = Gateway(self.folder, groups, options, base, via)
+        self.addCleanup(made.__exit__)
+        return made
+
+    def up(self, *options: str, via: str = "") -> Client:
+        """A gateway before the nodes, and its client."""
+        self.gateway = self.front([doors_of(self.members())], *options, via=via).start()
+        self.client = Client(self.gateway.port)
+        return self.client
+
+    def service(self, *words: str, **how: typing.Any) -> Annotated:
+        made = Annotated(*words, **how)
+        self.addCleanup(made.close)
+        return made
+
+    def rough(self, *answers: bytes, host: str = HOST) -> Rough:
+        made = Rough(*answers, host=host)
+        self.addCleanup(made.close)
+        return made
+
+    def joined(self, *services: Annotated, parent: str = "") -> str:
+        """An LRA that services have joined, in this order."""
+        lra = self.client.start(parent)
+        for service in services:
+            self.client.join(lra, service.link())
+        return lra
+
+    def is_shown(self, lra: str, status: str, what: str = "it ends") -> None:
+        came = self.client.comes_to(lra, status)
+        self.check(f"{what}: {status}", came, came or self.client.status(lra))
+
+    def is_declined(self, what: str, code: int, call: Callable[..., object], *words: typing.Any) -> None:
+        self.same(what, code, code_of(call, *words))
+
+    def record(self, lra: str) -> Json:
+        """What the home of an LRA tells operators of it."""
+        return self.nodes.record(home_of(lra_of(lra)), lra_of(lra))
+
+    def carried(self, lra: str, word: str = "compensate") -> str:
+        """The link that a node was given for the first participant's."""
+        return self.record(lra)["members"][0]["links"][word]
+
+    # ---- what a filter does
+
+    def test_required(self) -> None:
+        """A method that needs an LRA begins one, joins it, and closes it."""
+        client, trip, seen = self.up(), self.service(), []
+
+        def book(context: Context) -> int:
+            seen.append(context)
+            self.same("its status within the method", "Active", client.status(context.lra))
+            return 200
+
+        self.same("the method's code", 200, invoke(client, "REQUIRED", trip, book))
+        lra, recovery = seen[0]
+        self.is_shown(lra, "Closed")
+        self.same("the calls", [("PUT", "/trip/complete?method=jakarta.ws.rs.PUT")], trip.made(lra))
+        fields = trip.calls[0].fields
+        self.same("the id as it was given", lra, fields["Long-Running-Action"])
+        self.same("the recovery URL as it was given", recovery, fields["Long-Running-Action-Recovery"])
+        self.same("no parent", None, fields["Long-Running-Action-Parent"])
+        self.same("a length and no body", ("0", b""), (fields["Content-Length"], trip.calls[0].body))
+        self.same("the host", f"{HOST}:{trip.port}", fields["Host"])
+        self.check("it doesn't ask for the end of the connection", fields["Connection"] is None, fields["Connection"])
+
+    def test_answers(self) -> None:
+        """What each call is answered, with its fields."""
+        client, trip = self.up(), self.service()
+        begun = client.send("POST", "start?ClientID=a&TimeLimit=0&ParentLRA=", "")
+        lra = begun.text
+        self.same("a start", (201, lra, lra), (begun.status, begun.fields.get("Location"),
+                                               begun.fields.get("Long-Running-Action")))
+        self.check("an id", re.fullmatch(rf"{re.escape(client.root())}/[0-9a-f-]{{36}}", lra), lra)
+        joined = client.send("PUT", f"{uid_of(lra)}?TimeLimit=0", trip.link(), f"Link: {trip.link()}")
+        recovery = joined.text
+        self.same("a join", (200, recovery, recovery), (joined.status, joined.fields.get("Location"),
+                                                        joined.fields.get("Long-Running-Action-Recovery")))
+        self.same("where it is recovered", f"{client.root()}/recovery/{uid_of(lra)}/1", recovery)
+        status = client.send("GET", f"{uid_of(lra)}/status")
+        self.same("a status", (200, "Active"), (status.status, status.text))
+        self.check("as text", status.fields.get("Content-Type", "").startswith("text/plain"), status.fields)
+        ended = client.send("PUT", f"{uid_of(lra)}/close", "")
+        self.same("a close", (200, "Closed"), (ended.status, ended.text))
+        self.same("once more", (200, "Closed"), self.ended(lra))
+        self.is_declined("and a cancel then", 412, client.end, lra, "cancel")
+        self.is_declined("a leave", 412, client.leave, lra, trip.link())
+        with client.connect() as line:
+            line.sendall(head_of("GET", f"/lra-coordinator/{uid_of(lra)}/status", "x"))
+            first = answer_over(line)
+            if first.fields.get("Connection", "").lower() == "close":
+                self.check("it closes the connection as it says", line.recv(1) == b"")
+            else:
+                line.sendall(head_of("GET", f"/lra-coordinator/{uid_of(lra)}/status", "x"))
+                self.same("it takes a second request", 200, answer_over(line).status)
+
+    def ended(self, lra: str, word: str = "close") -> tuple[int, str]:
+        answer = self.client.send("PUT", f"{uid_of(lra)}/{word}", "")
+        return answer.status, answer.text
+
+    def test_chain(self) -> None:
+        """A method calls another service's within its LRA: both complete, or both compensate, the last first."""
+        client, one, two = self.up(), self.service(), self.service()
+        seen: list[str] = []
+
+        def inner(context: Context) -> int:
+            seen.append(context.lra)
+            return 200
+
+        def outer(kind: str, code: int) -> Callable[[Context], int]:
+            def method(context: Context) -> int:
+                seen.append(context.lra)
+                invoke(client, kind, two, inner, context.lra, ends=False)
+                return code
+
+            return method
+
+        invoke(client, "REQUIRED", one, outer("REQUIRED", 200))
+        self.check("one LRA", seen[0] == seen[1], seen)
+        self.is_shown(seen[0], "Closed")
+        self.same("both complete", (1, 1), (len(one.of("complete")), len(two.of("complete"))))
+        two.say("compensate", (200, b"Compensated"))
+        self.same("a method that fails", 500, invoke(client, "REQUIRED", one, outer("MANDATORY", 500)))
+        self.is_shown(seen[2], "Cancelled")
+        first, last = one.of("compensate"), two.of("compensate")
+        self.same("both compensate", (1, 1), (len(first), len(last)))
+        self.check("the last that joined first", last[0].at < first[0].at)
+
+    def test_types(self) -> None:
+        """Methods with each type of LRA."""
+        client, one, two = self.up(), self.service(), self.service()
+        seen: list[str] = []
+        self.same("MANDATORY without one", 412, invoke(client, "MANDATORY", one, lambda _: 200))
+
+        def inner(context: Context) -> int:
+            seen.append(context.lra)
+            return 200
+
+        def outer(context: Context) -> int:
+            seen.append(context.lra)
+            invoke(client, "REQUIRES_NEW", two, inner, context.lra)
+            return 500
+
+        invoke(client, "REQUIRED", one, outer)
+        self.check("a new one", seen[0] != seen[1], seen)
+        self.is_shown(seen[0], "Cancelled")
+        self.is_shown(seen[1], "Closed", "the new one")
+        self.same("which isn't compensated", [], two.of("compensate"))
+        self.same("NEVER within one", 412, invoke(client, "NEVER", one, lambda _: 200, seen[0]))
+        self.same("SUPPORTS without one", 200, invoke(client, "SUPPORTS", one, lambda _: 200))
+        self.same("NESTED in none begins one", 200, invoke(client, "NESTED", two, inner))
+        self.is_shown(seen[2], "Closed")
+
+    def test_nested(self) -> None:
+        """A nested LRA that closed is compensated with its parent, and told of its end only then."""
+        client, one = self.up(), self.service()
+        two = self.service("compensate", "complete", "forget", "after")
+        seen: list[str] = []
+
+        def inner(context: Context) -> int:
+            seen.append(context.lra)
+            return 200
+
+        def outer(context: Context) -> int:
+            seen.append(context.lra)
+            invoke(client, "NESTED", two, inner, context.lra)
+            self.is_shown(seen[1], "Closed", "the nested one")
+            self.same("the parent is told", context.lra, two.of("complete")[0].fields["Long-Running-Action-Parent"])
+            self.same("a listener hears nothing yet", [], two.of("after"))
+            return 500
+
+        invoke(client, "REQUIRED", one, outer)
+        for lra in seen:
+            self.is_shown(lra, "Cancelled")
+        self.same("it is compensated by its own id", [seen[1]], [call.lra for call in two.of("compensate")])
+        self.check("the listener is told", two.is_called("after"))
+        ended = two.of("after")[0]
+        self.same("of what", (b"Cancelled", seen[1]), (ended.body, ended.fields["Long-Running-Action-Ended"]))
+        parent = client.start()
+        child = self.joined(two, parent=parent)
+        self.same("at its parent's home", home_of(uid_of(parent)), home_of(uid_of(child)))
+        client.end(child)
+        self.is_shown(child, "Closed", "another nested one")
+        self.same("forget waits for the root", [], two.of("forget"))
+        client.end(parent)
+        self.check("then it is called", two.is_called("forget"))
+        self.same("by its method", "DELETE", two.of("forget")[0].method)
+
+    # ---- what participants answer
+
+    def test_busy(self) -> None:
+        """Who says that it goes on is asked for its status, or called again."""
+        client = self.up("wait=0")
+        one, two = self.service("compensate", "complete", "status"), self.service("compensate", "complete", "status")
+        three = self.service()
+        one.say("compensate", 202)
+        one.say("status", (200, b"Compensating"), (200, b"\"Compensated\""))
+        two.say("complete", (200, b"Completing"))
+        two.say("status", 202, (200, b"Completed"))
+        three.say("complete", 202, 200)
+        lras = [self.joined(service) for service in (one, two, three)]
+        for lra, word in zip(lras, ("cancel", "close", "close"), strict=True):
+            client.end(lra, word)
+        self.is_shown(lras[0], "Cancelled", "202, and its status later")
+        self.same("it is called once", 1, len(one.of("compensate")))
+        self.same("and asked", ["GET"] * 2, [call.method for call in one.of("status")])
+        self.is_shown(lras[1], "Closed", "200 and Completing")
+        self.same("asked until it says so", (1, 2), (len(two.of("complete")), len(two.of("status"))))
+        self.is_shown(lras[2], "Closed", "202 without a status link")
+        self.same("called again", 2, len(three.of("complete")))
+
+    def test_failed(self) -> None:
+        """Who says that it can't isn't called again, and the LRA shows it."""
+        client = self.up()
+        for reply in FAILED:
+            trip = self.service("compensate", "forget")
+            trip.say("compensate", reply)
+            lra = self.joined(trip)
+            self.same(f"{reply}", "FailedToCancel", client.end(lra, "cancel"))
+            self.check("forget is called", trip.is_called("forget"))
+            self.same("and compensate once", 1, len(trip.of("compensate")))
+        trip = self.service()
+        trip.say("complete", (200, b"FailedToComplete"))
+        lra = self.joined(trip)
+        client.end(lra)
+        self.is_shown(lra, "FailedToClose", "a complete that fails")
+        self.check("what was told otherwise is in the log", f"{trip.base()}/complete" in self.gateway.log(),
+                   self.gateway.log())
+
+    def test_odd(self) -> None:
+        """Answers that aren't one of done: it is called again after each."""
+        client = self.up("wait=0")
+        services = []
+        for reply in ODD:
+            trip = self.service()
+            trip.say("compensate", reply, 410)
+            lra = self.joined(trip)
+            client.end(lra, "cancel")
+            services.append((reply, trip, lra))
+        for reply, trip, lra in services:
+            self.is_shown(lra, "Cancelled", f"{str(reply)[:30]}, then 410")
+            self.same("two calls", 2, len(trip.of("compensate")))
+
+    def test_cut(self) -> None:
+        """An answer that is cut, or whose end can't be told, isn't one of done."""
+        client, head = self.up("wait=0"), b"HTTP/1.1 200 OK\r\n"
+        cut = (head + b"\r\nCompe", head + b"\r\n", head + b"Transfer-Encoding: chunked\r\n\r\n5\r\nCompe\r\n",
+               head + b"Transfer-Encoding: chunked\r\n\r\n", head + b"Content-Length: 9\r\n\r\nabc",
+               b"HTTP/1.1 20", b"")
+        last = head + b"Transfer-Encoding: chunked\r\n\r\n12\r\nFailedToCompensate\r\n0\r\n\r\n"
+        roughs = []
+        for answer in cut:
+            rough = self.rough(answer, last)
+            lra = client.start()
+            client.join(lra, f"<{rough.url}/c>; rel=compensate")
+            client.end(lra, "cancel")
+            roughs.append((answer, rough, lra))
+        for answer, rough, lra in roughs:
+            self.is_shown(lra, "FailedToCancel", f"{answer!r}, then a failure in chunks")
+            self.same("two calls", 2, rough.count)
+
+    def test_chunks(self) -> None:
+        """A participant that answers in chunks counts: by each act, with a body and without one, behind an interim
+        answer, in pieces that come late."""
+        client, head = self.up(), b"HTTP/1.1 200 OK\r\nTransfer-Encoding: chunked\r\n\r\n"
+        answers = (head + b"0\r\n\r\n", head + chunks_of(b"all is well"),
+                   b"HTTP/1.1 100 Continue\r\n\r\n" + head + b"0\r\n\r\n",
+                   head + b"B;a=\"b\"\r\nCompensated\r\n0\r\nTrailer: x\r\n\r\n")
+        for answer in answers:
+            rough = self.rough(answer)
+            lra = client.start()
+            client.join(lra, link_to(f"{rough.url}/c"))
+            self.same(f"{answer[17:]!r}", "Cancelled", client.end(lra, "cancel"))
+            self.same("one call", 1, rough.count)
+
+    def test_gone(self) -> None:
+        """A participant that is away is called again until it is there; and those at a name, and at an address of
+        IPv6."""
+        client, trip = self.up("wait=0"), self.service()
+        lra = self.joined(trip)
+        trip.close()
+        client.end(lra)
+        home = home_of(uid_of(lra))
+        self.check("nobody is reached", comes_to(SLOW, lambda: "502" in [c["came"] for c in self.nodes.calls(home)]),
+                   self.nodes.calls(home))
+        self.same("it waits", "Closing", client.status(lra))
+        trip.open()
+        self.is_shown(lra, "Closed", "with the participant back")
+        done = b"HTTP/1.1 204 No Content\r\n\r\n"
+        for host, name in ((HOST, "localhost"), ("::1", "[::1]")):
+            try:
+                rough = self.rough(done, host=host)
+            except OSError:
+                continue  # there is no IPv6
+            lra = client.start()
+            client.join(lra, link_to(f"http://{name}:{rough.port}/c"))
+            client.end(lra, "cancel")
+            self.is_shown(lra, "Cancelled", name)
+            self.same("one call", 1, rough.count)
+
+    def test_after(self) -> None:
+        """A listener is told of the end, again after an error, and isn't a participant."""
+        client, one, two = self.up(), self.service("after"), self.service()
+        one.say("after", 500, 200)
+        lra = self.joined(one, two)
+        client.end(lra)
+        self.check("it is told again", one.is_called("after", 2))
+        call = one.of("after")[1]
+        self.same("what", (b"Closed", lra), (call.body, call.fields["Long-Running-Action-Ended"]))
+        self.same("as text", "text/plain", call.fields["Content-Type"])
+        self.same("and no LRA to be in", None, call.fields["Long-Running-Action"])
+
+    # ---- what services ask
+
+    def test_leave(self) -> None:
+        """Who left isn't called."""
+        client, one, two = self.up(), self.service("compensate", "complete", "leave"), self.service()
+        lra = self.joined(one, two)
+        client.leave(lra, one.link())
+        client.end(lra)
+        self.is_shown(lra, "Closed")
+        self.same("who left isn't called", [], one.calls)
+        self.same("who stayed is", 1, len(two.of("complete")))
+        self.is_declined("a late leave", 412, client.leave, lra, two.link())
+        other = client.start()
+        self.is_declined("a leave of nobody", 400, client.leave, other, two.link())
+
+    def test_limit(self) -> None:
+        """The time limit of a start, and the one that the gateway gives where none is asked for."""
+        client, trip = self.up("limit=600000"), self.service()
+        lra = client.start(limit=2000)
+        client.join(lra, trip.link())
+        self.is_shown(lra, "Cancelled", "behind its limit")
+        self.same("it is compensated", 1, len(trip.of("compensate")))
+        self.is_declined("a close that is too late", 412, client.end, lra)
+        deadline = self.record(client.start())["deadline"]
+        self.check("a limit by default", deadline and abs(deadline / 1000 - time.time() - 600) < 60, deadline)
+        for limit in ("x", "-1", "1.5", "9" * 30):
+            answer = client.send("POST", f"start?ClientID=a&TimeLimit={limit}", "")
+            self.same(f"no limit: {limit}", 400, answer.status)
+
+    def test_again(self) -> None:
+        """A join with the same compensate link is the first one; and what is too late, or of no LRA."""
+        client, one, two = self.up(), self.service(), self.service()
+        lra = client.start()
+        first = client.join(lra, one.link())
+        self.same("a second join", first, client.join(lra, one.link()))
+        self.same("and a thirty-fourth", {first}, {client.join(lra, one.link()) for _ in range(32)})
+        self.check("another's is another", client.join(lra, two.link()) != first)
+        client.end(lra, "cancel")
+        self.is_shown(lra, "Cancelled")
+        self.same("one call each", (1, 1), (len(one.of("compensate")), len(two.of("compensate"))))
+        self.same("a second cancel is as good", (200, "Cancelled"), self.ended(lra, "cancel"))
+        self.is_declined("a close then", 412, client.end, lra)
+        self.is_declined("the same join, too late", 412, client.join, lra, one.link())
+        self.is_declined("a new one, too late", 412, client.join, lra, self.service().link())
+        self.is_declined("the status of none", 404, client.status, NONE)
+        self.is_declined("the end of none", 404, client.end, NONE)
+        self.is_declined("a join of none", 404, client.join, NONE, one.link())
+        self.is_declined("a node that isn't there", 404, client.status, NONE.replace("8001", "8008"))
+        self.is_declined("another coordinator's parent", 404, client.start, OTHERS)
+        self.is_declined("a parent that isn't there", 404, client.start, f"{client.root()}/{NONE}")
+
+    def test_ids(self) -> None:
+        """An id stands in a path as a client may write it."""
+        client = self.up()
+        lra = client.start()
+        uid = uid_of(lra)
+        for text in (uid, uid.upper(), quoted(lra), quoted(quoted(lra)), f"urn:uuid:{uid}", f"{uid}?ParentLRA=x"):
+            path, _, query = text.partition("?")
+            answer = client.send("GET", f"{path}/status" + (query and f"?{query}"))
+            self.same(text, (200, "Active"), (answer.status, answer.text))
+        self.same("a nested one, by an id that was escaped before", 201,
+                  client.send("POST", f"start?ClientID=a&ParentLRA={quoted(quoted(lra))}", "").status)
+        self.same("a close by the id itself", 200,
+                  client.send("PUT", f"{urllib.parse.urlsplit(lra).path}/close", "").status)
+
+    def test_links(self) -> None:
+        """Link texts that can be carried, and those that can't."""
+        client, trip = self.up(), self.service()
+        lra = client.start()
+        bad = ("<https://h/c>; rel=\"compensate\"", "<http://u@h/c>; rel=compensate", "nothing", "", "<>; rel=after",
+               "<http://h/c#f>; rel=compensate", "<http://h/k>; rel=\"complete\"", "<h/c>; rel=compensate",
+               "<http://h/a\\b>; rel=compensate", "<http://h/c>; rel=\"leave\"")
+        for link in bad:
+            self.is_declined(f"no link: {link}", 400, client.join, lra, link)
+        base = trip.base()
+        good = (f"<{base}/compensate>;rel=compensate,<{base}/complete>;rel=complete", base)
+        self.same("bare ones, and a plain URL", 1, len({client.join(lra, link) for link in good}))
+        client.end(lra)
+        self.is_shown(lra, "Closed")
+        self.same("it completes", 1, len(trip.of("complete")))
+        other = client.start()
+        old = f"<{base}/x/compensate?method=javax.ws.rs.PUT>; rel=\"compensate\"; title=\"a, b\"; type=\"text/plain\""
+        client.join(other, old)
+        client.end(other, "cancel")
+        self.same("a query of old", "/trip/x/compensate?method=javax.ws.rs.PUT", trip.of("compensate")[0].path)
+
+    def lengthened(self, host: str, count: int) -> str:
+        return f"<http://{host}/{'x' * count}?method=jakarta.ws.rs.PUT>; rel=\"compensate\""
+
+    def over(self, answer: Answer) -> int:
+        """By how many bytes a link is too long, as the answer says."""
+        said = re.findall(r"\b(\d+) bytes?\b", answer.text)
+        return int(said[0]) if answer.status == 400 and said else -1
+
+    def test_long(self) -> None:
+        """A link that is too long is refused with how many bytes it has too many; cut by as many it fits."""
+        client, trip = self.up(), self.service()
+        lra, host = client.start(), f"{HOST}:{trip.port}"
+        answer = client.send("PUT", uid_of(lra), self.lengthened(host, 140))
+        over = self.over(answer)
+        self.check("it says by how much", 0 < over < 140, (answer.status, answer.text))
+        self.check("of which link", f"http://{host}/xxx" in answer.text, answer.text)
+        rest = self.over(client.send("PUT", uid_of(lra), self.lengthened(host, 140 - over + 1)))
+        self.same("cut by one less it has one too many", 1, rest)
+        client.join(lra, self.lengthened(host, 140 - over))
+        room = len(host) + 1 + 140 - over
+        self.check(f"cut by as many it fits: HOST:PORT/PATH has {room} bytes", room >= 83, room)
+        client.end(lra, "cancel")
+        self.same("it is called", [f"/{'x' * (140 - over)}?method=jakarta.ws.rs.PUT"], trip.paths())
+
+    def test_short(self) -> None:
+        """A front that the configuration names makes room."""
+        trip = self.service(root="/lra-participant/com.example.booking.reservations.BookingResource.of.the.travels")
+        named = trip.base().removeprefix("http://")
+        client = self.up(f"short=t={named}", f"short=u={HOST}:1/other")
+        lra = client.start()
+        client.join(lra, trip.link())
+        target = with_node(self.carried(lra))[1]
+        self.check("it is carried by its name", target.endswith("/~t/compensate"), target)
+        client.end(lra, "cancel")
+        self.is_shown(lra, "Cancelled")
+        self.same("it is called as it joined", [("PUT", f"{trip.root}/compensate?method=jakarta.ws.rs.PUT")],
+                  trip.made(lra))
+        plain = self.front([doors_of(self.nodes)]).start()
+        other = Client(plain.port)
+        answer = other.send("PUT", uid_of(other.start()), trip.link())
+        self.check("without the name it is too long", self.over(answer) > 0, (answer.status, answer.text))
+
+    def test_questions(self) -> None:
+        """What an LRA shows, lists, where participants are recovered, and purges."""
+        client, trip = self.up(), self.service()
+        lra = client.start()
+        info = client.send("GET", uid_of(lra), None, "Accept: application/json")
+        self.same("its data", (200, lra, "Active", False), data_of(info))
+        self.check("it is listed", comes_to(SLOW, lambda: self.lists("?Status=Active", lra)))
+        self.check("also by the other path", self.lists("/?Status=Active", lra) and self.lists("", lra))
+        self.check("and not as closed", not self.lists("?Status=Closed", lra))
+        self.same("a wrong status", 400, client.send("GET", "/lra-coordinator?Status=Wrong").status)
+        recovery = client.join(lra, trip.link())
+        path = urllib.parse.urlsplit(recovery).path
+        told = client.send("GET", path)
+        url = f"<{trip.base()}/compensate?method=jakarta.ws.rs.PUT>"
+        self.check("a participant's own links", told.status == 200 and url in told.text, told)
+        self.same("one that isn't there", 404, client.send("GET", path.removesuffix("1") + "9").status)
+        self.same("it can't be moved", 501, client.send("PUT", path, trip.link()).status)
+        trip.say("compensate", 500)
+        client.end(lra, "cancel")
+        self.check("it is recovering", comes_to(SLOW, lambda: self.lists("/recovery", lra)))
+        self.same("which isn't purged", 412, client.send("DELETE", f"recovery/{uid_of(lra)}").status)
+        trip.say("compensate", 409)
+        self.is_shown(lra, "FailedToCancel")
+        self.check("it failed", comes_to(SLOW, lambda: self.lists("/recovery/failed", lra)))
+        self.same("its data then", (200, lra, "FailedToCancel", True), data_of(client.send("GET", uid_of(lra))))
+        self.same("a purge", 204, client.send("DELETE", f"recovery/{uid_of(lra)}").status)
+        self.is_declined("then it is gone", 404, client.status, lra)
+
+    def lists(self, query: str, lra: str) -> bool:
+        """Whether a list has an LRA."""
+        answer = self.client.send("GET", f"/lra-coordinator{query}", None, "Accept: application/json")
+        return lra in [row["lraId"] for row in answer.json()]
+
+    def test_paths(self) -> None:
+        """What is no path, and no method of one."""
+        client = self.up()
+        uid = uid_of(client.start())
+        for path in ("/", "/lra", "/lra-coordinators/start", f"/{uid}/status", f"/lra-coordinator/{uid}/x",
+                     f"/lra-coordinator/{uid}/close/x", "/lra-coordinator/x/status",
+                     f"/lra-coordinator/nested/{uid}/status"):
+            self.same(f"no path: {path}", 404, client.send("GET", path).status)
+        for method, path in (("PATCH", uid), ("DELETE", uid), ("POST", f"{uid}/close"), ("GET", f"{uid}/close"),
+                             ("PUT", f"{uid}/status"), ("GET", f"{uid}/remove"), ("PUT", "/lra-coordinator"),
+                             ("POST", "recovery")):
+            body = "" if method in ("PUT", "POST", "PATCH") else None
+            self.same(f"no method: {method} {path}", 405, client.send(method, path, body).status)
+        self.same("a limit isn't renewed", 501, client.send("PUT", f"{uid}/renew?TimeLimit=5", "").status)
+        self.same("a request that is none", b"HTTP/1.1 400", self.said(b"nonsense\r\n\r\n")[:12])
+        self.same("one that is too long", b"HTTP/1.1 4", self.said(b"GET / HTTP/1.1\r\nA: " + b"a" * 20_000)[:10])
+
+    def said(self, text: bytes) -> bytes:
+        """What comes back of these bytes, until the gateway closes."""
+        with self.client.connect() as line, contextlib.suppress(ConnectionError):
+            line.sendall(text)
+            return line.recv(4096)
+        return b""
+
+    # ---- how requests come
+
+    def test_framing(self) -> None:
+        """A body that comes in chunks, in pieces, or behind an interim answer."""
+        client, trip = self.up(), self.service()
+        lra = client.start()
+        path, host = f"/lra-coordinator/{uid_of(lra)}?TimeLimit=0", f"{HOST}:{client.port}"
+        for fields in ((f"Link: {trip.link()}",), ()):
+            head = head_of("PUT", path, host, ("Content-Type: text/plain", *fields, "Transfer-Encoding: chunked"))
+            with client.connect() as line:
+                for piece in (head, chunks_of(trip.link().encode())):
+                    line.sendall(piece)
+                    time.sleep(0.1)
+                answer = answer_over(line, "PUT")
+            self.same("a join in chunks", 200, answer.status)
+        self.same("which are one", 1, len(self.record(lra)["members"]))
+        text = head_of("PUT", f"/lra-coordinator/{uid_of(lra)}/status", host)
+        with client.connect() as line:
+            for byte in text.replace(b"PUT", b"GET"):
+                line.sendall(bytes([byte]))
+            self.same("a request byte by byte", 200, answer_over(line).status)
+        other = self.service()
+        body = other.link().encode()
+        with client.connect() as line:
+            line.sendall(head_of("PUT", path, host, ("Content-Type: text/plain", "Expect: 100-continue"), len(body)))
+            line.settimeout(3)  # as long as Apache's client waits
+            try:
+                interim = read_head(line)[:12].decode()
+            except TimeoutError:
+                interim = "nothing"
+            line.settimeout(SLOW)
+            line.sendall(body)
+            answer = answer_over(line, "PUT")
+        self.check(f"who waits for 100 Continue hears {interim}", interim in ("HTTP/1.1 100", "nothing"), answer)
+        self.same("and joins", 200, answer.status)
+        client.end(lra)
+        self.same("both are called", (1, 1), (len(trip.of("complete")), len(other.of("complete"))))
+
+    def test_upgrade(self) -> None:
+        """A client as Camel's saga: it would rather speak HTTP/2, reads Location, asks by the id as it stands, and
+        writes bare links."""
+        client, trip = self.up(), self.service(root="")
+        begun = client.send("POST", "start", "", *UPGRADE)
+        self.same("a start", 201, begun.status)
+        lra = begun.fields["Location"]
+        query = "Camel-Saga-Compensate=direct://undo&id=1"
+        link = f"<{trip.url}/compensate?{query}>; rel=compensate,<{trip.url}/complete>; rel=complete"
+        path = urllib.parse.urlsplit(lra).path
+        head = head_of("PUT", path, "x", (f"Link: {link}", *UPGRADE, "Transfer-Encoding: chunked"))
+        with client.connect() as line:
+            line.sendall(head + chunks_of(link.encode()))
+            self.same("a join", 200, answer_over(line, "PUT").status)
+        self.same("a cancel", (200, "Cancelled"), self.ended(lra, "cancel"))
+        self.same("its call", [f"/compensate?{query}"], trip.paths())
+
+    def test_silent(self) -> None:
+        """Clients that say nothing, or half of what they have to say, hold up nobody."""
+        client, trip = self.up(), self.service()
+        host = f"{HOST}:{client.port}"
+        half = head_of("PUT", f"/lra-coordinator/{NONE}?TimeLimit=0", host, (), 100)
+        for what, text in (("silent", b""), ("in the midst of a head", half[:60]), ("behind a head", half + b"x")):
+            lines = [client.connect() for _ in range(64)]
+            for line in lines:
+                line.sendall(text)
+            time.sleep(0.2)
+            took = seconds_of(client.start)
+            self.check(f"beside 64 that are {what} a start takes {took:.2f} s", took < 2)
+            lra = self.joined(trip)
+            took = seconds_of(client.end, lra)
+            self.check(f"and a close {took:.2f} s", took < 2)
+            for line in lines:
+                line.close()
+        several = [client.connect() for _ in range(128)]
+        for place, line in enumerate(several):
+            line.sendall(half[:60] if place % 2 else b"")
+        time.sleep(0.2)
+        took = seconds_of(client.start)
+        self.check(f"beside 128 of both a start takes {took:.2f} s", took < 2)
+        for line in several:
+            line.close()
+
+    # ---- who may call whom
+
+    def test_forged(self) -> None:
+        """A call of a node is forwarded only for the LRA, the act and the link that were sealed."""
+        client, trip = self.up(), self.service()
+        lra, other = self.joined(trip), client.start()
+        self.same("a link of its own host", trip.url, self.own_links(lra))
+        address, target = with_node(self.carried(lra))
+        complete = with_node(self.carried(lra, "complete"))[1]
+        self.check("its host is an address of the loopback", re.match(r"127\.\d+\.\d+\.\d+$", address[0]), address)
+        seal = target.split("/")[1]
+        forged = [target + "x", target.replace("/trip/", "/trap/"), target.replace(seal, seal[:1] + "AAAAAAAA"),
+                  target.replace(seal, complete.split("/")[1][:1] + seal[1:]), target.replace(seal, seal.lower()),
+                  target.replace(seal, ""), "/", f"/{seal}", f"/{seal}/", "/c//127.0.0.1:1/x", target[:20],
+                  f"http://{HOST}:{trip.port}/trip/compensate", "*"]
+        field = f"Long-Running-Action: urn:uuid:{uid_of(lra)}"
+        for text in forged:
+            self.same(f"forged: {text}", 403, asked_at(address, "PUT", text, field))
+        for text in (f"Long-Running-Action: urn:uuid:{uid_of(other)}", f"Long-Running-Action-Ended: {other}",
+                     "Long-Running-Action: x", "X: y"):
+            self.same(f"replayed with {text}", 403, asked_at(address, "PUT", target, text))
+        for method in ("GET", "DELETE", "POST"):
+            self.same(f"replayed by {method}", 403, asked_at(address, method, target, field))
+        self.same("nobody was called", [], trip.calls)
+        self.same("the link itself", 200, asked_at(address, "PUT", target, field))
+        self.same("reaches it", 1, len(trip.of("compensate")))
+        here = own_address()
+        if here:
+            self.check("from elsewhere it doesn't", asked_at((here, address[1]), "PUT", target, field) in (0, 403))
+            self.same("nobody else was called", 1, len(trip.calls))
+
+    def own_links(self, lra: str) -> str:
+        """The host of the participant that a recovery URL tells."""
+        told = self.client.send("GET", f"recovery/{uid_of(lra)}/1").text
+        return told[1:].partition("/trip")[0]
+
+    def test_allowed(self) -> None:
+        """Participants may be at the hosts that are named, and at no others."""
+        trip, other = self.service(), self.service()
+        client = self.up(f"allow=lra.example,{HOST}:{trip.port}")
+        lra = client.start()
+        client.join(lra, trip.link())
+        self.is_declined("another port", 400, client.join, lra, other.link())
+        self.is_declined("another host", 400, client.join, lra, link_to(f"http://localhost:{trip.port}/c"))
+        client.join(lra, link_to("http://lra.example:8080/c"))
+        client.leave(lra, link_to("http://lra.example:8080/c"))
+        self.same("a close", (200, "Closed"), self.ended(lra))
+
+    def test_via(self) -> None:
+        """Nodes that reach the gateway by a name."""
+        client, trip = self.up(via="localhost"), self.service()
+        lra = self.joined(trip)
+        address, target = with_node(self.carried(lra))
+        self.same("it is in the links", ("localhost", self.gateway.calls), address)
+        self.same("a close", (200, "Closed"), self.ended(lra))
+        field = f"Long-Running-Action: urn:uuid:{uid_of(client.start())}"
+        self.same("forged", 403, asked_at(address, "PUT", target, field))
+
+    # ---- times
+
+    def test_waits(self) -> None:
+        """A close or cancel waits for the end for as long as it is told, a second by default."""
+        client, trip = self.up(), self.service()
+        for word, status in (("close", "Closed"), ("cancel", "Cancelled")):
+            self.same(f"a {word} is answered at the end", (200, status), self.ended(self.joined(trip), word))
+        trip.say("complete", 500)
+        lra = self.joined(trip)
+        began = time.monotonic()
+        self.same("a close that doesn't end", (200, "Closing"), self.ended(lra))
+        took = time.monotonic() - began
+        self.check(f"is answered after {took:.1f} s", 0.9 < took < 5)
+        trip.say("complete", 200)
+        self.is_shown(lra, "Closed")
+        brief = self.front([doors_of(self.nodes)], "wait=0").start()
+        trip.pause = 0.7
+        lra = self.joined(trip)
+        took = seconds_of(Client(brief.port).end, lra)
+        self.check(f"with wait=0 it is after {took:.2f} s", took < 0.6)
+        self.is_shown(lra, "Closed")
+
+    def test_hung(self) -> None:
+        """Participants that take longer than a node waits hold up no others, and are called again."""
+        client, slow = self.up("wait=0"), [self.service(pause=10.5) for _ in range(3)]
+        held = [self.joined(trip) for trip in slow]
+        for lra in held:
+            client.end(lra)
+        self.check("each is called", all(trip.is_called("complete") for trip in slow))
+        time.sleep(0.1)
+        for trip in slow:
+            trip.pause = 0
+        good, took, until = self.service(), [], time.monotonic() + 3
+        while time.monotonic() < until and len(took) < 9:
+            lra = self.joined(good)
+            began = time.monotonic()
+            client.end(lra)
+            client.comes_to(lra, "Closed")
+            took.append(time.monotonic() - began)
+        self.same("one call is made of each meanwhile", [1] * 3, [len(trip.of("complete")) for trip in slow])
+        self.check(f"beside them {len(took)} LRAs of another close within {max(took):.1f} s", max(took) < 3)
+        for lra in held:
+            self.is_shown(lra, "Closed")
+        self.same("each was called once more", [2] * 3, [len(trip.of("complete")) for trip in slow])
+
+    def test_crowd(self) -> None:
+        """Twenty-four LRAs by eight threads."""
+        client, trip = self.up(), self.service()
+
+        def one(code: int) -> str:
+            seen = []
+
+            def book(context: Context) -> int:
+                seen.append(context.lra)
+                return code
+
+            invoke(client, "REQUIRED", trip, book)
+            return seen[0]
+
+        codes = [500 if place % 3 == 0 else 200 for place in range(24)]
+        began = time.monotonic()
+        with concurrent.futures.ThreadPoolExecutor(8) as pool:
+            lras = list(pool.map(one, codes))
+        took = time.monotonic() - began
+        statuses = ["Cancelled" if code == 500 else "Closed" for code in codes]
+        ends = [client.comes_to(lra, status) for lra, status in zip(lras, statuses, strict=True)]
+        self.check(f"all end as they are to, in {took:.1f} s", all(ends), ends)
+        self.same("each has its own id", 24, len(set(lras)))
+        self.same("one call each", (16, 8), (len(trip.of("complete")), len(trip.of("compensate"))))
+        self.same("of all homes", {1, 2, 3}, {home_of(uid_of(lra)) for lra in lras})
+
+    def test_cost(self) -> None:
+        """What the gateway adds to a call, and how long each takes."""
+        client, trip = self.up(), self.service()
+        lra = client.start()
+        home, uid = home_of(uid_of(lra)), uid_of(lra)
+        direct = [seconds_of(self.nodes.ask, home, "GET", f"/lra/{uid}") for _ in range(40)]
+        behind = [seconds_of(client.status, lra) for _ in range(40)]
+        there, here = in_median(direct), in_median(behind)
+        self.check(f"a status takes {there:.2f} ms at its node, {here:.2f} ms at the gateway", here < there + 50)
+        rows: list[tuple[float, float, float]] = []
+        for _ in range(12):
+            began = time.monotonic()
+            one = client.start()
+            begun = time.monotonic()
+            client.join(one, trip.link())
+            rows.append((begun - began, time.monotonic() - begun, seconds_of(client.end, one)))
+        start, join, close = (in_median(column) for column in zip(*rows, strict=True))
+        what = f"a start {start:.1f} ms, a join {join:.1f} ms, a close {close:.1f} ms"
+        self.check(what, max(start, join, close) < 1000)
+
+    # ---- kills
+
+    def test_kills(self) -> None:
+        """The gateway is killed between all calls, and while a participant answers."""
+        client, trip, other = self.up("wait=0"), self.service(*FULL), self.service(*FULL)
+        lra = client.start()
+        recovery = client.join(lra, trip.link())
+        self.gateway.again()
+        self.same("the join before is known", recovery, client.join(lra, trip.link()))
+        client.join(lra, other.link())
+        self.gateway.again()
+        client.leave(lra, other.link())
+        trip.pause = 1.5
+        client.end(lra)
+        self.check("a participant is called", trip.is_called("complete"))
+        self.gateway.kill()
+        trip.pause = 0
+        time.sleep(0.3)
+        self.gateway.start()
+        self.is_shown(lra, "Closed")
+        self.check("its complete was called twice at most", len(trip.of("complete")) in (1, 2), trip.paths())
+        self.check("it hears of the end", trip.is_called("after"))
+        self.same("who left isn't called", [], other.calls)
+
+    def test_home(self) -> None:
+        """A node is killed: questions and begins go to others, a close waits for it to be back."""
+        client, trip = self.up("again=30000"), self.service()
+        lra = self.joined(trip)
+        home = home_of(uid_of(lra))
+        self.check("the others know it", self.nodes.all_come_to(uid_of(lra), "Active") is not None)
+        self.nodes.kill(home)
+        self.same("its status while its home is away", "Active", client.status(lra))
+        self.check("begins go to others", home not in [home_of(uid_of(client.start())) for _ in range(4)])
+
+        def come_back() -> None:
+            time.sleep(1)
+            self.nodes.start(home)
+
+        with beside(come_back):
+            began = time.monotonic()
+            ended = client.end(lra)
+            took = time.monotonic() - began
+        self.check(f"a close waited {took:.1f} s for it", ended in ("Closing", "Closed") and took > 0.9, ended)
+        self.is_shown(lra, "Closed")
+        trip.pause = 1.5
+        lra = self.joined(trip)
+        with contextlib.suppress(Declined):
+            client.end(lra)
+        self.check("a participant is called", trip.is_called("complete", 2))
+        self.nodes.kill(home_of(uid_of(lra)))
+        trip.pause = 0
+        self.nodes.start(home_of(uid_of(lra)))
+        self.is_shown(lra, "Closed", "its home was killed in the midst of a call")
+
+    def test_storm(self) -> None:
+        """Gateway and nodes are killed again and again under load: no LRA is lost."""
+        client, trip, over = self.up(), self.service(), threading.Event()
+        trip.pause = 0.1
+        kills = [0, 0]
+
+        def kill_both() -> None:
+            while not over.wait(0.8):
+                self.gateway.again()
+                kills[0] += 1
+                if kills[0] % 3 == 0:
+                    node = kills[0] // 3 % 3 + 1
+                    self.nodes.kill(node)
+                    time.sleep(0.2)
+                    self.nodes.start(node)
+                    kills[1] += 1
+
+        def work() -> list[str]:
+            ended, until = [], time.monotonic() + 10
+            while time.monotonic() < until:
+                lra = insist(client.start, "", 120_000)
+                insist(client.join, lra, trip.link())
+                insist(client.end, lra)
+                ended.append(lra)
+            return ended
+
+        with concurrent.futures.ThreadPoolExecutor(4) as pool, beside(kill_both):
+            try:
+                lras = [lra for one in [pool.submit(work) for _ in range(4)] for lra in one.result()]
+            finally:
+                over.set()
+        self.check(f"{len(lras)} LRAs were closed beside {kills[0]} kills of the gateway and {kills[1]} of nodes",
+                   len(lras) >= 4 and min(kills) > 0)
+        lost = [lra for lra in lras if not client.comes_to(lra, "Closed")]
+        self.check("each comes to Closed", not lost, lost)
+        done = {call.lra for call in trip.of("complete")}
+        self.check("each was told to complete", done >= set(lras), set(lras) - done)
+        wrong = {call.lra for call in trip.of("compensate")} & set(lras)
+        self.check("none to compensate", not wrong, wrong)
+
+    # ---- several groups, several gateways
+
+    def test_groups(self) -> None:
+        """Two groups behind one gateway."""
+        others = Operated(2, self.folder, KEEP)
+        self.addCleanup(others.__exit__)
+        others.start()
+        self.gateway = self.front([doors_of(self.members()), doors_of(others)]).start()
+        self.client = client = Client(self.gateway.port)
+        trip = self.service("compensate", "complete", "after")
+        lras = [client.start() for _ in range(12)]
+        first, second = [lra for lra in lras if "." not in uid_of(lra)], [lra for lra in lras if lra.endswith(".2")]
+        self.check("LRAs of both are begun", first and second and len(first) + len(second) == 12, lras)
+        self.same("at all nodes of both", ({1, 2, 3}, {1, 2}),
+                  tuple({home_of(lra_of(lra)) for lra in some} for some in (first, second)))
+        self.check("each is listed by its own id", comes_to(SLOW, lambda: all(self.lists("", lra) for lra in lras)))
+        for lra, word, status in ((first[0], "close", "Closed"), (second[0], "close", "Closed"),
+                                  (first[1], "cancel", "Cancelled"), (second[1], "cancel", "Cancelled")):
+            recovery = client.join(lra, trip.link())
+            self.check("a recovery URL of its own", f"/recovery/{uid_of(lra)}/" in recovery, recovery)
+            self.same("a second join", recovery, client.join(lra, trip.link()))
+            self.same(f"{lra[-4:]}: a {word}", (200, status), self.ended(lra, word))
+            calls = [call for call in trip.calls if call.lra == lra]
+            self.same("it is told its id", 1, len([call for call in calls if not call.is_end]))
+            self.check("and its end", comes_to(SLOW, lambda lra=lra: [call for call in trip.ends() if call.lra == lra]))
+        parent = second[2]
+        child = client.start(parent)
+        self.check("what is nested in the second is of it", child.endswith(".2"), child)
+        client.join(child, trip.link())
+        client.end(child)
+        call = next(call for call in trip.calls if call.lra == child)
+        self.same("its parent is told", parent, call.fields["Long-Running-Action-Parent"])
+        self.same("a close of the parent", (200, "Closed"), self.ended(parent))
+        self.is_declined("a group that isn't there", 404, client.status, f"{first[2]}.3")
+        self.replay(first[2], others)
+
+    def replay(self, lra: str, others: Operated) -> None:
+        """A link of the first group at the second's port, for the same number."""
+        trip = self.service()
+        self.client.join(lra, trip.link())
+        (host, port), target = with_node(self.carried(lra))
+        field = f"Long-Running-Action: urn:uuid:{lra_of(lra)}"
+        self.same("a link of one group in the other", 403, asked_at((host, port + 1), "PUT", target, field))
+        self.same("calls nobody", [], trip.calls)
+
+    def test_beside(self) -> None:
+        """A gateway beside each node: a call for any home at any gateway."""
+        gateways = [self.front([[]], "again=8000") for _ in range(3)]
+        doors = doors_of(self.members())
+        for place, gateway in enumerate(gateways):
+            gateway.base = gateways[0].base
+            gateway.groups = [[doors[one] if one == place else f"{HOST}:{gateways[one].port}" for one in range(3)]]
+        for gateway in gateways:
+            gateway.start()
+        clients = [Client(gateway.port) for gateway in gateways]
+        self.client = clients[0]
+        self.any_home(clients)
+        lras = [client.start() for client in clients for _ in range(3)]
+        self.same("LRAs of all homes are begun", {1, 2, 3}, {home_of(uid_of(lra)) for lra in lras})
+        self.one_away(gateways, clients, {home_of(uid_of(lra)): lra for lra in lras})
+
+    def any_home(self, clients: list[Client]) -> None:
+        for home in (1, 2, 3):
+            for number, client in enumerate(clients, 1):
+                at = f"home {home} at gateway {number}"
+                trip, other = self.service("compensate", "complete", "after"), self.service()
+                lra = self.begun_at_home(clients, home)
+                recovery = client.join(lra, trip.link())
+                self.check(f"{at}: a join", recovery.startswith(self.gateway_root()), recovery)
+                self.same(f"{at}: the same join at another", recovery, clients[number % 3].join(lra, trip.link()))
+                client.join(lra, other.link())
+                client.leave(lra, other.link())
+                self.same(f"{at}: a status", "Active", client.status(lra))
+                self.same(f"{at}: its data", (200, lra, "Active", False), data_of(client.send("GET", uid_of(lra))))
+                told = client.send("GET", urllib.parse.urlsplit(recovery).path)
+                self.check(f"{at}: a participant's links", trip.base() in told.text, told)
+                child = client.start(lra)
+                self.same(f"{at}: a nested one", home, home_of(uid_of(child)))
+                client.end(child)
+                self.same(f"{at}: a close", "Closed", client.end(lra))
+                self.same("who joined is called, who left isn't", (1, 0), (len(trip.of("complete")), len(other.calls)))
+                self.check("and told of the end", trip.is_called("after"))
+                self.is_declined(f"{at}: a cancel then", 412, client.end, lra, "cancel")
+
+    def gateway_root(self) -> str:
+        return f"{self.client.root()}/recovery/"
+
+    def begun_at_home(self, clients: list[Client], home: int) -> str:
+        """An LRA of a home, of which a gateway beside it has to begin some."""
+        for turn in range(9):
+            lra = clients[(home - 1 + turn) % 3].start()
+            if home_of(uid_of(lra)) == home:
+                return lra
+        raise AssertionError(f"no LRA of home {home} is begun")
+
+    def one_away(self, gateways: list[Gateway], clients: list[Client], lras: dict[int, str]) -> None:
+        """What a gateway that is away costs, and a node."""
+        lra, trip = lras[3], self.service()
+        self.check("all know it", self.nodes.all_come_to(uid_of(lra), "Active") is not None)
+        gateways[2].kill()
+        self.same("a status while the gateway of its home is away", "Active", clients[0].status(lra))
+        self.same("begins beside", [0, 0], [code_of(client.start) for client in clients[:2]])
+
+        def come_back() -> None:
+            time.sleep(0.5)
+            gateways[2].start()
+
+        with beside(come_back):
+            clients[0].join(lra, trip.link())
+        self.same("a join waited for it", 1, len(self.record(lra)["members"]))
+        self.nodes.kill(1)
+        begun = [code_of(clients[0].start) for _ in range(2)]
+        self.same("a begin where the node beside is away", [0, 0], begun)
+        self.nodes.start(1)
+        self.same("a close", "Closed", clients[1].end(lra))
+
+    # ---- the program
+
+    def test_words(self) -> None:
+        """Other words, a key that is none, a port that is taken, and its end."""
+        nodes = ",".join(doors_of(self.nodes))
+        gateway = self.front([doors_of(self.nodes)])
+        good = gateway.words()
+        listen, base, calls, group = good
+        wrong: tuple[Sequence[str], ...] = (
+            (), good[1:], good[:3], (base, listen, calls, group), (*good, "more=1"), (*good, HOST), (listen, *good),
+            (listen, "base=lra", calls, group), (listen, "base=http://", calls, group),
+            (listen, base, "calls=0", group), (listen, base, "calls=65536", group),
+            (listen, base, f"calls={HOST}:{gateway.calls}", group),
+            (listen, base, calls, "limit=x", group), (listen, base, calls, "again=1", "wait=1", group),
+            (listen, base, calls, "short=t", group), (listen, base, calls, "group="), (listen, base, calls, "group=h"),
+            (*good, *[f"group={nodes}"] * 8), (listen, base, calls, f"group={','.join([nodes] * 3)}"), ("--help",))
+        for words in wrong:
+            status, text = ended(gateway, words)
+            is_so = status == 2 and text.startswith("usage: ") and "lra_gateway listen=" in text
+            self.check(f"other words: {' '.join(words)[:100]}", is_so, (status, text[-200:]))
+        for key in (None, "", KEY[:62], KEY + "00", KEY[:63] + "g"):
+            self.same(f"no key: {key}", 2, ended(gateway, good, key)[0])
+        with socket.create_server((HOST, gateway.port)):
+            self.same("a port that is taken", 1, ended(gateway, good)[0])
+        whole = (listen, f"{base}/", calls, "limit=1", "wait=2", "again=3", "allow=h,i:80", "short=a=h:80/p",
+                 "short=b=i:1/q", f"group={nodes}", "group=h:80/81,i:80")
+        self.same("all words", (0, False), has_usage(ended(gateway, whole)))
+        gateway.start()
+        self.same("its end", 0, gateway.end())
+        self.check("its port is free then", not is_open(gateway.port))
+
+
+def has_usage(ended: tuple[int, str]) -> tuple[int, bool]:
+    return ended[0], "usage" in ended[1]
+
+
+def ended(gateway: Gateway, words: Sequence[str], key: str | None = KEY) -> tuple[int, str]:
+    """How the program ends with these words and an input that has ended, and what it tells."""
+    variables = {name: text for name, text in os.environ.items() if name != KEY_NAME}
+    if key is not None:
+        variables[KEY_NAME] = key
+    ran = subprocess.run([gateway.program, *words], stdin=subprocess.DEVNULL, capture_output=True, text=True,
+                         timeout=SLOW, env=variables)
+    return ran.returncode, ran.stderr
+
+
+def lra_of(lra: str) -> str:
+    """The id by which nodes know an LRA: without its group."""
+    return uid_of(lra)[:36]
+
+
+def data_of(answer: Answer) -> tuple[int, str, str, bool]:
+    """What data tell of an LRA."""
+    data = answer.json()
+    return answer.status, data["lraId"], data["status"], data["recovering"]
+
+
+def in_median(seconds: Sequence[float]) -> float:
+    """The median in milliseconds."""
+    return 1000 * statistics.median(seconds)
+
+
+def main() -> int:
+    given, words = sys.argv[1:], checks.words_of(TestGateway)
+    programs = list(itertools.takewhile(lambda word: word not in words, given))
+    both = programs * 2 if programs == ["--unproved"] else programs
+    for kind, name, word in zip((Gateway, Group), ("lra_gateway", "lra_member"), both):
+        kind.program = unproved.program_of(word, name)
+    checks.need(Group, Gateway)
+    return checks.run(TestGateway, words=given[len(programs):])
+
+
+if __name__ == "__main__":
+    sys.exit(main())
