@@ -80,19 +80,28 @@ pub fn look_at(path: &str) -> Question {
     }
 }
 
-fn request_by(alloc: Global, question: &Question) -> Result<CallRequest, AllocError> {
+/// A host and a port, as a request names them.
+fn host_text(alloc: Global, host: &str, port: u16) -> Result<String, AllocError> {
+    if host.contains(':') {
+        format!(in alloc; "[{host}]:{port}")
+    } else {
+        format!(in alloc; "{host}:{port}")
+    }
+}
+
+fn request_by(
+    alloc: Global,
+    host: &str,
+    port: u16,
+    question: &Question,
+) -> Result<CallRequest, AllocError> {
+    let host = host_text(alloc, host, port)?;
     let mut fields = Vec::new(alloc);
     fields.push(length_field(alloc, question.body.len())?)?;
     fields.push(field(alloc, "Connection", "close")?)?;
     let method = question.method.clone()?;
-    request_of(
-        alloc,
-        method,
-        "node",
-        question.path,
-        fields,
-        question.body.as_bytes(),
-    )
+    let (path, body) = (question.path, question.body.as_bytes());
+    request_of(alloc, method, host.as_str(), path, fields, body)
 }
 
 /// The value that a body is, if it is one.
@@ -169,7 +178,7 @@ pub fn ask<R: Host>(
     port: u16,
     question: &Question,
 ) -> Result<Answer, Fail> {
-    let request = request_by(agent.alloc, question)?;
+    let request = request_by(agent.alloc, host, port, question)?;
     let until = moment(agent.rt, agent.gateway.again);
     for _ in agent.rt.forever() {
         let answer = ask_once(agent, host, port, &request);
@@ -187,7 +196,7 @@ pub fn ask_now<R: Host>(
     peer: &Peer,
     question: &Question,
 ) -> Result<Answer, Fail> {
-    let request = request_by(agent.alloc, question)?;
+    let request = request_by(agent.alloc, peer.host.as_str(), peer.port, question)?;
     ask_once(agent, peer.host.as_str(), peer.port, &request)
 }
 
