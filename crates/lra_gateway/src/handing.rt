@@ -15,7 +15,7 @@ use std::alloc::{AllocError, Global};
 const HANDED: &str = "/handed-over/";
 
 /// What a service asks.
-#[derive(Drop)]
+#[derive(Clone, Copy)]
 pub struct Errand<'a> {
     pub request: &'a Request,
     /// Its target, as the service wrote it.

@@ -183,10 +183,13 @@ fn join_with<R: Host>(agent: &Agent<R>, lra: &Lra, links: &[Given]) -> Result<Re
 /// The text of the links with which a service joins: its `Link` field, or its body.
 fn links_text<'a>(errand: &'a Errand) -> &'a str {
     let link = errand.request.fields.link.as_str();
-    if link.is_empty() {
-        str::from_utf8(&errand.request.body).unwrap_or("")
-    } else {
-        link
+    if !link.is_empty() {
+        return link;
+    }
+    let body = errand.request.body.as_slice();
+    match str::from_utf8(body) {
+        Ok(text) => text,
+        Err(_) => "",
     }
 }
 

@@ -8,7 +8,7 @@ use lra_narayana::{id_in, text_of};
 use std::alloc::{AllocError, Global};
 
 /// An LRA: its group, its id there, and how its home is reached.
-#[derive(Drop)]
+#[derive(Clone, Copy)]
 pub struct Lra<'a> {
     pub group: &'a Group,
     pub id: LraId,
