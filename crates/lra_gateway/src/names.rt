@@ -31,27 +31,29 @@ fn parted(text: &str) -> (&str, u8) {
     (path, 1)
 }
 
-/// An LRA of a group, if its home is there.
-pub fn lra_of(group: &Group, id: LraId) -> Option<Lra> {
+/// What a name says: the number of a group, and an id there.
+#[derive(Clone, Copy)]
+pub struct Name {
+    pub number: u8,
+    pub id: LraId,
+}
+
+/// What a text names: a URL of this gateway, or the last part of one.
+pub fn name_in(alloc: Global, text: &str) -> Result<Option<Name>, AllocError> {
+    let (front, number) = parted(text);
+    match id_in(alloc, front.as_bytes())? {
+        Some(id) => Ok(Some(Name { number, id })),
+        None => Ok(None),
+    }
+}
+
+/// The LRA of a name, if its group and its home are there.
+pub fn lra_of(gateway: &Gateway, name: Option<Name>) -> Option<Lra> {
+    let Name { number, id } = name?;
+    let group = gateway.group(number)?;
     let place = usize::from(id.home().number()).saturating_sub(1);
     let home = group.doors.get(place)?;
     Some(Lra { group, id, home })
-}
-
-/// The LRA that a text names: a URL of this gateway, or the last part of one.
-pub fn lra_in<'a>(
-    alloc: Global,
-    gateway: &'a Gateway,
-    text: &str,
-) -> Result<Option<Lra<'a>>, AllocError> {
-    let (name, number) = parted(text);
-    let Some(group) = gateway.group(number) else {
-        return Ok(None);
-    };
-    let Some(id) = id_in(alloc, name.as_bytes())? else {
-        return Ok(None);
-    };
-    Ok(lra_of(group, id))
 }
 
 /// An id with its group behind it, but for the first: `UUID` or `UUID.2`.

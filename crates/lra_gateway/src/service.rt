@@ -7,7 +7,7 @@ use crate::handing::{Errand, errand_of, hand};
 use crate::joining::{join, leave};
 use crate::listing::{Wanted, info, list, list_by, purge};
 use crate::members::links_of_member;
-use crate::names::{Lra, lra_in};
+use crate::names::{Lra, lra_of, name_in};
 use crate::reply::{Reply, failure, plain};
 use crate::starting::start;
 use lra_narayana::{Repeat, Request};
@@ -162,7 +162,8 @@ fn serve_lra<R: Host>(
         Ok(act) => act,
         Err(undone) => return Ok(plain(agent.alloc, undone.code, undone.text)?),
     };
-    let Some(lra) = lra_in(agent.alloc, agent.gateway, name)? else {
+    let name = name_in(agent.alloc, name)?;
+    let Some(lra) = lra_of(agent.gateway, name) else {
         return Ok(plain(agent.alloc, 404, "no such LRA")?);
     };
     if lra.home.operate.is_some() {

@@ -5,7 +5,7 @@ use crate::asking::{Answer, Question, ask_node, ask_now};
 use crate::exchange::Fail;
 use crate::gateway::Group;
 use crate::handing::{Errand, hand};
-use crate::names::{Lra, lra_in, url_of};
+use crate::names::{Lra, lra_of, name_in, url_of};
 use crate::query::{said, time_in};
 use crate::reply::{LRA, Reply, failure, made, plain, refusal};
 use crate::words::Door;
@@ -198,7 +198,8 @@ pub fn start<R: Host>(agent: &Agent<R>, errand: &Errand) -> Result<Reply, Fail> 
     if parent.is_empty() {
         return begin_top(agent, errand, limit);
     }
-    match lra_in(alloc, agent.gateway, parent)? {
+    let parent = name_in(alloc, parent)?;
+    match lra_of(agent.gateway, parent) {
         Some(parent) => begin_nested(agent, errand, &parent, limit),
         None => Ok(plain(alloc, 404, "its parent is no LRA of this coordinator")?),
     }
