@@ -16,6 +16,7 @@ TESTS = ["test_answers", "test_calls", "test_script", "test_server"]
 LAYERS = [
     ("lra_node", "lra_member", "lra_play", "the programs"),
     ("lra_words", "the words of `lra_member`"),
+    ("lra_gateway", "the gateway for services of Narayana's interface"),
     ("lra_narayana", "what services of Narayana's interface write and read"),
     ("lra_server", "the server over its journals"),
     ("lra_metrics", "what threads know, as text"),

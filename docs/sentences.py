@@ -18,11 +18,12 @@ MOST_WORDS = {
     "CONTRIBUTING.md": 1_300,
     "docs/HTTP.md": 2_700,
     "docs/OPERATING.md": 4_200,
+    "docs/GATEWAY.md": 1_400,
     "docs/FORMATS.md": 2_400,
     "docs/THEOREMS.md": 7_200,
     "docs/MODEL.md": 6_500,
-    "docs/ARCHITECTURE.md": 2_500,
-    "docs/DECISIONS.md": 3_000,
+    "docs/ARCHITECTURE.md": 2_600,
+    "docs/DECISIONS.md": 3_200,
     "docs/PROVING.md": 3_100,
 }
 # Any other.

@@ -8,4 +8,5 @@ mod texts;
 mod words;
 
 pub use asked::{Asked, asked_by};
-pub use words::Unasked;
+pub use texts::{said_by, text_of};
+pub use words::{Unasked, host_of, number_of, peer_of, port_of};

@@ -5,7 +5,7 @@ ghost use Rattle.lra_words.specs.Readings.{IsNotFirst, IsNotSaid, IsUnnamed, tex
 
 /// What the first of some words says behind a name, and the words behind it; nothing where it
 /// doesn't begin with the name.
-fn said_by<'a>(name: &str, words: &'a [String]) -> Option<(&'a str, &'a [String])>
+pub fn said_by<'a>(name: &str, words: &'a [String]) -> Option<(&'a str, &'a [String])>
     ensures { MatchOption result (IsNotSaid name.now (map string_bytes words.now))
         (λ parts. map string_bytes words.now ≡ (name.now ++ parts.0.now) ∷ map string_bytes parts.1.now) }
 {
@@ -19,7 +19,7 @@ fn said_by<'a>(name: &str, words: &'a [String]) -> Option<(&'a str, &'a [String]
 }
 
 /// What the first of some words says behind a name, if it begins with that, and the words behind.
-fn text_of<'a>(name: &str, words: &'a [String]) -> (Option<&'a str>, &'a [String])
+pub fn text_of<'a>(name: &str, words: &'a [String]) -> (Option<&'a str>, &'a [String])
     ensures one { (text : Option (List ℕ)) (others : List (List ℕ)) → IsNotSaid name.now others →
         map string_bytes words.now ≡ said name.now text ++ others →
         (option_copied result.0 ≡ text) × (map string_bytes result.1.now ≡ others) }

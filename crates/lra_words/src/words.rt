@@ -42,7 +42,7 @@ fn is_canonical(word: &[u8]) -> bool
 }
 
 /// The port that a word spells.
-fn port_of(word: &str) -> Option<u16>
+pub fn port_of(word: &str) -> Option<u16>
     ensures { MatchOption result ((port : ℕ) → 1 ≤ port → port < 2 ^ 16 → word.now ≡ decimal port → ⊥)
         (λ port. (1 ≤ port) × (word.now ≡ decimal port)) }
 {
@@ -79,7 +79,7 @@ fn in_brackets(text: &str) -> Option<&str>
 }
 
 /// The host that an address begins with.
-fn host_of(text: &str) -> Option<&str>
+pub fn host_of(text: &str) -> Option<&str>
     ensures { MatchOption result ((host : List ℕ) → IsHost host → text.now ≡ host_text host → ⊥)
         (λ host. IsHost host.now × (text.now ≡ host_text host.now)) }
 {

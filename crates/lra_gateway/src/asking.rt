@@ -1,0 +1,231 @@
+// Calls of nodes, and of the gateways beside them.
+
+use crate::agent::{Agent, Host, moment};
+use crate::exchange::{Fail, call, connect, field, length_field, request_of};
+use crate::words::Door;
+use http::Method;
+use lra_http::{CallRequest, Response};
+use lra_narayana::{Came, Repeat, is_again};
+use lra_sockets::Peer;
+use serde_json::Value;
+use std::alloc::{AllocError, Global};
+use std::time::Duration;
+use std::{str, thread};
+
+/// How long a node may take to be reached, and to answer, in milliseconds: a service waits for ten
+/// seconds.
+const REACH_MS: u64 = 1_500;
+
+const ANSWER_MS: u64 = 6_000;
+
+/// How long another gateway may take, which may ask its node again.
+const HANDED_MS: u64 = 9_500;
+
+/// How long to wait before a call is made again, in milliseconds.
+const PAUSE_MS: u64 = 100;
+
+/// A node's answer.
+#[derive(Drop)]
+pub struct Answer {
+    pub code: u16,
+    body: Option<Value>,
+}
+
+impl Answer {
+    /// The text of a member of its body; nothing where there is none.
+    pub fn text(&self, name: &str) -> &str {
+        match &self.body {
+            Some(value) => value.get(name).and_then(Value::as_str).unwrap_or(""),
+            None => "",
+        }
+    }
+
+    /// The list of a member of its body.
+    pub fn list(&self, name: &str) -> Option<&Vec<Value>> {
+        match &self.body {
+            Some(value) => value.get(name).and_then(Value::as_array),
+            None => None,
+        }
+    }
+
+    /// The refusal that it tells.
+    pub fn refused(&self) -> &str {
+        self.text("refused")
+    }
+
+    /// Whether the node did nothing, and can be asked again.
+    pub fn did_nothing(&self) -> bool {
+        let refused = self.refused();
+        refused.starts_with("E19") || refused.starts_with("E20") || refused.starts_with("E21")
+    }
+}
+
+/// What is asked of a node.
+#[derive(Drop)]
+pub struct Question<'a> {
+    pub method: Method,
+    pub path: &'a str,
+    pub body: &'a str,
+    /// Whether it may be asked again.
+    pub repeat: Repeat,
+}
+
+/// A question that changes nothing.
+pub fn look_at(path: &str) -> Question {
+    Question {
+        method: Method::GET,
+        path,
+        body: "",
+        repeat: Repeat::Always,
+    }
+}
+
+/// A host and a port, as a request names them.
+fn host_text(alloc: Global, host: &str, port: u16) -> Result<String, AllocError> {
+    if host.contains(':') {
+        format!(in alloc; "[{host}]:{port}")
+    } else {
+        format!(in alloc; "{host}:{port}")
+    }
+}
+
+fn request_by(
+    alloc: Global,
+    host: &str,
+    port: u16,
+    question: &Question,
+) -> Result<CallRequest, AllocError> {
+    let host = host_text(alloc, host, port)?;
+    let mut fields = Vec::new(alloc);
+    fields.push(length_field(alloc, question.body.len())?)?;
+    fields.push(field(alloc, "Connection", "close")?)?;
+    let method = question.method.clone()?;
+    let (path, body) = (question.path, question.body.as_bytes());
+    request_of(alloc, method, host.as_str(), path, fields, body)
+}
+
+/// The value that a body is, if it is one.
+fn value_of(alloc: Global, body: &[u8]) -> Result<Option<Value>, Fail> {
+    let Ok(text) = str::from_utf8(body) else {
+        return Err(Fail::Unheard);
+    };
+    if text.is_empty() {
+        return Ok(None);
+    }
+    match Value::from_str(alloc, text) {
+        Ok(value) => Ok(Some(value)),
+        Err(error) if error.is_memory() => Err(Fail::NoMemory),
+        Err(_) => Err(Fail::Unheard),
+    }
+}
+
+/// What a response says.
+fn answer_of(alloc: Global, response: &Response) -> Result<Answer, Fail> {
+    Ok(Answer {
+        code: response.status.as_u16(),
+        body: value_of(alloc, response.body.as_slice())?,
+    })
+}
+
+/// One call of a port, whose answer may take so many milliseconds.
+fn call_once<R: Host>(
+    agent: &Agent<R>,
+    host: &str,
+    port: u16,
+    request: &CallRequest,
+    ms: u64,
+) -> Result<Response, Fail> {
+    match connect(agent, host, port, REACH_MS) {
+        Ok(stream) => call(agent, stream, request, ms),
+        Err(_) => Err(Fail::Unsent),
+    }
+}
+
+/// One question to a port.
+fn ask_once<R: Host>(
+    agent: &Agent<R>,
+    host: &str,
+    port: u16,
+    request: &CallRequest,
+) -> Result<Answer, Fail> {
+    let response = call_once(agent, host, port, request, ANSWER_MS)?;
+    answer_of(agent.alloc, &response)
+}
+
+/// What became of a call without an answer.
+fn came_to(fail: Fail) -> Came {
+    match fail {
+        Fail::Unsent => Came::Unsent,
+        Fail::Unheard => Came::Unheard,
+        Fail::NoMemory => Came::NoMemory,
+    }
+}
+
+/// What became of a question.
+fn came_of(answer: &Result<Answer, Fail>) -> Came {
+    match answer {
+        Ok(answer) if answer.did_nothing() => Came::DidNothing,
+        Ok(answer) if answer.code == 503 => Came::Unsure,
+        Ok(_) => Came::Answered,
+        Err(fail) => came_to(*fail),
+    }
+}
+
+/// Asks at a port, and again as far as that does no harm, for some time.
+pub fn ask<R: Host>(
+    agent: &Agent<R>,
+    host: &str,
+    port: u16,
+    question: &Question,
+) -> Result<Answer, Fail> {
+    let request = request_by(agent.alloc, host, port, question)?;
+    let until = moment(agent.rt, agent.gateway.again);
+    for _ in agent.rt.forever() {
+        let answer = ask_once(agent, host, port, &request);
+        if !is_again(came_of(&answer), question.repeat) || agent.is_over(until) {
+            return answer;
+        }
+        thread::sleep(agent.rt, Duration::from_millis(PAUSE_MS));
+    }
+    unreachable!()
+}
+
+/// Asks at a port once.
+pub fn ask_now<R: Host>(
+    agent: &Agent<R>,
+    peer: &Peer,
+    question: &Question,
+) -> Result<Answer, Fail> {
+    let request = request_by(agent.alloc, peer.host.as_str(), peer.port, question)?;
+    ask_once(agent, peer.host.as_str(), peer.port, &request)
+}
+
+/// Asks a node.
+pub fn ask_node<R: Host>(
+    agent: &Agent<R>,
+    door: &Door,
+    question: &Question,
+) -> Result<Answer, Fail> {
+    ask(agent, door.peer.host.as_str(), door.peer.port, question)
+}
+
+/// Hands a request to the gateway beside a node, and again as far as that does no harm, for some time.
+pub fn hand_over<R: Host>(
+    agent: &Agent<R>,
+    peer: &Peer,
+    request: &CallRequest,
+    repeat: Repeat,
+) -> Result<Response, Fail> {
+    let until = moment(agent.rt, agent.gateway.again);
+    for _ in agent.rt.forever() {
+        let came = call_once(agent, peer.host.as_str(), peer.port, request, HANDED_MS);
+        let Err(fail) = came else {
+            return came;
+        };
+        if !is_again(came_to(fail), repeat) || agent.is_over(until) {
+            return Err(fail);
+        }
+        thread::sleep(agent.rt, Duration::from_millis(PAUSE_MS));
+    }
+    unreachable!()
+}

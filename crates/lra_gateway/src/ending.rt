@@ -1,0 +1,138 @@
+// What an LRA shows, and ending it.
+
+use crate::agent::{Agent, Host, moment};
+use crate::asking::{Answer, Question, ask_node, ask_now, look_at};
+use crate::exchange::Fail;
+use crate::names::Lra;
+use crate::reply::{Reply, plain, refusal};
+use http::Method;
+use lra_id::LraStatus;
+use lra_narayana::{Repeat, text_of};
+use std::thread;
+use std::time::Duration;
+
+/// The first pause between two looks at an LRA that is to end, in milliseconds. It doubles.
+const FIRST_LOOK_MS: u64 = 5;
+
+/// The longest.
+const LAST_LOOK_MS: u64 = 50;
+
+/// How long to wait before all nodes are asked again, in milliseconds.
+const PAUSE_MS: u64 = 100;
+
+/// Whether a node told something of an LRA.
+fn is_told(came: &Result<Answer, Fail>) -> bool {
+    match came {
+        Ok(answer) => answer.code != 503,
+        Err(_) => false,
+    }
+}
+
+/// What an LRA shows, by its home or, where that tells nothing, by another node that this gateway
+/// asks itself.
+pub fn status_of<R: Host>(agent: &Agent<R>, lra: &Lra) -> Result<Answer, Fail> {
+    let alloc = agent.alloc;
+    let id = text_of(alloc, lra.id)?;
+    let path = format!(in alloc; "/lra/{id}")?;
+    let question = look_at(path.as_str());
+    let mut last = Err(Fail::Unsent);
+    if lra.home.operate.is_some() {
+        last = ask_now(agent, &lra.home.peer, &question);
+    }
+    for door in lra.group.doors.iter() {
+        if is_told(&last) {
+            return last;
+        }
+        if door.operate.is_some() {
+            last = ask_now(agent, &door.peer, &question);
+        }
+    }
+    last
+}
+
+/// What an LRA shows, looked at again for some time where no node tells anything.
+pub fn status_in_time<R: Host>(agent: &Agent<R>, lra: &Lra) -> Result<Answer, Fail> {
+    let until = moment(agent.rt, agent.gateway.again);
+    for _ in agent.rt.forever() {
+        let came = status_of(agent, lra);
+        if is_told(&came) || agent.is_over(until) {
+            return came;
+        }
+        thread::sleep(agent.rt, Duration::from_millis(PAUSE_MS));
+    }
+    unreachable!()
+}
+
+/// The status of an LRA: `GET /lra-coordinator/UID/status`.
+pub fn status<R: Host>(agent: &Agent<R>, lra: &Lra) -> Result<Reply, Fail> {
+    let answer = status_in_time(agent, lra)?;
+    if answer.code != 200 {
+        return Ok(refusal(agent.alloc, &answer)?);
+    }
+    Ok(plain(agent.alloc, 200, answer.text("status"))?)
+}
+
+/// Whether an LRA that shows this goes the way that a close, or a cancel, asks for.
+fn goes_so(closes: bool, status: LraStatus) -> bool {
+    match status {
+        LraStatus::Active => false,
+        LraStatus::Closing | LraStatus::Closed | LraStatus::FailedToClose => closes,
+        LraStatus::Cancelling | LraStatus::Cancelled | LraStatus::FailedToCancel => !closes,
+    }
+}
+
+/// Whether it is on its way to its end.
+pub fn is_to_end(status: LraStatus) -> bool {
+    status == LraStatus::Closing || status == LraStatus::Cancelling
+}
+
+/// What an LRA shows after a close or cancel: by its answer, or by the refusal of a repeat.
+fn shown_by(answer: &Answer) -> Option<LraStatus> {
+    let text = match answer.refused().strip_prefix("E6 NotActive ") {
+        Some(status) => status,
+        None => answer.text("status"),
+    };
+    LraStatus::from_name(text).ok()
+}
+
+/// Waits for the end of an LRA, for some time.
+fn wait_for_end<R: Host>(agent: &Agent<R>, lra: &Lra, first: LraStatus) -> LraStatus {
+    let until = moment(agent.rt, agent.gateway.wait);
+    let mut shown = first;
+    let mut pause = FIRST_LOOK_MS;
+    for _ in agent.rt.forever() {
+        if !is_to_end(shown) || agent.is_over(until) {
+            return shown;
+        }
+        thread::sleep(agent.rt, Duration::from_millis(pause));
+        pause = LAST_LOOK_MS.min(pause.saturating_mul(2));
+        if let Ok(answer) = status_of(agent, lra) {
+            shown = LraStatus::from_name(answer.text("status")).unwrap_or(shown);
+        }
+    }
+    unreachable!()
+}
+
+/// Closes or cancels an LRA: `PUT /lra-coordinator/UID/close`, or `/cancel`. A repeat of what was done
+/// is as good as the first; the other way is 412.
+pub fn end<R: Host>(agent: &Agent<R>, lra: &Lra, closes: bool) -> Result<Reply, Fail> {
+    let alloc = agent.alloc;
+    let id = text_of(alloc, lra.id)?;
+    let word = if closes { "close" } else { "cancel" };
+    let path = format!(in alloc; "/lra/{id}/{word}")?;
+    let question = Question {
+        method: Method::PUT,
+        path: path.as_str(),
+        body: "",
+        repeat: Repeat::Always,
+    };
+    let answer = ask_node(agent, lra.home, &question)?;
+    match shown_by(&answer) {
+        Some(shown) if goes_so(closes, shown) => {
+            let shown = wait_for_end(agent, lra, shown);
+            Ok(plain(alloc, 200, shown.name())?)
+        }
+        Some(shown) => Ok(plain(alloc, 412, shown.name())?),
+        None => Ok(refusal(alloc, &answer)?),
+    }
+}

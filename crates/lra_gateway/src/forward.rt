@@ -1,0 +1,196 @@
+// What nodes ask: a participant is called once, and its answer translated.
+
+use crate::agent::{Agent, Host};
+use crate::exchange::{call_participant, connect_to, field, length_field, request_of};
+use crate::gateway::Group;
+use crate::names::{member_in, recovery_of, url_of};
+use crate::reply::{LRA, RECOVERY};
+use http::Method;
+use lra_http::{CallRequest, Field};
+use lra_id::LraId;
+use lra_narayana::{Answer, Broken, Kind, Opened, Request, Told, id_in, open, told_of, word_in};
+use std::alloc::AllocError;
+use url::{Position, Url};
+
+/// How long a participant may take to be reached, and to answer, in milliseconds: a node waits for ten
+/// seconds.
+const REACH_MS: u64 = 2_000;
+
+const CALL_MS: u64 = 7_000;
+
+/// The field that tells an LRA that has ended.
+const ENDED: &str = "Long-Running-Action-Ended";
+
+/// The field that tells the LRA above.
+const PARENT: &str = "Long-Running-Action-Parent";
+
+fn method_of(kind: Kind) -> Method {
+    match kind {
+        Kind::Compensate | Kind::Complete | Kind::After => Method::PUT,
+        Kind::Status => Method::GET,
+        Kind::Forget => Method::DELETE,
+    }
+}
+
+/// What a node calls for.
+#[derive(Drop)]
+struct Calling<'a> {
+    group: &'a Group,
+    id: LraId,
+    kind: Kind,
+    url: Url,
+    request: &'a Request,
+}
+
+impl<'a> Calling<'a> {
+    /// The body that goes on: the status of one that has ended.
+    fn body(&self) -> &[u8] {
+        if self.kind == Kind::After {
+            &self.request.body
+        } else {
+            &[]
+        }
+    }
+}
+
+/// The fields that name the LRA, the one above, and the participant.
+fn names_of<R: Host>(agent: &Agent<R>, calling: &Calling) -> Result<Vec<Field>, AllocError> {
+    let (alloc, group, id) = (agent.alloc, calling.group, calling.id);
+    let given = &calling.request.fields;
+    let mut fields = Vec::new(alloc);
+    let name = if calling.kind == Kind::After {
+        ENDED
+    } else {
+        LRA
+    };
+    let url = url_of(agent, group, id)?;
+    fields.push(field(alloc, name, url.as_str())?)?;
+    if let Some(parent) = id_in(alloc, given.parent.as_bytes())? {
+        let url = url_of(agent, group, parent)?;
+        fields.push(field(alloc, PARENT, url.as_str())?)?;
+    }
+    if let Some(member) = member_in(given.recovery.as_str()) {
+        let url = recovery_of(agent, group, id, member)?;
+        fields.push(field(alloc, RECOVERY, url.as_str())?)?;
+    }
+    Ok(fields)
+}
+
+/// The request to the participant. It has no `Connection: close`: asked with it, some services state
+/// no length for an empty answer.
+fn request_for<R: Host>(agent: &Agent<R>, calling: &Calling) -> Result<CallRequest, AllocError> {
+    let (alloc, url, body) = (agent.alloc, &calling.url, calling.body());
+    let method = method_of(calling.kind);
+    let mut fields = names_of(agent, calling)?;
+    fields.push(field(alloc, "Accept", "*/*")?)?;
+    if method == Method::PUT {
+        fields.push(field(alloc, "Content-Type", "text/plain")?)?;
+        fields.push(length_field(alloc, body.len())?)?;
+    }
+    let host = url.slice(Position::BeforeHost, Position::AfterPort);
+    let target = url.slice(Position::BeforePath, Position::AfterQuery);
+    request_of(alloc, method, host, target, fields, body)
+}
+
+/// Calls the participant once.
+fn call_once<R: Host>(agent: &Agent<R>, calling: &Calling) -> Result<Answer, AllocError> {
+    let request = request_for(agent, calling)?;
+    let Ok(stream) = connect_to(agent, &calling.url, REACH_MS) else {
+        return Ok(Answer::Unreached);
+    };
+    match call_participant(agent, stream, &request, CALL_MS) {
+        Ok(answer) => Ok(Answer::Whole(answer.code, word_in(&answer.body))),
+        Err(Broken::NoMemory) => Err(AllocError),
+        Err(Broken::Bad) => Ok(Answer::Broken),
+    }
+}
+
+/// Tells people of an answer that the node hears otherwise, or not at all.
+fn tell<R: Host>(agent: &Agent<R>, calling: &Calling, answer: Answer, told: Told) {
+    let (name, link, code) = (calling.kind.name(), calling.url.as_str(), told.code);
+    match answer {
+        Answer::Whole(own, _) if own == code => {}
+        Answer::Whole(own, word) => {
+            let word = match word {
+                Some(status) => status.name(),
+                None => "",
+            };
+            let _ = eprintln!(agent.rt;
+                "lra_gateway: {link} ({name}) answered {own} {word}, which is told as {code}"
+            );
+        }
+        Answer::Unreached => {
+            let _ = eprintln!(agent.rt; "lra_gateway: {link} ({name}) can't be reached");
+        }
+        Answer::Broken | Answer::Late => {
+            let _ = eprintln!(agent.rt; "lra_gateway: {link} ({name}) gave no whole answer");
+        }
+    }
+}
+
+fn forbidden() -> Told {
+    Told {
+        code: 403,
+        word: None,
+    }
+}
+
+/// The id of the LRA for which a node calls.
+fn id_of<R: Host>(agent: &Agent<R>, request: &Request) -> Result<Option<LraId>, AllocError> {
+    let fields = &request.fields;
+    let name = if fields.lra.is_empty() {
+        &fields.ended
+    } else {
+        &fields.lra
+    };
+    id_in(agent.alloc, name.as_bytes())
+}
+
+/// What a node calls for, if its link is one of this gateway, for this LRA and with this method.
+fn calling_of<'a, R: Host>(
+    agent: &Agent<R>,
+    group: &'a Group,
+    request: &'a Request,
+) -> Result<Option<Calling<'a>>, AllocError> {
+    let alloc = agent.alloc;
+    let Some(id) = id_of(agent, request)? else {
+        return Ok(None);
+    };
+    let target = request.target.as_str();
+    let Some(opened) = open(alloc, &group.key, &agent.gateway.shorts, id, target)? else {
+        return Ok(None);
+    };
+    let Opened { kind, link } = opened;
+    if request.method.as_str() != kind.method() {
+        return Ok(None);
+    }
+    match Url::parse(alloc, link.as_str()) {
+        Ok(url) => Ok(Some(Calling {
+            group,
+            id,
+            kind,
+            url,
+            request,
+        })),
+        Err(_) => Ok(None),
+    }
+}
+
+/// What a node of a group is answered.
+pub fn serve_node<R: Host>(
+    agent: &Agent<R>,
+    group: &Group,
+    request: &Request,
+) -> Result<Told, AllocError> {
+    let Some(calling) = calling_of(agent, group, request)? else {
+        let target = request.target.as_str();
+        let _ = eprintln!(agent.rt;
+            "lra_gateway: {target} is no link of this gateway for this LRA"
+        );
+        return Ok(forbidden());
+    };
+    let answer = call_once(agent, &calling)?;
+    let told = told_of(calling.kind, answer);
+    tell(agent, &calling, answer, told);
+    Ok(told)
+}

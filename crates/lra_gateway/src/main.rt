@@ -1,0 +1,94 @@
+//! The program: a gateway without state between services that speak Narayana's coordinator interface
+//! and nodes.
+#![tactic(auto)]
+
+mod agent;
+mod asking;
+mod ending;
+mod exchange;
+mod forward;
+mod gateway;
+mod handing;
+mod joining;
+mod key;
+mod listing;
+mod members;
+mod names;
+mod parts;
+mod port;
+mod query;
+mod reply;
+mod run;
+mod service;
+mod serving;
+mod starting;
+mod texts;
+mod words;
+
+use crate::agent::Host;
+use crate::gateway::{Gateway, gateway_of};
+use crate::run::run_gateway;
+use crate::words::{asked_by, key_of};
+use lra_narayana::Key;
+use lra_words::Unasked;
+use std::alloc::Global;
+use std::env;
+use std::io::Read;
+use std::net::{Net, TcpListener, TcpStream};
+use std::process::ExitCode;
+use std::sync::Wait;
+use std::thread::Threads;
+use std::time::Clock;
+
+const USAGE: &str =
+    "usage: LRA_GATEWAY_KEY=HEX lra_gateway listen=IP:PORT base=URL calls=PORT|calls=IP:PORT via=HOST:PORT [limit=MS] [wait=MS] [again=MS] [allow=HOST[:PORT],..] [short=NAME=HOST:PORT/PATH].. group=HOST:PORT[/PORT],.. ..";
+
+/// The name of the key in the environment.
+const KEY: &str = "LRA_GATEWAY_KEY";
+
+/// The gateway that the words ask for, with this key.
+fn asked_with(alloc: Global, words: &[String], key: &Key) -> Result<Gateway, Unasked> {
+    let asked = asked_by(alloc, words)?;
+    match gateway_of(alloc, asked, key) {
+        Ok(gateway) => Ok(gateway),
+        Err(_) => Err(Unasked::NoMemory),
+    }
+}
+
+/// Runs a gateway until standard input ends. Where the words ask for something else, or the environment
+/// has no key, it ends with 2, and the usage.
+fn main(rt: HostRuntime) -> ExitCode {
+    let alloc = rt.alloc();
+    let Ok(given) = env::args(&rt) else {
+        return ExitCode::from(1);
+    };
+    let Ok(words) = given.skip(1).collect::<Vec<String>>(alloc) else {
+        return ExitCode::from(1);
+    };
+    let key = match env::var(&rt, KEY) {
+        Ok(text) => key_of(text.as_str()),
+        Err(_) => None,
+    };
+    let Some(key) = key else {
+        let _ = eprintln!(rt; "{}", USAGE);
+        return ExitCode::from(2);
+    };
+    match asked_with(alloc, &words, &key) {
+        Ok(gateway) => ExitCode::from(serve(&rt, alloc, &gateway, rt.reader())),
+        Err(Unasked::NoMemory) => ExitCode::from(1),
+        Err(Unasked::OtherWords) => {
+            let _ = eprintln!(rt; "{}", USAGE);
+            ExitCode::from(2)
+        }
+    }
+}
+
+/// Runs the gateway, as `run_gateway` says. Its bounds name the sockets, which the borrow checker has to
+/// find where a host is handed over.
+fn serve<R, I>(rt: &R, alloc: Global, gateway: &Gateway, input: I) -> u8
+where
+    R: Threads + Wait + Clock + Net<Listener = TcpListener, Stream = TcpStream> + Eprint + Sync,
+    I: Read + Drop + Send,
+{
+    run_gateway(rt, alloc, gateway, input)
+}

@@ -1,0 +1,123 @@
+// The participants of an LRA, as the port for operators of its home tells them.
+
+use crate::agent::{Agent, Host};
+use crate::asking::{Answer, ask, look_at};
+use crate::exchange::Fail;
+use crate::names::Lra;
+use crate::reply::{Reply, plain};
+use lra_narayana::{Given, Kind, open, text_of};
+use serde_json::Value;
+use url::{Position, Url};
+
+/// All kinds of links, in the order in which they are told.
+const KINDS: [Kind; 5] = [
+    Kind::Compensate,
+    Kind::Complete,
+    Kind::Status,
+    Kind::Forget,
+    Kind::After,
+];
+
+/// What an LRA's home tells operators of it; none where it knows no such LRA.
+pub fn looked_up<R: Host>(agent: &Agent<R>, lra: &Lra) -> Result<Option<Answer>, Fail> {
+    let Some(port) = lra.home.operate else {
+        return Err(Fail::Unsent);
+    };
+    let alloc = agent.alloc;
+    let id = text_of(alloc, lra.id)?;
+    let path = format!(in alloc; "/lra/{id}")?;
+    let answer = ask(
+        agent,
+        lra.home.peer.host.as_str(),
+        port,
+        &look_at(path.as_str()),
+    )?;
+    match answer.code {
+        200 => Ok(Some(answer)),
+        404 | 410 => Ok(None),
+        _ => Err(Fail::Unheard),
+    }
+}
+
+/// The link of a kind with which a member joined, as an operator's port tells it.
+fn link_of(member: &Value, kind: Kind) -> Option<&str> {
+    member.get("links")?.get(kind.name())?.as_str()
+}
+
+fn is_participant(member: &Value) -> bool {
+    member.get("kind").and_then(Value::as_str) == Some("participant")
+}
+
+fn number_of(member: &Value) -> Option<u8> {
+    let number = member.get("member")?.as_u64()?;
+    u8::try_from(number).ok()
+}
+
+/// The link that tells a participant from others: to compensate, or else to hear of the end.
+fn own_link(links: &[Given]) -> Option<&Given> {
+    match links.iter().find(|link| link.kind == Kind::Compensate) {
+        Some(link) => Some(link),
+        None => links.iter().find(|link| link.kind == Kind::After),
+    }
+}
+
+/// The number of the participant that joined with these links.
+pub fn found_in(answer: &Answer, links: &[Given]) -> Option<u8> {
+    let own = own_link(links)?;
+    for member in answer.list("members")?.iter() {
+        if is_participant(member) && link_of(member, own.kind) == Some(own.url.as_str()) {
+            return number_of(member);
+        }
+    }
+    None
+}
+
+/// Adds a link with which a member joined, as it gave it.
+fn push_link<R: Host>(
+    agent: &Agent<R>,
+    text: &mut String,
+    lra: &Lra,
+    kind: Kind,
+    link: &str,
+) -> Result<(), Fail> {
+    let alloc = agent.alloc;
+    let Ok(url) = Url::parse(alloc, link) else {
+        return Ok(());
+    };
+    let target = url.slice(Position::BeforePath, Position::AfterQuery);
+    let (key, shorts) = (&lra.group.key, &agent.gateway.shorts);
+    if let Some(own) = open(alloc, key, shorts, lra.id, target)? {
+        let comma = if text.is_empty() { "" } else { "," };
+        let (name, own) = (kind.name(), own.link.as_str());
+        let link = format!(in alloc; "{comma}<{own}>; rel=\"{name}\"")?;
+        text.push_str(link.as_str())?;
+    }
+    Ok(())
+}
+
+/// The links with which a member joined, as it gave them.
+fn links_text<R: Host>(agent: &Agent<R>, lra: &Lra, member: &Value) -> Result<String, Fail> {
+    let mut text = String::new(agent.alloc);
+    for kind in KINDS {
+        if let Some(link) = link_of(member, kind) {
+            push_link(agent, &mut text, lra, kind, link)?;
+        }
+    }
+    Ok(text)
+}
+
+/// The links of a participant: `GET /lra-coordinator/recovery/UID/NUMBER`.
+pub fn links_of_member<R: Host>(agent: &Agent<R>, lra: &Lra, number: u8) -> Result<Reply, Fail> {
+    let alloc = agent.alloc;
+    let looked = looked_up(agent, lra)?;
+    let members = looked.as_ref().and_then(|answer| answer.list("members"));
+    if let Some(members) = members {
+        for member in members.iter() {
+            if is_participant(member) && number_of(member) == Some(number) {
+                let text = links_text(agent, lra, member)?;
+                return Ok(plain(alloc, 200, text.as_str())?);
+            }
+        }
+    }
+    Ok(plain(alloc, 404, "no such participant")?)
+}

@@ -1,0 +1,192 @@
+// Single words of the command line.
+
+use lra_narayana::Short;
+use lra_sockets::Peer;
+use lra_words::{Unasked, host_of, number_of, peer_of, port_of};
+use std::alloc::Global;
+use std::net::{Ipv4Addr, SocketAddr, SocketAddrV4};
+
+/// The most letters of the name of a short form.
+const MOST_NAME: usize = 16;
+
+/// How a node is reached.
+#[derive(Drop)]
+pub struct Door {
+    pub peer: Peer,
+    /// Its port for operators at the same host; none where it is a gateway, to which calls are handed.
+    pub operate: Option<u16>,
+}
+
+/// An address with a port.
+pub(crate) fn address_of(text: &str) -> Option<SocketAddr> {
+    match text.parse::<SocketAddr>() {
+        Ok(address) if address.port() > 0 => Some(address),
+        _ => None,
+    }
+}
+
+/// How many milliseconds a text says, or else are usual; nothing where it says them badly.
+pub(crate) fn time_of(text: Option<&str>, usual: u64) -> Option<u64> {
+    let Some(text) = text else {
+        return Some(usual);
+    };
+    number_of(text)
+}
+
+/// Where it listens for nodes, and where nodes reach it. At a port alone it listens at each address of
+/// IPv4, and is reached over the loopback interface.
+pub(crate) fn calls_of(
+    alloc: Global,
+    calls: &str,
+    via: Option<&str>,
+) -> Result<(SocketAddr, Option<Peer>), Unasked> {
+    let Some(via) = via else {
+        let Some(port) = port_of(calls) else {
+            return Err(Unasked::OtherWords);
+        };
+        let address = SocketAddrV4::new(Ipv4Addr::UNSPECIFIED, port);
+        return Ok((SocketAddr::V4(address), None));
+    };
+    let Some(address) = address_of(calls) else {
+        return Err(Unasked::OtherWords);
+    };
+    match peer_of(alloc, via) {
+        Ok(peer) => Ok((address, Some(peer))),
+        Err(fault) => Err(fault),
+    }
+}
+
+/// Whether a byte may stand in what ids begin with. Ids stand between quotes in JSON, and in fields.
+fn is_base_byte(byte: u8) -> bool {
+    byte.is_ascii_graphic() && byte != b'"' && byte != b'\\' && byte != b'?' && byte != b'#'
+}
+
+fn are_base_bytes(bytes: &[u8]) -> bool {
+    bytes.iter().all(|byte| is_base_byte(*byte))
+}
+
+/// What stands behind the scheme of a URL.
+fn behind_scheme(text: &str) -> Option<&str> {
+    if let Some(rest) = text.strip_prefix("http://") {
+        return Some(rest);
+    }
+    text.strip_prefix("https://")
+}
+
+/// What ids begin with, by a text: without the slashes at its end.
+pub(crate) fn base_of(text: &str) -> Option<&str> {
+    let base = text.trim_end_matches('/');
+    let Some(rest) = behind_scheme(base) else {
+        return None;
+    };
+    if rest.is_empty() || rest.starts_with('/') || !are_base_bytes(base.as_bytes()) {
+        return None;
+    }
+    Some(base)
+}
+
+/// Whether a text is a host, or a host and a port.
+fn is_place(text: &str) -> bool {
+    if host_of(text).is_some() {
+        return true;
+    }
+    let Some((host, port)) = text.rsplit_once(':') else {
+        return false;
+    };
+    host_of(host).is_some() && port_of(port).is_some()
+}
+
+/// The hosts that a text allows, parted by commas; any are allowed where there is none.
+pub(crate) fn allowed_by(alloc: Global, text: Option<&str>) -> Result<Vec<String>, Unasked> {
+    let mut hosts = Vec::new(alloc);
+    let Some(text) = text else {
+        return Ok(hosts);
+    };
+    for host in text.split(',') {
+        if !is_place(host) {
+            return Err(Unasked::OtherWords);
+        }
+        let Ok(host) = String::from_str(alloc, host) else {
+            return Err(Unasked::NoMemory);
+        };
+        if hosts.push(host).is_err() {
+            return Err(Unasked::NoMemory);
+        }
+    }
+    Ok(hosts)
+}
+
+fn is_name_byte(byte: u8) -> bool {
+    byte.is_ascii_alphanumeric() || byte == b'-' || byte == b'_'
+}
+
+fn are_name_bytes(bytes: &[u8]) -> bool {
+    bytes.iter().all(|byte| is_name_byte(*byte))
+}
+
+/// Whether a text may name a short form.
+fn is_name(text: &str) -> bool {
+    let bytes = text.as_bytes();
+    if bytes.len() < 1 || bytes.len() > MOST_NAME {
+        return false;
+    }
+    are_name_bytes(bytes)
+}
+
+/// Whether a text is the front of links behind `http://`: a host, maybe with a port and a path.
+fn is_front(text: &str) -> bool {
+    if text.ends_with('/') {
+        return false;
+    }
+    match text.split_once('/') {
+        Some((place, _)) => is_place(place),
+        None => is_place(text),
+    }
+}
+
+/// The short form that a text says: its name, and the front for which it stands.
+pub(crate) fn short_of(alloc: Global, text: &str) -> Result<Short, Unasked> {
+    let Some((name, long)) = text.split_once('=') else {
+        return Err(Unasked::OtherWords);
+    };
+    if !is_name(name) || !is_front(long) {
+        return Err(Unasked::OtherWords);
+    }
+    match Short::new(alloc, name, long) {
+        Ok(short) => Ok(short),
+        Err(_) => Err(Unasked::NoMemory),
+    }
+}
+
+/// How the node is reached that a text names.
+fn door_of(alloc: Global, text: &str) -> Result<Door, Unasked> {
+    let (place, operate) = match text.split_once('/') {
+        Some((place, port)) => {
+            let Some(port) = port_of(port) else {
+                return Err(Unasked::OtherWords);
+            };
+            (place, Some(port))
+        }
+        None => (text, None),
+    };
+    match peer_of(alloc, place) {
+        Ok(peer) => Ok(Door { peer, operate }),
+        Err(fault) => Err(fault),
+    }
+}
+
+/// How the nodes of a group are reached, which are parted by commas.
+pub(crate) fn doors_of(alloc: Global, text: &str) -> Result<Vec<Door>, Unasked> {
+    let mut doors = Vec::new(alloc);
+    for part in text.split(',') {
+        match door_of(alloc, part) {
+            Ok(door) => {
+                if doors.push(door).is_err() {
+                    return Err(Unasked::NoMemory);
+                }
+            }
+            Err(fault) => return Err(fault),
+        }
+    }
+    Ok(doors)
+}

@@ -1,0 +1,136 @@
+// Answers to services.
+
+use crate::asking::Answer;
+use crate::exchange::{Fail, field, length_field};
+use http::StatusCode;
+use lra_http::{Bytes, Fields, Response};
+use std::alloc::{AllocError, Global};
+use std::str;
+
+/// An answer to a service.
+#[derive(Drop)]
+pub struct Reply {
+    pub code: u16,
+    pub is_json: bool,
+    pub text: String,
+    /// Where what was made is, and the field that tells it too.
+    pub made: Option<(&'static str, String)>,
+}
+
+/// The field that tells an LRA that was begun.
+pub const LRA: &str = "Long-Running-Action";
+
+/// The field that tells where a participant is found.
+pub const RECOVERY: &str = "Long-Running-Action-Recovery";
+
+/// A code with a text.
+pub fn plain(alloc: Global, code: u16, text: &str) -> Result<Reply, AllocError> {
+    Ok(Reply {
+        code,
+        is_json: false,
+        text: String::from_str(alloc, text)?,
+        made: None,
+    })
+}
+
+/// A text of JSON.
+pub fn json(text: String) -> Reply {
+    Reply {
+        code: 200,
+        is_json: true,
+        text,
+        made: None,
+    }
+}
+
+/// What was made: an id, or a participant's recovery URL.
+pub fn made(
+    alloc: Global,
+    code: u16,
+    name: &'static str,
+    url: String,
+) -> Result<Reply, AllocError> {
+    Ok(Reply {
+        code,
+        is_json: false,
+        text: String::from_str(alloc, url.as_str())?,
+        made: Some((name, url)),
+    })
+}
+
+/// A node's refusal, as services know it.
+pub fn refusal(alloc: Global, answer: &Answer) -> Result<Reply, AllocError> {
+    let code = match answer.code {
+        400 => 400,
+        404 | 410 => 404,
+        412 => 412,
+        _ => 503,
+    };
+    plain(alloc, code, answer.refused())
+}
+
+/// What a service is told where no node answered.
+pub fn failure(alloc: Global, fail: Fail) -> Result<Reply, AllocError> {
+    let text = match fail {
+        Fail::NoMemory => "no memory",
+        Fail::Unsent => "no node can be reached",
+        Fail::Unheard => "no node answered",
+    };
+    plain(alloc, 503, text)
+}
+
+/// The text of a response's field; nothing where it has none.
+fn text_in<'a>(response: &'a Response, name: &str) -> &'a str {
+    match response.fields.value(name.as_bytes()) {
+        Some(value) => str::from_utf8(value).unwrap_or(""),
+        None => "",
+    }
+}
+
+/// The reply of another gateway.
+pub fn reply_of(alloc: Global, response: &Response) -> Result<Reply, AllocError> {
+    let code = response.status.as_u16();
+    let text = str::from_utf8(response.body.as_slice()).unwrap_or("");
+    let url = String::from_str(alloc, text_in(response, "Location"))?;
+    let name = if code == 201 { LRA } else { RECOVERY };
+    Ok(Reply {
+        code,
+        is_json: text_in(response, "Content-Type") == "application/json",
+        text: String::from_str(alloc, text)?,
+        made: if url.is_empty() {
+            None
+        } else {
+            Some((name, url))
+        },
+    })
+}
+
+/// The response that tells it.
+pub fn response_of(alloc: Global, reply: Reply) -> Result<Response, AllocError> {
+    let Reply {
+        code,
+        is_json,
+        text,
+        made,
+    } = reply;
+    let mut fields = Vec::new(alloc);
+    if let Some((name, url)) = made {
+        fields.push(field(alloc, "Location", url.as_str())?)?;
+        fields.push(field(alloc, name, url.as_str())?)?;
+    }
+    if code != 204 {
+        let kind = if is_json {
+            "application/json"
+        } else {
+            "text/plain"
+        };
+        fields.push(field(alloc, "Content-Type", kind)?)?;
+        fields.push(length_field(alloc, text.len())?)?;
+    }
+    fields.push(field(alloc, "Connection", "close")?)?;
+    Ok(Response {
+        status: StatusCode::from_u16(code).unwrap_or(StatusCode::INTERNAL_SERVER_ERROR),
+        fields: Fields::new(fields),
+        body: Bytes::new(text.into_bytes()),
+    })
+}

@@ -1,0 +1,212 @@
+// The threads of a gateway.
+
+use crate::agent::{Agent, Host};
+use crate::gateway::Gateway;
+use crate::serving::{accept, look, serve};
+use lra_sockets::StopReason;
+use std::alloc::{AllocError, Global};
+use std::io::{ErrorKind, Read};
+use std::net::{IpAddr, Ipv4Addr, Ipv6Addr, SocketAddr, TcpListener, TcpStream};
+use std::thread;
+use std::thread::{Scope, Threads};
+
+/// How many threads serve services, each of which may wait for a node.
+const SERVICES: usize = 48;
+
+/// How many calls each node makes at a time.
+const CALLS_OF_NODE: usize = 4;
+
+/// What a thread does, for the port of this number: 0 is that for services.
+#[derive(Clone, Copy, PartialEq, Eq)]
+enum Role {
+    Accept(u8),
+    Look(u8),
+    Serve(u8),
+}
+
+/// Where a gateway takes connections: of services, and of the nodes of each group.
+#[derive(Drop)]
+struct Listeners {
+    services: TcpListener,
+    groups: Vec<TcpListener>,
+}
+
+impl Listeners {
+    fn of(&self, number: u8) -> &TcpListener {
+        let place = usize::from(number).wrapping_sub(1);
+        self.groups.get(place).unwrap_or(&self.services)
+    }
+}
+
+/// Adds what the threads of a port do.
+fn push_roles(roles: &mut Vec<Role>, number: u8, workers: usize) -> Result<(), AllocError> {
+    roles.push(Role::Accept(number))?;
+    roles.push(Role::Look(number))?;
+    for _worker in 0..workers {
+        roles.push(Role::Serve(number))?;
+    }
+    Ok(())
+}
+
+/// What all threads do.
+fn roles_of(alloc: Global, gateway: &Gateway) -> Result<Vec<Role>, AllocError> {
+    let mut roles = Vec::new(alloc);
+    push_roles(&mut roles, 0, SERVICES)?;
+    for group in gateway.groups.iter() {
+        let workers = group.doors.len().saturating_mul(CALLS_OF_NODE);
+        push_roles(&mut roles, group.number, workers)?;
+    }
+    Ok(roles)
+}
+
+/// Plays a role, until the program is to end.
+fn play<R: Host>(rt: &R, alloc: Global, gateway: &Gateway, listeners: &Listeners, role: Role) {
+    let agent = Agent { rt, alloc, gateway };
+    match role {
+        Role::Accept(number) => accept(&agent, gateway.port_of(number), listeners.of(number)),
+        Role::Look(number) => look(&agent, gateway.port_of(number)),
+        Role::Serve(number) => serve(&agent, number),
+    }
+}
+
+/// Starts a thread. It says whether one could be had.
+fn start<'s, E, R>(
+    scope: &Scope<'s, E>,
+    rt: &'s R,
+    alloc: Global,
+    gateway: &'s Gateway,
+    listeners: &'s Listeners,
+    role: Role,
+) -> bool
+where
+    R: Threads + Host + Sync,
+{
+    scope
+        .spawn(move || play(rt, alloc, gateway, listeners, role))
+        .is_ok()
+}
+
+/// Starts all threads. It says whether all could be had.
+fn start_all<'s, E, R>(
+    scope: &Scope<'s, E>,
+    rt: &'s R,
+    alloc: Global,
+    gateway: &'s Gateway,
+    listeners: &'s Listeners,
+) -> bool
+where
+    R: Threads + Host + Sync,
+{
+    let Ok(roles) = roles_of(alloc, gateway) else {
+        return false;
+    };
+    for role in roles {
+        if !start(scope, rt, alloc, gateway, listeners, role) {
+            return false;
+        }
+    }
+    true
+}
+
+/// Reads an input to its end.
+fn drain<I: Read + Drop>(mut input: I) {
+    let mut bytes = [0u8; 512];
+    for _turn in 0..u64::MAX {
+        match input.read(&mut bytes) {
+            Ok(0) => return,
+            Ok(_) => {}
+            Err(error) if error.kind() == ErrorKind::Interrupted => {}
+            Err(_) => return,
+        }
+    }
+}
+
+/// Where a port of this machine is reached from it.
+fn door_of(address: SocketAddr) -> SocketAddr {
+    let port = address.port();
+    match address.ip() {
+        IpAddr::V4(ip) if ip.is_unspecified() => {
+            SocketAddr::new(IpAddr::V4(Ipv4Addr::LOCALHOST), port)
+        }
+        IpAddr::V6(ip) if ip.is_unspecified() => {
+            SocketAddr::new(IpAddr::V6(Ipv6Addr::LOCALHOST), port)
+        }
+        _ => address,
+    }
+}
+
+/// Sends all threads home. Those that accept are woken by a connection.
+fn end<R: Host>(rt: &R, gateway: &Gateway) {
+    let _first = gateway.signal.end(rt, StopReason::Program);
+    gateway.port.end(rt);
+    let _ = TcpStream::connect(rt, door_of(gateway.port.address));
+    for group in gateway.groups.iter() {
+        group.port.end(rt);
+        let _ = TcpStream::connect(rt, door_of(group.port.address));
+    }
+}
+
+/// Serves services and nodes until the input ends. It says whether all threads could be had.
+fn run<R, I: Read + Drop + Send>(
+    rt: &R,
+    alloc: Global,
+    gateway: &Gateway,
+    listeners: &Listeners,
+    input: I,
+) -> bool
+where
+    R: Threads + Host + Sync,
+{
+    thread::scope(thread::scope_env(), rt, move |scope| {
+        let is_whole = start_all(scope, rt, alloc, gateway, listeners);
+        if is_whole {
+            drain(input);
+        }
+        end(rt, gateway);
+        is_whole
+    })
+}
+
+/// The port of an address, bound. Where that can't be had it is told.
+fn bound<R: Host>(rt: &R, address: SocketAddr) -> Option<TcpListener> {
+    match TcpListener::bind(rt, address) {
+        Ok(listener) => Some(listener),
+        Err(_) => {
+            let _ = eprintln!(rt; "lra_gateway: {address} can't be had");
+            None
+        }
+    }
+}
+
+/// All ports, bound.
+fn listeners_of<R: Host>(rt: &R, alloc: Global, gateway: &Gateway) -> Option<Listeners> {
+    let services = bound(rt, gateway.port.address)?;
+    let mut groups = Vec::new(alloc);
+    for group in gateway.groups.iter() {
+        groups.push(bound(rt, group.port.address)?).ok()?;
+    }
+    Some(Listeners { services, groups })
+}
+
+/// Serves services and nodes until the input ends, and gives the exit status: 1 where a port or a
+/// thread can't be had.
+pub fn run_gateway<R, I: Read + Drop + Send>(
+    rt: &R,
+    alloc: Global,
+    gateway: &Gateway,
+    input: I,
+) -> u8
+where
+    R: Threads + Host + Sync,
+{
+    let Some(listeners) = listeners_of(rt, alloc, gateway) else {
+        return 1;
+    };
+    let address = gateway.port.address;
+    let _ = eprintln!(rt; "lra_gateway: listens on {address}");
+    if run(rt, alloc, gateway, &listeners, input) {
+        return 0;
+    }
+    let _ = eprintln!(rt; "lra_gateway: no thread can be had");
+    1
+}

@@ -1,0 +1,209 @@
+// What services ask: Narayana's coordinator interface.
+
+use crate::agent::{Agent, Host};
+use crate::ending::{end, status};
+use crate::exchange::Fail;
+use crate::handing::{Errand, errand_of, hand};
+use crate::joining::{join, leave};
+use crate::listing::{Wanted, info, list, list_by, purge};
+use crate::members::links_of_member;
+use crate::names::{Lra, lra_of, name_in};
+use crate::reply::{Reply, failure, plain};
+use crate::starting::start;
+use lra_narayana::{Repeat, Request};
+use std::alloc::{AllocError, Global};
+
+/// What is asked of one LRA.
+#[derive(Clone, Copy, PartialEq, Eq, Debug)]
+enum Act {
+    Join,
+    Info,
+    Status,
+    Close,
+    Cancel,
+    Leave,
+    Purge,
+    /// The links of the participant of this number.
+    Links(u8),
+}
+
+impl Act {
+    /// Whether each node can tell it, not only the LRA's home.
+    fn is_told_by_all(self) -> bool {
+        self == Act::Info || self == Act::Status
+    }
+
+    /// Whether it may be asked again: a join whose answer was lost is looked up by its home's gateway
+    /// alone.
+    fn repeat(self) -> Repeat {
+        if self == Act::Join {
+            Repeat::Unsent
+        } else {
+            Repeat::Always
+        }
+    }
+}
+
+/// What is asked that isn't done, or isn't there.
+#[derive(Clone, Copy, PartialEq, Eq, Debug)]
+struct Undone {
+    code: u16,
+    text: &'static str,
+}
+
+const NO_PATH: Undone = Undone {
+    code: 404,
+    text: "no such path",
+};
+
+const NO_METHOD: Undone = Undone {
+    code: 405,
+    text: "no such method",
+};
+
+const NO_RENEWAL: Undone = Undone {
+    code: 501,
+    text: "a time limit can't be renewed",
+};
+
+const NO_MOVE: Undone = Undone {
+    code: 501,
+    text: "a participant can't be moved",
+};
+
+/// What a method and the words behind an id ask of an LRA.
+fn act_of(method: &str, words: &[&str]) -> Result<Act, Undone> {
+    match (method, words) {
+        ("PUT", []) => Ok(Act::Join),
+        ("GET", []) => Ok(Act::Info),
+        ("GET", ["status"]) => Ok(Act::Status),
+        ("PUT", ["close"]) => Ok(Act::Close),
+        ("PUT", ["cancel"]) => Ok(Act::Cancel),
+        ("PUT", ["remove"]) => Ok(Act::Leave),
+        ("PUT", ["renew"]) => Err(NO_RENEWAL),
+        (_, [] | ["status" | "close" | "cancel" | "remove" | "renew"]) => Err(NO_METHOD),
+        _ => Err(NO_PATH),
+    }
+}
+
+/// What a method and the words behind an id ask of its recovery.
+fn recovery_of(method: &str, words: &[&str]) -> Result<Act, Undone> {
+    match (method, words) {
+        ("DELETE", []) => Ok(Act::Purge),
+        ("GET", [number]) => match number.parse::<u8>() {
+            Ok(number) => Ok(Act::Links(number)),
+            Err(_) => Err(NO_PATH),
+        },
+        ("PUT", [_]) => Err(NO_MOVE),
+        (_, [] | [_]) => Err(NO_METHOD),
+        _ => Err(NO_PATH),
+    }
+}
+
+/// The parts of a path that aren't empty.
+fn parts_of(alloc: Global, path: &str) -> Result<Vec<&str>, AllocError> {
+    let mut parts = Vec::new(alloc);
+    for part in path.split('/') {
+        if !part.is_empty() {
+            parts.push(part)?;
+        }
+    }
+    Ok(parts)
+}
+
+/// Does what is asked of an LRA, of whose home this gateway asks itself, or which each node can tell.
+fn act_here<R: Host>(
+    agent: &Agent<R>,
+    errand: &Errand,
+    lra: &Lra,
+    act: Act,
+) -> Result<Reply, Fail> {
+    match act {
+        Act::Join => join(agent, errand, lra),
+        Act::Info => info(agent, lra),
+        Act::Status => status(agent, lra),
+        Act::Close => end(agent, lra, true),
+        Act::Cancel => end(agent, lra, false),
+        Act::Leave => leave(agent, errand, lra),
+        Act::Purge => purge(agent, lra),
+        Act::Links(number) => links_of_member(agent, lra, number),
+    }
+}
+
+/// Has the gateway beside an LRA's home do what is asked; what each node can tell, another where that
+/// one doesn't answer.
+fn act_there<R: Host>(
+    agent: &Agent<R>,
+    errand: &Errand,
+    lra: &Lra,
+    act: Act,
+) -> Result<Reply, Fail> {
+    if !act.is_told_by_all() {
+        return hand(agent, lra.group, lra.home, errand, act.repeat());
+    }
+    if errand.handed_for.is_none() {
+        if let Ok(reply) = hand(agent, lra.group, lra.home, errand, Repeat::Never) {
+            if reply.code != 503 {
+                return Ok(reply);
+            }
+        }
+    }
+    act_here(agent, errand, lra, act)
+}
+
+/// What is asked of the LRA of a name.
+fn serve_lra<R: Host>(
+    agent: &Agent<R>,
+    errand: &Errand,
+    name: &str,
+    asked: Result<Act, Undone>,
+) -> Result<Reply, Fail> {
+    let act = match asked {
+        Ok(act) => act,
+        Err(undone) => return Ok(plain(agent.alloc, undone.code, undone.text)?),
+    };
+    let name = name_in(agent.alloc, name)?;
+    let Some(lra) = lra_of(agent.gateway, name) else {
+        return Ok(plain(agent.alloc, 404, "no such LRA")?);
+    };
+    if lra.home.operate.is_some() {
+        act_here(agent, errand, &lra, act)
+    } else {
+        act_there(agent, errand, &lra, act)
+    }
+}
+
+/// What is asked behind `/lra-coordinator`.
+fn serve_words<R: Host>(agent: &Agent<R>, errand: &Errand, words: &[&str]) -> Result<Reply, Fail> {
+    let method = errand.method();
+    match (method, words) {
+        ("GET", []) => list_by(agent, errand),
+        ("POST", ["start"]) => start(agent, errand),
+        ("GET", ["recovery"]) => list(agent, errand, Wanted::Recovering),
+        ("GET", ["recovery", "failed"]) => list(agent, errand, Wanted::Failed),
+        (_, [] | ["start"] | ["recovery"] | ["recovery", "failed"]) => {
+            Ok(plain(agent.alloc, NO_METHOD.code, NO_METHOD.text)?)
+        }
+        (_, ["recovery", name, rest @ ..]) => {
+            serve_lra(agent, errand, name, recovery_of(method, rest))
+        }
+        (_, [name, rest @ ..]) => serve_lra(agent, errand, name, act_of(method, rest)),
+    }
+}
+
+fn serve_path<R: Host>(agent: &Agent<R>, errand: &Errand) -> Result<Reply, Fail> {
+    let parts = parts_of(agent.alloc, errand.path())?;
+    match parts.as_slice() {
+        ["lra-coordinator", words @ ..] => serve_words(agent, errand, words),
+        _ => Ok(plain(agent.alloc, NO_PATH.code, NO_PATH.text)?),
+    }
+}
+
+/// What a service is answered.
+pub fn serve_service<R: Host>(agent: &Agent<R>, request: &Request) -> Result<Reply, AllocError> {
+    let errand = errand_of(request);
+    match serve_path(agent, &errand) {
+        Ok(reply) => Ok(reply),
+        Err(fail) => failure(agent.alloc, fail),
+    }
+}

@@ -1,0 +1,212 @@
+// What the threads of a gateway do: they take connections, look for requests, and serve them.
+
+use crate::agent::{Agent, Host};
+use crate::exchange::{field, length_field};
+use crate::forward::serve_node;
+use crate::port::Port;
+use crate::reply::{plain, response_of};
+use crate::service::serve_service;
+use http::StatusCode;
+use lra_http::{Bytes, Fields, Response, Sink, Source, write_response};
+use lra_narayana::{Request, Told, read_request};
+use lra_sockets::{BufferedSocket, Cutoff, Limit, PendingConnection, Readiness, SLICE_MS, Times};
+use std::alloc::{AllocError, Global};
+use std::io::Error;
+use std::net::{IpAddr, TcpListener, TcpStream};
+use std::time::Duration;
+use std::{io, thread};
+
+/// How long is waited for more of a request that is there, in milliseconds: a body in chunks may still
+/// come.
+const SILENCE_MS: u64 = 500;
+
+/// How long such a body may take in all, and an answer to be written.
+const REQUEST_MS: u64 = 5_000;
+
+const ANSWER_MS: u64 = 10_000;
+
+/// How long it waits where no connection can be had, where too many wait, and where nothing comes of
+/// all that wait, in milliseconds.
+const PAUSE_MS: u64 = 10;
+
+const CROWDED_MS: u64 = 1;
+
+const REST_MS: u64 = 2;
+
+/// What the system answers where the process, or it itself, has no file left.
+const EMFILE: i32 = 24;
+
+const ENFILE: i32 = 23;
+
+fn wants_files(error: &Error) -> bool {
+    matches!(error.raw_os_error(), Some(EMFILE | ENFILE))
+}
+
+/// Whether who connected is of this machine.
+fn is_near(stream: &TcpStream) -> bool {
+    match stream.peer_addr() {
+        Ok(address) => match address.ip() {
+            IpAddr::V4(ip) => ip.is_loopback(),
+            IpAddr::V6(ip) => ip.is_loopback(),
+        },
+        Err(_) => false,
+    }
+}
+
+/// Puts a connection on a port's queue, where one came. Where no file is left for it, the one that has
+/// waited longest there is closed.
+fn put<R: Host>(rt: &R, port: &Port, came: io::Result<TcpStream>) {
+    match came {
+        Ok(stream) => {
+            if port.is_loopback && !is_near(&stream) {
+                return;
+            }
+            if let Ok(pending) = PendingConnection::new(rt, stream) {
+                port.queue.put(rt, pending);
+            }
+        }
+        Err(error) => {
+            if wants_files(&error) {
+                port.queue.close_first(rt);
+            }
+            thread::sleep(rt, Duration::from_millis(PAUSE_MS));
+        }
+    }
+}
+
+/// Waits while too many connections wait, or until the program is to end.
+fn wait_for_room<R: Host>(agent: &Agent<R>, port: &Port) {
+    for _ in agent.rt.forever() {
+        if !port.queue.is_full(agent.rt) || agent.gateway.signal.has_ended(agent.rt) {
+            return;
+        }
+        thread::sleep(agent.rt, Duration::from_millis(CROWDED_MS));
+    }
+}
+
+/// Takes connections and puts them on a port's queue, until the program is to end.
+pub fn accept<R: Host>(agent: &Agent<R>, port: &Port, listener: &TcpListener) {
+    for came in listener.incoming() {
+        put(agent.rt, port, came);
+        wait_for_room(agent, port);
+        if agent.gateway.signal.has_ended(agent.rt) {
+            return;
+        }
+    }
+}
+
+/// Looks for requests among the connections of a port, and hands those to workers whose request is
+/// there, until the program is to end. Who is silent waits beside the others.
+pub fn look<R: Host>(agent: &Agent<R>, port: &Port) {
+    let mut silent = 0usize;
+    for _ in agent.rt.forever() {
+        let Some(pending) = port.queue.take(agent.rt) else {
+            return;
+        };
+        match pending.look(agent.rt, true) {
+            Readiness::Pending(pending) => {
+                silent = silent.saturating_add(1);
+                if silent >= port.queue.put_back(agent.rt, pending) {
+                    port.queue.rest(agent.rt, Duration::from_millis(REST_MS));
+                    silent = 0;
+                }
+            }
+            Readiness::Closed => {}
+            Readiness::Whole(stream) | Readiness::Long(stream) => port.put(agent.rt, stream),
+        }
+    }
+}
+
+/// Whether who asked has closed the connection, and so waits for no answer.
+fn is_gone(stream: &TcpStream) -> bool {
+    let mut byte = [0u8; 1];
+    if stream.set_nonblocking(true).is_err() {
+        return true;
+    }
+    let is_gone = matches!(stream.peek(&mut byte), Ok(0));
+    stream.set_nonblocking(false).is_err() || is_gone
+}
+
+fn read<S: Source>(alloc: Global, reader: &mut S) -> Option<Request> {
+    read_request(alloc, reader).ok()
+}
+
+fn write<W: Sink>(alloc: Global, writer: &mut W, response: &Response) {
+    let _ = write_response(alloc, writer, response);
+}
+
+/// The response that tells a node.
+fn response_of_told(alloc: Global, told: Told) -> Result<Response, AllocError> {
+    let text = match told.word {
+        Some(status) => status.name(),
+        None => "",
+    };
+    let mut fields = Vec::new(alloc);
+    if told.code != 204 {
+        fields.push(length_field(alloc, text.len())?)?;
+    }
+    fields.push(field(alloc, "Connection", "close")?)?;
+    Ok(Response {
+        status: StatusCode::from_u16(told.code).unwrap_or(StatusCode::SERVICE_UNAVAILABLE),
+        fields: Fields::new(fields),
+        body: Bytes::new(Vec::from_slice(alloc, text.as_bytes())?),
+    })
+}
+
+/// The response to a request at the port of this number, 0 for services.
+fn answered<R: Host>(
+    agent: &Agent<R>,
+    number: u8,
+    request: Option<Request>,
+) -> Result<Response, AllocError> {
+    let alloc = agent.alloc;
+    let Some(request) = request else {
+        return response_of(alloc, plain(alloc, 400, "no request")?);
+    };
+    match agent.gateway.group(number) {
+        Some(group) => response_of_told(alloc, serve_node(agent, group, &request)?),
+        None => response_of(alloc, serve_service(agent, &request)?),
+    }
+}
+
+/// Serves one connection, if there is memory for it. Who has gone isn't served: a node that has given
+/// up calls again, and its first call, come late, might be out of order.
+fn serve_one<R: Host>(agent: &Agent<R>, port: &Port, number: u8, stream: TcpStream) -> Option<()> {
+    let (rt, alloc) = (agent.rt, agent.alloc);
+    stream
+        .set_read_timeout(Some(Duration::from_millis(SLICE_MS)))
+        .ok()?;
+    let watched = stream.try_clone().ok()?;
+    let times = Times {
+        reading: Limit::of_silence(SILENCE_MS, REQUEST_MS),
+        writing: Limit::of_millis(ANSWER_MS),
+    };
+    let (signal, queue, cutoff) = (&agent.gateway.signal, Some(&port.queue), Cutoff::ProgramEnd);
+    let buffered = BufferedSocket::new(rt, alloc, signal, cutoff, queue, stream, times);
+    let (mut reader, mut writer, socket) = buffered.ok()?.into_parts();
+    let request = read(alloc, &mut reader);
+    if is_gone(&watched) {
+        return None;
+    }
+    drop(watched);
+    if let Ok(response) = answered(agent, number, request) {
+        write(alloc, &mut writer, &response);
+    }
+    drop(reader);
+    drop(writer);
+    port.queue.close(rt, socket);
+    Some(())
+}
+
+/// Serves one connection of a port after another, until the program is to end.
+pub fn serve<R: Host>(agent: &Agent<R>, number: u8) {
+    let port = agent.gateway.port_of(number);
+    for _ in agent.rt.forever() {
+        match port.take(agent.rt) {
+            Some(stream) => {
+                let _served = serve_one(agent, port, number, stream);
+            }
+            None => return,
+        }
+    }
+}

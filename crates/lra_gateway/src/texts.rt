@@ -1,0 +1,59 @@
+// What stands behind the names of words.
+
+use lra_words::{said_by, text_of};
+
+/// What stands behind the name of each word, and the words of short forms and of groups.
+#[derive(Clone, Copy)]
+pub(crate) struct Given<'a> {
+    pub listen: &'a str,
+    pub base: &'a str,
+    pub calls: &'a str,
+    pub via: Option<&'a str>,
+    pub limit: Option<&'a str>,
+    pub wait: Option<&'a str>,
+    pub again: Option<&'a str>,
+    pub allow: Option<&'a str>,
+    pub shorts: &'a [String],
+    pub groups: &'a [String],
+}
+
+/// How many words begin with a name, from the first on.
+fn count_of(name: &str, words: &[String]) -> usize {
+    for place in 0..words.len() {
+        if !words[place].as_str().starts_with(name) {
+            return place;
+        }
+    }
+    words.len()
+}
+
+/// What the words give; nothing where they aren't these, in this order.
+pub(crate) fn given_by(words: &[String]) -> Option<Given<'_>> {
+    let Some((listen, rest)) = said_by("listen=", words) else {
+        return None;
+    };
+    let Some((base, rest)) = said_by("base=", rest) else {
+        return None;
+    };
+    let Some((calls, rest)) = said_by("calls=", rest) else {
+        return None;
+    };
+    let (via, rest) = text_of("via=", rest);
+    let (limit, rest) = text_of("limit=", rest);
+    let (wait, rest) = text_of("wait=", rest);
+    let (again, rest) = text_of("again=", rest);
+    let (allow, rest) = text_of("allow=", rest);
+    let count = count_of("short=", rest);
+    Some(Given {
+        listen,
+        base,
+        calls,
+        via,
+        limit,
+        wait,
+        again,
+        allow,
+        shorts: &rest[..count],
+        groups: &rest[count..],
+    })
+}

@@ -1,0 +1,189 @@
+// What the words of the command line ask for.
+
+pub use crate::key::key_of;
+pub use crate::parts::Door;
+use crate::parts::{address_of, allowed_by, base_of, calls_of, doors_of, short_of, time_of};
+use crate::texts::given_by;
+use lra_id::MAX_NODES;
+use lra_narayana::Short;
+use lra_sockets::Peer;
+use lra_words::Unasked;
+use std::alloc::Global;
+use std::net::SocketAddr;
+
+/// The most groups.
+const MOST_GROUPS: usize = 8;
+
+/// How long an end is waited for, and how long a call is repeated, in milliseconds.
+const USUAL_WAIT: u64 = 1_000;
+
+const USUAL_AGAIN: u64 = 8_000;
+
+/// What the words ask for.
+#[derive(Drop)]
+pub struct Asked {
+    /// Where services reach it.
+    pub listen: SocketAddr,
+    /// What ids begin with.
+    pub base: String,
+    /// Where it listens for the nodes of the first group, and where these reach it; those of each
+    /// further group do at the next port. Nodes reach it over the loopback interface where none is said.
+    pub calls: SocketAddr,
+    pub via: Option<Peer>,
+    /// The time limit of an LRA that is begun without one, in milliseconds; 0 is none.
+    pub limit: u64,
+    /// For how many milliseconds a close or cancel waits for the end.
+    pub wait: u64,
+    /// For how many milliseconds a call is repeated that may be.
+    pub again: u64,
+    /// The hosts at which participants may be, each maybe with a port; any where none is said.
+    pub allow: Vec<String>,
+    /// The short forms, that of the longest front first.
+    pub shorts: Vec<Short>,
+    /// The groups, and of each its nodes in order.
+    pub groups: Vec<Vec<Door>>,
+}
+
+/// Whether one of some short forms is this.
+fn stands_in(short: &str, shorts: &[Short]) -> bool {
+    for other in shorts {
+        if other.short.as_str() == short {
+            return true;
+        }
+    }
+    false
+}
+
+/// Whether no two short forms have one name.
+fn are_apart(shorts: &[Short]) -> bool {
+    for place in 0..shorts.len() {
+        if stands_in(shorts[place].short.as_str(), &shorts[..place]) {
+            return false;
+        }
+    }
+    true
+}
+
+/// The short forms that words say, in their order.
+fn shorts_said(alloc: Global, words: &[String]) -> Result<Vec<Short>, Unasked> {
+    let mut shorts = Vec::new(alloc);
+    for word in words {
+        let Some(text) = word.as_str().strip_prefix("short=") else {
+            return Err(Unasked::OtherWords);
+        };
+        match short_of(alloc, text) {
+            Ok(short) => {
+                if shorts.push(short).is_err() {
+                    return Err(Unasked::NoMemory);
+                }
+            }
+            Err(fault) => return Err(fault),
+        }
+    }
+    Ok(shorts)
+}
+
+/// The short forms that words say, each of another name, that of the longest front first.
+fn shorts_of(alloc: Global, words: &[String]) -> Result<Vec<Short>, Unasked> {
+    let mut shorts = match shorts_said(alloc, words) {
+        Ok(shorts) => shorts,
+        Err(fault) => return Err(fault),
+    };
+    if !are_apart(&shorts) {
+        return Err(Unasked::OtherWords);
+    }
+    match shorts.sort_by_key(|short| usize::MAX - short.long.len()) {
+        Ok(()) => Ok(shorts),
+        Err(_) => Err(Unasked::NoMemory),
+    }
+}
+
+/// The nodes of the group that a word says.
+fn group_of(alloc: Global, word: &str) -> Result<Vec<Door>, Unasked> {
+    let Some(text) = word.strip_prefix("group=") else {
+        return Err(Unasked::OtherWords);
+    };
+    let doors = match doors_of(alloc, text) {
+        Ok(doors) => doors,
+        Err(fault) => return Err(fault),
+    };
+    if doors.len() > usize::from(MAX_NODES) {
+        return Err(Unasked::OtherWords);
+    }
+    Ok(doors)
+}
+
+/// The groups that words say.
+fn groups_of(alloc: Global, words: &[String]) -> Result<Vec<Vec<Door>>, Unasked> {
+    if words.is_empty() || words.len() > MOST_GROUPS {
+        return Err(Unasked::OtherWords);
+    }
+    let mut groups = Vec::new(alloc);
+    for word in words {
+        match group_of(alloc, word.as_str()) {
+            Ok(doors) => {
+                if groups.push(doors).is_err() {
+                    return Err(Unasked::NoMemory);
+                }
+            }
+            Err(fault) => return Err(fault),
+        }
+    }
+    Ok(groups)
+}
+
+/// Whether so many ports, this the first, are ports.
+fn are_ports(first: u16, count: usize) -> bool {
+    usize::from(first) + count <= usize::from(u16::MAX) + 1
+}
+
+/// Whether each group has a port at which its nodes call, and one at which they reach it.
+fn have_ports(calls: SocketAddr, via: &Option<Peer>, groups: usize) -> bool {
+    if let Some(peer) = via
+        && !are_ports(peer.port, groups)
+    {
+        return false;
+    }
+    are_ports(calls.port(), groups)
+}
+
+/// What the words ask for.
+pub fn asked_by(alloc: Global, words: &[String]) -> Result<Asked, Unasked> {
+    let Some(given) = given_by(words) else {
+        return Err(Unasked::OtherWords);
+    };
+    let (Some(listen), Some(base)) = (address_of(given.listen), base_of(given.base)) else {
+        return Err(Unasked::OtherWords);
+    };
+    let (calls, via) = calls_of(alloc, given.calls, given.via)?;
+    let Some(limit) = time_of(given.limit, 0) else {
+        return Err(Unasked::OtherWords);
+    };
+    let Some(wait) = time_of(given.wait, USUAL_WAIT) else {
+        return Err(Unasked::OtherWords);
+    };
+    let Some(again) = time_of(given.again, USUAL_AGAIN) else {
+        return Err(Unasked::OtherWords);
+    };
+    let allow = allowed_by(alloc, given.allow)?;
+    let shorts = shorts_of(alloc, given.shorts)?;
+    let groups = groups_of(alloc, given.groups)?;
+    if !have_ports(calls, &via, groups.len()) {
+        return Err(Unasked::OtherWords);
+    }
+    let Ok(base) = String::from_str(alloc, base) else {
+        return Err(Unasked::NoMemory);
+    };
+    Ok(Asked {
+        listen,
+        base,
+        calls,
+        via,
+        limit,
+        wait,
+        again,
+        allow,
+        shorts,
+        groups,
+    })
+}
