@@ -903,7 +903,7 @@ class TestGateway(checks.Checked):
 
     def test_home(self) -> None:
         """A node is killed: questions and begins go to others, a close waits for it to be back."""
-        client, trip = self.up("again=30000"), self.service()
+        client, trip = self.up("again=80000"), self.service()
         lra = self.joined(trip)
         home = home_of(uid_of(lra))
         self.check("the others know it", self.nodes.all_come_to(uid_of(lra), "Active") is not None)
