@@ -841,14 +841,11 @@ class TestGateway(checks.Checked):
         client, trip = self.up(), self.service()
 
         def one(code: int) -> str:
-            seen = []
-
-            def book(context: Context) -> int:
-                seen.append(context.lra)
-                return code
-
-            invoke(client, "REQUIRED", trip, book)
-            return seen[0]
+            # (a node that has much else to do may give a start no answer in time, which isn't made again then)
+            lra = insist(client.start)
+            client.join(lra, trip.link())
+            client.end(lra, "cancel" if code == 500 else "close")
+            return lra
 
         codes = [500 if place % 3 == 0 else 200 for place in range(24)]
         began = time.monotonic()
