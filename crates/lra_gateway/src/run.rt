@@ -11,7 +11,7 @@ use std::thread;
 use std::thread::{Scope, Threads};
 
 /// How many threads serve services, each of which may wait for a node.
-const SERVICES: usize = 48;
+const SERVICES: usize = 128;
 
 /// How many calls each node makes at a time.
 const CALLS_OF_NODE: usize = 4;
