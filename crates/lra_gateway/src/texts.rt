@@ -43,7 +43,9 @@ pub(crate) fn given_by(words: &[String]) -> Option<Given<'_>> {
     let (wait, rest) = text_of("wait=", rest);
     let (again, rest) = text_of("again=", rest);
     let (allow, rest) = text_of("allow=", rest);
-    let count = count_of("short=", rest);
+    let Some((shorts, groups)) = rest.split_at_checked(count_of("short=", rest)) else {
+        return None;
+    };
     Some(Given {
         listen,
         base,
@@ -53,7 +55,7 @@ pub(crate) fn given_by(words: &[String]) -> Option<Given<'_>> {
         wait,
         again,
         allow,
-        shorts: &rest[..count],
-        groups: &rest[count..],
+        shorts,
+        groups,
     })
 }

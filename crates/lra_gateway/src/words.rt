@@ -134,7 +134,7 @@ fn groups_of(alloc: Global, words: &[String]) -> Result<Vec<Vec<Door>>, Unasked>
 
 /// Whether so many ports, this the first, are ports.
 fn are_ports(first: u16, count: usize) -> bool {
-    usize::from(first) + count <= usize::from(u16::MAX) + 1
+    usize::from(first).saturating_add(count) <= usize::from(u16::MAX) + 1
 }
 
 /// Whether each group has a port at which its nodes call, and one at which they reach it.
