@@ -26,7 +26,7 @@ from tools.mock import ENDED, Port, World, id_of, serves
 from tools.node import exchange, home_of
 from tools.page import PAGE, squeeze
 
-MOST_BYTES = 24_576
+MOST_BYTES = 30_720
 # Expressions of the page's script: the first row that is called in vain, how many rows there are, and what asks back.
 FIRST = "document.querySelector('#list > .stuck')"
 SHOWN = "document.querySelectorAll('#list .name').length"
@@ -49,6 +49,41 @@ def among(name: str, test: str) -> str:
     return f"[...document.querySelectorAll('#{name} button')].find(it => it.textContent.{test})"
 
 
+def ids_of(status: str, home: int, world: World) -> list[str]:
+    """The roots of a home that show a status."""
+    return [lra for lra, one in world.lras.items()
+            if one["status"] == status and home_of(lra) == home and not one["parent"]]
+
+
+def row_of(lra: str) -> str:
+    """An LRA's row, as an expression of the page's script."""
+    return f"rows.get('{lra}')"
+
+
+# Texts that stand out too little (their contrast is below 4.5), and buttons that are too low, each once.
+FAINT = r"""(() => {
+    const numbers = text => text.match(/[\d.]+/g).map(Number), found = new Set();
+    const grey = c => { const y = .2126 * c[0] + .7152 * c[1] + .0722 * c[2]; return [y, y, y]; };
+    const part = v => (v /= 255) <= .04045 ? v / 12.92 : ((v + .055) / 1.055) ** 2.4;
+    const light = c => .2126 * part(c[0]) + .7152 * part(c[1]) + .0722 * part(c[2]);
+    const above = it => it ? [it, ...above(it.parentElement)] : [];
+    const look = (it, color) => {
+        const all = above(it).map(one => getComputedStyle(one)), isGrey = all.some(one => one.filter !== "none");
+        const behind = all.map(one => numbers(one.backgroundColor)).find(c => c.length === 3 || c[3]);
+        const [a, b] = [numbers(color), behind].map(c => light(isGrey ? grey(c) : c)).sort((x, y) => y - x);
+        const ratio = (a + .05) / (b + .05), isClear = all.every(one => one.opacity === "1");
+        if (ratio < 4.5 || !isClear) found.add(it.tagName + "." + it.className + " " + ratio.toFixed(1));
+    };
+    for (const it of document.querySelectorAll("body *")) {
+        const isText = [...it.childNodes].some(node => node.nodeType === 3 && node.data.trim());
+        if (!it.checkVisibility() || it.closest("script")) continue;
+        if (isText) look(it, getComputedStyle(it).color);
+        if (it.placeholder) look(it, getComputedStyle(it, "::placeholder").color);
+        const height = it.getBoundingClientRect().height;
+        if (it.tagName === "BUTTON" && height < 24) found.add(it.textContent + " is " + height + " high");
+    }
+    return [...found];
+})()"""
 # How long the page takes to draw all, in milliseconds.
 DRAWING = """(() => {
     const t = performance.now();
@@ -78,7 +113,9 @@ class Picture(typing.NamedTuple):
 
 CLOSED_PICTURES = [Picture("light", 1280, 900, False), Picture("dark", 1280, 900, True),
                    Picture("narrow", 390, 844, False)]
-OPEN_PICTURES = [Picture("narrow-open", 390, 844, True), Picture("open", 1280, 900, False)]
+# That of README, demo/watch.png, is the third of 150.
+OPEN_PICTURES = [Picture("narrow-open", 390, 844, True), Picture("open", 1280, 900, False),
+                 Picture("readme", 1120, 860, False)]
 
 
 def take_pictures(browser: Browser, folder: str) -> None:
@@ -135,7 +172,9 @@ class TestPage(checks.Checked):
             self.check("it has nested, failed and ended ones, and calls in vain", is_so)
 
 
-class TestBrowser(checks.Checked):
+class Opened(checks.Checked):
+    """A test that opens the page."""
+
     @contextlib.contextmanager
     def opened(self, count: int) -> typing.Iterator[tuple[World, Browser]]:
         """So many LRAs, and a browser that shows them all. What it finds strange is looked at behind it."""
@@ -155,6 +194,8 @@ class TestBrowser(checks.Checked):
         finally:
             browser.close()
 
+
+class TestBrowser(Opened):
     def test_operator(self) -> None:
         """Two clicks to who is called in vain, a third that ends it, and what is said of a refusal."""
         for count in (1, 150, 2048):
@@ -331,7 +372,186 @@ class TestBrowser(checks.Checked):
         wanted = {"Closing", "Cancelling", "FailedToClose", "FailedToCancel"}
         self.check("it asks for those that are ending or failed alone", statuses <= wanted, statuses)
         others = {path.split("?")[0] for _, _, path, _ in asked if not path.startswith("/lra/")}
-        self.check("it asks nothing else", others <= {"/lras", "/calls", "/ready"}, others)
+        self.check("it asks nothing else", others <= {"/lras", "/calls", "/ready", "/metrics"}, others)
+
+
+class TestShown(Opened):
+    """What an operator is told, and how."""
+
+    def test_alarms(self) -> None:
+        """Nodes that aren't heard, and homes that are full."""
+        with self.opened(150) as (world, browser):
+            self.try_silence(browser, world)
+            self.try_homes(browser, world)
+
+    def try_silence(self, browser: Browser, world: World) -> None:
+        away, title = content_of("away"), "document.title"
+        self.check("of nodes that are heard nothing is said", browser.get(away) == "")
+        world.pulled.update({2: 60, 3: 130})
+        wanted = "Node 3 hasn't been heard for 2 min: calls for its LRAs wait there."
+        is_told = browser.waits(f"{away}.startsWith({wanted!r})", 10)
+        self.check("one that isn't heard is told, and one of a minute isn't", is_told, browser.get(away))
+        color = browser.get("getComputedStyle(document.getElementById('away')).backgroundColor")
+        self.check("it is red", color == "rgb(153, 27, 27)", color)
+        self.check("the title has a sign", browser.get(title).startswith("! "), browser.get(title))
+        world.pulled.update({2: 61, 3: 7300})
+        is_told = browser.waits(f"{away}.includes('for 1 min, nor node 3 for 2 h: calls for their')", 10)
+        self.check("two are told together", is_told, browser.get(away))
+        world.pulled.update({2: 0, 3: 1})
+        self.check("heard again they are told of no more", browser.waits(f"{away} === ''", 10))
+
+    def try_homes(self, browser: Browser, world: World) -> None:
+        homes = [home_of(lra) for lra in world.lras]
+        taken, places = {home: homes.count(home) for home in (1, 2, 3)}, content_of("places")
+        self.check("of homes with room nothing is said", browser.get(places) == "")
+        world.most = max(taken.values())
+        full = [str(home) for home, count in taken.items() if count == world.most]
+        near = [f"{home} ({count} of {world.most})" for home, count in taken.items()
+                if world.most > count > 0.9 * world.most]
+        is_told = browser.waits(f"{places}.startsWith('Full: home')", 10)
+        text = browser.get(places)
+        is_told = is_told and f"{', '.join(full)}. No LRA can" in text
+        self.check("a home that is full is told, of any node", is_told, text)
+        self.check("one that nearly is, too", not near or f"Nearly full: home {near[0]}" in text, (near, text))
+        self.check("and what to do", "Purge there what has ended, or start the node with keep=MS." in text, text)
+        world.most = int(taken[1] / 0.91)
+        wanted = f"1 ({taken[1]} of {world.most})"
+        self.check("above nine tenths it is told", browser.waits(f"{places}.includes('{wanted}')", 10), wanted)
+        world.most = -(-taken[1] * 10 // 9)
+        self.check("at nine tenths it isn't", browser.waits(f"!{places}.includes('1 ({taken[1]}')", 10))
+
+    def test_red(self) -> None:
+        """What failed is as red as what is called in vain, and a listener isn't."""
+        with self.opened(150) as (world, browser):
+            edge = "getComputedStyle({}).borderLeftColor"
+            failed = next(lra for lra, one in world.lras.items() if one["status"] == "FailedToClose")
+            red, seen = (browser.get(edge.format(it)) for it in (FIRST, row_of(failed)))
+            self.check("a row that failed has the edge of one in vain", seen == red, (seen, red))
+            look = "getComputedStyle({}).backgroundColor"
+            chips = [browser.get(look.format(among("chips", f"startsWith('{text}')")))
+                     for text in ("In vain", "FailedToClose", "FailedToCancel", "Closed")]
+            self.check("and its chip the colour", chips[0] == chips[1] == chips[2] != chips[3], chips)
+            self.try_mild(browser, world, red)
+
+    def try_mild(self, browser: Browser, world: World, red: str) -> None:
+        call = next(call for call in world.vain if call["kind"] == "after")
+        first = world.calls()[0]
+        call["since"] = 99_999
+        listener = dict(first, member=2, kind="after", link="http://news:8025/ended", since=50_000)
+        world.vain.append(listener)
+        self.check("a listener is told in its row", browser.waits(f"{FIRST}.textContent.includes('news:80')", 8))
+        text = browser.get(f"{FIRST}.querySelector('.what').innerText").split("\n")
+        is_below = first["link"].split("/")[2] in text[0] and text[2].startswith("Member 2 at news:8025, to be told")
+        self.check("below the participant that hangs, though for longer", is_below, text)
+        ids = browser.get("[...rows].filter(row => row[1].key).map(row => row[0])")
+        last = max(ids.index(other["lra"]) for other in world.vain if other["kind"] != "after")
+        self.check("one that only a listener holds up stands below all that hang", ids.index(call["lra"]) > last)
+        edge = browser.get(f"getComputedStyle({row_of(call['lra'])}).borderLeftColor")
+        self.check("and has another colour", edge not in (red, "rgba(0, 0, 0, 0)"), edge)
+
+    def test_active(self) -> None:
+        """How old an Active LRA is, and its cancel."""
+        with self.opened(150) as (world, browser):
+            lra, other = ids_of("Active", 1, world)[0], ids_of("Active", 2, world)[0]
+            self.check("a new one's age isn't told", "seen here" not in browser.get(f"{row_of(lra)}.textContent"))
+            browser.get(f"seen.set('{lra}', Date.now() - 725000), 0")
+            is_told = browser.waits(f"{row_of(lra)}.textContent.includes('seen here for 12 min')", 8)
+            self.check("the age of an older one is", is_told)
+            browser.get(f"toggle('{other}', true)")
+            is_told = browser.waits("document.querySelector('.open p')?.textContent.includes('page of node 2')", 5)
+            self.check("one of another home is cancelled there", is_told and not browser.get(f"!!{button('Cancel')}"))
+            browser.get(f"toggle('{lra}', true)")
+            browser.waits(button("Cancel"), 5)
+            before = len(world.asked)
+            browser.click(button("Cancel"))
+            asks = browser.get(f"{DIALOG}.open && {DIALOG}.textContent")
+            self.check("the page asks first", asks and "can't be undone" in asks and f"/lra/{lra}/cancel" in asks, asks)
+            self.check("and does nothing yet", all(method == "GET" for _, method, _, _ in world.asked[before:]))
+            browser.click(YES)
+            is_entered = browser.waits(f"{content_of('note')}.endsWith('/lra/{lra}/cancel')", 5)
+            asked = [(method, path) for _, method, path, _ in world.asked[before:] if method != "GET"]
+            self.check("then it is cancelled", is_entered and asked == [("PUT", f"/lra/{lra}/cancel")], asked)
+            is_gone = browser.waits(f"{row_of(lra)}.badge.textContent.endsWith('Cancelling')", 8)
+            self.check("it shows Cancelling, without the button", is_gone and not browser.get(f"!!{button('Cancel')}"))
+
+    def test_filter(self) -> None:
+        """The filter finds each participant's host."""
+        with self.opened(150) as (world, browser):
+            lra = ids_of("Active", 2, world)[0]
+            member = next(one for one in world.lras[lra]["members"] if one["kind"] == "participant")
+            member["links"]["compensate"] = "http://quiet:7000/cancel"
+            box = "document.getElementById('text')"
+            self.check("it says what it searches", browser.get(f"{box}.placeholder") == "Id, or host of a participant")
+            start = len(world.asked)
+            browser.get(f"({box}.value = 'quiet', {box}.oninput())")
+            is_told = "aren't known yet" in browser.get(content_of("none"))
+            self.check("it says that hosts aren't known yet", is_told, browser.get(content_of("none")))
+            is_found = browser.waits(f"{row_of(lra)} && {SHOWN} === 1", 60)
+            self.check("it finds the host of an Active LRA", is_found, browser.get(SHOWN))
+            self.check("then all are known", browser.waits(f"{content_of('none')} === ''", 60))
+            ones = [at for at, _, path, _ in world.asked[start:] if path.startswith("/lra/")]
+            most = max(sum(sooner <= later < sooner + 1 for later in ones) for sooner in ones)
+            self.check("it asks for at most 21 LRAs a second", most <= 21, most)
+
+    def test_hosts(self) -> None:
+        """Hosts for which there is no room are counted."""
+        with self.opened(150) as (world, browser):
+            for number in range(20):
+                world.vain.append(dict(world.vain[0], link=f"http://away{number}:80/x", since=3))
+            count = len({call["link"].split("/")[2] for call in world.vain})
+            last = "document.querySelector('#hosts > li:last-child').textContent"
+            for width, room in ((1280, 8), (390, 3)):
+                browser.looks(width, 900, False)
+                is_so = browser.waits(f"{last} === 'and {count - room} more'", 8)
+                self.check(f"{width} wide: those beyond {room} are counted", is_so, browser.get(last))
+            browser.click(among("hosts", "startsWith('and ')"))
+            shown = browser.get("document.querySelectorAll('#hosts > li').length")
+            self.check("a click shows all", shown == count, (shown, count))
+
+    def test_names(self) -> None:
+        """What a screen reader is told, and what stands for answers that don't count."""
+        with self.opened(150) as (world, browser):
+            call = world.calls()[0]
+            words = browser.get(f"{FIRST}.querySelector('.name').getAttribute('aria-describedby')"
+                                ".split(' ').map(id => document.getElementById(id).textContent).join(' ')")
+            is_so = "Cancelling" in words and call["link"].split("/")[2] in words
+            self.check("a row's button is described by its status and its words", is_so, words)
+            browser.click(f"{FIRST}.querySelector('.name')")
+            browser.waits(button("Report failed"), 5)
+            labels = browser.get("[...document.querySelectorAll('#list .open td button')].map(it => it.ariaLabel)")
+            wanted = f"Report done: member {call['member']} at {call['link'].split('/')[2]} of 1.1"
+            self.check("a button names LRA and participant", wanted in labels and None not in labels, labels)
+            heads = browser.get("['caption', 'th[scope=col]', 'th[scope=row]'].map(it =>"
+                                " document.querySelectorAll(`.open ${it}`).length)")
+            is_so = heads[:2] == [1, 5] and heads[2] == len(world.lras[call["lra"]]["members"])
+            self.check("the table has a caption, and heads of columns and rows", is_so, heads)
+            cells = browser.get("[...document.querySelectorAll('.open tbody tr')].map(it => it.cells[2]?.innerText)")
+            is_so = cells[0].startswith("none that counts\n") and cells[1] == "no answer yet"
+            self.check("none that counts isn't no answer", is_so, cells)
+
+    def test_looks(self) -> None:
+        """Texts stand out, and buttons are high enough, in light and in dark, wide and narrow."""
+        with self.opened(150) as (world, browser):
+            world.pulled[3], world.most, world.ready = 130, 60, {"ready": False, "cause": "journal"}
+            lra = ids_of("Active", 1, world)[0]
+            nested = next(one["parent"] for one in world.lras.values() if one["parent"])
+            browser.waits(f"{content_of('away')} && {content_of('trouble')} && {content_of('places')}", 10)
+            for opens in (f"toggle('{lra}', true)", f"toggle('{nested}', true)", f"{FIRST}.key.click()"):
+                browser.get(opens)
+                browser.waits("document.querySelector('.open table')", 5)
+                self.try_looks(browser, opens.split("(")[0])
+            browser.get("(status = 'vain', draw(), 0)")
+            self.try_looks(browser, "filtered")
+            browser.get(f"{button('Report failed')}.click()")
+            self.try_looks(browser, "asked")
+
+    def try_looks(self, browser: Browser, what: str) -> None:
+        for width, is_dark in ((1280, False), (1280, True), (390, False), (390, True)):
+            browser.looks(width, 900, is_dark)
+            faint = browser.get(FAINT)
+            self.check(f"{what}, {width} wide, {'dark' if is_dark else 'light'}: all can be read", not faint, faint)
+            wide = browser.get("document.documentElement.scrollWidth")
+            self.check("nothing stands beside the page", wide <= width, wide)
 
 
 def main() -> int:
@@ -339,7 +559,7 @@ def main() -> int:
     parser.add_argument("--pictures", metavar="FOLDER", help="where pictures go")
     parser.add_argument("--serve", metavar="COUNT", type=int, help="serve so many LRAs, and try nothing")
     parser.add_argument("--port", type=int, default=8170, help="where, with --serve (8170)")
-    parser.add_argument("--squeezed", action="store_true", help="the page as demo/squeeze.py makes it shorter")
+    parser.add_argument("--squeezed", action="store_true", help="the page as demo/embed.py makes it shorter")
     asked = parser.parse_args()
     if asked.squeezed:
         Port.page = squeeze(repo.read(PAGE)).encode()
@@ -352,7 +572,7 @@ def main() -> int:
     if asked.pictures and program:
         with contextlib.closing(Browser(program)) as browser:
             take_pictures(browser, asked.pictures)
-    return checks.run(TestPage, TestBrowser)
+    return checks.run(TestPage, TestBrowser, TestShown)
 
 
 if __name__ == "__main__":

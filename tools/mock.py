@@ -51,6 +51,9 @@ class World:
         self.is_stopped = False
         self.asked: list[tuple[float, str, str, bytes]] = []
         self.numbers = dict.fromkeys(range(1, self.nodes + 1), 0)
+        # How many seconds ago each other node was heard, and how many LRAs this node's home takes.
+        self.pulled = dict.fromkeys(range(2, self.nodes + 1), 1)
+        self.most = MOST
         wanted = self.first_statuses()
         while len(self.lras) < count:
             status = wanted.pop(0) if wanted else self.dice.choices(list(OFTEN), list(OFTEN.values()))[0]
@@ -139,6 +142,15 @@ class World:
             listed.append(dict(call, since=round(call["since"] + gone), times=call["times"] + int(gone / 30), next=due))
         return sorted(listed, key=lambda call: -call["since"])[:256]
 
+    def counts(self) -> str:
+        """What /metrics tells: of this node's home, and of nodes that it hears."""
+        shown = [one["status"] for lra, one in self.lras.items() if home_of(lra) == 1]
+        return metrics.example({
+            "lra_pulled_seconds": [({"from": str(node)}, seconds) for node, seconds in self.pulled.items()],
+            "lra_held": [({"status": status}, shown.count(status)) for status in metrics.STATUS.split("|")],
+            "lra_held_limit": [({}, self.most)],
+        })
+
     def purge(self, one: Json) -> str:
         """What a purge would be answered."""
         name = f"{home_of(one['lra'])}.{int(one['lra'][24:], 16)}"
@@ -174,6 +186,8 @@ class World:
     def command(self, method: str, path: str, body: bytes) -> tuple[int, Json | None]:
         if self.refuses:
             return 409, {"refused": self.refuses}
+        if method == "PUT" and path.endswith("/cancel"):
+            return self.cancelled(path.split("/")[2])
         found = re.fullmatch(r"/lra/([0-9a-f-]{36})(?:/member/(\d+)/(report|forgot|told))?", path)
         one = self.lras.get(found[1]) if found else None
         if not found or not one or (method == "DELETE") == bool(found[3]):
@@ -189,6 +203,18 @@ class World:
             member["forgotten" if found[3] == "forgot" else "told"] = True
         self.vain = [call for call in self.vain if (call["lra"], call["member"]) != (one["lra"], member["member"])]
         return 204, None
+
+    def cancelled(self, lra: str) -> tuple[int, Json | None]:
+        """The answer to a cancel, which may be done."""
+        one = self.lras[lra]
+        if home_of(lra) != 1:
+            return 421, {"refused": f"E4 NotHome {home_of(lra)}"}
+        if one["status"] != "Active":
+            return 412, {"refused": f"E6 NotActive {one['status']}"}
+        one["status"], one["decision"] = "Cancelling", "cancel"
+        for member in filter(is_participant, one["members"]):
+            member["status"] = "Compensating"
+        return 200, {"lra": lra, "status": "Cancelling"}
 
     def purged(self, one: Json) -> tuple[int, Json | None]:
         """The answer to a purge, which may be done."""
@@ -225,7 +251,7 @@ class Port(http.server.BaseHTTPRequestHandler):
         if self.command == "GET" and path == "/":
             return self.give(200, self.page, "text/html; charset=utf-8")
         if self.command == "GET" and path == "/metrics":
-            return self.give(200, metrics.example().encode(), "text/plain; version=0.0.4; charset=utf-8")
+            return self.give(200, self.world.counts().encode(), "text/plain; version=0.0.4; charset=utf-8")
         code, text = self.route(path, query, body)
         self.give(code, b"" if text is None else json.dumps(text, separators=(",", ":")).encode(), "application/json")
 
