@@ -31,6 +31,7 @@ from tools.node import SLOW, Answer, Group, Json, comes_to, end_input, home_of
 from tools.operated import Operated
 from tools.participant import Reply, chunks_of
 from tools.ports import HOST, free_row, is_open
+from tools.version import constants
 
 # Nobody purges here, and calls are answered at their end, however slow the machine is.
 KEEP, PATIENT = "keep=60000", ("wait=20000", "again=60000")
@@ -1119,7 +1120,8 @@ class TestGateway(checks.Checked):
             (listen, base, f"calls={HOST}:{gateway.calls}", group),
             (listen, base, calls, "limit=x", group), (listen, base, calls, "again=1", "wait=1", group),
             (listen, base, calls, "short=t", group), (listen, base, calls, "group="), (listen, base, calls, "group=h"),
-            (*good, *[f"group={nodes}"] * 8), (listen, base, calls, f"group={','.join([nodes] * 3)}"), ("--help",))
+            (*good, *[f"group={nodes}"] * 8), (listen, base, calls, f"group={','.join([nodes] * 3)}"), ("--help",),
+            ("--version", *good))
         for words in wrong:
             status, text = ended(gateway, words)
             is_so = status == 2 and text.startswith("usage: ") and "lra_gateway listen=" in text
@@ -1131,6 +1133,8 @@ class TestGateway(checks.Checked):
         whole = (listen, f"{base}/", calls, "limit=1", "wait=2", "again=3", "allow=h,i:80", "short=a=h:80/p",
                  "short=b=i:1/q", f"group={nodes}", "group=h:80/81,i:80")
         self.same("all words", (0, False), has_usage(ended(gateway, whole)))
+        version = 0, constants().line("lra_gateway")
+        self.same("the version, without a key", version, ended(gateway, ["--version"], None))
         gateway.start()
         self.same("its end", 0, gateway.end())
         self.check("its port is free then", not is_open(gateway.port))
@@ -1187,7 +1191,7 @@ def ended(gateway: Gateway, words: Sequence[str], key: str | None = KEY) -> tupl
         variables[KEY_NAME] = key
     ran = subprocess.run([gateway.program, *words], stdin=subprocess.DEVNULL, capture_output=True, text=True,
                          timeout=SLOW, env=variables)
-    return ran.returncode, ran.stderr
+    return ran.returncode, ran.stdout + ran.stderr
 
 
 def lra_of(lra: str) -> str:

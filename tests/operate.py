@@ -2,8 +2,8 @@
 """Tests the operator's port, as who is on call meets it: python3 tests/operate.py [PROGRAM] [TEST..].
 
 PROGRAM is crates/lra_member/out/lra_member, or --unproved (tools/unproved.py). A TEST is one of paths, records, stuck,
-dead, page, metrics, ready, early, disk, slow and cost; without one it does all, some two minutes. Each check prints a
-line; the status is 1 where one fails. Standard library alone."""
+dead, page, metrics, states, ready, early, disk, slow and cost; without one it does all, some four minutes. Each check
+prints a line; the status is 1 where one fails. Standard library alone."""
 import json
 import os
 import re
@@ -19,6 +19,7 @@ from tools import checks, metrics, repo, unproved
 from tools.node import SLOW, Group, Json, comes_to
 from tools.operated import Operated
 from tools.ports import HOST, free_row
+from tools.version import constants
 
 LAST = "00000000-0000-8008-8000-ffffffffffff"
 UNKNOWN = LAST.replace("8008", "8001")
@@ -290,11 +291,41 @@ class TestOperators(checks.Checked):
         pulls = sum(shown[("lra_pulls_total", f"came={came}", "from=2")] for came in ("new", "nothing"))
         self.check("connections are counted", shown[("lra_connections_total",)] > 10)
         self.check("pulls, by node", pulls > 0 and shown[("lra_pulled_seconds", "from=2")] < SLOW)
+        said = constants()
+        labels = f"commit={said.commit}", f"kit={said.kit}", f"version={said.number}"
+        self.check("which build it is", shown.get(("lra_build_info", *labels)) == 1, labels)
         self.check("when it started", abs(shown[("lra_start_seconds",)] - time.time()) < 10 * SLOW)
         group.kill(2)
         self.check("a peer that is away shows",
                    comes_to(SLOW, lambda: group.samples(1)[("lra_pulls_total", "came=failed", "from=2")] > 0))
         group.end(1)
+
+    def test_states(self) -> None:
+        """What an operator has to see, in the log and in the counts that the alerts are over: a call that is made in
+        vain for a minute, an LRA that failed, and a home that is nine tenths full."""
+        group, part, gone = self.operated(1).start(), self.participant(), gone_link()
+        part.answers["/c"] = 409
+        stuck, failed = group.begin(1), group.begin(1)
+        group.join(1, stuck, compensate=gone)
+        group.join(1, failed, compensate=f"{part.url}/c")
+        for lra in (stuck, failed):
+            group.finish(1, lra, "cancel")
+        for _ in range(230):
+            group.begin(1)
+        call = f"/lra/{stuck}/member/1 \\(compensate\\) at {gone.split('/')[2]}"
+        for what, line in (
+            ("a full home", r"node 1: 23\d of the 256 places of its home are taken"),
+            ("a call in vain", rf"node 1: {call} was called in vain, \d+ times in \d+ s: no connection"),
+            ("a failure", "node 1: LRAs of its home that failed to close or to cancel: 1"),
+        ):
+            told = comes_to(120, lambda line=line: any(re.fullmatch(line, one) for one in group.lines(1)))
+            self.check(f"{what} is in the log", told, group.lines(1))
+        samples = group.samples(1)
+        held = sum(value for key, value in samples.items() if key[0] == "lra_held")
+        seen = (samples[("lra_callbacks_oldest_seconds",)] > 59, samples[("lra_held", "status=FailedToCancel")],
+                held > 0.9 * samples[("lra_held_limit",)])
+        self.same("and all are counted", (True, 1, True), seen)
+        group.end()
 
     def test_ready(self) -> None:
         """What is told while the others aren't heard, and while the journal can't be opened."""

@@ -121,9 +121,11 @@ def samples(text: str) -> dict[str, Samples]:
 CALL = "begin|join|leave|close|cancel|report|forgot|told|purge|status|member|page|pull|take|duties|expire|record|survey"
 KIND = "complete|compensate|status|forget|after"
 STATUS = "Active|Closing|Closed|FailedToClose|Cancelling|Cancelled|FailedToCancel"
+VERSION = r"\d+\.\d+\.\d+(-dev)?"
 # Each metric: what it is, and its labels beside `node`, each with the values that it may have.
 METRICS: dict[str, tuple[str, dict[str, str]]] = {
     "lra_up": ("gauge", {}),
+    "lra_build_info": ("gauge", {"version": VERSION, "commit": "unknown|[0-9a-f]{40}", "kit": "[a-z0-9-]+"}),
     "lra_start_seconds": ("gauge", {}),
     "lra_calls_total": ("counter", {"call": CALL}),
     "lra_refused_total": ("counter", {"refusal": "E([1-9]|1[0-9]|2[0-4])"}),
@@ -173,14 +175,17 @@ def problems(text: str) -> list[str]:
     return wrong
 
 
-def example() -> str:
-    """A text as a node may answer it, with a sample or more of each metric."""
-    lines, first = [], {"refusal": "E13", "from": "2", "of": "2"}
+def example(known: dict[str, Samples] | None = None) -> str:
+    """A text as a node may answer it, with a sample or more of each metric: the known ones of those that are known."""
+    lines, first = [], {"refusal": "E13", "from": "2", "of": "2", "version": "1.2.3", "kit": "kit"}
     for name, (kind, labels) in METRICS.items():
         row = {"node": "1", **{key: first.get(key, pattern.split("|")[0]) for key, pattern in labels.items()}}
         rows = [{**row, "status": status} for status in STATUS.split("|")] if name == "lra_held" else [row]
+        told = [(one, 1.0) for one in rows]
+        if known and name in known:
+            told = [({"node": "1", **one}, value) for one, value in known[name]]
         lines += [f"# HELP {name} An example.", f"# TYPE {name} {kind}"]
-        for one in rows:
-            texts = ",".join(f'{key}="{value}"' for key, value in one.items())
-            lines.append(f"{name}{{{texts}}} 1")
+        for one, value in told:
+            texts = ",".join(f'{key}="{label}"' for key, label in one.items())
+            lines.append(f"{name}{{{texts}}} {value:g}")
     return "\n".join(lines) + "\n"

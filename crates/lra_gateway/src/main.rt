@@ -30,7 +30,7 @@ use crate::gateway::{Gateway, gateway_of};
 use crate::run::run_gateway;
 use crate::words::{asked_by, key_of};
 use lra_narayana::Key;
-use lra_words::Unasked;
+use lra_words::{COMMIT, KIT, Unasked, VERSION, is_version};
 use std::alloc::Global;
 use std::env;
 use std::io::Read;
@@ -41,7 +41,7 @@ use std::thread::Threads;
 use std::time::Clock;
 
 const USAGE: &str =
-    "usage: LRA_GATEWAY_KEY=HEX lra_gateway listen=IP:PORT base=URL calls=PORT|calls=IP:PORT via=HOST:PORT [limit=MS] [wait=MS] [again=MS] [allow=HOST[:PORT],..] [short=NAME=HOST:PORT/PATH].. group=HOST:PORT[/PORT],.. ..";
+    "usage: LRA_GATEWAY_KEY=HEX lra_gateway listen=IP:PORT base=URL calls=PORT|calls=IP:PORT via=HOST:PORT [limit=MS] [wait=MS] [again=MS] [allow=HOST[:PORT],..] [short=NAME=HOST:PORT/PATH].. group=HOST:PORT[/PORT],.. .. | --version";
 
 /// The name of the key in the environment.
 const KEY: &str = "LRA_GATEWAY_KEY";
@@ -55,8 +55,8 @@ fn asked_with(alloc: Global, words: &[String], key: &Key) -> Result<Gateway, Una
     }
 }
 
-/// Runs a gateway until standard input ends. Where the words ask for something else, or the environment
-/// has no key, it ends with 2, and the usage.
+/// Runs a gateway until standard input ends, or says which build this is. Where the words ask for something
+/// else, or the environment has no key, it ends with 2, and the usage.
 fn main(rt: HostRuntime) -> ExitCode {
     let alloc = rt.alloc();
     let Ok(given) = env::args(&rt) else {
@@ -65,6 +65,10 @@ fn main(rt: HostRuntime) -> ExitCode {
     let Ok(words) = given.skip(1).collect::<Vec<String>>(alloc) else {
         return ExitCode::from(1);
     };
+    if is_version(&words) {
+        let _ = println!(rt; "lra_gateway {}, commit {}, {}", VERSION, COMMIT, KIT);
+        return ExitCode::from(0);
+    }
     let key = match env::var(&rt, KEY) {
         Ok(text) => key_of(text.as_str()),
         Err(_) => None,

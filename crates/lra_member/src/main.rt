@@ -10,8 +10,8 @@ use log::{Level, Log, Logged};
 use lra_mailbox::Keep;
 use lra_script::arguments;
 use lra_server::{Folder, Members, Stores, UnknownFiles, hold, serve_members};
-use lra_threads::{ToLines, lines_of};
-use lra_words::{Asked, Unasked, asked_by};
+use lra_threads::{Build, ToLines, lines_of};
+use lra_words::{Asked, COMMIT, KIT, Unasked, VERSION, asked_by, is_version};
 use lra_work::GroupName;
 use std::alloc::Global;
 use std::env;
@@ -23,7 +23,7 @@ use std::thread::Threads;
 use std::time::{Clock, Duration};
 
 const USAGE: &str =
-    "usage: lra_member I|I-J DIR [listen=IP:PORT] [operate=IP:PORT] [names=NAME,..] [keep=MS] [keep-failed=MS] [group=NAME] [anew] HOST:PORT..";
+    "usage: lra_member I|I-J DIR [listen=IP:PORT] [operate=IP:PORT] [names=NAME,..] [keep=MS] [keep-failed=MS] [group=NAME] [anew] HOST:PORT.. | --version";
 
 /// How long the last warnings have to be written at the end, in milliseconds.
 const LAST_LINES_MS: u64 = 500;
@@ -37,12 +37,13 @@ struct Given {
 
 /// The members that are asked for, and the folder in which their journals lie; nothing where the
 /// group's name is none.
-fn members_of(asked: Asked) -> Option<(Members, String)>
+fn members_of(asked: Asked, build: Build) -> Option<(Members, String)>
     ensures nodes { IfSome result (λ made. (made.0.first ≡ asked.first) × (made.0.last ≡ asked.last)
         × (made.0.peers ≡ asked.peers) × (made.1 ≡ asked.folder)) }
     ensures choices { IfSome result (λ made. (made.0.listen ≡ asked.listen) × (made.0.operate ≡ asked.operate)
         × (made.0.names ≡ asked.names) × (made.0.keep.ended ≡ asked.ended) × (made.0.keep.failed ≡ asked.failed)
-        × (made.0.group ≡ option_map string_bytes asked.group) × (made.0.anew ≡ asked.anew)) }
+        × (made.0.group ≡ option_map string_bytes asked.group) × (made.0.anew ≡ asked.anew)
+        × (made.0.build ≡ build)) }
     ensures none { IfNone result (IsSomeAnd asked.group (λ name. IsFalse (is_group_name (string_bytes name)))) }
 {
     let Asked {
@@ -77,6 +78,7 @@ fn members_of(asked: Asked) -> Option<(Members, String)>
         keep: Keep { ended, failed },
         group,
         anew,
+        build,
     };
     Some((members, folder))
 }
@@ -90,14 +92,17 @@ fn given_by(alloc: Global, words: &[String]) -> Result<Given, Unasked>
         Ok(asked) => asked,
         Err(fault) => return Err(fault),
     };
-    let Some((members, folder)) = members_of(asked) else {
+    let Ok(build) = Build::said(alloc, VERSION, COMMIT, KIT) else {
+        return Err(Unasked::NoMemory);
+    };
+    let Some((members, folder)) = members_of(asked, build) else {
         return Err(Unasked::OtherWords);
     };
     Ok(Given { members, folder })
 }
 
-/// Runs nodes until standard input ends, and gives the exit status of `serve_members`. Where the
-/// arguments ask for something else it ends with 2, and the usage.
+/// Runs nodes until standard input ends, and gives the exit status of `serve_members`; or says which
+/// build this is. Where the arguments ask for something else it ends with 2, and the usage.
 fn main(rt: HostRuntime) -> ExitCode {
     let alloc = rt.alloc();
     let Ok(given) = env::args(&rt) else {
@@ -106,6 +111,10 @@ fn main(rt: HostRuntime) -> ExitCode {
     let Ok(words) = arguments(alloc, given) else {
         return ExitCode::from(1);
     };
+    if is_version(&words) {
+        let _ = println!(rt; "lra_member {}, commit {}, {}", VERSION, COMMIT, KIT);
+        return ExitCode::from(0);
+    }
     let Given { members, folder } = match given_by(alloc, &words) {
         Ok(given) => given,
         Err(Unasked::NoMemory) => return ExitCode::from(1),

@@ -3,7 +3,7 @@
 use lra_forest::MAX_HELD;
 use lra_id::{LraStatus, MAX_NODES};
 use lra_sockets::now;
-use lra_threads::{CALL_NAMES, HEARD, KINDS, Node, Numbers, PULLS, REFUSALS, RUNS, SWEPT};
+use lra_threads::{Build, CALL_NAMES, HEARD, KINDS, Node, Numbers, PULLS, REFUSALS, RUNS, SWEPT};
 use std::alloc::{AllocError, Global};
 use std::sync::Wait;
 use std::time::{Clock, Duration};
@@ -208,6 +208,20 @@ fn push_held<R: Wait>(page: &mut MetricsPage, rt: &R, node: &Node) -> Result<(),
     )
 }
 
+/// Which build of the program runs, where that is known.
+fn push_build(page: &mut MetricsPage, build: Option<&Build>) -> Result<(), AllocError> {
+    let Some(build) = build else {
+        return Ok(());
+    };
+    let name = "lra_build_info";
+    page.family(name, "gauge", "Which build of the program runs.")?;
+    page.open(name)?;
+    page.label("version", build.version.as_str())?;
+    page.label("commit", build.commit.as_str())?;
+    page.label("kit", build.kit.as_str())?;
+    page.close(1)
+}
+
 /// The families of calls and runs.
 fn push_calls(page: &mut MetricsPage, numbers: &Numbers) -> Result<(), AllocError> {
     page.family(
@@ -293,6 +307,7 @@ pub fn metrics_of<R: Wait + Clock>(
         text: Vec::new(alloc),
     };
     page.single("lra_up", "gauge", "Whether the node lives.", 1)?;
+    push_build(&mut page, node.build())?;
     let ready = u64::from(node.unready(rt).is_none());
     page.single(
         "lra_ready",

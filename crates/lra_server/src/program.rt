@@ -15,7 +15,7 @@ use lra_http::Bytes;
 use lra_id::NodeId;
 use lra_mailbox::Keep;
 use lra_sockets::{Peer, Site, Sockets, StopReason};
-use lra_threads::{End, Manners, News, Node, Shutdown, Tally, drain};
+use lra_threads::{Build, End, Manners, News, Node, Shutdown, Tally, drain};
 use lra_work::{Addressee, GroupName, query_to};
 use sqlite::Alter;
 use std::alloc::{AllocError, Global};
@@ -221,6 +221,8 @@ pub struct Members {
     /// Whether each waits at its start until it has heard all others, without a bound: its journal
     /// is lost, or not the newest.
     pub anew: bool,
+    /// Which build of the program runs them.
+    pub build: Build,
 }
 
 /// What a pull from each of so many nodes says of whom it asks.
@@ -255,11 +257,13 @@ fn manners_of(
     group: Option<&GroupName>,
     anew: bool,
     names: &str,
+    build: &Build,
 ) -> Result<Manners, AllocError> {
     Ok(Manners {
         waits_for_all: anew,
         queries: queries_of(alloc, nodes, group)?,
         names: names_in(alloc, names)?,
+        build: Some(build.copied(alloc)?),
     })
 }
 
@@ -287,6 +291,7 @@ fn nodes_of_members(
         keep,
         group,
         anew,
+        build,
     } = members;
     let nodes = peers.len() as u8;
     let peers = Arc::new(alloc, peers)?;
@@ -304,7 +309,7 @@ fn nodes_of_members(
         let site = Site::apart(listen, operators, number, Arc::try_clone(&peers)?);
         let own = Arc::try_clone(own)?;
         let told = same_news(alloc, &news)?;
-        let manners = manners_of(alloc, nodes, group.as_ref(), anew, names.as_str())?;
+        let manners = manners_of(alloc, nodes, group.as_ref(), anew, names.as_str(), &build)?;
         all.push(Node::new(alloc, me, nodes, site, keep, tally(), own, told, manners))?;
         number = number.saturating_add(1);
     }

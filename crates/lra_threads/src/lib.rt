@@ -5,6 +5,7 @@
 
 mod accepting;
 mod asking;
+mod build;
 mod calling;
 mod counts;
 mod desk_watch;
@@ -20,6 +21,7 @@ mod watching;
 
 pub use accepting::{accept, accept_operators};
 pub use asking::pull_in_turn;
+pub use build::Build;
 pub use calling::call_out;
 pub use counts::{Asked, CALL_NAMES, Counts, HEARD, KINDS, Numbers, PULLS, REFUSALS, RUNS, SWEPT};
 pub use desk_watch::DeskWatch;

@@ -2,6 +2,7 @@
 ghost use Rattle.std.specs.Prelude.{◌≤◌};
 ghost use Rattle.lra_id.specs.declared.TheConstants.{MAX_NODES};
 
+use crate::build::Build;
 use crate::counts::Counts;
 use crate::desk_watch::DeskWatch;
 use crate::mailbox::Mailbox;
@@ -38,6 +39,8 @@ pub struct Manners {
     pub queries: Vec<String>,
     /// The names by which operators may ask it besides `localhost` and addresses.
     pub names: Vec<Bytes>,
+    /// Which build of the program runs it, where that says so.
+    pub build: Option<Build>,
 }
 
 impl Manners {
@@ -47,6 +50,7 @@ impl Manners {
             waits_for_all: false,
             queries: Vec::new(alloc),
             names: Vec::new(alloc),
+            build: None,
         }
     }
 }
@@ -147,6 +151,11 @@ impl Node {
     /// The names by which operators may ask it besides `localhost` and addresses.
     pub fn names(&self) -> &[Bytes] {
         self.manners.names.as_slice()
+    }
+
+    /// Which build of the program runs it, where that says so.
+    pub fn build(&self) -> Option<&Build> {
+        self.manners.build.as_ref()
     }
 
     /// What a pull from another node says of whom it asks, if anything.

@@ -5,8 +5,10 @@
 mod asked;
 mod choices;
 mod texts;
+mod version;
 mod words;
 
 pub use asked::{Asked, asked_by};
 pub use texts::{said_by, text_of};
+pub use version::{COMMIT, KIT, VERSION, is_version};
 pub use words::{Unasked, host_of, number_of, peer_of, port_of};

@@ -33,7 +33,7 @@ pub fn text_of<'a>(name: &str, words: &'a [String]) -> (Option<&'a str>, &'a [St
 }
 
 /// Whether the first of some words is this one, and the words behind it.
-fn flag_of<'a>(word: &str, words: &'a [String]) -> (bool, &'a [String])
+pub(crate) fn flag_of<'a>(word: &str, words: &'a [String]) -> (bool, &'a [String])
     ensures one { (flag : Bool) (others : List (List ℕ)) → IsNotFirst word.now others →
         map string_bytes words.now ≡ flagged word.now flag ++ others →
         (result.0 ≡ flag) × (map string_bytes result.1.now ≡ others) }

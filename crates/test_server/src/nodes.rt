@@ -8,6 +8,7 @@ use log::{Level, Log, Logged};
 use lra_mailbox::Keep;
 use lra_server::{Members, serve, serve_members};
 use lra_sockets::Peer;
+use lra_threads::Build;
 use std::alloc::Global;
 use std::io::Read;
 use std::net::{Net, TcpListener, TcpStream};
@@ -176,6 +177,7 @@ fn group(alloc: Global) -> Option<Members>
         },
         group: None,
         anew: false,
+        build: Build::said(alloc, "1.2.3", "unknown", "none").ok()?,
     })
 }
 

@@ -1,0 +1,39 @@
+// Which build of the program runs.
+
+use std::alloc::{AllocError, Global};
+
+/// Which build of the program runs: the version of its release, the commit that this was made from, and the
+/// kit that proved it. (It owns its texts: the borrow checker doesn't cover the threads of a run where what
+/// they share names `'static`.)
+#[derive(Drop)]
+pub struct Build {
+    pub version: String,
+    pub commit: String,
+    pub kit: String,
+}
+
+impl Build {
+    /// The build of which a program says this.
+    pub fn said(
+        alloc: Global,
+        version: &str,
+        commit: &str,
+        kit: &str,
+    ) -> Result<Build, AllocError> {
+        Ok(Build {
+            version: String::from_str(alloc, version)?,
+            commit: String::from_str(alloc, commit)?,
+            kit: String::from_str(alloc, kit)?,
+        })
+    }
+
+    /// The same, for a node of its own.
+    pub fn copied(&self, alloc: Global) -> Result<Build, AllocError> {
+        Build::said(
+            alloc,
+            self.version.as_str(),
+            self.commit.as_str(),
+            self.kit.as_str(),
+        )
+    }
+}

@@ -1,0 +1,23 @@
+// Which build this is, and when words ask for that.
+ghost use Rattle.std.specs.Prelude.{◌≡◌, ◌∷◌, [], codes, map, MatchBool, string_bytes};
+
+use crate::texts::flag_of;
+
+/// The version of the release, by semantic versioning: its interface is what HTTP.md, FORMATS.md and
+/// OPERATING.md say. Behind a release it is the next one's, with `-dev`.
+pub const VERSION: &str = "0.9.0-dev";
+
+/// The commit whose crates these are but for this file, which `tools/release.py cut` writes.
+pub const COMMIT: &str = "unknown";
+
+/// The kit that proved the release.
+pub const KIT: &str = "rattle-kit-13f";
+
+/// Whether the words of a command line ask for the version alone.
+pub fn is_version(words: &[String]) -> bool
+    ensures { MatchBool result (map string_bytes words.now ≡ codes "--version" ∷ [])
+        (map string_bytes words.now ≡ codes "--version" ∷ [] → ⊥) }
+{
+    let (is_said, others) = flag_of("--version", words);
+    is_said && others.is_empty()
+}
