@@ -56,33 +56,30 @@ pub fn lra_of(gateway: &Gateway, name: Option<Name>) -> Option<Lra> {
     Some(Lra { group, id, home })
 }
 
-/// An id with its group behind it, but for the first: `UUID` or `UUID.2`.
-fn name_of(alloc: Global, group: &Group, id: LraId) -> Result<String, AllocError> {
-    let number = group.number;
-    let id = text_of(alloc, id)?;
-    if number <= 1 {
-        return Ok(id);
-    }
-    format!(in alloc; "{id}.{number}")
-}
-
-/// An id as services know it. The same text each time, since services key their rows by it.
+/// An id as services know it, with the group's number behind it, but for the first: `URL` or `URL.2`. The
+/// same text each time, since services key their rows by it.
 pub fn url_of<R>(agent: &Agent<R>, group: &Group, id: LraId) -> Result<String, AllocError> {
-    let alloc = agent.alloc;
-    let (base, name) = (agent.gateway.base.as_str(), name_of(alloc, group, id)?);
-    format!(in alloc; "{base}/lra-coordinator/{name}")
+    let (alloc, number) = (agent.alloc, group.number);
+    let url = lra_narayana::url_of(alloc, agent.gateway.base.as_str(), id)?;
+    if number <= 1 {
+        return Ok(url);
+    }
+    format!(in alloc; "{url}.{number}")
 }
 
-/// Where services find a participant.
+/// Where services find a participant, likewise.
 pub fn recovery_of<R>(
     agent: &Agent<R>,
     group: &Group,
     id: LraId,
     member: u8,
 ) -> Result<String, AllocError> {
-    let alloc = agent.alloc;
-    let (base, name) = (agent.gateway.base.as_str(), name_of(alloc, group, id)?);
-    format!(in alloc; "{base}/lra-coordinator/recovery/{name}/{member}")
+    let (alloc, number, base) = (agent.alloc, group.number, agent.gateway.base.as_str());
+    if number <= 1 {
+        return lra_narayana::recovery_of(alloc, base, id, member);
+    }
+    let id = text_of(alloc, id)?;
+    format!(in alloc; "{base}/lra-coordinator/recovery/{id}.{number}/{member}")
 }
 
 /// The number of a participant, which its path or recovery URL ends with.
