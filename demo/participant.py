@@ -1,6 +1,6 @@
 #!/usr/bin/env python3
 """A participant at 127.0.0.1:9001, or at the port that is given, which prints each call and answers 200: python3 demo/participant.py [PORT].
-Standard library alone."""
+An address behind the port is where it listens in its place. Standard library alone."""
 import http.server
 import sys
 
@@ -21,6 +21,7 @@ class Participant(http.server.BaseHTTPRequestHandler):
 
 
 try:
-    http.server.ThreadingHTTPServer(("127.0.0.1", int(sys.argv[1]) if len(sys.argv) > 1 else 9001), Participant).serve_forever()
+    address = sys.argv[2] if len(sys.argv) > 2 else "127.0.0.1"
+    http.server.ThreadingHTTPServer((address, int(sys.argv[1]) if len(sys.argv) > 1 else 9001), Participant).serve_forever()
 except KeyboardInterrupt:
     pass

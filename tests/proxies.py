@@ -1,17 +1,22 @@
 #!/usr/bin/env python3
 """Tests the proxies of docs/OPERATING.md: two members that reach one another by proxies alone, with TLS and
-certificates on both sides, and one name for three nodes: python3 tests/proxies.py [PROGRAM]. The certificates are made
-here, by openssl; the proxies are nginx. Without these two it is skipped.
+certificates on both sides, and one name for three nodes, also by deploy/lra.conf.template: python3 tests/proxies.py
+[PROGRAM]. The certificates are made here, by openssl; the proxies are nginx. Without these two it is skipped.
 
 PROGRAM is crates/lra_member/out/lra_member, or --unproved (tools/unproved.py). Each check prints a line; the status is
 1 where one fails."""
 import http.client
 import os
+import re
 import shutil
+import socket
 import ssl
+import struct
 import subprocess
 import sys
+import threading
 import unittest
+from collections.abc import Iterable
 
 sys.path.insert(0, os.path.dirname(os.path.dirname(os.path.abspath(__file__))))
 from tools import checks, repo, unproved
@@ -107,6 +112,61 @@ class Behind(Group):
         own, other = number - 1, 2 - number
         return SERVERS.format(folder=folder, own=self.ports[own], inward=self.inward[own], outward=self.outward[own],
                               theirs=self.inward[other])
+
+
+class Pods(Group):
+    """Members as a cluster has them: each at an address of its own, all at one port."""
+
+    def __init__(self, count: int, folder: str, *options: str) -> None:
+        super().__init__(count, folder, *options)
+        self.port = self.ports[0]
+        self.hosts = [f"127.0.1.{number}" for number in range(1, count + 1)]
+        self.addresses = [f"{host}:{self.port}" for host in self.hosts]
+
+    def address(self, node: int) -> tuple[str, int]:
+        return self.hosts[node - 1], self.port
+
+    def is_reached(self, node: int) -> bool:
+        with socket.socket() as probe:
+            return probe.connect_ex(self.address(node)) == 0
+
+    def run(self, number: int, options: Iterable[str] | None = None, word: str | None = None) -> None:
+        given = self.options if options is None else options
+        super().run(number, [f"listen={self.addresses[number - 1]}", *given], word)
+
+
+class Names:
+    """Tells nginx which addresses names have, by DNS."""
+
+    def __init__(self, addresses: dict[str, list[str]]) -> None:
+        self.addresses = addresses
+        self.socket = socket.socket(socket.AF_INET, socket.SOCK_DGRAM)
+        self.socket.bind((HOST, 0))
+        self.port = self.socket.getsockname()[1]
+        threading.Thread(target=self.serve, daemon=True).start()
+
+    def serve(self) -> None:
+        while True:
+            question, client = self.socket.recvfrom(512)
+            self.socket.sendto(self.answer(question), client)
+
+    def answer(self, question: bytes) -> bytes:
+        """The answer to a question for the addresses of a name, which are good for a second."""
+        labels, place = [], 12
+        while question[place]:
+            labels.append(question[place + 1: place + 1 + question[place]].decode())
+            place += 1 + question[place]
+        found = self.addresses.get(".".join(labels), [])
+        head = question[:2] + struct.pack(">HHHHH", 0x8180 if found else 0x8183, 1, len(found), 0, 0)
+        record = struct.pack(">HHHIH", 0xC00C, 1, 1, 1, 4)
+        return head + question[12: place + 5] + b"".join(record + socket.inet_aton(one) for one in found)
+
+
+def template_file(front: int, names: int, port: int) -> str:
+    """deploy/lra.conf.template with what nginx's image puts in: the members' names, at one port, and who knows them."""
+    text = repo.read("deploy/lra.conf.template").replace("listen 8080;", f"listen {HOST}:{front};")
+    text = text.replace("${NGINX_LOCAL_RESOLVERS}", f"{HOST}:{names}").replace("${ANY_NODE}", f"any.example:{port}")
+    return re.sub(r"\$\{NODE_(\d)\}", rf"node-\1.example:{port}", text)
 
 
 def told_over_tls(port: int, folder: str | None = None) -> str:
@@ -226,6 +286,34 @@ class TestProxies(checks.Checked):
         begun = {body["lra"] for code, body in answers if code == 201}
         self.check("and made once", comes_to(10, lambda: self.held(group.ports[0]) == begun), begun)
         group.end(1, 3)
+
+    def test_template(self) -> None:
+        """Three members behind the nginx of deploy/, which asks for their names."""
+        group, front = self.group(3, kind=Pods), free_row(1)[0]
+        group.start()
+        names = {f"node-{number}.example": [host] for number, host in enumerate(group.hosts, 1)}
+        asked = Names({**names, "any.example": group.hosts})
+        self.nginx(self.folder, template_file(front, asked.port, group.port))
+        wait_for(front, 60)
+        begun = [ask(front, "POST", "/lra", {})[1]["lra"] for _ in range(12)]
+        self.check("begins go to several nodes", len(set(map(home_of, begun))) > 1, begun)
+        for lra in {home_of(lra): lra for lra in begun}.values():
+            self.goes_home(front, lra)
+        self.same("a begin at a node", 2, home_of(ask(front, "POST", "/node/2/lra", {})[1]["lra"]))
+        line = self.pulled(front)
+        self.check("nobody pulls by that name", b" 404 " in line, line)
+        group.kill(2)
+        codes = [ask(front, "POST", "/lra", {})[0] for _ in range(12)]
+        self.check("each begin is answered while one is down", codes == [201] * 12, codes)
+        # A pod that is started anew has another address.
+        asked.addresses["node-2.example"] = ["127.0.1.9"]
+        group.hosts[1] = "127.0.1.9"
+        group.addresses[1] = f"127.0.1.9:{group.port}"
+        group.start(2)
+        lra = next(lra for lra in begun if home_of(lra) == 2)
+        shown = comes_to(20, lambda: ask(front, "GET", f"/lra/{lra}")[0] == 200)
+        self.check("a node that has another address is found there", shown)
+        group.end()
 
     def held(self, port: int) -> set[str]:
         """All that a node shows on its first page."""

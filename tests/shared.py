@@ -6,13 +6,14 @@ import io
 import os
 import socket
 import sys
+import tarfile
 import time
 import unittest
 import unittest.mock
 from email.message import Message
 
 sys.path.insert(0, os.path.dirname(os.path.dirname(os.path.abspath(__file__))))
-from tools import checks, repo, unproved
+from tools import checks, packages, repo, unproved, version
 from tools.load import Noted, misled
 from tools.narayana import Annotated, Client, head_of, method_in, uid_of
 from tools.node import ask, comes_to, exchange, home_of, without_starts
@@ -156,6 +157,28 @@ def fields_of(lra: str) -> Message:
     return fields
 
 
+class TestPackages(checks.Checked):
+    def test_archive(self) -> None:
+        """An archive is the same in whatever order its files come, and tells nothing of who made it."""
+        release = packages.Release("1.2.3", 1_000_000, {}, {})
+        files = {"bin/b": packages.Member(b"b", 0o755), "a": packages.Member(b"a")}
+        for name, given in (("one", files), ("two", dict(reversed(files.items())))):
+            packages.write_archive(f"{self.folder}/{name}", given, "top", release)
+        one, two = (packages.bytes_at(f"{self.folder}/{name}") for name in ("one", "two"))
+        self.check("the same bytes", one == two)
+        with tarfile.open(f"{self.folder}/one") as tar:
+            seen = [(entry.name, entry.mode, entry.mtime, entry.uname) for entry in tar]
+        names = [("top", 0o755), ("top/a", 0o644), ("top/bin", 0o755), ("top/bin/b", 0o755)]
+        self.same("its files", [(*each, release.time, "root") for each in names], seen)
+
+    def test_version(self) -> None:
+        """Where a package of one version is named, and the constants, which stand in one line or in two."""
+        text = "lra-coordinator_0.9.0_amd64.deb lra-coordinator:1.2.30 VERSION=2.0.0 lra-coordinator_VERSION 9.9.9"
+        self.same("versions", ["0.9.0", "1.2.30", "2.0.0"], [found for _, found in version.NAMED.findall(text)])
+        source = 'pub const VERSION: &str = "1.2.3-dev";\npub const KIT: &str =\n    "kit";\n'
+        self.same("constants", ["1.2.3-dev", "kit"], [version.constant(name, source)[2] for name in ("VERSION", "KIT")])
+
+
 class TestChecks(unittest.TestCase):
     def test_run(self) -> None:
         """A check that fails fails the run, and ends nothing; so does a test that can't go on."""
@@ -181,4 +204,4 @@ class TestChecks(unittest.TestCase):
 
 
 if __name__ == "__main__":
-    sys.exit(checks.run(TestRepo, TestPorts, TestNode, TestChecks))
+    sys.exit(checks.run(TestRepo, TestPorts, TestNode, TestPackages, TestChecks))

@@ -1,0 +1,243 @@
+"""Packages that have the same bytes wherever they are made of the same files: an archive, and a package for Debian."""
+import gzip
+import hashlib
+import io
+import os
+import re
+import subprocess
+import tarfile
+import tempfile
+import typing
+from collections.abc import Iterable
+
+from tools import repo
+from tools.repo import TOP
+
+NAME = "lra-coordinator"
+PROGRAMS = ("lra_node", "lra_member", "lra_gateway")
+# What a package holds beside the programs, by patterns of paths from the top.
+PAGES = ("README.md", "CHANGELOG.md", "CONTRIBUTING.md", "LICENSE", "docs/*.md", "docs/*.json", "demo/README.md",
+         "demo/alerts.yaml", "demo/grafana.json", "demo/participant.py", "demo/watch.png")
+DEPLOYED = ("deploy/Containerfile", "deploy/compose.yaml", "deploy/kubernetes.yaml", "deploy/lra.conf.template")
+UNITS = ("lra-node.service", "lra-member@.service", "lra-gateway.service")
+# What each program is for, in its page of the manual, and the page that tells more.
+MANUAL = {
+    "lra_node": ("nodes of an LRA coordinator in one process", "OPERATING"),
+    "lra_member": ("a node of an LRA coordinator on its own machine", "OPERATING"),
+    "lra_gateway": ("a gateway to LRA coordinators for services with LRA annotations", "GATEWAY"),
+}
+DOCS = f"usr/share/doc/{NAME}"
+# The libraries that a program may need, with Debian's names.
+LIBRARIES = {"libc.so.6": "libc6", "libm.so.6": "libc6", "libgcc_s.so.1": "libgcc-s1"}
+
+
+class Member(typing.NamedTuple):
+    """A file of a package: what it holds, and who may do what with it."""
+
+    data: bytes
+    mode: int = 0o644
+
+
+# The files of a package, by their paths there.
+Files = dict[str, Member]
+
+
+class Release(typing.NamedTuple):
+    """What is packed: the version, its time in seconds, the programs, and texts by their paths; and how hard it is
+    squeezed, from 0 to 9."""
+
+    version: str
+    time: int
+    programs: dict[str, bytes]
+    texts: dict[str, str]
+    level: int = 9
+
+
+def bytes_at(path: str) -> bytes:
+    """The bytes of a file. A path that isn't absolute is from the top."""
+    with open(os.path.join(TOP, path), "rb") as file:
+        return file.read()
+
+
+def found_by(pattern: str) -> list[str]:
+    """The files that a pattern names, of which there has to be one."""
+    found = repo.files(pattern)
+    if not found:
+        raise SystemExit(f"release: there is no {pattern}")
+    return found
+
+
+def put(path: str, member: Member) -> None:
+    """Writes a file of a package, with its folders."""
+    os.makedirs(os.path.dirname(path), exist_ok=True)
+    with open(path, "wb") as file:
+        file.write(member.data)
+    os.chmod(path, member.mode)
+
+
+def stripped(path: str) -> bytes:
+    """A program without the names of its parts, which nobody needs to run it."""
+    with tempfile.TemporaryDirectory() as folder:
+        made = f"{folder}/program"
+        subprocess.run(["strip", "--strip-all", "--remove-section=.comment", "-o", made, path], check=True)
+        return bytes_at(made)
+
+
+def told_by(tool: str, words: list[str], data: bytes) -> str:
+    """What a tool tells of a program."""
+    with tempfile.NamedTemporaryFile() as file:
+        file.write(data)
+        file.flush()
+        return subprocess.run([tool, *words, file.name], stdout=subprocess.PIPE, check=True, text=True).stdout
+
+
+def usage_of(data: bytes) -> str:
+    """What a program says where it has no words."""
+    with tempfile.TemporaryDirectory() as folder:
+        put(f"{folder}/program", Member(data, 0o755))
+        said = subprocess.run([f"{folder}/program"], stdin=subprocess.DEVNULL, stderr=subprocess.PIPE, text=True)
+    if said.returncode != 2 or not said.stderr.startswith("usage: "):
+        raise SystemExit(f"release: a program ends with {said.returncode} in place of its usage: {said.stderr!r}")
+    return said.stderr.removeprefix("usage: ").strip()
+
+
+def manual(name: str, release: Release) -> bytes:
+    """A program's page of the manual, of its own usage."""
+    what, page = MANUAL[name]
+    lines = [line.strip().replace("-", "\\-") for line in usage_of(release.programs[name]).splitlines()]
+    usage = "\n.br\n".join(lines)
+    return f"""\
+.TH {name.upper()} 1 "" "{NAME} {release.version}"
+.SH NAME
+{name} \\- {what}
+.SH SYNOPSIS
+.ad l
+{usage}
+.SH DESCRIPTION
+The file /{DOCS}/docs/{page}.md has each word, and all that it does.
+It ends with 0 where standard input has ended, and with 2 where it doesn't take its words.
+""".encode()
+
+
+def common(release: Release) -> Files:
+    """What stands in both packages: pages, licences, and what proves the release."""
+    made = {path: Member(bytes_at(path)) for pattern in PAGES for path in found_by(pattern)}
+    made |= {path: Member(text.encode()) for path, text in release.texts.items()}
+    return made
+
+
+def archive(release: Release) -> Files:
+    """The files of the archive."""
+    made = common(release)
+    made |= {f"bin/{name}": Member(data, 0o755) for name, data in release.programs.items()}
+    made |= {path: Member(bytes_at(path)) for path in DEPLOYED}
+    for path in (*repo.files("deploy/systemd/*"), *repo.files("deploy/conf/*")):
+        made[path] = Member(bytes_at(path))
+    for path in repo.files("deploy/container/*"):
+        made[path] = Member(bytes_at(path), 0o755)
+    return made
+
+
+def debian(release: Release) -> Files:
+    """The files that the package for Debian puts into a system."""
+    made = {f"{DOCS}/{path}": member for path, member in common(release).items() if path != "LICENSE"}
+    made |= {f"{DOCS}/examples/{os.path.basename(path)}": Member(bytes_at(path)) for path in DEPLOYED}
+    made |= {f"usr/bin/{name}": Member(data, 0o755) for name, data in release.programs.items()}
+    made |= {f"lib/systemd/system/{name}": Member(bytes_at(f"deploy/systemd/{name}")) for name in UNITS}
+    for path in repo.files("deploy/conf/*"):
+        made[f"etc/lra/{os.path.basename(path)}"] = Member(bytes_at(path))
+    made["etc/lra/gateway.conf"] = Member(bytes_at("deploy/conf/gateway.conf"), 0o640)
+    for path in repo.files("deploy/container/*"):
+        made[f"usr/libexec/{NAME}/{os.path.basename(path)}"] = Member(bytes_at(path), 0o755)
+    for name in release.programs:
+        made[f"usr/share/man/man1/{name}.1.gz"] = Member(squeezed(manual(name, release)))
+    made[f"{DOCS}/copyright"] = Member(bytes_at("deploy/debian/copyright"))
+    made[f"{DOCS}/changelog.gz"] = Member(squeezed(changes(release)))
+    made[f"usr/share/lintian/overrides/{NAME}"] = Member(bytes_at("deploy/debian/overrides"))
+    return made
+
+
+def changes(release: Release) -> bytes:
+    """The list of changes as Debian wants it, which leads to the real one."""
+    date = subprocess.run(["date", "--utc", "--rfc-email", f"--date=@{release.time}"], stdout=subprocess.PIPE,
+                          env={**os.environ, "LC_ALL": "C"}, check=True, text=True).stdout.strip()
+    maintainer = repo.found(r"^Maintainer: (.*)$", repo.read("deploy/debian/control"), re.M)[1]
+    return f"""\
+{NAME} ({release.version}) unstable; urgency=medium
+
+  * What is new stands in CHANGELOG.md beside this file.
+
+ -- {maintainer}  {date}
+""".encode()
+
+
+def squeezed(data: bytes, level: int = 9) -> bytes:
+    """As gzip writes it, without a time or a name."""
+    made = io.BytesIO()
+    with gzip.GzipFile("", "wb", level, made, 0) as file:
+        file.write(data)
+    return made.getvalue()
+
+
+def write_archive(path: str, files: Files, top: str, release: Release) -> None:
+    """Writes an archive of files below one folder, with their folders, in order."""
+    folders = {f"{top}/{file}".rpartition("/")[0] for file in files}
+    for folder in list(folders):
+        while "/" in folder:
+            folder = folder.rpartition("/")[0]
+            folders.add(folder)
+    made = io.BytesIO()
+    with tarfile.open(fileobj=made, mode="w", format=tarfile.USTAR_FORMAT) as tar:
+        for name in sorted(folders | {f"{top}/{file}" for file in files}):
+            entry = tarfile.TarInfo(name)
+            entry.mtime, entry.uname, entry.gname = release.time, "root", "root"
+            member = files.get(name.removeprefix(f"{top}/"))
+            if name in folders or member is None:
+                entry.type, entry.mode = tarfile.DIRTYPE, 0o755
+                tar.addfile(entry)
+            else:
+                entry.mode, entry.size = member.mode, len(member.data)
+                tar.addfile(entry, io.BytesIO(member.data))
+    with open(path, "wb") as file:
+        file.write(squeezed(made.getvalue(), release.level))
+
+
+def needs(programs: Iterable[bytes]) -> str:
+    """The packages of Debian that programs need: those of their libraries, and as new a C library as they ask for."""
+    said = "".join(told_by("readelf", ["--wide", "--dynamic", "--version-info"], data) for data in programs)
+    packages = {LIBRARIES[name] for name in re.findall(r"\(NEEDED\).*\[(.*)\]", said)}
+    newest = max(int(number) for number in re.findall(r"\bGLIBC_2\.(\d+)", said))
+    return ", ".join(f"{name} (>= 2.{newest})" if name == "libc6" else name for name in sorted(packages))
+
+
+def control(release: Release, files: Files) -> Files:
+    """The files that tell dpkg what the package is."""
+    size = sum(-(-len(member.data) // 1024) for member in files.values())
+    text = repo.read("deploy/debian/control")
+    values = {"VERSION": release.version, "SIZE": str(size), "LIBRARIES": needs(release.programs.values())}
+    for name, value in values.items():
+        text = text.replace(f"@{name}@", value)
+    sums = "".join(f"{hashlib.md5(member.data).hexdigest()}  {path}\n" for path, member in sorted(files.items()))
+    made = {"control": Member(text.encode()), "md5sums": Member(sums.encode())}
+    for name in ("conffiles", "templates"):
+        made[name] = Member(bytes_at(f"deploy/debian/{name}"))
+    for name in ("config", "postinst", "prerm", "postrm"):
+        made[name] = Member(bytes_at(f"deploy/debian/{name}"), 0o755)
+    return made
+
+
+def write_debian(path: str, release: Release) -> None:
+    """Writes a package for Debian."""
+    files = debian(release)
+    files |= {f"DEBIAN/{name}": member for name, member in control(release, files).items()}
+    with tempfile.TemporaryDirectory() as folder:
+        for name, member in files.items():
+            put(f"{folder}/{name}", member)
+        for root, _, names in os.walk(folder, topdown=False):
+            os.chmod(root, 0o755)
+            for each in (*(f"{root}/{name}" for name in names), root):
+                os.utime(each, (release.time, release.time))
+        # (xz in one thread, since more write other bytes)
+        words = ["--root-owner-group", "-Zxz", f"-z{release.level}", "--threads-max=1", "--build", folder, path]
+        subprocess.run(["dpkg-deb", *words], check=True, stdout=subprocess.DEVNULL,
+                       env={**os.environ, "SOURCE_DATE_EPOCH": str(release.time)})

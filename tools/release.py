@@ -1,0 +1,178 @@
+#!/usr/bin/env python3
+"""Makes a release's packages: python3 tools/release.py [--gate FILE] [--unproved] [OUT]
+
+They come into release/, or OUT, and only out of what the gate passed and built: it runs `rt ci` at the top, unless FILE
+has what that has just said in this very tree, as `.ci/run | tee /tmp/gate` leaves it. It refuses a tree that isn't the
+commit's, another kit than the version names, and crates that aren't those of the commit that the release was cut from.
+The same commit, kit and programs give the same bytes: every time is the commit's.
+
+--unproved packs the unproved builds (tools/unproved.py), to try the packages; nothing is proved then.
+
+python3 tools/release.py cut X.Y.Z writes the version of a release that is cut from the commit that is here. Commit
+that before the gate. python3 tools/release.py next X.Y.Z says that what comes behind a release is to be X.Y.Z: with the
+first change of a crate. python3 tools/release.py check says what doesn't fit the version, and ends with 1 then.
+
+Standard library alone, beside dpkg-deb and binutils."""
+import hashlib
+import os
+import re
+import subprocess
+import sys
+
+sys.path.insert(0, os.path.dirname(os.path.dirname(os.path.abspath(__file__))))
+from tools import packages, repo, unproved, version
+from tools.builds import text_sum
+from tools.packages import NAME, PROGRAMS, Release
+from tools.repo import TOP
+from tools.version import git
+
+PASSED = r"\d+ passed, 0 failed"
+NO_TEXT = "The kit has no licence text of its own for these of its parts:"
+
+
+def refuse(why: str) -> None:
+    raise SystemExit(f"release: {why}")
+
+
+def need_release(said: version.Version, kit: str) -> None:
+    """Ends where this tree and this kit aren't those of a release."""
+    changed = git("status", "--porcelain")
+    if changed:
+        refuse(f"the tree isn't the commit's:\n{changed}")
+    if not said.is_released():
+        refuse(f"{said.number} isn't a release: python3 tools/release.py cut X.Y.Z makes it one")
+    if kit.split(" ")[0] != said.kit:
+        refuse(f"the version names {said.kit}, and here is {kit}")
+    if not version.is_in_history(said.commit):
+        refuse(f"{said.commit}, from which {said.number} was cut, isn't in this history")
+    for wrong in version.misfits():
+        refuse(wrong)
+
+
+def last_line(file: str | None) -> str:
+    """The gate's last line. It is run, unless a file has what it said: then nothing is newer than that."""
+    if file is None:
+        text = ""
+        with subprocess.Popen(["rt", "ci"], cwd=TOP, stdout=subprocess.PIPE, text=True) as gate:
+            for line in gate.stdout or ():
+                print(line, end="", flush=True)
+                text += line
+        if gate.returncode:
+            refuse(f"rt ci ended with {gate.returncode}")
+    else:
+        text, told = repo.read(os.path.abspath(file)), os.path.getmtime(file)
+        if told < int(git("log", "-1", "--format=%ct")):
+            refuse(f"{file} is older than the commit")
+        for program in map(repo.program, PROGRAMS):
+            if os.path.exists(program) and os.path.getmtime(program) > told:
+                refuse(f"{program} is newer than {file}: the gate didn't leave it")
+    for program in map(repo.program, PROGRAMS):
+        if not os.path.exists(program):
+            refuse(f"{program} isn't there: the gate builds it")
+    last = text.rstrip("\n").split("\n")[-1]
+    if not re.fullmatch(PASSED, last):
+        refuse(f"the gate's last line isn't 'N passed, 0 failed', but {last!r}")
+    return last
+
+
+def parts_linked(kit: str) -> list[str]:
+    """The parts of the kit that are linked in: what the crates use, and what that stands on."""
+    ours = repo.crates()
+    left = [used for name in PROGRAMS for crate in [*repo.below(name, ours), name] for used in ours[crate]]
+    found: set[str] = set()
+    while left:
+        name = left.pop()
+        if name not in found and name not in ours:
+            found.add(name)
+            with open(f"{kit}/rlibs/{name}.rlib/format", encoding="utf-8", errors="replace") as file:
+                left += re.findall(r"^dep (\S+)", file.read(), re.M)
+    return sorted(found)
+
+
+def licences(kit: str) -> dict[str, str]:
+    """The licence texts of what is linked in, by paths, and a list of what has none."""
+    made, without = {}, []
+    for name in parts_linked(kit):
+        folder = f"{kit}/rattle/{name}"
+        texts = sorted(file for file in os.listdir(folder) if file.startswith(("LICENSE", "NOTICE", "COPYING")))
+        made |= {f"licences/{name}/{file}": repo.read(f"{folder}/{file}") for file in texts}
+        without += [] if texts else [name]
+    return made | {"licences/README": "\n".join([NO_TEXT, *without, ""])}
+
+
+def sums_of(programs: dict[str, bytes]) -> list[str]:
+    return [f"    {hashlib.sha256(data).hexdigest()}  {name}" for name, data in programs.items()]
+
+
+def proof(said: version.Version, kit: str, gate: str, built: dict[str, bytes], packed: dict[str, bytes]) -> str:
+    """What the file PROVED says."""
+    lines = [f"version   {said.number}", f"commit    {git('rev-parse', 'HEAD')}", f"cut from  {said.commit}",
+             f"kit       {kit}", f"gate      {gate}", f"tree      {git('rev-parse', 'HEAD^{tree}')}",
+             f"sources   {text_sum()}", "", "SHA-256 of the programs here:", *sums_of(packed), "",
+             "As the gate left them, before strip:", *sums_of(built), "",
+             "The gate is `rt ci` of that kit, at the top of that commit. It proved all, and left the programs.",
+             "The sum of the sources is text_sum of tools/builds.py.", ""]
+    return "\n".join(lines)
+
+
+def gather(is_proved: bool, gate_file: str | None) -> Release:
+    """What is packed."""
+    said, kit, time = version.constants(), version.kit_here(), int(git("log", "-1", "--format=%ct"))
+    if not is_proved:
+        paths = {name: f"{os.path.dirname(unproved.compiled(name))}/program" for name in PROGRAMS}
+        packed = {name: packages.stripped(path) for name, path in paths.items()}
+        number = f"{said.number.removesuffix(version.UNRELEASED)}~unproved"
+        return Release(number, time, packed, licences(repo.kit()), level=1)
+    need_release(said, kit)
+    gate = last_line(gate_file)
+    built = {name: packages.bytes_at(repo.program(name)) for name in PROGRAMS}
+    packed = {name: packages.stripped(repo.program(name)) for name in PROGRAMS}
+    texts = {**licences(repo.kit()), "PROVED": proof(said, kit, gate, built, packed)}
+    return Release(said.number, time, packed, texts)
+
+
+def write_all(release: Release, out: str) -> None:
+    """Writes the packages into a folder, and their sums."""
+    os.makedirs(out, exist_ok=True)
+    top = f"{NAME}-{release.version}-linux-x86_64"
+    names = [f"{top}.tar.gz", f"{NAME}_{release.version}_amd64.deb"]
+    packages.write_archive(f"{out}/{names[0]}", packages.archive(release), top, release)
+    packages.write_debian(f"{out}/{names[1]}", release)
+    made = {name: packages.bytes_at(os.path.abspath(f"{out}/{name}")) for name in names}
+    sums = [f"{hashlib.sha256(data).hexdigest()}  {name}\n" for name, data in made.items()]
+    repo.write(os.path.abspath(f"{out}/SHA256SUMS"), "".join(sums))
+    for name, data in made.items():
+        print(f"{len(data):>10}  {out}/{name}")
+
+
+def check() -> int:
+    wrong = list(version.misfits())
+    for line in wrong:
+        print(f"release: {line}")
+    return 1 if wrong else 0
+
+
+def main(words: list[str]) -> int:
+    if words == ["check"]:
+        return check()
+    steps = {"cut": version.cut, "next": version.go_on}
+    if len(words) == 2 and words[0] in steps:
+        steps[words[0]](words[1])
+        return 0
+    gate, is_proved = None, True
+    while words and words[0].startswith("-"):
+        word, *words = words
+        if word == "--gate" and words:
+            gate, *words = words
+        elif word == "--unproved":
+            is_proved = False
+        else:
+            raise SystemExit(__doc__)
+    if len(words) > 1:
+        raise SystemExit(__doc__)
+    write_all(gather(is_proved, gate), words[0] if words else f"{TOP}/release")
+    return 0
+
+
+if __name__ == "__main__":
+    sys.exit(main(sys.argv[1:]))
