@@ -1,8 +1,10 @@
 #!/usr/bin/env python3
 """Tests the participants of demo/ in each language that is installed: python3 tests/services.py [PROGRAM]. Each joins
 an LRA with all links, is told to complete, and hears of the end; and another, which it compensates. Then what
-docs/HTTP.md says of the lengths that Node.js and Java state. PROGRAM is crates/lra_node/out/lra_node, or --unproved
-(tools/unproved.py). Each check prints a line; the status is 1 where one fails. Standard library alone."""
+docs/HTTP.md says of the lengths that Node.js and Java state, and what its readers stumbled over: an answer without a
+length, a member that is misspelt, a link that is too long or at https, an LRA that nobody ends. PROGRAM is
+crates/lra_node/out/lra_node, or --unproved (tools/unproved.py). Each check prints a line; the status is 1 where one
+fails. Standard library alone."""
 import contextlib
 import http.client
 import os
@@ -40,6 +42,46 @@ class Lengths {
         server.start();
     }
 }
+"""
+# Services that state no length in their first two answers, and do so then. Each tells of each call.
+MENDED_NODE = """
+let calls = 0;
+require("http").createServer((request, response) => {
+  console.log(request.url);
+  calls += 1;
+  if (calls < 3) response.writeHead(200); else response.statusCode = 200;
+  response.end();
+}).listen(Number(process.argv[1]), "127.0.0.1");
+"""
+MENDED_JAVA = """
+import com.sun.net.httpserver.HttpServer;
+import java.net.InetSocketAddress;
+class Mended {
+    static int calls = 0;
+    public static void main(String[] args) throws Exception {
+        HttpServer server = HttpServer.create(new InetSocketAddress("127.0.0.1", Integer.parseInt(args[0])), 0);
+        server.createContext("/", exchange -> {
+            System.out.println(exchange.getRequestURI());
+            calls += 1;
+            exchange.sendResponseHeaders(200, calls < 3 ? 0 : -1);
+            exchange.close();
+        });
+        server.start();
+    }
+}
+"""
+MENDED_PYTHON = """
+import http.server, sys
+class Handler(http.server.BaseHTTPRequestHandler):
+    calls = 0
+    def do_PUT(self):
+        print(self.path, flush=True)
+        Handler.calls += 1
+        self.send_response(200)
+        if Handler.calls >= 3:
+            self.send_header("Content-Length", "0")
+        self.end_headers()
+http.server.HTTPServer(("127.0.0.1", int(sys.argv[1])), Handler).serve_forever()
 """
 
 
@@ -118,6 +160,64 @@ class TestServices(checks.Checked):
         with tempfile.TemporaryDirectory() as folder:
             repo.write(f"{folder}/Lengths.java", JAVA)
             self.states(["java", f"{folder}/Lengths.java"], "Java", {"/none": True, "/zero": False})
+
+    def is_mended(self, command: list[str], name: str) -> None:
+        """A service is called again until it states the length of its answer; then its LRA ends."""
+        if not shutil.which(command[0]):
+            self.skipTest(f"there is no {command[0]}")
+        server, port = self.server(1).wait_until_up(), free_row(1)[0]
+        with tempfile.TemporaryFile("w+") as out:
+            service = subprocess.Popen([*command, str(port)], stdout=out, stdin=subprocess.DEVNULL,
+                                       stderr=subprocess.DEVNULL)
+            try:
+                self.check(f"{name} listens", comes_to(60, lambda: is_open(port)))
+                lra = server.begin(1)
+                server.join(1, lra, complete=f"http://{HOST}:{port}/confirm", compensate=f"http://{HOST}:{port}/cancel")
+                server.finish(1, lra)
+                ends = server.comes_to(1, lra, "Closed")
+            finally:
+                service.kill()
+                service.wait()
+            out.seek(0)
+            calls = out.read().split()
+        self.check(f"{name} is called until it states a length", ends is not None and calls == ["/confirm"] * 3, calls)
+        server.end()
+
+    def test_mended_node_js(self) -> None:
+        self.is_mended(["node", "-e", MENDED_NODE], "Node.js")
+
+    def test_mended_java(self) -> None:
+        with tempfile.TemporaryDirectory() as folder:
+            repo.write(f"{folder}/Mended.java", MENDED_JAVA)
+            self.is_mended(["java", f"{folder}/Mended.java"], "Java")
+
+    def test_mended_python(self) -> None:
+        self.is_mended([sys.executable, "-c", MENDED_PYTHON], "Python")
+
+    def test_misspelt(self) -> None:
+        """A member that is misspelt is passed over, as the page says in bold; one that is spelt right counts."""
+        server, part = self.server(1).wait_until_up(), self.participant()
+        misspelt, limited = server.begin(1, timeLimit=5000), server.begin(1, limit=5000)
+        for lra, word in ((misspelt, "confirm"), (limited, "complete")):
+            joined = server.join(1, lra, **{word: f"{part.url}/{word}"}, compensate=f"{part.url}/cancel")[0]
+            self.check(f"a join with {word}", joined == 200, joined)
+        self.check("at its limit an LRA is cancelled", server.comes_to(1, limited, "Cancelled") is not None)
+        self.check("a misspelt limit is none", server.status(1, misspelt) == "Active")
+        server.finish(1, misspelt)
+        self.check("a misspelt link isn't called", server.comes_to(1, misspelt, "Closed") is not None
+                   and part.paths() == ["/cancel"], part.paths())
+        self.check("nothing is told", server.end() == (0, ""))
+
+    def test_links(self) -> None:
+        """A link that is too long or at https is refused, and a shorter one at http isn't."""
+        server = self.server(1).wait_until_up()
+        lra, start = server.begin(1), "http://booking.travel.svc.cluster.local:8080/"
+        seen = {link: server.join(1, lra, compensate=link) for link in
+                (start.ljust(135, "a"), start.ljust(128, "a"), "https://booking/cancel", start.ljust(127, "a"))}
+        refused = [(status, answer.get("refused")) for status, answer in seen.values()]
+        self.check("links", refused == [(400, "E1 BadText")] * 3 + [(200, None)], refused)
+        self.check("no refusal made a member", list(seen.values())[-1][1]["member"] == 1, seen)
+        server.end()
 
 
 def main() -> int:
