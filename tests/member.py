@@ -2,11 +2,11 @@
 """Tests members of a group, as who runs them meets them: python3 tests/member.py [PROGRAM] [--kills N] [--lras N]
 [TEST..].
 
-PROGRAM is crates/lra_member/out/lra_member, or --unproved (tools/unproved.py). A TEST is one of words, three, some,
-older, strange, kills, swept, flow, full, moved and apart; without one it does all, some two minutes. In kills a node,
-or all, is killed with kill -9 N times, 10 by default; --lras N says how many go through a home in flow, 2,000 by
-default. moved needs lra_node too, apart root, and both are skipped where that isn't there. Each check prints a line;
-the status is 1 where one fails. Standard library alone."""
+PROGRAM is crates/lra_member/out/lra_member, or --unproved (tools/unproved.py). A TEST is one of version, words, three,
+some, older, strange, kills, swept, flow, full, moved, apart and elsewhere; without one it does all, some two minutes.
+In kills a node, or all, is killed with kill -9 N times, 10 by default; --lras N says how many go through a home in
+flow, 2,000 by default. moved needs lra_node too, apart and elsewhere root, and all are skipped where that isn't there.
+Each check prints a line; the status is 1 where one fails. Standard library alone."""
 import concurrent.futures
 import glob
 import os
@@ -26,9 +26,10 @@ from tools.load import ENDED, Load, lost, misled
 from tools.node import SLOW, Group, Json, Server, comes_to, end_input, home_of, in_ms
 from tools.participant import Participant
 from tools.ports import HOST, free_row, is_open, listening
+from tools.version import constants
 
 USAGE = b"usage: lra_member I|I-J DIR [listen=IP:PORT] [operate=IP:PORT] [names=NAME,..] [keep=MS] [keep-failed=MS] " \
-        b"[group=NAME] [anew] HOST:PORT..\n"
+        b"[group=NAME] [anew] HOST:PORT.. | --version\n"
 NO_FOLDER = b"node 2: its journal can't be opened: there is no folder, or no right to it, or no file is left\n" \
             b"journal 2\n"
 # LRAs with their statuses.
@@ -39,6 +40,9 @@ OTHER_WORDS: list[list[str]] = [
     [],
     ["1"],
     ["1", "DIR"],
+    ["--version", "1"],
+    ["-version"],
+    ["--version1"],
     ["0", "DIR", "h:1"],
     ["2", "DIR", "h:1"],
     ["01", "DIR", "h:1"],
@@ -135,9 +139,9 @@ def with_length(body: bytes, length: int | None = None) -> bytes:
     return f"HTTP/1.1 200 OK\r\nContent-Length: {stated}\r\nConnection: close\r\n\r\n".encode() + body
 
 
-def slow_participant() -> Participant:
+def slow_participant(port: int = 0) -> Participant:
     """A participant of which those that report by themselves are never done when they are called."""
-    part = Participant()
+    part = Participant(port)
     part.answers["/slow"] = 503
     return part
 
@@ -252,8 +256,8 @@ class TestMembers(checks.Checked):
             self.check(f"a folder that isn't there: {' '.join(given)}", (ran.returncode, ran.stderr) == (1, NO_FOLDER),
                        ran)
         # The words of the page are taken: there is only no such folder.
-        lines = re.findall(r"^    (?:ExecStart=/opt/lra/)?lra_member (.*)$", repo.read("docs/OPERATING.md"), re.M)
-        self.check("the page has four commands", len(lines) == 4, lines)
+        lines = re.findall(r"^    lra_member (.*)$", repo.read("docs/OPERATING.md"), re.M)
+        self.check("the page has three commands", len(lines) == 3, lines)
         for line in lines:
             ran = self.run_with(*line.replace("/var/lib/lra", f"{self.folder}/none").split())
             is_so = ran.returncode == 1 and b"there is no folder" in ran.stderr
@@ -267,6 +271,12 @@ class TestMembers(checks.Checked):
             self.check("else on the loopback interface", comes_to(SLOW, lambda: is_open(fourth)))
             listens = [address for address, _ in listening() if address.endswith(f":{fourth:04X}")]
             self.check("and nowhere else", listens == [f"0100007F:{fourth:04X}"], listens)
+
+    def test_version(self) -> None:
+        """Which build it says that it is."""
+        ran = self.run_with("--version")
+        wanted = 0, constants().line("lra_member").encode(), b""
+        self.check("the version", (ran.returncode, ran.stdout, ran.stderr) == wanted, ran)
 
     def run_with(self, *words: str) -> subprocess.CompletedProcess:
         """What comes of words with which it ends."""
@@ -643,6 +653,41 @@ class TestMembers(checks.Checked):
             gone = list(lost(group, load.noted))
             self.check("nothing answered is lost", not gone, gone)
             self.check(f"of {net.sent:,} packets {net.lost:,} were lost", net.lost > 0)
+            ended = group.end()
+            self.check("all end", ended == [0, 0, 0], ended)
+
+    def test_elsewhere(self) -> None:
+        """A machine is lost under load, and its node started on another over the same volume."""
+        try:
+            net = wire.Wire(4, delay=0.001, loss=0)
+        except OSError as error:
+            self.skipTest(str(error))
+        with net, wire.GroupNamed(net, self.folder, 3) as group:
+            parts = {}
+            for place in net.namespaces:
+                with net.inside(place):
+                    parts[place] = slow_participant(parts[2].port if place == 4 else 0)
+            load = Load(group.start(), random.Random(81), lambda node: parts[node])
+            time.sleep(4)
+            lra = group.begin(2)
+            group.join(2, lra, complete=f"{parts[2].url}/close/0", compensate=f"{parts[2].url}/cancel/0")
+            net.cut.add(2)
+            group.kill(2)
+            load.stop()
+            time.sleep(5)
+            began = time.monotonic()
+            group.move(2, 4)
+            group.start(2)
+            listens = time.monotonic() - began
+            group.finish(2, lra)
+            enters = time.monotonic() - began
+            heard = group.comes_to(1, lra, "Closed")
+            took = time.monotonic() - began
+            what = f"it listens in {in_ms(listens)}, has taken a command in {in_ms(enters)}"
+            self.check(f"{what}, and node 1 shows the LRA closed in {in_ms(took)}", heard is not None and took < 10)
+            self.check("all are alike", comes_to(SLOW, group.are_alike))
+            gone = list(lost(group, load.noted))
+            self.check(f"nothing of {len(load.noted)} LRAs that was answered is lost", not gone, gone)
             ended = group.end()
             self.check("all end", ended == [0, 0, 0], ended)
 

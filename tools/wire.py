@@ -48,6 +48,8 @@ class Wire:
         self.delay, self.loss, self.dice, self.sent, self.lost = delay, loss, random.Random(60), 0, 0
         self.home = own_namespace()
         self.namespaces: dict[int, int] = {}
+        # Those whose machine is lost: nothing comes from there, and nothing gets there.
+        self.cut: set[int] = set()
         self.devices: dict[int, int] = {}
         for number in range(1, count + 1):
             self.add(number)
@@ -78,7 +80,7 @@ class Wire:
             for device in ready:
                 packet = os.read(device, 65536)
                 to = self.devices.get(packet[19]) if packet[0] >> 4 == 4 and packet[16:19] == b"\x0a\x4d\0" else None
-                if to is None:
+                if to is None or self.cut & {packet[15], packet[19]}:
                     continue
                 self.sent += 1
                 if self.dice.random() < self.loss:
@@ -128,5 +130,43 @@ class GroupApart(Group):
         return self.net.inside(node)
 
     def is_reached(self, node: int) -> bool:
-        with self.net.inside(node), socket.socket() as probe:
+        with self.inside(node), socket.socket() as probe:
             return probe.connect_ex(self.address(node)) == 0
+
+
+class GroupNamed(GroupApart):
+    """Members that find each other by name, as lra2. A node may move to another namespace, with its folder and its
+    name, as where an orchestrator starts it on another machine over the same volume."""
+
+    def __init__(self, net: Wire, folder: str, count: int, *options: str) -> None:
+        Group.__init__(self, count, folder, *options)
+        self.net, self.places = net, {number: number for number in range(1, count + 1)}
+        self.addresses = [f"lra{number}:{PORT}" for number in self.places]
+        self.write_names()
+        # The program sees names of its own: in a mount namespace, which goes with it.
+        run = f"mount --bind {folder}/hosts /etc/hosts && exec {Group.program}"
+        self.program = f"{folder}/named"
+        with open(self.program, "w", encoding="utf-8") as file:
+            file.write(f"#!/bin/sh\nexec unshare --mount sh -c '{run} \"$@\"' sh \"$@\"\n")
+        os.chmod(self.program, 0o755)
+
+    def write_names(self) -> None:
+        """Says where each name leads now. It stays the same file."""
+        with open(f"{self.folder}/hosts", "w", encoding="utf-8") as file:
+            file.writelines(f"10.77.0.{place} lra{number}\n" for number, place in self.places.items())
+
+    def move(self, node: int, place: int) -> None:
+        """Has a node's name lead to another namespace, in which it is started then."""
+        self.places[node] = place
+        self.write_names()
+
+    def run(self, number: int, options: Iterable[str] | None = None, word: str | None = None) -> None:
+        given = self.options if options is None else options
+        with self.inside(number):
+            Group.run(self, number, (f"listen=10.77.0.{self.places[number]}:{PORT}", *given), word)
+
+    def address(self, node: int) -> tuple[str, int]:
+        return f"10.77.0.{self.places[node]}", PORT
+
+    def inside(self, node: int) -> contextlib.AbstractContextManager:
+        return self.net.inside(self.places[node])
