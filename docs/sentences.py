@@ -14,16 +14,16 @@ from tools import repo
 MOST = 30
 # How many words a page may have: who needs more first asks what its reader can do without.
 MOST_WORDS = {
-    "README.md": 950,
-    "CONTRIBUTING.md": 1_300,
+    "README.md": 1_000,
+    "CONTRIBUTING.md": 1_500,
     "docs/HTTP.md": 2_700,
-    "docs/OPERATING.md": 4_200,
+    "docs/OPERATING.md": 4_550,
     "docs/GATEWAY.md": 1_400,
     "docs/FORMATS.md": 2_400,
     "docs/THEOREMS.md": 7_200,
     "docs/MODEL.md": 6_500,
     "docs/ARCHITECTURE.md": 2_600,
-    "docs/DECISIONS.md": 3_250,
+    "docs/DECISIONS.md": 3_400,
     "docs/PROVING.md": 3_100,
 }
 # Any other.
