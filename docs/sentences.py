@@ -24,7 +24,7 @@ MOST_WORDS = {
     "docs/MODEL.md": 6_500,
     "docs/ARCHITECTURE.md": 2_600,
     "docs/DECISIONS.md": 3_400,
-    "docs/PROVING.md": 3_100,
+    "docs/PROVING.md": 3_150,
 }
 # Any other.
 FEW_WORDS = 1_000
