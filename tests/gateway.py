@@ -31,7 +31,7 @@ from tools.node import SLOW, Answer, Group, Json, comes_to, end_input, home_of
 from tools.operated import Operated
 from tools.participant import Reply, chunks_of
 from tools.ports import HOST, free_row, is_open
-from tools.version import constants
+from tools.version import build_said
 
 # Nobody purges here, and calls are answered at their end, however slow the machine is.
 KEEP, PATIENT = "keep=60000", ("wait=20000", "again=60000")
@@ -1133,7 +1133,7 @@ class TestGateway(checks.Checked):
         whole = (listen, f"{base}/", calls, "limit=1", "wait=2", "again=3", "allow=h,i:80", "short=a=h:80/p",
                  "short=b=i:1/q", f"group={nodes}", "group=h:80/81,i:80")
         self.same("all words", (0, False), has_usage(ended(gateway, whole)))
-        version = 0, constants().line("lra_gateway")
+        version = 0, build_said().line("lra_gateway")
         self.same("the version, without a key", version, ended(gateway, ["--version"], None))
         gateway.start()
         self.same("its end", 0, gateway.end())

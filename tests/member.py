@@ -26,7 +26,7 @@ from tools.load import ENDED, Load, lost, misled
 from tools.node import SLOW, Group, Json, Server, comes_to, end_input, home_of, in_ms
 from tools.participant import Participant
 from tools.ports import HOST, free_row, is_open, listening
-from tools.version import constants
+from tools.version import build_said
 
 USAGE = b"usage: lra_member I|I-J DIR [listen=IP:PORT] [operate=IP:PORT] [names=NAME,..] [keep=MS] [keep-failed=MS] " \
         b"[group=NAME] [anew] HOST:PORT.. | --version\n"
@@ -275,7 +275,7 @@ class TestMembers(checks.Checked):
     def test_version(self) -> None:
         """Which build it says that it is."""
         ran = self.run_with("--version")
-        wanted = 0, constants().line("lra_member").encode(), b""
+        wanted = 0, build_said().line("lra_member").encode(), b""
         self.check("the version", (ran.returncode, ran.stdout, ran.stderr) == wanted, ran)
 
     def run_with(self, *words: str) -> subprocess.CompletedProcess:

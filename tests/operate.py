@@ -19,7 +19,7 @@ from tools import checks, metrics, repo, unproved
 from tools.node import SLOW, Group, Json, comes_to
 from tools.operated import Operated
 from tools.ports import HOST, free_row
-from tools.version import constants
+from tools.version import build_said
 
 LAST = "00000000-0000-8008-8000-ffffffffffff"
 UNKNOWN = LAST.replace("8008", "8001")
@@ -291,8 +291,7 @@ class TestOperators(checks.Checked):
         pulls = sum(shown[("lra_pulls_total", f"came={came}", "from=2")] for came in ("new", "nothing"))
         self.check("connections are counted", shown[("lra_connections_total",)] > 10)
         self.check("pulls, by node", pulls > 0 and shown[("lra_pulled_seconds", "from=2")] < SLOW)
-        said = constants()
-        labels = f"commit={said.commit}", f"kit={said.kit}", f"version={said.number}"
+        labels = sorted(f"{key}={value}" for key, value in build_said()._asdict().items())
         self.check("which build it is", shown.get(("lra_build_info", *labels)) == 1, labels)
         self.check("when it started", abs(shown[("lra_start_seconds",)] - time.time()) < 10 * SLOW)
         group.kill(2)

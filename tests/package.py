@@ -17,6 +17,7 @@ Debian comes from its network, once, into the temporary folder. Each check print
 fails."""
 import filecmp
 import glob
+import hashlib
 import json
 import os
 import re
@@ -25,6 +26,7 @@ import shlex
 import shutil
 import subprocess
 import sys
+import tarfile
 import typing
 import unittest
 from collections.abc import Iterator
@@ -33,10 +35,10 @@ sys.path.insert(0, os.path.dirname(os.path.dirname(os.path.abspath(__file__))))
 from tools import checks, repo
 from tools.debian import QUIET, Debian, kept_root
 from tools.node import comes_to
-from tools.packages import NAME, PROGRAMS, UNITS
+from tools.packages import DOCS, NAME, PROGRAMS, UNITS, bytes_at
 from tools.quick import printed_by, quick_start
 from tools.repo import TOP
-from tools.version import SOURCE
+from tools.version import FILE
 
 # Where Debian's packages of Python are.
 SYSTEM = "/usr/lib/python3/dist-packages"
@@ -90,7 +92,7 @@ BOOTED = (
 # What stands before these lines, and ends the system behind them.
 AROUND = """#!/bin/bash
 export DEBIAN_FRONTEND=noninteractive LC_ALL=C.UTF-8 PATH=/usr/sbin:/usr/bin:/sbin:/bin
-ask() {{ curl -s -m 60 --retry 60 --retry-delay 1 --retry-connrefused "$@"; }}
+ask() {{ curl -s -m 300 --retry 300 --retry-delay 1 --retry-connrefused "$@"; }}
 pid() {{ systemctl show -p MainPID --value "$1"; }}
 {lines}
 systemctl poweroff --no-block
@@ -280,11 +282,27 @@ class TestFiles(checks.Checked):
         subprocess.run(["dpkg-deb", "-x", Given.package(), self.tree], check=True)
 
     def test_files(self) -> None:
+        self.programs()
         self.words()
         self.units()
         self.lintian()
         self.nginx()
         self.manifests()
+
+    def programs(self) -> None:
+        """Both packages have the same programs, whose sums PROVED tells, if there is one: the unproved have none."""
+        archive, = glob.glob(f"{Given.folder}/{NAME}-*.tar.gz")
+        proved = f"{self.tree}/{DOCS}/PROVED"
+        told = repo.read(proved) if os.path.exists(proved) else ""
+        self.check("PROVED is there unless they are unproved", bool(told) != ("~unproved" in archive), archive)
+        with tarfile.open(archive) as tar:
+            files = {entry.name.partition("/")[2]: entry for entry in tar}
+            for name in PROGRAMS:
+                data = bytes_at(f"{self.tree}/usr/bin/{name}")
+                found = tar.extractfile(files[f"bin/{name}"])
+                self.check(f"{name} is the same in both", found and found.read() == data)
+                line = f"{hashlib.sha256(data).hexdigest()}  {name}"
+                self.check(f"{name} has the sum that PROVED tells", not told or line in told, told)
 
     def words(self) -> None:
         """Each program takes its words: it looks for its journal, and a gateway runs until its input ends."""
@@ -420,7 +438,7 @@ class TestRelease(checks.Checked):
         os.chmod(f"{self.folder}/rt", 0o755)
         self.git("init", "-q")
         version = 'pub const VERSION: &str = "{}";\npub const COMMIT: &str = "{}";\npub const KIT: &str = "none";\n'
-        repo.write(f"{self.copy}/{SOURCE}", version.format("0.0.9-dev", "0" * 40))
+        repo.write(f"{self.copy}/{FILE}", version.format("0.0.9-dev", "0" * 40))
         self.commit("CHANGELOG.md", "# Changes\n\n## 9.8.7\n\n- Something.\n\n## 0.0.8\n")
         subprocess.run(["dpkg-deb", "-x", Given.package(), f"{self.folder}/tree"], check=True)
         for name in PROGRAMS:
@@ -440,6 +458,10 @@ class TestRelease(checks.Checked):
         self.refused("here is rattle-kit-2", KIT_NAME="rattle-kit-2")
         self.refused("'3 passed, 1 failed'", GATE="3 passed, 1 failed")
         self.gate_of_file()
+        source = repo.read(f"{self.copy}/{FILE}")
+        self.commit(FILE, f"{source}// more\n")
+        self.refused("version.rt isn't as in")
+        self.commit(FILE, source)
         self.commit("crates.txt", "# other\n")
         self.refused("crates.txt isn't as in")
 
@@ -451,6 +473,11 @@ class TestRelease(checks.Checked):
         names = sorted(os.listdir(f"{self.folder}/made"))
         wanted = [f"{NAME}-9.8.7-linux-x86_64.tar.gz", f"{NAME}_9.8.7_amd64.deb", "SHA256SUMS"]
         self.same("the files", sorted(wanted), names)
+        with tarfile.open(f"{self.folder}/made/{wanted[0]}") as tar:
+            file = tar.extractfile(f"{NAME}-9.8.7-linux-x86_64/PROVED")
+            told = file.read().decode() if file else ""
+        sum_here = hashlib.sha256(bytes_at(program)).hexdigest()
+        self.check("PROVED tells of gate and programs", "3 passed, 0 failed\n" in told and sum_here in told, told)
         os.utime(program, (os.path.getmtime(gate) + 9,) * 2)
         self.refused("is newer than", "--gate", gate)
         os.utime(gate, (1, 1))

@@ -13,7 +13,7 @@ import unittest.mock
 from email.message import Message
 
 sys.path.insert(0, os.path.dirname(os.path.dirname(os.path.abspath(__file__))))
-from tools import checks, packages, repo, unproved, version
+from tools import checks, cuts, packages, repo, unproved
 from tools.load import Noted, misled
 from tools.narayana import Annotated, Client, head_of, method_in, uid_of
 from tools.node import ask, comes_to, exchange, home_of, without_starts
@@ -174,9 +174,9 @@ class TestPackages(checks.Checked):
     def test_version(self) -> None:
         """Where a package of one version is named, and the constants, which stand in one line or in two."""
         text = "lra-coordinator_0.9.0_amd64.deb lra-coordinator:1.2.30 VERSION=2.0.0 lra-coordinator_VERSION 9.9.9"
-        self.same("versions", ["0.9.0", "1.2.30", "2.0.0"], [found for _, found in version.NAMED.findall(text)])
+        self.same("versions", ["0.9.0", "1.2.30", "2.0.0"], [found for _, found in cuts.NAMED.findall(text)])
         source = 'pub const VERSION: &str = "1.2.3-dev";\npub const KIT: &str =\n    "kit";\n'
-        self.same("constants", ["1.2.3-dev", "kit"], [version.constant(name, source)[2] for name in ("VERSION", "KIT")])
+        self.same("constants", ["1.2.3-dev", "kit"], [cuts.constant(name, source)[2] for name in ("VERSION", "KIT")])
 
 
 class TestChecks(unittest.TestCase):

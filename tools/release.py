@@ -4,7 +4,7 @@
 They come into release/, or OUT, and only out of what the gate passed and built: it runs `rt ci` at the top, unless FILE
 has what that has just said in this very tree, as `.ci/run | tee /tmp/gate` leaves it. It refuses a tree that isn't the
 commit's, another kit than the version names, and crates that aren't those of the commit that the release was cut from.
-The same commit, kit and programs give the same bytes: every time is the commit's.
+The same commit, kit and programs give the same bytes, by the same tools of Debian: every time is the commit's.
 
 --unproved packs the unproved builds (tools/unproved.py), to try the packages; nothing is proved then.
 
@@ -20,11 +20,12 @@ import subprocess
 import sys
 
 sys.path.insert(0, os.path.dirname(os.path.dirname(os.path.abspath(__file__))))
-from tools import packages, repo, unproved, version
+from tools import cuts, packages, repo, unproved
 from tools.builds import text_sum
+from tools.cuts import git
 from tools.packages import NAME, PROGRAMS, Release
 from tools.repo import TOP
-from tools.version import git
+from tools.version import Build, build_said
 
 PASSED = r"\d+ passed, 0 failed"
 NO_TEXT = "The kit has no licence text of its own for these of its parts:"
@@ -34,18 +35,18 @@ def refuse(why: str) -> None:
     raise SystemExit(f"release: {why}")
 
 
-def need_release(said: version.Version, kit: str) -> None:
+def need_release(said: Build, kit: str) -> None:
     """Ends where this tree and this kit aren't those of a release."""
     changed = git("status", "--porcelain")
     if changed:
         refuse(f"the tree isn't the commit's:\n{changed}")
-    if not said.is_released():
-        refuse(f"{said.number} isn't a release: python3 tools/release.py cut X.Y.Z makes it one")
+    if not cuts.is_released(said):
+        refuse(f"{said.version} isn't a release: python3 tools/release.py cut X.Y.Z makes it one")
     if kit.split(" ")[0] != said.kit:
         refuse(f"the version names {said.kit}, and here is {kit}")
-    if not version.is_in_history(said.commit):
-        refuse(f"{said.commit}, from which {said.number} was cut, isn't in this history")
-    for wrong in version.misfits():
+    if not cuts.is_in_history(said.commit):
+        refuse(f"{said.commit}, from which {said.version} was cut, isn't in this history")
+    for wrong in cuts.misfits():
         refuse(wrong)
 
 
@@ -104,9 +105,9 @@ def sums_of(programs: dict[str, bytes]) -> list[str]:
     return [f"    {hashlib.sha256(data).hexdigest()}  {name}" for name, data in programs.items()]
 
 
-def proof(said: version.Version, kit: str, gate: str, built: dict[str, bytes], packed: dict[str, bytes]) -> str:
+def proof(said: Build, kit: str, gate: str, built: dict[str, bytes], packed: dict[str, bytes]) -> str:
     """What the file PROVED says."""
-    lines = [f"version   {said.number}", f"commit    {git('rev-parse', 'HEAD')}", f"cut from  {said.commit}",
+    lines = [f"version   {said.version}", f"commit    {git('rev-parse', 'HEAD')}", f"cut from  {said.commit}",
              f"kit       {kit}", f"gate      {gate}", f"tree      {git('rev-parse', 'HEAD^{tree}')}",
              f"sources   {text_sum()}", "", "SHA-256 of the programs here:", *sums_of(packed), "",
              "As the gate left them, before strip:", *sums_of(built), "",
@@ -117,18 +118,18 @@ def proof(said: version.Version, kit: str, gate: str, built: dict[str, bytes], p
 
 def gather(is_proved: bool, gate_file: str | None) -> Release:
     """What is packed."""
-    said, kit, time = version.constants(), version.kit_here(), int(git("log", "-1", "--format=%ct"))
+    said, kit, time = build_said(), cuts.kit_here(), int(git("log", "-1", "--format=%ct"))
     if not is_proved:
         paths = {name: f"{os.path.dirname(unproved.compiled(name))}/program" for name in PROGRAMS}
         packed = {name: packages.stripped(path) for name, path in paths.items()}
-        number = f"{said.number.removesuffix(version.UNRELEASED)}~unproved"
+        number = f"{said.version.removesuffix(cuts.UNRELEASED)}~unproved"
         return Release(number, time, packed, licences(repo.kit()), level=1)
     need_release(said, kit)
     gate = last_line(gate_file)
     built = {name: packages.bytes_at(repo.program(name)) for name in PROGRAMS}
     packed = {name: packages.stripped(repo.program(name)) for name in PROGRAMS}
     texts = {**licences(repo.kit()), "PROVED": proof(said, kit, gate, built, packed)}
-    return Release(said.number, time, packed, texts)
+    return Release(said.version, time, packed, texts)
 
 
 def write_all(release: Release, out: str) -> None:
@@ -146,7 +147,7 @@ def write_all(release: Release, out: str) -> None:
 
 
 def check() -> int:
-    wrong = list(version.misfits())
+    wrong = list(cuts.misfits())
     for line in wrong:
         print(f"release: {line}")
     return 1 if wrong else 0
@@ -155,7 +156,7 @@ def check() -> int:
 def main(words: list[str]) -> int:
     if words == ["check"]:
         return check()
-    steps = {"cut": version.cut, "next": version.go_on}
+    steps = {"cut": cuts.cut, "next": cuts.go_on}
     if len(words) == 2 and words[0] in steps:
         steps[words[0]](words[1])
         return 0
