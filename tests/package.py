@@ -114,7 +114,7 @@ class Given:
         """The package for Debian."""
         found = glob.glob(f"{cls.folder}/{NAME}_*_amd64.deb")
         if len(found) != 1:
-            raise SystemExit(f"there are {len(found)} packages in {cls.folder}: tools/release.py makes one")
+            raise SystemExit(f"there has to be one package in {cls.folder}, which tools/release.py makes: {found}")
         return found[0]
 
 

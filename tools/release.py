@@ -3,7 +3,8 @@
 
 They come into release/, or OUT, and only out of what the gate passed and built: it runs `rt ci` at the top, unless FILE
 has what that has just said in this very tree, as `.ci/run | tee /tmp/gate` leaves it. It refuses a tree that isn't the
-commit's, another kit than the version names, and crates that aren't those of the commit that the release was cut from.
+commit's, another kit than the version names, and crates or programs that aren't those of the commit that the release
+was cut from.
 The same commit, kit and programs give the same bytes, by the same tools of Debian: every time is the commit's.
 
 --unproved packs the unproved builds (tools/unproved.py), to try the packages; nothing is proved then.
