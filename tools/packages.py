@@ -117,7 +117,8 @@ def manual(name: str, release: Release) -> bytes:
 {usage}
 .SH DESCRIPTION
 The file /{DOCS}/docs/{page}.md has each word, and all that it does.
-It ends with 0 where standard input has ended, and with 2 where it doesn't take its words.
+It ends with 0 where standard input has ended, with 1 where it can't begin, as for a port that is in use, and with 2
+where it doesn't take its words.
 """.encode()
 
 
