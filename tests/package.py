@@ -49,7 +49,7 @@ ANOTHER_RT = """#!/bin/sh
 case "$1" in
 version) echo "${{KIT_NAME:-rattle-kit-1}} logic 0" ;;
 doc) exec {rt} doc ;;
-ci) echo "${{GATE:-3 passed, 0 failed}}" ;;
+ci) [ -z "$MEANWHILE" ] || touch "$MEANWHILE"; echo "${{GATE:-99 passed, 0 failed}}" ;;
 esac
 """
 # What a unit's exposure may be at most, of 100.
@@ -112,10 +112,10 @@ class Given:
     @classmethod
     def package(cls) -> str:
         """The package for Debian."""
-        found = sorted(glob.glob(f"{cls.folder}/{NAME}_*_amd64.deb"))
-        if not found:
-            raise SystemExit(f"there is no package in {cls.folder}: tools/release.py makes it")
-        return found[-1]
+        found = glob.glob(f"{cls.folder}/{NAME}_*_amd64.deb")
+        if len(found) != 1:
+            raise SystemExit(f"there has to be one package in {cls.folder}, which tools/release.py makes: {found}")
+        return found[0]
 
 
 def older(package: str, folder: str) -> str:
@@ -282,12 +282,26 @@ class TestFiles(checks.Checked):
         subprocess.run(["dpkg-deb", "-x", Given.package(), self.tree], check=True)
 
     def test_files(self) -> None:
+        self.same("SHA256SUMS fits", 0, run_lines(["sha256sum", "--check", "SHA256SUMS"], cwd=Given.folder)[0])
+        self.links()
         self.programs()
         self.words()
         self.units()
         self.lintian()
         self.nginx()
         self.manifests()
+
+    def links(self) -> None:
+        """What the pages of both packages link to is there too."""
+        unpacked = self.folder_in("unpacked")
+        archive, = glob.glob(f"{Given.folder}/{NAME}-*.tar.gz")
+        subprocess.run(["tar", "-xzf", archive, "-C", unpacked, "--strip-components=1"], check=True)
+        for where, top in (("the archive", unpacked), ("the package", f"{self.tree}/{DOCS}")):
+            pages = glob.glob(f"{top}/**/*.md", recursive=True)
+            linked = [(page, link) for page in pages for link in re.findall(r"\]\(([^)#:\s]+)[)#]", repo.read(page))]
+            missing = [f"{os.path.relpath(page, top)} links to {link}" for page, link in linked
+                       if not os.path.exists(os.path.join(os.path.dirname(page), link))]
+            self.same(f"what the {len(pages)} pages of {where} link to is there", [], missing)
 
     def programs(self) -> None:
         """Both packages have the same programs, whose sums PROVED tells, if there is one: the unproved have none."""
@@ -456,7 +470,12 @@ class TestRelease(checks.Checked):
         self.commit()
         self.same("all fits", (0, ""), self.release("check"))
         self.refused("here is rattle-kit-2", KIT_NAME="rattle-kit-2")
-        self.refused("'3 passed, 1 failed'", GATE="3 passed, 1 failed")
+        self.refused("'99 passed, 1 failed'", GATE="99 passed, 1 failed")
+        self.refused("'3 passed, 0 failed'", GATE="3 passed, 0 failed")
+        self.refused("lra_member isn't of")
+        self.told_commit()
+        self.refused("the tree isn't the commit's", MEANWHILE=f"{self.copy}/docs/NEW.md")
+        os.remove(f"{self.copy}/docs/NEW.md")
         self.gate_of_file()
         source = repo.read(f"{self.copy}/{FILE}")
         self.commit(FILE, f"{source}// more\n")
@@ -465,10 +484,21 @@ class TestRelease(checks.Checked):
         self.commit("crates.txt", "# other\n")
         self.refused("crates.txt isn't as in")
 
+    def told_commit(self) -> None:
+        """Has the programs say that they are of the commit that the release is cut from."""
+        told = [repo.found(r'COMMIT: &str =\s*"(.*)"', repo.read(f"{top}/{FILE}"))[1].encode()
+                for top in (TOP, self.copy)]
+        for name in PROGRAMS:
+            path = f"{self.copy}/crates/{name}/out/{name}"
+            with open(path, "rb") as file:
+                data = file.read().replace(*told)
+            with open(path, "wb") as file:
+                file.write(data)
+
     def gate_of_file(self) -> None:
         """A gate whose output is in a file: what is newer than that isn't of it."""
         gate, program = f"{self.folder}/gate", f"{self.copy}/crates/lra_node/out/lra_node"
-        repo.write(gate, "built\n3 passed, 0 failed\n")
+        repo.write(gate, "built\n99 passed, 0 failed\n")
         self.same("it is released", 0, self.release("--gate", gate, f"{self.folder}/made")[0])
         names = sorted(os.listdir(f"{self.folder}/made"))
         wanted = [f"{NAME}-9.8.7-linux-x86_64.tar.gz", f"{NAME}_9.8.7_amd64.deb", "SHA256SUMS"]
@@ -477,9 +507,12 @@ class TestRelease(checks.Checked):
             file = tar.extractfile(f"{NAME}-9.8.7-linux-x86_64/PROVED")
             told = file.read().decode() if file else ""
         sum_here = hashlib.sha256(bytes_at(program)).hexdigest()
-        self.check("PROVED tells of gate and programs", "3 passed, 0 failed\n" in told and sum_here in told, told)
+        self.check("PROVED tells of gate and programs", "99 passed, 0 failed\n" in told and sum_here in told, told)
         os.utime(program, (os.path.getmtime(gate) + 9,) * 2)
         self.refused("is newer than", "--gate", gate)
+        os.utime(program, (os.path.getmtime(gate),) * 2)
+        os.utime(f"{self.copy}/crates.txt", (os.path.getmtime(gate) + 9,) * 2)
+        self.refused("crates.txt is newer than", "--gate", gate)
         os.utime(gate, (1, 1))
         self.refused("is older than the commit", "--gate", gate)
         os.remove(program)

@@ -311,8 +311,13 @@ class TestProxies(checks.Checked):
         group.addresses[1] = f"127.0.1.9:{group.port}"
         group.start(2)
         lra = next(lra for lra in begun if home_of(lra) == 2)
-        shown = comes_to(20, lambda: ask(front, "GET", f"/lra/{lra}")[0] == 200)
+        # (nginx's own answer isn't JSON)
+        shown = comes_to(20, lambda: request((HOST, front), "GET", f"/lra/{lra}").status == 200)
         self.check("a node that has another address is found there", shown)
+        # Where no node is ready, the name of all has no address.
+        asked.addresses["any.example"] = []
+        at_first = comes_to(20, lambda: {home_of(ask(front, "POST", "/lra", {})[1]["lra"]) for _ in range(6)} == {1})
+        self.check("begins go to the first node where none is ready", at_first)
         group.end()
 
     def held(self, port: int) -> set[str]:

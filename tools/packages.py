@@ -16,9 +16,11 @@ from tools.repo import TOP
 NAME = "lra-coordinator"
 PROGRAMS = ("lra_node", "lra_member", "lra_gateway")
 # What a package holds beside the programs, by patterns of paths from the top.
-PAGES = ("README.md", "CHANGELOG.md", "CONTRIBUTING.md", "LICENSE", "docs/*.md", "docs/*.json", "demo/README.md",
-         "demo/alerts.yaml", "demo/grafana.json", "demo/participant.py", "demo/watch.png")
-DEPLOYED = ("deploy/Containerfile", "deploy/compose.yaml", "deploy/kubernetes.yaml", "deploy/lra.conf.template")
+PAGES = ("README.md", "CHANGELOG.md", "CONTRIBUTING.md", "LICENSE", "docs/*.md", "docs/*.json", "benches/README.md",
+         "benches/figures.svg", "demo/README.md", "demo/alerts.yaml", "demo/grafana.json", "demo/[Pp]articipant.*",
+         "demo/mail.py", "demo/watch.png")
+DEPLOYED = ("deploy/Containerfile", "deploy/compose.yaml", "deploy/kubernetes.yaml", "deploy/lra.conf.template",
+            "deploy/systemd/*")
 UNITS = ("lra-node.service", "lra-member@.service", "lra-gateway.service")
 # What each program is for, in its page of the manual, and the page that tells more.
 MANUAL = {
@@ -115,13 +117,14 @@ def manual(name: str, release: Release) -> bytes:
 {usage}
 .SH DESCRIPTION
 The file /{DOCS}/docs/{page}.md has each word, and all that it does.
-It ends with 0 where standard input has ended, and with 2 where it doesn't take its words.
+It ends with 0 where standard input has ended, with 1 where it can't begin, as for a port that is in use, and with 2
+where it doesn't take its words.
 """.encode()
 
 
 def common(release: Release) -> Files:
-    """What stands in both packages: pages, licences, and what proves the release."""
-    made = {path: Member(bytes_at(path)) for pattern in PAGES for path in found_by(pattern)}
+    """What stands in both packages: pages and all that they link to, licences, and what proves the release."""
+    made = {path: Member(bytes_at(path)) for pattern in (*PAGES, *DEPLOYED) for path in found_by(pattern)}
     made |= {path: Member(text.encode()) for path, text in release.texts.items()}
     return made
 
@@ -130,8 +133,7 @@ def archive(release: Release) -> Files:
     """The files of the archive."""
     made = common(release)
     made |= {f"bin/{name}": Member(data, 0o755) for name, data in release.programs.items()}
-    made |= {path: Member(bytes_at(path)) for path in DEPLOYED}
-    for path in (*repo.files("deploy/systemd/*"), *repo.files("deploy/conf/*")):
+    for path in repo.files("deploy/conf/*"):
         made[path] = Member(bytes_at(path))
     for path in repo.files("deploy/container/*"):
         made[path] = Member(bytes_at(path), 0o755)
@@ -141,7 +143,6 @@ def archive(release: Release) -> Files:
 def debian(release: Release) -> Files:
     """The files that the package for Debian puts into a system."""
     made = {f"{DOCS}/{path}": member for path, member in common(release).items() if path != "LICENSE"}
-    made |= {f"{DOCS}/examples/{os.path.basename(path)}": Member(bytes_at(path)) for path in DEPLOYED}
     made |= {f"usr/bin/{name}": Member(data, 0o755) for name, data in release.programs.items()}
     made |= {f"lib/systemd/system/{name}": Member(bytes_at(f"deploy/systemd/{name}")) for name in UNITS}
     for path in repo.files("deploy/conf/*"):

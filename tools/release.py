@@ -3,7 +3,8 @@
 
 They come into release/, or OUT, and only out of what the gate passed and built: it runs `rt ci` at the top, unless FILE
 has what that has just said in this very tree, as `.ci/run | tee /tmp/gate` leaves it. It refuses a tree that isn't the
-commit's, another kit than the version names, and crates that aren't those of the commit that the release was cut from.
+commit's, another kit than the version names, and crates or programs that aren't those of the commit that the release
+was cut from.
 The same commit, kit and programs give the same bytes, by the same tools of Debian: every time is the commit's.
 
 --unproved packs the unproved builds (tools/unproved.py), to try the packages; nothing is proved then.
@@ -27,7 +28,9 @@ from tools.packages import NAME, PROGRAMS, Release
 from tools.repo import TOP
 from tools.version import Build, build_said
 
-PASSED = r"\d+ passed, 0 failed"
+PASSED = r"(\d+) passed, 0 failed"
+# The programs that say which commit they are of.
+TELLING = ("lra_member", "lra_gateway")
 NO_TEXT = "The kit has no licence text of its own for these of its parts:"
 
 
@@ -37,7 +40,7 @@ def refuse(why: str) -> None:
 
 def need_release(said: Build, kit: str) -> None:
     """Ends where this tree and this kit aren't those of a release."""
-    changed = git("status", "--porcelain")
+    changed = git("status", "--porcelain", "--untracked-files=all")
     if changed:
         refuse(f"the tree isn't the commit's:\n{changed}")
     if not cuts.is_released(said):
@@ -64,15 +67,18 @@ def last_line(file: str | None) -> str:
         text, told = repo.read(os.path.abspath(file)), os.path.getmtime(file)
         if told < int(git("log", "-1", "--format=%ct")):
             refuse(f"{file} is older than the commit")
-        for program in map(repo.program, PROGRAMS):
-            if os.path.exists(program) and os.path.getmtime(program) > told:
-                refuse(f"{program} is newer than {file}: the gate didn't leave it")
+        # (a source is newer where another commit was here meanwhile)
+        for path in [*map(repo.program, PROGRAMS), *git("ls-files", "--", *cuts.COMPILED).split("\n")]:
+            path = os.path.join(TOP, path)
+            if os.path.exists(path) and os.path.getmtime(path) > told:
+                refuse(f"{path} is newer than {file}: the gate didn't see it, or didn't leave it")
     for program in map(repo.program, PROGRAMS):
         if not os.path.exists(program):
             refuse(f"{program} isn't there: the gate builds it")
     last = text.rstrip("\n").split("\n")[-1]
-    if not re.fullmatch(PASSED, last):
-        refuse(f"the gate's last line isn't 'N passed, 0 failed', but {last!r}")
+    passed, least = re.fullmatch(PASSED, last), len(repo.crates())
+    if not passed or int(passed[1]) < least:
+        refuse(f"the gate's last line isn't 'N passed, 0 failed', with {least} or more, but {last!r}")
     return last
 
 
@@ -125,8 +131,15 @@ def gather(is_proved: bool, gate_file: str | None) -> Release:
         number = f"{said.version.removesuffix(cuts.UNRELEASED)}~unproved"
         return Release(number, time, packed, licences(repo.kit()), level=1)
     need_release(said, kit)
-    gate = last_line(gate_file)
+    head, gate = git("rev-parse", "HEAD"), last_line(gate_file)
+    # The gate takes hours: somebody may have changed something meanwhile.
+    if git("rev-parse", "HEAD") != head:
+        refuse(f"another commit came while the gate ran over {head}")
+    need_release(said, kit)
     built = {name: packages.bytes_at(repo.program(name)) for name in PROGRAMS}
+    for name in TELLING:
+        if said.commit.encode() not in built[name]:
+            refuse(f"{name} isn't of {said.commit}, from which {said.version} was cut: the gate has to build it anew")
     packed = {name: packages.stripped(repo.program(name)) for name in PROGRAMS}
     texts = {**licences(repo.kit()), "PROVED": proof(said, kit, gate, built, packed)}
     return Release(said.version, time, packed, texts)
