@@ -15,7 +15,7 @@ MOST = 30
 # How many words a page may have: who needs more first asks what its reader can do without.
 MOST_WORDS = {
     "README.md": 1_000,
-    "CONTRIBUTING.md": 1_500,
+    "CONTRIBUTING.md": 1_550,
     "docs/HTTP.md": 2_700,
     "docs/OPERATING.md": 4_650,
     "docs/GATEWAY.md": 1_400,
