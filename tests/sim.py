@@ -1,7 +1,8 @@
 """Plays nodes in one thread, under a clock, a network, disks and participants that a seed decides:
 `python3 tests/sim.py [SEED SEEDS EVENTS [NODES [TOLD]]]`. Without words it plays some seeds in about a minute.
 `--faults [NAME..]` has it find what tests/sim/faults plants in the code, one after another, each in a copy: files of
-the form of tests/wrong's, with a line 'crate: NAME' first.
+the form of tests/wrong's, with a line 'crate: NAME' first. In tests/sim/unfound are those that no seed of a hundred
+finds yet.
 
 The simulator is tests/sim/lra_sim, a program whose files stand as x.rt.txt; `rt try` compiles it with the repository's
 libraries, over an address sanitizer, and runs it. It proves nothing. The same seed gives the same play everywhere.
