@@ -20,6 +20,7 @@ from tools.node import ask, comes_to, exchange, home_of, without_starts
 from tools.page import squeeze
 from tools.participant import Participant, Reply, chunks_of
 from tools.ports import HOST, free_row, is_free, is_open, listens_at
+from tools.version import constant
 
 LRA = "00000000-0000-8002-8000-000000000001"
 
@@ -176,7 +177,7 @@ class TestPackages(checks.Checked):
         text = "lra-coordinator_0.9.0_amd64.deb lra-coordinator:1.2.30 VERSION=2.0.0 lra-coordinator_VERSION 9.9.9"
         self.same("versions", ["0.9.0", "1.2.30", "2.0.0"], [found for _, found in cuts.NAMED.findall(text)])
         source = 'pub const VERSION: &str = "1.2.3-dev";\npub const KIT: &str =\n    "kit";\n'
-        self.same("constants", ["1.2.3-dev", "kit"], [cuts.constant(name, source)[2] for name in ("VERSION", "KIT")])
+        self.same("constants", ["1.2.3-dev", "kit"], [constant(name, source)[2] for name in ("VERSION", "KIT")])
 
 
 class TestChecks(unittest.TestCase):

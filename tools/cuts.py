@@ -7,7 +7,7 @@ from collections.abc import Iterator
 
 from tools import repo
 from tools.repo import TOP
-from tools.version import CONSTANTS, FILE, Build, build_said
+from tools.version import CONSTANTS, FILE, Build, build_said, constant
 
 CHANGES = "CHANGELOG.md"
 # What the programs are compiled from, beside the kit.
@@ -28,11 +28,6 @@ def git(*words: str) -> str:
     if ran.returncode:
         raise SystemExit(f"release: git {' '.join(words)} ended with {ran.returncode}")
     return ran.stdout.rstrip("\n")
-
-
-def constant(name: str, text: str) -> re.Match[str]:
-    """Where a constant stands in the source: what is before its value, and the value."""
-    return repo.found(rf'(pub const {name}: &str =\s*")([^"]*)";', text)
 
 
 def is_released(build: Build) -> bool:

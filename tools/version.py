@@ -1,4 +1,5 @@
 """Which build the programs say that they are: the constants of crates/lra_words/src/version.rt."""
+import re
 import typing
 
 from tools import repo
@@ -18,7 +19,12 @@ class Build(typing.NamedTuple):
         return f"{program} {self.version}, commit {self.commit}, {self.kit}\n"
 
 
+def constant(name: str, text: str) -> re.Match[str]:
+    """Where a constant stands in the source: what is before its value, and the value."""
+    return repo.found(rf'(pub const {name}: &str =\s*")([^"]*)";', text)
+
+
 def build_said() -> Build:
     """What the constants say."""
     text = repo.read(FILE)
-    return Build(*(repo.found(f'pub const {name}: &str = "([^"]+)";', text)[1] for name in CONSTANTS))
+    return Build(*(constant(name, text)[2] for name in CONSTANTS))
