@@ -9,7 +9,9 @@ use crate::service::serve_service;
 use http::StatusCode;
 use lra_http::{Bytes, Fields, Response, Sink, Source, write_response};
 use lra_narayana::{Request, Told, read_request};
-use lra_sockets::{BufferedSocket, Cutoff, Limit, PendingConnection, Readiness, SLICE_MS, Times};
+use lra_sockets::{
+    BufferedSocket, Cutoff, Limit, NoHolder, PendingConnection, Readiness, SLICE_MS, Times,
+};
 use std::alloc::{AllocError, Global};
 use std::io::Error;
 use std::net::{IpAddr, TcpListener, TcpStream};
@@ -103,7 +105,7 @@ pub fn look<R: Host>(agent: &Agent<R>, port: &Port) {
         let Some(pending) = port.queue.take(agent.rt) else {
             return;
         };
-        match pending.look(agent.rt, true) {
+        match pending.look(agent.rt, true, &NoHolder) {
             Readiness::Pending(pending) => {
                 silent = silent.saturating_add(1);
                 if silent >= port.queue.put_back(agent.rt, pending) {

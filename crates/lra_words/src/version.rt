@@ -3,8 +3,8 @@ ghost use Rattle.std.specs.Prelude.{◌≡◌, ◌∷◌, [], codes, map, MatchB
 
 use crate::texts::flag_of;
 
-/// The version of the release, by semantic versioning: its interface is what HTTP.md, FORMATS.md and
-/// OPERATING.md say. Behind a release it is the next one's, with `-dev`.
+/// The version of the release, by semantic versioning: its interface is what HTTP.md, FORMATS.md,
+/// GATEWAY.md and OPERATING.md say. Behind a release it is the next one's, with `-dev`.
 pub const VERSION: &str = "0.10.0-dev";
 
 /// The commit whose crates these are but for this file, which `tools/release.py cut` writes.
