@@ -1,5 +1,5 @@
 -- Whether a node enters anything of its own yet: at a start it hears the others first.
-use Rattle.std.specs.Prelude.{◌≡◌, ◌⊎◌, ◌↔◌, ◌≤◌, ◌-◌, ◌&&◌, ◌||◌, ◌==◌, ℕ, Bool, true, false, List, Option, None, Some, IsTrue, MatchBool, if◌then◌else◌, length, max, nat_le, nat_lt, not, slice_set}
+use Rattle.std.specs.Prelude.{◌≡◌, ◌⊎◌, ◌↔◌, ◌-◌, ◌&&◌, ◌||◌, ◌==◌, ℕ, Bool, false, List, Option, None, Some, IsTrue, MatchBool, if◌then◌else◌, length, max, nat_le, nat_lt, not, slice_set}
 use Rattle.std.specs.List.{list_any}
 use Rattle.std.specs.Duration.{as_nanos}
 use Rattle.std.specs.declared.time.Duration.{Duration}

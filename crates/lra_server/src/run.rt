@@ -4,7 +4,6 @@ pub(crate) mod connections;
 pub(crate) mod counting;
 pub(crate) mod counting_clerk;
 pub(crate) mod holding;
-pub(crate) mod noting;
 pub(crate) mod refusals;
 pub(crate) mod sweeping;
 
