@@ -1,0 +1,52 @@
+// All facts that any node entered, as a plain list.
+
+use crate::halt::Halt;
+use lra_facts::{Body, Fact};
+use lra_id::{Front, LraId, NodeId};
+use std::alloc::Global;
+
+/// All facts that any node entered, in the order in which that happened.
+#[derive(Drop)]
+pub struct History {
+    facts: Vec<Fact>,
+}
+
+impl History {
+    pub fn new(alloc: Global) -> History {
+        History { facts: Vec::new(alloc) }
+    }
+
+    pub fn facts(&self) -> &[Fact] {
+        &self.facts
+    }
+
+    /// How many facts a node entered.
+    pub fn count(&self, node: NodeId) -> u64 {
+        self.facts.iter().filter(|fact| fact.origin == node).count() as u64
+    }
+
+    pub fn add(&mut self, origin: NodeId, num: u64, body: Body) -> Result<(), Halt> {
+        Ok(self.facts.push(Fact { origin, num, body })?)
+    }
+
+    /// Forgets what a node entered beyond so many facts.
+    pub fn forget(&mut self, node: NodeId, count: u64) {
+        self.facts.retain(|fact| fact.origin != node || fact.num <= count);
+    }
+
+    /// The LRAs that a node began, the newest first, of which no more than so many.
+    pub fn begun(&self, alloc: Global, node: NodeId, most: usize) -> Result<Vec<LraId>, Halt> {
+        let mut found = Vec::new(alloc);
+        for fact in self.facts.iter().rev() {
+            if fact.origin == node && matches!(&fact.body, Body::Begin { .. }) && found.len() < most {
+                found.push(LraId::new(node, fact.num)?)?;
+            }
+        }
+        Ok(found)
+    }
+}
+
+/// Whether a front counts a fact.
+pub fn counts(front: &Front, fact: &Fact) -> bool {
+    fact.num <= front.count(fact.origin)
+}
