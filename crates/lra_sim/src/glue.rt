@@ -4,7 +4,7 @@
 use crate::halt::Halt;
 use lra_book::{Call, PullBody, Reply};
 use lra_facts::{Body, Command, CommandReply, Refusal};
-use lra_id::{Act, Front, LAST_NUMBER, LraId, Verdict};
+use lra_id::{Act, Front, LAST_NUMBER, LraId, MAX_NODES, NodeId, Verdict};
 use lra_mailbox::{Became, News, Noted, Purged};
 use lra_peer::pull_body;
 use std::alloc::Global;
@@ -106,11 +106,21 @@ pub fn purged_by(reply: &Reply) -> Purged {
     }
 }
 
-/// The pull of one that has all facts that there can be.
-pub fn pull_of_all(alloc: Global, nodes: usize) -> Result<Call, Halt> {
-    let counts = [LAST_NUMBER; 8];
+/// The pull of one that has all facts that there can be of so many nodes.
+pub fn pull_of_all(alloc: Global, nodes: u8) -> Result<Call, Halt> {
+    let counts = [LAST_NUMBER; MAX_NODES as usize];
+    let nodes = usize::from(nodes.clamp(1, MAX_NODES));
     let bytes = pull_body(alloc, &Front::from_counts(&counts[..nodes]))?;
     Ok(Call::Pull(PullBody::new(bytes)))
+}
+
+/// The front that counts so many facts of a node, if it counts that node, and else as this one.
+pub fn raised(front: Front, node: NodeId, count: u64) -> Front {
+    let mut next = front;
+    if usize::from(node.number()) <= next.nodes() {
+        next.set(node, count);
+    }
+    next
 }
 
 /// The LRA that a command names.
@@ -127,18 +137,55 @@ pub fn named_by(command: &Command) -> Option<LraId> {
     }
 }
 
-/// What is stored of a call of a node that was replied so: a fact's body. This is the simulator's own.
-pub fn stored(asked: Asked, reply: &Reply) -> Option<Body> {
-    if let Reply::Expired(id) = reply {
-        return Some(Body::Decide { id: *id, verdict: Verdict::Cancel });
+/// The LRA that a call's command names, if it is a command.
+pub fn named_in(asked: &Asked) -> Option<LraId> {
+    match &asked.command {
+        Some(command) => named_by(command),
+        None => None,
     }
+}
+
+/// Where a frame leads to that was taken.
+pub fn taken_by(asked: &Asked, reply: &Reply) -> Option<Front> {
+    match reply {
+        Reply::Took => asked.taken,
+        _ => None,
+    }
+}
+
+/// The root that a call was to purge, where it was purged.
+pub fn purged_root(asked: &Asked, reply: &Reply) -> Option<LraId> {
+    match (&asked.command, reply) {
+        (Some(Command::Purge { root }), Reply::Command(CommandReply::Purged)) => Some(*root),
+        _ => None,
+    }
+}
+
+/// The member number that a command was given, or 0, if it stored anything.
+fn given_by(reply: &CommandReply) -> Option<u8> {
+    match reply {
+        CommandReply::Known | CommandReply::Refused(_) => None,
+        CommandReply::Joined(_, member) => Some(*member),
+        _ => Some(0),
+    }
+}
+
+/// What is stored of a call of a node that was replied so: a fact's body.
+pub fn stored(asked: Asked, reply: &Reply) -> Option<Body> {
     let given = match reply {
-        Reply::Command(CommandReply::Known | CommandReply::Refused(_)) => return None,
-        Reply::Command(CommandReply::Joined(_, member)) => *member,
-        Reply::Command(_) => 0,
-        _ => return None,
+        Reply::Expired(id) => return Some(cancel(*id)),
+        Reply::Command(reply) => given_by(reply),
+        _ => None,
     };
-    Some(body_of(asked.command?, given))
+    let (Some(given), Some(command)) = (given, asked.command) else {
+        return None;
+    };
+    Some(body_of(command, given))
+}
+
+/// That an LRA is cancelled.
+pub fn cancel(id: LraId) -> Body {
+    Body::Decide { id, verdict: Verdict::Cancel }
 }
 
 /// What a command enters, where a participant joins under this member number.

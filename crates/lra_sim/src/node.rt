@@ -1,21 +1,25 @@
 // A node: what is there while it runs, what outlives it, and what the simulator knows of it.
 
-use crate::disk::{Image, Store};
+use crate::disk::{Doubt, Image};
+use crate::drive::Drive;
+use crate::glue::{Asked, is_any, noted_by, raised};
 use crate::halt::Halt;
 use crate::history::{History, counts};
 use crate::model::{DueCall, Model};
-use lra_book::{Book, Call, Desk, DeskPass};
+use crate::run::Run;
+use lra_book::{Call, Reply};
+use lra_delta::Delta;
+use lra_facts::{Body, Refusal};
 use lra_heard::Telling;
-use lra_id::{Front, LraId, LraStatus, NodeId};
+use lra_id::{Front, LraId, LraStatus, MAX_NODES, NodeId};
 use lra_mailbox::{Keep, MailboxState, Sweeping, Task};
 use lra_turns::Due;
+use sqlite_disk::Files;
 use std::alloc::Global;
-use std::marker::Brand;
-use std::sync::ledger::Blank;
 use std::time::Duration;
 
-/// Who makes calls at a desk: the thread that enters, and four workers.
-pub const PASSES: usize = 5;
+/// How many copies of its disk a node keeps.
+const IMAGES: usize = 4;
 
 /// A participant that is called.
 #[derive(Drop)]
@@ -31,13 +35,6 @@ pub struct Errand {
     pub until: u64,
 }
 
-/// A run of a node: a desk and the passes of those who make calls at it.
-#[derive(Drop)]
-pub struct Run {
-    pub desk: Desk<Brand, Store>,
-    pub passes: Vec<DeskPass<Brand>>,
-}
-
 /// What is there of a node from a start to the next stop.
 #[derive(Drop)]
 pub struct Life {
@@ -51,7 +48,7 @@ pub struct Life {
     /// What others told that waits for room in the mailbox.
     pub tellings: Vec<Telling>,
     /// What the one told that waits in the mailbox, if any waits.
-    pub awaited: Option<(NodeId, Front)>,
+    pub awaited: Option<Front>,
     /// Whom the newest list names who was neither heard nor entered since.
     pub listed: Vec<DueCall>,
     pub start: Start,
@@ -62,7 +59,8 @@ pub struct Life {
 pub struct Start {
     pub at: u64,
     pub waits_for_all: bool,
-    pub heard: [bool; 8],
+    /// Whom it has heard, by their places.
+    pub heard: Vec<usize>,
     /// How many facts of this node others told of.
     pub told_own: u64,
 }
@@ -92,32 +90,37 @@ pub struct Node {
     pub is_recovering: bool,
 }
 
-/// A run of a book that has none.
-pub fn run_of(alloc: Global, mut book: Book<Store>) -> Result<Run, Halt> {
-    let _pass = book.start_run(alloc)?;
-    match Desk::<Brand, Store>::new(alloc, book, Blank::new(PASSES as u64), PASSES) {
-        Ok((desk, passes)) => Ok(Run { desk, passes }),
-        Err(_) => Err(Halt::Stuck("no desk")),
-    }
+/// A moment of the monotonic clock.
+pub fn at(now: u64) -> Duration {
+    Duration::from_millis(now)
 }
 
-impl Run {
-    /// The book, once the run is over; none where receipts and trail differ.
-    pub fn end(self) -> Option<Book<Store>> {
-        let Run { desk, passes } = self;
-        let (book, _trail, found) = desk.close(passes);
-        found.is_ok().then_some(book)
+impl Start {
+    pub fn new(alloc: Global, at: u64, waits_for_all: bool) -> Start {
+        Start { at, waits_for_all, heard: Vec::new(alloc), told_own: 0 }
+    }
+
+    /// Notes that a node told how many facts of this one it has.
+    pub fn hear(&mut self, place: usize, told_own: u64) -> Result<(), Halt> {
+        self.told_own = self.told_own.max(told_own);
+        self.heard.push(place)?;
+        Ok(())
+    }
+
+    pub fn has_heard(&self, place: usize) -> bool {
+        self.heard.contains(&place)
     }
 }
 
 impl Life {
-    pub fn new(alloc: Global, node: &Node, nodes: u8, run: Run, start: Start) -> Life {
+    pub fn new(alloc: Global, me: NodeId, keep: Keep, nodes: u8, run: Run, start: Start) -> Life {
+        let nodes = nodes.clamp(1, MAX_NODES);
         let are_apart = nodes > 1;
-        let sweeping = Sweeping::new(alloc, node.me, node.keep, are_apart, true);
+        let sweeping = Sweeping::new(alloc, me, keep, are_apart, true);
         let all = start.waits_for_all;
         Life {
             run: Some(run),
-            state: MailboxState::new(alloc, node.me, nodes, are_apart, all, sweeping),
+            state: MailboxState::new(alloc, me, nodes, are_apart, all, sweeping),
             task: None,
             calls: Vec::new(alloc),
             errand: None,
@@ -127,10 +130,54 @@ impl Life {
             start,
         }
     }
+
+    /// Makes a call. No reply comes where it is held back, or the journal is closed.
+    fn make(&mut self, caller: usize, call: Call, enters: bool, now: u64, unix: u64) -> Result<Option<Reply>, Refusal> {
+        let is_held = !self.state.is_open() || self.state.is_spared(at(now));
+        if caller > 0 && enters && is_held {
+            return Ok(None);
+        }
+        let Some(run) = self.run.as_mut() else {
+            return Ok(None);
+        };
+        match run.call(caller, call, unix) {
+            Ok(reply) => Ok(Some(reply)),
+            Err(refusal) => Err(refusal),
+        }
+    }
+
+    fn learn(&mut self, delta: &Delta) {
+        self.state.learn(&delta.front());
+        self.state.note_counted();
+    }
+
+    /// Notes what a call leaves for the threads to go on with.
+    fn note(&mut self, asked: &Asked, reply: &Reply, now: u64) {
+        let noted = noted_by(asked, reply);
+        if is_any(&noted) {
+            self.state.note(&noted, at(now));
+        }
+        if let Reply::Gave(delta) = reply {
+            self.learn(delta);
+        }
+    }
+
+    /// How many facts of a node it has heard of, and not taken yet.
+    fn heard_of(&self, other: NodeId) -> u64 {
+        let mut most = match &self.awaited {
+            Some(front) => front.count(other),
+            None => 0,
+        };
+        for telling in self.tellings.iter() {
+            most = most.max(telling.front().count(other));
+        }
+        most
+    }
 }
 
 impl Node {
     pub fn new(alloc: Global, number: u8, nodes: u8, keep: Keep, skew: u64) -> Result<Node, Halt> {
+        let nodes = nodes.clamp(1, MAX_NODES);
         let mut images = Vec::new(alloc);
         images.push(Image::empty(alloc, nodes))?;
         Ok(Node {
@@ -152,58 +199,167 @@ impl Node {
 
     /// Whether it runs, and its journal is closed.
     pub fn is_shut(&self) -> bool {
-        self.life.as_ref().is_some_and(|life| life.run.is_none())
+        match &self.life {
+            Some(life) => life.run.is_none(),
+            None => false,
+        }
+    }
+
+    pub fn is_open(&self) -> bool {
+        match &self.life {
+            Some(life) => life.state.is_open(),
+            None => false,
+        }
     }
 
     /// How many facts of another node it has heard of, and perhaps not taken yet.
     pub fn heard_of(&self, other: NodeId) -> u64 {
-        let Some(life) = &self.life else {
-            return self.front.count(other);
+        let heard = match &self.life {
+            Some(life) => life.heard_of(other),
+            None => 0,
         };
-        let waiting = life.tellings.iter().map(|telling| telling.front().count(other)).max();
-        let awaited = life.awaited.map(|(_, front)| front.count(other));
-        self.front.count(other).max(waiting.unwrap_or(0)).max(awaited.unwrap_or(0))
+        self.front.count(other).max(heard)
     }
 
-    pub fn is_open(&self) -> bool {
-        self.life.as_ref().is_some_and(|life| life.state.is_open())
+    /// The place of the newest copy of its disk.
+    pub fn newest(&self) -> usize {
+        self.images.len().saturating_sub(1)
+    }
+
+    /// Makes a call of one of its threads, and notes what that leaves.
+    pub fn make(&mut self, caller: usize, call: Call, asked: &Asked, now: u64) -> Result<Option<Reply>, Refusal> {
+        let unix = self.unix(now);
+        let Some(life) = self.life.as_mut() else {
+            return Ok(None);
+        };
+        match life.make(caller, call, asked.enters, now, unix) {
+            Ok(Some(reply)) => {
+                life.note(asked, &reply, now);
+                Ok(Some(reply))
+            }
+            Ok(None) => Ok(None),
+            Err(refusal) => Err(refusal),
+        }
+    }
+
+    /// What is left of a copy of its disk, a call of which failed before its journal was open.
+    pub fn leave(&mut self, image: usize, files: Files<Drive>, loses_power: bool) {
+        let Some(copy) = self.images.get_mut(image) else {
+            return;
+        };
+        let front = copy.front;
+        let doubt = std::mem::replace(&mut copy.doubt, Doubt::Nothing);
+        *copy = Image::of(files, loses_power, front, doubt);
+    }
+
+    /// Keeps what its files hold, as the newest copy.
+    pub fn keep_files(&mut self, files: Files<Drive>, loses_power: bool, doubt: Doubt) -> Result<(), Halt> {
+        if self.images.len() >= IMAGES {
+            let _oldest = self.images.remove(0);
+        }
+        self.images.push(Image::of(files, loses_power, self.front, doubt))?;
+        Ok(())
+    }
+
+    /// The run of its journal, which is closed then.
+    pub fn take_run(&mut self) -> Option<Run> {
+        match self.life.as_mut() {
+            Some(life) => life.run.take(),
+            None => None,
+        }
+    }
+
+    /// What the one own fact leads to that was in doubt.
+    fn settle_fact(&self, history: &mut History, had: Front, has: Front, body: Body) -> Result<Front, Halt> {
+        let number = had.count(self.me).saturating_add(1);
+        let with = raised(had, self.me, number);
+        if has == with && history.count(self.me) == had.count(self.me) {
+            history.add(self.me, number, body)?;
+        }
+        Ok(with)
+    }
+
+    /// Looks whether a book that was opened has the facts of its copy, and settles what was in doubt.
+    pub fn settle(&mut self, alloc: Global, history: &mut History, image: usize, has: Front) -> Result<(), Halt> {
+        let Some(copy) = self.images.get_mut(image) else {
+            return Ok(());
+        };
+        let had = copy.front;
+        copy.front = has;
+        let doubt = std::mem::replace(&mut copy.doubt, Doubt::Nothing);
+        if has == had {
+            return Ok(());
+        }
+        let with = match doubt {
+            Doubt::Fact(body) => self.settle_fact(history, had, has, body)?,
+            Doubt::Frame(front) => had.join(&front),
+            Doubt::Nothing => had,
+        };
+        if has != with {
+            return Err(Halt::Found(format!(in alloc; "its disk had {had}, and it has {has}")?));
+        }
+        Ok(())
     }
 
     /// It has the facts of a front now, all of which it had or were entered by others.
-    pub fn grow(&mut self, history: &History, front: Front, now: u64) -> Result<(), Halt> {
+    pub fn grow(&mut self, alloc: Global, history: &History, front: Front, now: u64) -> Result<(), Halt> {
         for fact in history.facts() {
             if counts(&front, fact) && !counts(&self.front, fact) {
                 self.model.learn(fact)?;
             }
         }
         self.front = front;
-        self.show(now)
+        self.show(alloc, now)
     }
 
     /// It has these facts alone: it begins over an older copy.
     pub fn fall_back(&mut self, alloc: Global, history: &History, front: Front, now: u64) -> Result<(), Halt> {
-        self.model = Model::new(alloc, front.nodes() as u8)?;
+        let nodes = u8::try_from(front.nodes()).unwrap_or(MAX_NODES);
+        self.model = Model::new(alloc, nodes)?;
         self.shown = Vec::new(alloc);
         self.front = Front::zero(front.nodes());
-        self.grow(history, front, now)
+        self.grow(alloc, history, front, now)
+    }
+
+    /// What an LRA shows.
+    pub fn shown_of(&self, id: LraId) -> Option<Shown> {
+        for one in self.shown.iter() {
+            if one.id == id {
+                return Some(*one);
+            }
+        }
+        None
+    }
+
+    pub fn status_of(&self, id: LraId) -> Option<LraStatus> {
+        match self.shown_of(id) {
+            Some(shown) => Some(shown.status),
+            None => None,
+        }
+    }
+
+    /// Since when an LRA shows what it shows now; it has risen to that, or stayed.
+    fn since_of(&self, alloc: Global, id: LraId, status: LraStatus, now: u64) -> Result<u64, Halt> {
+        let Some(before) = self.shown_of(id) else {
+            return Ok(now);
+        };
+        let old = before.status;
+        if old == status {
+            return Ok(before.since);
+        }
+        if status.rank() < old.rank() {
+            return Err(Halt::Found(format!(in alloc; "{id} showed {old}, and shows {status} now")?));
+        }
+        Ok(now)
     }
 
     /// Notes what its LRAs show, and looks whether each has risen.
-    fn show(&mut self, now: u64) -> Result<(), Halt> {
+    fn show(&mut self, alloc: Global, now: u64) -> Result<(), Halt> {
         let shown = self.model.shown()?;
-        let mut next = Vec::new(*self.shown.allocator());
-        for (id, status) in shown {
-            let before = self.shown.iter().find(|one| one.id == id).copied();
-            let since = match before {
-                Some(one) if one.status == status => one.since,
-                Some(one) if status.rank() < one.status.rank() => {
-                    let alloc = *self.shown.allocator();
-                    let old = one.status;
-                    return Err(Halt::Found(format!(in alloc; "{id} showed {old}, and shows {status} now")?));
-                }
-                _ => now,
-            };
-            next.push(Shown { id, status, since })?;
+        let mut next = Vec::new(alloc);
+        for (id, status) in shown.iter() {
+            let since = self.since_of(alloc, *id, *status, now)?;
+            next.push(Shown { id: *id, status: *status, since })?;
         }
         self.shown = next;
         Ok(())
@@ -211,7 +367,7 @@ impl Node {
 
     /// The moment by its own clock, in milliseconds since 1970.
     pub fn unix(&self, now: u64) -> u64 {
-        1_700_000_000_000 + now + self.skew
+        now.saturating_add(self.skew).saturating_add(1_700_000_000_000)
     }
 
     /// How long it keeps a root that shows this.
@@ -222,9 +378,4 @@ impl Node {
             _ => None,
         }
     }
-}
-
-/// A moment of the monotonic clock.
-pub fn at(now: u64) -> Duration {
-    Duration::from_millis(now)
 }

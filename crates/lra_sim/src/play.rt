@@ -1,21 +1,16 @@
 // One to eight nodes in one thread, under a clock, a network, disks and participants that a seed decides.
 
-use crate::disk::{Doubt, Fate, Image, Store};
-use crate::drive::Drive;
-use crate::glue::{Asked, is_any, named_by, noted_by, stored};
+use crate::glue::raised;
 use crate::halt::Halt;
 use crate::history::History;
 use crate::luck::Luck;
 use crate::network::{Manner, Pull};
-use crate::node::{Life, Node, Run, Start, at, run_of};
-use lra_book::{Book, Call, Reply};
-use lra_facts::{Body, Refusal};
-use lra_id::{LraId, NodeId};
+use crate::node::{Life, Node};
+use lra_facts::Body;
+use lra_id::{Front, LraId, MAX_NODES, NodeId};
 use lra_mailbox::Keep;
-use sqlite_disk::Files;
 use std::alloc::Global;
 use std::collections::VecDeque;
-use std::sync::Wait;
 
 /// How many events are told of once something is found.
 pub const TOLD: usize = 20;
@@ -23,13 +18,9 @@ pub const TOLD: usize = 20;
 /// How many hosts participants are at.
 pub const HOSTS: usize = 5;
 
-/// How many copies of its disk a node keeps.
-const IMAGES: usize = 4;
-
 /// The nodes, and all that is round them.
 #[derive(Drop)]
-pub struct Play<'a, R> {
-    rt: &'a R,
+pub struct Play {
     pub alloc: Global,
     pub luck: Luck,
     pub now: u64,
@@ -37,8 +28,8 @@ pub struct Play<'a, R> {
     pub nodes: Vec<Node>,
     pub pulls: Vec<Pull>,
     /// Between which nodes there is no network, by their places.
-    pub cuts: Vec<(usize, usize)>,
-    pub hosts: [Manner; HOSTS],
+    pub cuts: Vec<Cut>,
+    pub hosts: Vec<Manner>,
     /// Whether nothing fails any more.
     pub is_quiet: bool,
     pub steps: u64,
@@ -46,22 +37,57 @@ pub struct Play<'a, R> {
     most: usize,
 }
 
-fn keep_by(luck: &mut Luck) -> Keep {
-    let times = [None, Some(0), Some(300), Some(5_000)];
-    Keep { ended: times[luck.place(4)], failed: times[luck.place(4)] }
+/// Between these nodes there is no network, the lower place first.
+#[derive(Clone, Copy)]
+pub struct Cut {
+    pub low: usize,
+    pub high: usize,
 }
 
-impl<'a, R: Wait> Play<'a, R> {
-    pub fn new(rt: &'a R, alloc: Global, seed: u64, nodes: u8, most: usize) -> Result<Play<'a, R>, Halt> {
+fn time_by(luck: &mut Luck) -> Option<u64> {
+    match luck.below(4) {
+        0 => None,
+        1 => Some(0),
+        2 => Some(300),
+        _ => Some(5_000),
+    }
+}
+
+/// Hosts that all answer well.
+pub fn good_hosts(alloc: Global) -> Result<Vec<Manner>, Halt> {
+    let mut hosts = Vec::new(alloc);
+    for _host in 0..HOSTS {
+        hosts.push(Manner::Well)?;
+    }
+    Ok(hosts)
+}
+
+fn new_node(alloc: Global, luck: &mut Luck, number: u8, nodes: u8) -> Result<Node, Halt> {
+    let ended = time_by(luck);
+    let failed = time_by(luck);
+    let skew = luck.below(20_000);
+    Node::new(alloc, number, nodes, Keep { ended, failed }, skew)
+}
+
+fn new_nodes(alloc: Global, luck: &mut Luck, nodes: u8) -> Result<Vec<Node>, Halt> {
+    let mut all = Vec::new(alloc);
+    for number in 1..=nodes {
+        all.push(new_node(alloc, luck, number, nodes)?)?;
+    }
+    Ok(all)
+}
+
+/// Why a play is over where a place is no node's.
+pub fn nowhere() -> Halt {
+    Halt::Stuck("no such node")
+}
+
+impl Play {
+    pub fn new(alloc: Global, seed: u64, nodes: u8, most: usize) -> Result<Play, Halt> {
         let mut luck = Luck::new(seed);
-        let mut all = Vec::new(alloc);
-        for number in 1..=nodes {
-            let keep = keep_by(&mut luck);
-            let skew = luck.below(20_000);
-            all.push(Node::new(alloc, number, nodes, keep, skew)?)?;
-        }
+        let all = new_nodes(alloc, &mut luck, nodes)?;
+        let hosts = good_hosts(alloc)?;
         Ok(Play {
-            rt,
             alloc,
             luck,
             now: 1,
@@ -69,7 +95,7 @@ impl<'a, R: Wait> Play<'a, R> {
             nodes: all,
             pulls: Vec::new(alloc),
             cuts: Vec::new(alloc),
-            hosts: [Manner::Well; HOSTS],
+            hosts,
             is_quiet: false,
             steps: 0,
             told: VecDeque::new(alloc),
@@ -77,8 +103,38 @@ impl<'a, R: Wait> Play<'a, R> {
         })
     }
 
+    /// How many nodes there are.
     pub fn count(&self) -> u8 {
-        self.nodes.len() as u8
+        u8::try_from(self.nodes.len()).unwrap_or(MAX_NODES)
+    }
+
+    /// The node at a place.
+    pub fn me(&self, place: usize) -> Result<NodeId, Halt> {
+        match self.nodes.get(place) {
+            Some(node) => Ok(node.me),
+            None => Err(nowhere()),
+        }
+    }
+
+    /// The facts that the node at a place has.
+    pub fn front(&self, place: usize) -> Result<Front, Halt> {
+        match self.nodes.get(place) {
+            Some(node) => Ok(node.front),
+            None => Err(nowhere()),
+        }
+    }
+
+    /// What is there of the node at a place, while it runs.
+    pub fn life(&mut self, place: usize) -> Option<&mut Life> {
+        match self.nodes.get_mut(place) {
+            Some(node) => node.life.as_mut(),
+            None => None,
+        }
+    }
+
+    /// A node, by its place.
+    pub fn some_place(&mut self) -> usize {
+        self.luck.place(self.nodes.len())
     }
 
     /// Notes an event in words.
@@ -88,7 +144,8 @@ impl<'a, R: Wait> Play<'a, R> {
         }
         let (steps, now) = (self.steps, self.now);
         let line = format!(in self.alloc; "{steps}, at {now} ms: {words}")?;
-        Ok(self.told.push_back(line)?)
+        self.told.push_back(line)?;
+        Ok(())
     }
 
     pub fn told(&self) -> &VecDeque<String> {
@@ -96,288 +153,42 @@ impl<'a, R: Wait> Play<'a, R> {
     }
 
     pub fn is_cut(&self, one: usize, other: usize) -> bool {
-        self.cuts.contains(&(one.min(other), one.max(other)))
-    }
-
-    /// Opens the journal of a node over a copy of its disk, whose calls may fail.
-    fn open(&mut self, place: usize, image: usize) -> Result<Option<Book<Store>>, Halt> {
-        let (alloc, me, count) = (self.alloc, self.nodes[place].me, usize::from(self.count()));
-        let fate = if self.is_quiet { Fate::good() } else { Fate::by(&mut self.luck) };
-        let connection = match self.nodes[place].images[image].open(alloc, fate, &mut self.luck)? {
-            Ok(connection) => connection,
-            Err(files) => return self.leave(place, image, files),
-        };
-        match Book::open(alloc, connection, me, count) {
-            Ok(book) => {
-                self.settle(place, image, &book)?;
-                Ok(Some(book))
-            }
-            Err((Refusal::JournalFailed, connection)) => {
-                self.leave(place, image, connection.into_store().close())
-            }
-            Err((refusal, _)) => self.found(format!(in alloc; "its journal isn't opened: {refusal}")?),
-        }
-    }
-
-    /// A call of the disk of a node failed before its journal was open.
-    fn leave(&mut self, place: usize, image: usize, files: Files<Drive>) -> Result<Option<Book<Store>>, Halt> {
-        let loses_power = self.luck.is_one_in(2);
-        let copy = &mut self.nodes[place].images[image];
-        let doubt = std::mem::replace(&mut copy.doubt, Doubt::Nothing);
-        *copy = Image::of(files, loses_power, copy.front, doubt);
-        self.tell(format!(in self.alloc; "its disk fails before it is open")?)?;
-        Ok(None)
-    }
-
-    /// Starts a node over a copy of its disk.
-    pub fn start(&mut self, place: usize, image: usize) -> Result<(), Halt> {
-        let is_older = image + 1 < self.nodes[place].images.len();
-        let number = self.nodes[place].me.number();
-        self.tell(format!(in self.alloc; "node {number} starts, over an older copy: {is_older}")?)?;
-        match self.open(place, image)? {
-            Some(book) => self.begin(place, image, book),
-            None => Ok(()),
-        }
-    }
-
-    /// A node whose journal was closed opens it again, and nothing is stored for a while.
-    pub fn reopen(&mut self, place: usize) -> Result<(), Halt> {
-        let (alloc, number) = (self.alloc, self.nodes[place].me.number());
-        self.tell(format!(in alloc; "node {number} opens its journal again")?)?;
-        let newest = self.nodes[place].images.len() - 1;
-        let Some(book) = self.open(place, newest)? else {
-            return Ok(());
-        };
-        let (front, until) = (book.front(), self.now + 100);
-        self.nodes[place].grow(&self.history, front, self.now)?;
-        if let Some(life) = self.nodes[place].life.as_mut() {
-            life.state.hold_until(at(until));
-            life.run = Some(run_of(alloc, book)?);
-        }
-        Ok(())
-    }
-
-    pub fn found<T>(&self, what: String) -> Result<T, Halt> {
-        Err(Halt::Found(what))
-    }
-
-    /// Looks whether a book that was opened has the facts of its copy, and settles what was in doubt.
-    fn settle(&mut self, place: usize, image: usize, book: &Book<Store>) -> Result<(), Halt> {
-        let alloc = self.alloc;
-        let has = book.front();
-        let node = &mut self.nodes[place];
-        let me = node.me;
-        let copy = &mut node.images[image];
-        if has == copy.front {
-            copy.doubt = Doubt::Nothing;
-            return Ok(());
-        }
-        let (had, mut with) = (copy.front, copy.front);
-        let doubt = std::mem::replace(&mut copy.doubt, Doubt::Nothing);
-        match doubt {
-            Doubt::Fact(body) => {
-                with.set(me, had.count(me) + 1);
-                if has == with && self.history.count(me) == had.count(me) {
-                    self.history.add(me, had.count(me) + 1, body)?;
-                }
-            }
-            Doubt::Frame(front) => with = had.join(&front),
-            Doubt::Nothing => {}
-        }
-        copy.front = has;
-        if has != with {
-            return Err(Halt::Found(format!(in alloc; "its disk had {had}, and it has {has}")?));
-        }
-        Ok(())
-    }
-
-    fn begin(&mut self, place: usize, image: usize, book: Book<Store>) -> Result<(), Halt> {
-        let (alloc, now, count) = (self.alloc, self.now, self.count());
-        let is_older = image + 1 < self.nodes[place].images.len();
-        let front = book.front();
-        if is_older {
-            self.lose(place, front.count(self.nodes[place].me));
-            self.nodes[place].fall_back(alloc, &self.history, front, now)?;
-            self.nodes[place].images.truncate(image + 1);
-            self.nodes[place].is_recovering = true;
-        } else {
-            self.nodes[place].grow(&self.history, front, now)?;
-        }
-        let waits_for_all = self.nodes[place].is_recovering;
-        let start = Start { at: now, waits_for_all, heard: [false; 8], told_own: 0 };
-        let run = run_of(alloc, book)?;
-        let node = &mut self.nodes[place];
-        node.life = Some(Life::new(alloc, node, count, run, start));
-        Ok(())
-    }
-
-    /// What nobody else has heard of a node that has so many of its facts is lost. What it told is on its way to nobody.
-    fn lose(&mut self, place: usize, count: u64) {
-        let me = self.nodes[place].me;
-        self.pulls.retain(|pull| pull.teller != place);
-        let known = self.nodes.iter().filter(|node| node.me != me).map(|node| node.heard_of(me)).max();
-        self.history.forget(me, count.max(known.unwrap_or(0)));
-    }
-
-    /// Closes the journal of a node, in the middle of a call or between two.
-    fn shut(&mut self, place: usize, loses_power: bool, doubt: Doubt) -> Result<(), Halt> {
-        let alloc = self.alloc;
-        let node = &mut self.nodes[place];
-        let Some(Life { run, .. }) = node.life.as_mut() else {
-            return Ok(());
-        };
-        let Some(run) = run.take() else {
-            return Ok(());
-        };
-        let Some(book) = run.end() else {
-            return Err(Halt::Found(format!(in alloc; "receipts and trail differ")?));
-        };
-        let files = book.close().into_store().close();
-        if node.images.len() >= IMAGES {
-            let _oldest = node.images.remove(0);
-        }
-        Ok(node.images.push(Image::of(files, loses_power, node.front, doubt))?)
-    }
-
-    /// Stops a node, in the middle of a call or between two.
-    pub fn stop(&mut self, place: usize, doubt: Doubt) -> Result<(), Halt> {
-        let (alloc, number) = (self.alloc, self.nodes[place].me.number());
-        let loses_power = self.luck.is_one_in(2);
-        self.tell(format!(in alloc; "node {number} stops, and loses power: {loses_power}")?)?;
-        self.shut(place, loses_power, doubt)?;
-        self.pulls.retain(|pull| pull.asker != place);
-        self.nodes[place].life = None;
-        Ok(())
-    }
-
-    /// A call of the disk failed: the machine stops, or the node goes on and opens its journal again.
-    fn fail(&mut self, place: usize, doubt: Doubt) -> Result<(), Halt> {
-        if self.luck.is_one_in(2) {
-            return self.stop(place, doubt);
-        }
-        let (alloc, number) = (self.alloc, self.nodes[place].me.number());
-        self.tell(format!(in alloc; "the disk of node {number} fails")?)?;
-        let loses_written = self.luck.is_one_in(2);
-        self.shut(place, loses_written, doubt)
-    }
-
-    /// Ends a run of a node, and begins the next.
-    pub fn next_run(&mut self, place: usize) -> Result<(), Halt> {
-        let alloc = self.alloc;
-        let Some(life) = self.nodes[place].life.as_mut() else {
-            return Ok(());
-        };
-        let Some(run) = life.run.take() else {
-            return Ok(());
-        };
-        let Some(book) = run.end() else {
-            return Err(Halt::Found(format!(in alloc; "receipts and trail differ")?));
-        };
-        life.run = Some(run_of(alloc, book)?);
-        Ok(())
-    }
-
-    /// Makes a call of a thread of a node; no reply comes where it isn't up, holds the call back, or stops.
-    pub fn call(&mut self, place: usize, pass: usize, call: Call) -> Result<Option<Reply>, Halt> {
-        let (alloc, now) = (self.alloc, self.now);
-        let asked = Asked::of(&call)?;
-        let node = &mut self.nodes[place];
-        let unix = node.unix(now);
-        let Some(Life { run: Some(Run { desk, passes }), state, .. }) = node.life.as_mut() else {
-            return Ok(None);
-        };
-        let is_held = !state.is_open() || state.is_spared(at(now));
-        if pass > 0 && asked.enters && is_held {
-            return Ok(None);
-        }
-        match desk.call(alloc, self.rt, &mut passes[pass], call, unix) {
-            Ok(()) => {
-                let reply = passes[pass].last().reply.clone()?;
-                let noted = noted_by(&asked, &reply);
-                if is_any(&noted) {
-                    state.note(&noted, at(now));
-                }
-                if let Reply::Gave(delta) = &reply {
-                    state.learn(&delta.front());
-                    state.note_counted();
-                }
-                self.entered(place, asked, &reply)?;
-                Ok(Some(reply))
-            }
-            Err(Refusal::JournalFailed) => {
-                let doubt = match asked.taken {
-                    Some(front) => Doubt::Frame(front),
-                    None => self.doubt_of(place, asked)?,
-                };
-                self.fail(place, doubt)?;
-                Ok(None)
-            }
-            Err(Refusal::RunFull) => {
-                self.next_run(place)?;
-                Ok(None)
-            }
-            Err(refusal) => self.found(format!(in alloc; "a call is refused: {refusal}")?),
-        }
-    }
-
-    /// What a call was to store that was cut off: of a join the next member number isn't known here, so the model says it.
-    fn doubt_of(&mut self, place: usize, asked: Asked) -> Result<Doubt, Halt> {
-        let node = &self.nodes[place];
-        let given = match &asked.command {
-            Some(lra_facts::Command::Join { id, .. }) => node.model.members(*id) as u8 + 1,
-            _ => 0,
-        };
-        Ok(match asked.command {
-            Some(command) => Doubt::Fact(crate::glue::body_of(command, given)),
-            None => match node.model.first_overdue(node.me, node.unix(self.now)) {
-                Some(id) => Doubt::Fact(Body::Decide { id, verdict: lra_id::Verdict::Cancel }),
-                None => Doubt::Nothing,
-            },
-        })
-    }
-
-    /// A call was made, and is answered.
-    fn entered(&mut self, place: usize, asked: Asked, reply: &Reply) -> Result<(), Halt> {
-        let (alloc, now) = (self.alloc, self.now);
-        let me = self.nodes[place].me;
-        let mut front = self.nodes[place].front;
-        if matches!(reply, Reply::Took) {
-            if let Some(taken) = asked.taken {
-                return self.nodes[place].grow(&self.history, front.join(&taken), now);
+        let (low, high) = (one.min(other), one.max(other));
+        for cut in self.cuts.iter() {
+            if cut.low == low && cut.high == high {
+                return true;
             }
         }
-        if let Reply::Expired(id) = reply {
-            if !self.nodes[place].model.is_overdue(*id, self.nodes[place].unix(now)) {
-                return self.found(format!(in alloc; "{id} is cancelled before its deadline")?);
-            }
-        }
-        self.see_purge(place, &asked, reply)?;
-        let named = asked.command.as_ref().and_then(named_by);
-        let Some(body) = stored(asked, reply) else {
-            return self.see_reply(place, named, reply);
+        false
+    }
+
+    /// A node has the facts of a front now.
+    pub fn grow(&mut self, place: usize, front: Front) -> Result<(), Halt> {
+        let Some(node) = self.nodes.get_mut(place) else {
+            return Err(nowhere());
         };
-        let number = front.count(me) + 1;
+        node.grow(self.alloc, &self.history, front, self.now)
+    }
+
+    /// A node enters a fact.
+    pub fn add(&mut self, place: usize, body: Body) -> Result<(), Halt> {
+        let (me, front) = (self.me(place)?, self.front(place)?);
+        let number = front.count(me).saturating_add(1);
         if self.history.count(me) >= number {
-            return self.found(format!(in alloc; "{me} gives number {number} twice")?);
+            return Err(Halt::Found(format!(in self.alloc; "{me} gives number {number} twice")?));
         }
         self.see_opening(place)?;
         self.history.add(me, number, body)?;
-        front.set(me, number);
-        self.nodes[place].grow(&self.history, front, now)?;
-        self.see_reply(place, named, reply)
+        self.grow(place, raised(front, me, number))
     }
 
     /// Which LRAs a node may be asked about.
     pub fn some_lra(&mut self, place: usize) -> Result<Option<LraId>, Halt> {
-        let home: NodeId = if self.luck.is_one_in(5) {
-            self.nodes[self.luck.place(self.nodes.len())].me
-        } else {
-            self.nodes[place].me
-        };
-        let begun = self.history.begun(self.alloc, home, 6)?;
+        let home = if self.luck.is_one_in(5) { self.some_place() } else { place };
+        let begun = self.history.begun(self.alloc, self.me(home)?, 6)?;
         if begun.is_empty() {
             return Ok(None);
         }
-        Ok(Some(begun[self.luck.place(begun.len())]))
+        Ok(begun.get(self.luck.place(begun.len())).copied())
     }
 }

@@ -2,35 +2,53 @@
 
 use crate::halt::Halt;
 use lra_book::Reply;
-use lra_facts::{Command, CommandReply};
+use lra_facts::{Command, CommandReply, Links};
+use lra_id::LraId;
 use std::alloc::Global;
 
+fn of_begin(alloc: Global, parent: Option<LraId>, deadline: u64) -> Result<String, Halt> {
+    match parent {
+        Some(parent) => Ok(format!(in alloc; "begin in {parent} by {deadline}")?),
+        None => Ok(format!(in alloc; "begin by {deadline}")?),
+    }
+}
+
+fn of_join(alloc: Global, id: LraId, links: &Links) -> Result<String, Halt> {
+    let (complete, status) = (links.complete().is_some(), links.status().is_some());
+    let (forget, after) = (links.forget().is_some(), links.after().is_some());
+    Ok(format!(in alloc; "join {id}, completes {complete}, status {status}, forgets {forget}, listens {after}")?)
+}
+
 pub fn of_command(alloc: Global, command: &Command) -> Result<String, Halt> {
-    Ok(match command {
-        Command::Begin { parent: None, deadline } => format!(in alloc; "begin by {deadline}")?,
-        Command::Begin { parent: Some(parent), deadline } => format!(in alloc; "begin in {parent} by {deadline}")?,
-        Command::Join { id, links } => {
-            let (complete, status) = (links.complete().is_some(), links.status().is_some());
-            let (forget, after) = (links.forget().is_some(), links.after().is_some());
-            format!(in alloc; "join {id}, completes {complete}, status {status}, forgets {forget}, listens {after}")?
+    match command {
+        Command::Begin { parent, deadline } => of_begin(alloc, *parent, *deadline),
+        Command::Join { id, links } => of_join(alloc, *id, links),
+        Command::Leave { id, member } => Ok(format!(in alloc; "leave {id} {member}")?),
+        Command::Decide { id, verdict } => Ok(format!(in alloc; "{verdict} {id}")?),
+        Command::Report { id, member, act, outcome } => {
+            Ok(format!(in alloc; "report {id} {member} {act} {outcome}")?)
         }
-        Command::Leave { id, member } => format!(in alloc; "leave {id} {member}")?,
-        Command::Decide { id, verdict } => format!(in alloc; "{verdict} {id}")?,
-        Command::Report { id, member, act, outcome } => format!(in alloc; "report {id} {member} {act} {outcome}")?,
-        Command::Forgot { id, member } => format!(in alloc; "forgot {id} {member}")?,
-        Command::Told { id, member } => format!(in alloc; "told {id} {member}")?,
-        Command::Purge { root } => format!(in alloc; "purge {root}")?,
-    })
+        Command::Forgot { id, member } => Ok(format!(in alloc; "forgot {id} {member}")?),
+        Command::Told { id, member } => Ok(format!(in alloc; "told {id} {member}")?),
+        Command::Purge { root } => Ok(format!(in alloc; "purge {root}")?),
+    }
+}
+
+fn of_command_reply(alloc: Global, reply: &CommandReply) -> Result<String, Halt> {
+    match reply {
+        CommandReply::Began(id, _) => Ok(format!(in alloc; "began {id}")?),
+        CommandReply::Joined(_, member) => Ok(format!(in alloc; "member {member}")?),
+        CommandReply::Decided(_, status) => Ok(format!(in alloc; "{status}")?),
+        CommandReply::Refused(refusal) => Ok(format!(in alloc; "{refusal}")?),
+        other => Ok(format!(in alloc; "{other:?}")?),
+    }
 }
 
 pub fn of_reply(alloc: Global, reply: &Option<Reply>) -> Result<String, Halt> {
-    Ok(match reply {
-        None => format!(in alloc; "no reply")?,
-        Some(Reply::Command(CommandReply::Began(id, _))) => format!(in alloc; "began {id}")?,
-        Some(Reply::Command(CommandReply::Joined(_, member))) => format!(in alloc; "member {member}")?,
-        Some(Reply::Command(CommandReply::Decided(_, status))) => format!(in alloc; "{status}")?,
-        Some(Reply::Command(CommandReply::Refused(refusal)) | Reply::Refused(refusal)) => format!(in alloc; "{refusal}")?,
-        Some(Reply::Command(other)) => format!(in alloc; "{other:?}")?,
-        Some(_) => format!(in alloc; "answered")?,
-    })
+    match reply {
+        None => Ok(format!(in alloc; "no reply")?),
+        Some(Reply::Command(reply)) => of_command_reply(alloc, reply),
+        Some(Reply::Refused(refusal)) => Ok(format!(in alloc; "{refusal}")?),
+        Some(_) => Ok(format!(in alloc; "answered")?),
+    }
 }
