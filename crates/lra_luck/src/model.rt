@@ -17,7 +17,6 @@ pub struct Lra {
     parent: Option<u64>,
     deadline: u64,
     decision: Option<Verdict>,
-    is_purged: bool,
     members: Vec<Member>,
 }
 
@@ -106,8 +105,13 @@ fn greater(before: Option<Outcome>, now: Outcome) -> Option<Outcome> {
     before.max(Some(now))
 }
 
-/// At which place a home stands.
-fn place_of(home: NodeId) -> usize {
+/// Whether an LRA has one of these numbers.
+fn is_among(lra: &Lra, numbers: &[u64]) -> bool {
+    numbers.contains(&lra.id.num())
+}
+
+/// Where the LRAs of a home stand.
+fn slot_of(home: NodeId) -> usize {
     usize::from(home.number()).saturating_sub(1)
 }
 
@@ -122,15 +126,23 @@ impl Model {
     }
 
     fn home(&self, home: NodeId) -> &[Lra] {
-        match self.homes.get(place_of(home)) {
+        match self.homes.get(slot_of(home)) {
             Some(lras) => lras.as_slice(),
             None => &[],
         }
     }
 
+    /// At which place of a home's list an LRA with this number stands, or would stand.
+    fn place(&self, home: NodeId, num: u64) -> usize {
+        self.home(home).partition_point(|lra| lra.id.num() < num)
+    }
+
     /// The LRA with this number at a home.
     fn numbered(&self, home: NodeId, num: u64) -> Option<&Lra> {
-        self.home(home).iter().find(|lra| lra.id.num() == num)
+        let Some(lra) = self.home(home).get(self.place(home, num)) else {
+            return None;
+        };
+        if lra.id.num() == num { Some(lra) } else { None }
     }
 
     fn lra(&self, id: LraId) -> Option<&Lra> {
@@ -138,12 +150,11 @@ impl Model {
     }
 
     fn lra_mut(&mut self, id: LraId) -> Option<&mut Lra> {
-        let num = id.num();
-        let place = self
-            .home(id.home())
-            .iter()
-            .position(|lra| lra.id.num() == num)?;
-        let Some(home) = self.homes.get_mut(place_of(id.home())) else {
+        if self.lra(id).is_none() {
+            return None;
+        }
+        let place = self.place(id.home(), id.num());
+        let Some(home) = self.homes.get_mut(slot_of(id.home())) else {
             return None;
         };
         home.get_mut(place)
@@ -156,13 +167,9 @@ impl Model {
         Ok(())
     }
 
-    fn begin(&mut self, id: LraId, parent: Option<LraId>, deadline: u64) -> Result<(), Halt> {
-        if let Some(above) = parent {
-            self.add_member(above, Member::Nested(id.num()))?;
-        }
+    fn add_lra(&mut self, id: LraId, parent: Option<u64>, deadline: u64) -> Result<(), Halt> {
         let members = Vec::new(self.alloc);
-        let parent = parent.map(|above| above.num());
-        let Some(home) = self.homes.get_mut(place_of(id.home())) else {
+        let Some(home) = self.homes.get_mut(slot_of(id.home())) else {
             return Err(Halt::Stuck("no such home"));
         };
         home.push(Lra {
@@ -170,10 +177,21 @@ impl Model {
             parent,
             deadline,
             decision: None,
-            is_purged: false,
             members,
         })?;
         Ok(())
+    }
+
+    /// An LRA in one that isn't held isn't held either.
+    fn begin(&mut self, id: LraId, parent: Option<LraId>, deadline: u64) -> Result<(), Halt> {
+        let Some(above) = parent else {
+            return self.add_lra(id, None, deadline);
+        };
+        if self.lra(above).is_none() {
+            return Ok(());
+        }
+        self.add_member(above, Member::Nested(id.num()))?;
+        self.add_lra(id, Some(above.num()), deadline)
     }
 
     fn join(&mut self, id: LraId, links: &Links) -> Result<(), Halt> {
@@ -197,10 +215,24 @@ impl Model {
         }
     }
 
-    fn purge(&mut self, root: LraId) {
-        if let Some(lra) = self.lra_mut(root) {
-            lra.is_purged = true;
+    /// The numbers of the LRAs under a root, and its own.
+    fn numbers_under(&self, root: LraId) -> Result<Vec<u64>, Halt> {
+        let mut numbers = Vec::new(self.alloc);
+        for lra in self.home(root.home()) {
+            if self.root(lra).id == root {
+                numbers.push(lra.id.num())?;
+            }
         }
+        Ok(numbers)
+    }
+
+    /// A root isn't held any more, nor is what is nested in it.
+    fn purge(&mut self, root: LraId) -> Result<(), Halt> {
+        let gone = self.numbers_under(root)?;
+        if let Some(home) = self.homes.get_mut(slot_of(root.home())) {
+            home.retain(|lra| !is_among(lra, &gone));
+        }
+        Ok(())
     }
 
     fn member_mut(&mut self, id: LraId, member: u8) -> Option<&mut Member> {
@@ -261,7 +293,7 @@ impl Model {
                 links,
             } => self.join(*id, links)?,
             Body::Decide { id, verdict } => self.decide(*id, *verdict),
-            Body::Purge { root } => self.purge(*root),
+            Body::Purge { root } => self.purge(*root)?,
             Body::Leave { id, member } => self.leave(*id, *member),
             Body::Report {
                 id,
@@ -288,10 +320,6 @@ impl Model {
             top = above;
         }
         top
-    }
-
-    fn is_held(&self, lra: &Lra) -> bool {
-        !self.root(lra).is_purged
     }
 
     /// Whether an LRA or one above it is decided so.
@@ -384,9 +412,7 @@ impl Model {
 
     fn add_shown(&self, lras: &[Lra], all: &mut Vec<(LraId, LraStatus)>) -> Result<(), Halt> {
         for lra in lras {
-            if self.is_held(lra) {
-                all.push((lra.id, self.status(lra)))?;
-            }
+            all.push((lra.id, self.status(lra)))?;
         }
         Ok(())
     }
@@ -400,8 +426,41 @@ impl Model {
         Ok(all)
     }
 
+    /// What an LRA shows, if it is held.
+    pub fn shown_of(&self, id: LraId) -> Option<LraStatus> {
+        match self.lra(id) {
+            Some(lra) => Some(self.status(lra)),
+            None => None,
+        }
+    }
+
+    /// The LRAs of the tree that one is in, if it is held: those whose statuses a fact about it can change.
+    pub fn tree(&self, id: LraId) -> Result<Vec<LraId>, Halt> {
+        let mut ids = Vec::new(self.alloc);
+        let Some(lra) = self.lra(id) else {
+            return Ok(ids);
+        };
+        self.add_tree(self.root(lra), LEVELS, &mut ids)?;
+        Ok(ids)
+    }
+
+    fn add_tree(&self, lra: &Lra, levels: u8, ids: &mut Vec<LraId>) -> Result<(), Halt> {
+        ids.push(lra.id)?;
+        if levels == 0 {
+            return Ok(());
+        }
+        for member in lra.members.iter() {
+            if let Member::Nested(num) = member {
+                if let Some(inner) = self.numbered(lra.id.home(), *num) {
+                    self.add_tree(inner, levels - 1, ids)?;
+                }
+            }
+        }
+        Ok(())
+    }
+
     fn is_late(&self, lra: &Lra, now: u64) -> bool {
-        self.is_held(lra) && self.want(lra).is_none() && lra.deadline != 0 && lra.deadline <= now
+        lra.deadline != 0 && lra.deadline <= now && self.want(lra).is_none()
     }
 
     /// Whether an LRA is overdue at a moment.
@@ -468,7 +527,7 @@ impl Model {
     }
 
     fn is_to_be_completed(&self, lra: &Lra, one: &Participant) -> bool {
-        self.want(lra) == Some(Verdict::Close) && is_to_complete(one)
+        is_to_complete(one) && self.want(lra) == Some(Verdict::Close)
     }
 
     fn is_to_forget(&self, lra: &Lra, one: &Participant) -> bool {
@@ -581,9 +640,6 @@ impl Model {
         dues: &mut Vec<DueCall>,
     ) -> Result<(), Halt> {
         for lra in self.home(home) {
-            if !self.is_held(lra) {
-                continue;
-            }
             if wanted == Kind::Compensate {
                 self.add_compensation(lra, dues)?;
             } else {
