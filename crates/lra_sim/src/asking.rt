@@ -1,8 +1,5 @@
 // What clients and operators ask of nodes.
 
-use crate::halt::Halt;
-use crate::luck::Luck;
-use crate::model::DueCall;
 use crate::node::{Errand, Life};
 use crate::play::{HOSTS, Play, nowhere};
 use crate::words::{of_command, of_reply};
@@ -10,6 +7,7 @@ use lra_book::Call;
 use lra_callback::Kind;
 use lra_facts::{Command, Links};
 use lra_id::{Act, LraId, Outcome, Verdict};
+use lra_luck::{DueCall, Halt, Luck};
 use lra_mailbox::Wanted;
 use std::alloc::Global;
 

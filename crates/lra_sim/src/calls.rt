@@ -1,11 +1,10 @@
 // The calls that threads of a node make, and what comes of each.
 
-use crate::disk::Doubt;
 use crate::glue::{Asked, body_of, cancel, named_in, stored, taken_by};
-use crate::halt::Halt;
 use crate::play::{Play, nowhere};
 use lra_book::{Call, Reply};
 use lra_facts::{Command, Refusal};
+use lra_luck::{Doubt, Halt};
 
 impl Play {
     fn make(&mut self, place: usize, caller: usize, call: Call, asked: &Asked) -> Result<Option<Reply>, Refusal> {

@@ -1,12 +1,12 @@
 // What is looked at after each step: whether what nodes say and do is what their facts and the definitions say.
 
 use crate::glue::{Asked, purged_root};
-use crate::halt::Halt;
 use crate::node::{Node, Start};
 use crate::play::{Play, nowhere};
 use lra_book::{Call, Holding, Reply};
 use lra_facts::{CommandReply, Refusal};
 use lra_id::{LraId, LraStatus};
+use lra_luck::Halt;
 use lra_replica::{Page, Row};
 use std::alloc::Global;
 

@@ -1,10 +1,10 @@
 // What the server's threads do between the desk and the mailbox, and is private there. These lines stand twice: in
 // lra_server/src/run, `noting.rt` (all), `sweeping.rt` (`purged_by`), `counting.rt` and `apply_loop.rt` (`body_of_all`).
 
-use crate::halt::Halt;
 use lra_book::{Call, PullBody, Reply};
 use lra_facts::{Body, Command, CommandReply, Refusal};
 use lra_id::{Act, Front, LAST_NUMBER, LraId, MAX_NODES, NodeId, Verdict};
+use lra_luck::Halt;
 use lra_mailbox::{Became, News, Noted, Purged};
 use lra_peer::pull_body;
 use std::alloc::Global;

@@ -6,14 +6,7 @@
 mod asking;
 mod calls;
 mod checks;
-mod disk;
-mod drive;
 mod glue;
-mod halt;
-mod history;
-mod luck;
-mod model;
-mod network;
 mod node;
 mod opening;
 mod play;
@@ -23,8 +16,8 @@ mod steps;
 mod threads;
 mod words;
 
-use crate::halt::Halt;
 use crate::play::{Play, TOLD};
+use lra_luck::Halt;
 use std::alloc::Global;
 use std::env;
 use std::io;

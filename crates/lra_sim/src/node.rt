@@ -1,20 +1,15 @@
 // A node: what is there while it runs, what outlives it, and what the simulator knows of it.
 
-use crate::disk::{Doubt, Image};
-use crate::drive::Drive;
 use crate::glue::{Asked, is_any, noted_by, raised};
-use crate::halt::Halt;
-use crate::history::{History, counts};
-use crate::model::{DueCall, Model};
 use crate::run::Run;
 use lra_book::{Call, Reply};
 use lra_delta::Delta;
 use lra_facts::{Body, Refusal};
 use lra_heard::Telling;
 use lra_id::{Front, LraId, LraStatus, MAX_NODES, NodeId};
+use lra_luck::{Doubt, DueCall, Halt, History, Image, Model, Remains, counts};
 use lra_mailbox::{Keep, MailboxState, Sweeping, Task};
 use lra_turns::Due;
-use sqlite_disk::Files;
 use std::alloc::Global;
 use std::time::Duration;
 
@@ -243,21 +238,22 @@ impl Node {
     }
 
     /// What is left of a copy of its disk, a call of which failed before its journal was open.
-    pub fn leave(&mut self, image: usize, files: Files<Drive>, loses_power: bool) {
+    pub fn leave(&mut self, image: usize, files: &Remains, loses_power: bool) -> Result<(), Halt> {
         let Some(copy) = self.images.get_mut(image) else {
-            return;
+            return Ok(());
         };
         let front = copy.front;
         let doubt = std::mem::replace(&mut copy.doubt, Doubt::Nothing);
-        *copy = Image::of(files, loses_power, front, doubt);
+        *copy = Image::of(files, loses_power, front, doubt)?;
+        Ok(())
     }
 
     /// Keeps what its files hold, as the newest copy.
-    pub fn keep_files(&mut self, files: Files<Drive>, loses_power: bool, doubt: Doubt) -> Result<(), Halt> {
+    pub fn keep_files(&mut self, files: &Remains, loses_power: bool, doubt: Doubt) -> Result<(), Halt> {
         if self.images.len() >= IMAGES {
             let _oldest = self.images.remove(0);
         }
-        self.images.push(Image::of(files, loses_power, self.front, doubt))?;
+        self.images.push(Image::of(files, loses_power, self.front, doubt)?)?;
         Ok(())
     }
 
@@ -303,7 +299,7 @@ impl Node {
 
     /// It has the facts of a front now, all of which it had or were entered by others.
     pub fn grow(&mut self, alloc: Global, history: &History, front: Front, now: u64) -> Result<(), Halt> {
-        for fact in history.facts() {
+        for fact in history.since(&self.front) {
             if counts(&front, fact) && !counts(&self.front, fact) {
                 self.model.learn(fact)?;
             }

@@ -1,21 +1,18 @@
 // How nodes start and stop, and open and close their journals.
 
-use crate::disk::{Doubt, Fate, Store};
-use crate::drive::Drive;
-use crate::halt::Halt;
 use crate::node::{Life, Start, at};
 use crate::play::{Play, nowhere};
-use crate::run::{Opening, Run};
+use crate::run::{Ended, Opening, Run};
 use lra_id::{Front, NodeId};
+use lra_luck::{Doubt, Fate, Halt, Remains, Store};
 use sqlite::Connection;
-use sqlite_disk::Files;
 
 /// How long nothing is stored once a journal was opened again, in milliseconds.
 const PAUSE_MS: u64 = 100;
 
 impl Play {
-    /// A connection to a copy of a node's disk, whose calls may fail; or what is left of it.
-    fn connect(&mut self, place: usize, image: usize) -> Result<Result<Connection<Store>, Files<Drive>>, Halt> {
+    /// A connection to a copy of a node's disk, whose calls may fail, with its files; none where one fails.
+    fn connect(&mut self, place: usize, image: usize) -> Result<(Option<Connection<Store>>, Remains), Halt> {
         let fate = if self.is_quiet { Fate::good() } else { Fate::by(&mut self.luck) };
         let Some(node) = self.nodes.get(place) else {
             return Err(nowhere());
@@ -28,9 +25,10 @@ impl Play {
 
     fn open_journal(&mut self, place: usize, image: usize) -> Result<Opening, Halt> {
         let (me, count) = (self.me(place)?, self.count());
-        match self.connect(place, image)? {
-            Ok(connection) => Run::open(self.alloc, connection, me, count),
-            Err(files) => Ok(Opening::Failed(files)),
+        let (connection, files) = self.connect(place, image)?;
+        match connection {
+            Some(connection) => Run::open(self.alloc, Ended { connection, files }, me, count),
+            None => Ok(Opening::Failed(files)),
         }
     }
 
@@ -42,7 +40,7 @@ impl Play {
                 Ok(Some(run))
             }
             Opening::Failed(files) => {
-                self.leave(place, image, files)?;
+                self.leave(place, image, &files)?;
                 Ok(None)
             }
         }
@@ -57,10 +55,10 @@ impl Play {
     }
 
     /// A call of the disk of a node failed before its journal was open.
-    fn leave(&mut self, place: usize, image: usize, files: Files<Drive>) -> Result<(), Halt> {
+    fn leave(&mut self, place: usize, image: usize, files: &Remains) -> Result<(), Halt> {
         let loses_power = self.luck.is_one_in(2);
         if let Some(node) = self.nodes.get_mut(place) {
-            node.leave(image, files, loses_power);
+            node.leave(image, files, loses_power)?;
         }
         self.tell(format!(in self.alloc; "its disk fails before it is open")?)
     }
@@ -91,7 +89,7 @@ impl Play {
 
     /// A node has what an older copy has.
     fn fall_back(&mut self, place: usize, image: usize, me: NodeId, front: Front) -> Result<(), Halt> {
-        self.lose(place, me, front.count(me));
+        self.lose(place, me, front.count(me))?;
         let Some(node) = self.nodes.get_mut(place) else {
             return Err(nowhere());
         };
@@ -123,10 +121,10 @@ impl Play {
     }
 
     /// What nobody else has heard of a node that has so many of its facts is lost. What it told is on its way to nobody.
-    fn lose(&mut self, place: usize, me: NodeId, count: u64) {
+    fn lose(&mut self, place: usize, me: NodeId, count: u64) -> Result<(), Halt> {
         self.pulls.retain(|pull| pull.teller != place);
         let known = self.known_of(me);
-        self.history.forget(me, count.max(known));
+        self.history.forget(me, count.max(known))
     }
 
     /// A node whose journal was closed opens it again, and nothing is stored for a while.
@@ -159,10 +157,10 @@ impl Play {
             return Ok(());
         };
         let files = run.close()?;
-        self.keep_files(place, files, loses_power, doubt)
+        self.keep_files(place, &files, loses_power, doubt)
     }
 
-    fn keep_files(&mut self, place: usize, files: Files<Drive>, loses_power: bool, doubt: Doubt) -> Result<(), Halt> {
+    fn keep_files(&mut self, place: usize, files: &Remains, loses_power: bool, doubt: Doubt) -> Result<(), Halt> {
         match self.nodes.get_mut(place) {
             Some(node) => node.keep_files(files, loses_power, doubt),
             None => Err(nowhere()),
@@ -202,10 +200,10 @@ impl Play {
         let Some(run) = self.take_run(place) else {
             return Ok(());
         };
-        let connection = run.end()?;
-        match Run::open(self.alloc, connection, me, count)? {
+        let ended = run.end()?;
+        match Run::open(self.alloc, ended, me, count)? {
             Opening::Begun(run) => self.go_on_with(place, run),
-            Opening::Failed(files) => self.fail_between(place, files),
+            Opening::Failed(files) => self.fail_between(place, &files),
         }
     }
 
@@ -222,7 +220,7 @@ impl Play {
     }
 
     /// A call of the disk failed between two runs.
-    fn fail_between(&mut self, place: usize, files: Files<Drive>) -> Result<(), Halt> {
+    fn fail_between(&mut self, place: usize, files: &Remains) -> Result<(), Halt> {
         let loses_power = self.luck.is_one_in(2);
         self.keep_files(place, files, loses_power, Doubt::Nothing)?;
         if self.luck.is_one_in(2) {

@@ -1,13 +1,10 @@
 // One to eight nodes in one thread, under a clock, a network, disks and participants that a seed decides.
 
 use crate::glue::raised;
-use crate::halt::Halt;
-use crate::history::History;
-use crate::luck::Luck;
-use crate::network::{Manner, Pull};
 use crate::node::{Life, Node};
 use lra_facts::Body;
 use lra_id::{Front, LraId, MAX_NODES, NodeId};
+use lra_luck::{Halt, History, Luck, Manner, Pull};
 use lra_mailbox::Keep;
 use std::alloc::Global;
 use std::collections::VecDeque;

@@ -1,7 +1,5 @@
 // How nodes pull from one another. `hear_telling` stands once more in lra_threads/src/following.rt, `take_over`.
 
-use crate::halt::Halt;
-use crate::network::{Pull, Stage};
 use crate::node::Life;
 use crate::play::{Play, nowhere};
 use lra_book::{Call, PullBody, Reply};
@@ -9,6 +7,7 @@ use lra_delta::{Delta, encode};
 use lra_heard::{Telling, ask_for};
 use lra_http::{OverRead, OverWrite};
 use lra_id::{Front, LAST_NUMBER, MAX_NODES, NodeId};
+use lra_luck::{Halt, Pull, Stage};
 use lra_peer::{front_of_pull, pull_body};
 use std::alloc::Global;
 

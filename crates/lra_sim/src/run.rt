@@ -1,14 +1,11 @@
 // A run of a node: its book, and what those who make calls keep of them. It is what a desk of lra_book is, without a lock
 // and without a ledger: a desk can't be kept in a value, since its type has to name the run that it is of.
 
-use crate::disk::Store;
-use crate::drive::Drive;
-use crate::halt::Halt;
 use lra_book::{Book, Call, Entry, Pass, Receipt, Reply};
 use lra_facts::Refusal;
 use lra_id::{Front, MAX_NODES, NodeId};
+use lra_luck::{Halt, Remains, Store};
 use sqlite::Connection;
-use sqlite_disk::Files;
 use std::alloc::Global;
 
 /// Who makes calls at a node: the thread that enters, and four workers.
@@ -21,6 +18,15 @@ pub struct Run {
     book: Book<Store>,
     pass: Pass,
     kept: Vec<Vec<Receipt>>,
+    /// The files of its journal.
+    files: Remains,
+}
+
+/// A run that is over: the connection to its journal, and the files of that.
+#[derive(Drop)]
+pub struct Ended {
+    pub connection: Connection<Store>,
+    pub files: Remains,
 }
 
 /// What comes of opening a journal.
@@ -29,7 +35,7 @@ pub enum Opening {
     /// A run of its book.
     Begun(Run),
     /// A call of its files failed: this is left of them.
-    Failed(Files<Drive>),
+    Failed(Remains),
 }
 
 fn no_receipts(alloc: Global) -> Result<Vec<Vec<Receipt>>, Halt> {
@@ -40,15 +46,15 @@ fn no_receipts(alloc: Global) -> Result<Vec<Vec<Receipt>>, Halt> {
     Ok(lists)
 }
 
-/// The files of a connection, as they are.
-fn files_of(connection: Connection<Store>) -> Files<Drive> {
-    connection.into_store().close()
+/// Closes a connection, with its files as they are.
+fn close(connection: Connection<Store>) {
+    drop(connection.into_store().close());
 }
 
 /// What is left where a book isn't opened. Only a disk may be at fault.
-fn left_by(alloc: Global, refusal: Refusal, connection: Connection<Store>) -> Result<Opening, Halt> {
+fn left_by(alloc: Global, refusal: Refusal, files: Remains) -> Result<Opening, Halt> {
     if refusal == Refusal::JournalFailed {
-        return Ok(Opening::Failed(files_of(connection)));
+        return Ok(Opening::Failed(files));
     }
     Err(Halt::Found(format!(in alloc; "its journal isn't opened: {refusal}")?))
 }
@@ -68,14 +74,14 @@ fn book_of(
 }
 
 /// A run of a book that has none.
-fn run_of(alloc: Global, mut book: Book<Store>) -> Result<Opening, Halt>
+fn run_of(alloc: Global, mut book: Book<Store>, files: Remains) -> Result<Opening, Halt>
     requires { book.opening ≡ None }
 {
     let Ok(pass) = book.start_run(alloc) else {
         return Err(Halt::Stuck("no run"));
     };
     let kept = no_receipts(alloc)?;
-    Ok(Opening::Begun(Run { alloc, book, pass, kept }))
+    Ok(Opening::Begun(Run { alloc, book, pass, kept, files }))
 }
 
 /// Whether an entry and a receipt say the same.
@@ -127,13 +133,17 @@ fn are_all(marked: &[bool]) -> bool {
 
 impl Run {
     /// A run of the book over a connection.
-    pub fn open(alloc: Global, connection: Connection<Store>, me: NodeId, nodes: u8) -> Result<Opening, Halt> {
+    pub fn open(alloc: Global, ended: Ended, me: NodeId, nodes: u8) -> Result<Opening, Halt> {
+        let Ended { connection, files } = ended;
         if nodes > MAX_NODES || me.number() > nodes {
             return Err(Halt::Stuck("no such node"));
         }
         match book_of(alloc, connection, me, nodes) {
-            Ok(book) => run_of(alloc, book),
-            Err((refusal, connection)) => left_by(alloc, refusal, connection),
+            Ok(book) => run_of(alloc, book, files),
+            Err((refusal, connection)) => {
+                close(connection);
+                left_by(alloc, refusal, files)
+            }
         }
     }
 
@@ -205,20 +215,22 @@ impl Run {
         Ok(are_all(&marked))
     }
 
-    /// The connection, once the run is over.
-    pub fn end(self) -> Result<Connection<Store>, Halt> {
-        let alloc = self.alloc;
+    /// The connection and its files, once the run is over.
+    pub fn end(self) -> Result<Ended, Halt> {
         if !self.is_whole()? {
-            return Err(Halt::Found(format!(in alloc; "receipts and trail differ")?));
+            return Err(Halt::Found(format!(in self.alloc; "receipts and trail differ")?));
         }
-        let Run { book, .. } = self;
-        Ok(book.close())
+        let Run { alloc: _, book, pass: _, kept: _, files } = self;
+        Ok(Ended { connection: book.close(), files })
     }
 
     /// What is left of its files, once it is over.
-    pub fn close(self) -> Result<Files<Drive>, Halt> {
+    pub fn close(self) -> Result<Remains, Halt> {
         match self.end() {
-            Ok(connection) => Ok(files_of(connection)),
+            Ok(Ended { connection, files }) => {
+                close(connection);
+                Ok(files)
+            }
             Err(halt) => Err(halt),
         }
     }

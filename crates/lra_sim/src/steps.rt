@@ -1,11 +1,9 @@
 // Which step comes next, and the end of a play: quiet, and one round.
 
-use crate::disk::Doubt;
-use crate::halt::Halt;
-use crate::network::Manner;
 use crate::node::Node;
 use crate::play::{Cut, HOSTS, Play, good_hosts};
 use lra_id::{LraStatus, NodeId};
+use lra_luck::{Doubt, Halt, Manner};
 
 /// How many rounds the quiet at the end has, and how long each is, in milliseconds.
 const ROUNDS: u64 = 240;

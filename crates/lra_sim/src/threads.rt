@@ -2,9 +2,6 @@
 // lra_server/src/run, `apply_loop.rt` and `sweeping.rt`.
 
 use crate::glue::{pull_of_all, purged_by};
-use crate::halt::Halt;
-use crate::model::DueCall;
-use crate::network::Manner;
 use crate::node::{InFlight, Life, at};
 use crate::play::{HOSTS, Play, nowhere};
 use crate::words::of_reply;
@@ -13,6 +10,7 @@ use lra_callback::{Duties, Duty, NetCaller};
 use lra_heard::{Letter, Telling, Unheard, call_for};
 use lra_http::{OverRead, OverWrite};
 use lra_id::LraId;
+use lra_luck::{DueCall, Halt, Manner};
 use lra_mailbox::{Chore, Ripe, Task};
 use lra_replica::Page;
 use lra_turns::{Came, Due};

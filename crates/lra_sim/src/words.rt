@@ -1,9 +1,9 @@
 // Commands and replies in words.
 
-use crate::halt::Halt;
 use lra_book::Reply;
 use lra_facts::{Command, CommandReply, Links};
 use lra_id::LraId;
+use lra_luck::Halt;
 use std::alloc::Global;
 
 fn of_begin(alloc: Global, parent: Option<LraId>, deadline: u64) -> Result<String, Halt> {
