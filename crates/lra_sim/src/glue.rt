@@ -2,7 +2,7 @@
 // lra_server/src/run, `noting.rt` (all), `sweeping.rt` (`purged_by`), `counting.rt` and `apply_loop.rt` (`body_of_all`).
 
 use lra_book::{Call, PullBody, Reply};
-use lra_facts::{Body, Command, CommandReply, Refusal};
+use lra_facts::{Body, Command, CommandReply, Fact, Refusal};
 use lra_id::{Act, Front, LAST_NUMBER, LraId, MAX_NODES, NodeId, Verdict};
 use lra_luck::Halt;
 use lra_mailbox::{Became, News, Noted, Purged};
@@ -135,6 +135,24 @@ pub fn named_by(command: &Command) -> Option<LraId> {
         | Command::Forgot { id, .. }
         | Command::Told { id, .. } => Some(*id),
     }
+}
+
+/// The LRA that a fact is about.
+pub fn about(fact: &Fact) -> Result<LraId, Halt> {
+    match &fact.body {
+        Body::Begin { .. } => Ok(LraId::new(fact.origin, fact.num)?),
+        Body::Purge { root } => Ok(*root),
+        Body::Join { id, .. }
+        | Body::Leave { id, .. }
+        | Body::Decide { id, .. }
+        | Body::Report { id, .. }
+        | Body::Forgot { id, .. }
+        | Body::Told { id, .. } => Ok(*id),
+    }
+}
+
+pub fn is_purge(body: &Body) -> bool {
+    matches!(body, Body::Purge { .. })
 }
 
 /// The LRA that a call's command names, if it is a command.

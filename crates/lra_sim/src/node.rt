@@ -1,10 +1,10 @@
 // A node: what is there while it runs, what outlives it, and what the simulator knows of it.
 
-use crate::glue::{Asked, is_any, noted_by, raised};
+use crate::glue::{Asked, about, is_any, is_purge, noted_by, raised};
 use crate::run::Run;
 use lra_book::{Call, Reply};
 use lra_delta::Delta;
-use lra_facts::{Body, Refusal};
+use lra_facts::{Body, Fact, Refusal};
 use lra_heard::Telling;
 use lra_id::{Front, LraId, LraStatus, MAX_NODES, NodeId};
 use lra_luck::{Doubt, DueCall, Halt, History, Image, Model, Remains, counts};
@@ -88,6 +88,15 @@ pub struct Node {
 /// A moment of the monotonic clock.
 pub fn at(now: u64) -> Duration {
     Duration::from_millis(now)
+}
+
+fn is_before(one: LraId, other: LraId) -> bool {
+    let (home, other_home) = (one.home().number(), other.home().number());
+    home < other_home || (home == other_home && one.num() < other.num())
+}
+
+fn is_among(id: LraId, ids: &[LraId]) -> bool {
+    ids.contains(&id)
 }
 
 impl Start {
@@ -299,13 +308,35 @@ impl Node {
 
     /// It has the facts of a front now, all of which it had or were entered by others.
     pub fn grow(&mut self, alloc: Global, history: &History, front: Front, now: u64) -> Result<(), Halt> {
-        for fact in history.since(&self.front) {
-            if counts(&front, fact) && !counts(&self.front, fact) {
-                self.model.learn(fact)?;
+        let had = self.front;
+        let mut touched = Vec::new(alloc);
+        for fact in history.since(&had) {
+            if counts(&front, fact) && !counts(&had, fact) {
+                self.learn(fact, &mut touched)?;
             }
         }
         self.front = front;
-        self.show(alloc, now)
+        self.show_all(alloc, &touched, now)
+    }
+
+    /// Learns a fact, and notes which LRA it is about.
+    fn learn(&mut self, fact: &Fact, touched: &mut Vec<LraId>) -> Result<(), Halt> {
+        let id = about(fact)?;
+        if is_purge(&fact.body) {
+            self.hide(id)?;
+        }
+        self.model.learn(fact)?;
+        if !touched.contains(&id) {
+            touched.push(id)?;
+        }
+        Ok(())
+    }
+
+    /// The tree of a root isn't shown any more.
+    fn hide(&mut self, root: LraId) -> Result<(), Halt> {
+        let gone = self.model.tree(root)?;
+        self.shown.retain(|shown| !is_among(shown.id, &gone));
+        Ok(())
     }
 
     /// It has these facts alone: it begins over an older copy.
@@ -317,14 +348,17 @@ impl Node {
         self.grow(alloc, history, front, now)
     }
 
+    /// The place at which an LRA is shown, or would be: in order of homes and numbers.
+    fn place_of(&self, id: LraId) -> usize {
+        self.shown.partition_point(|shown| is_before(shown.id, id))
+    }
+
     /// What an LRA shows.
     pub fn shown_of(&self, id: LraId) -> Option<Shown> {
-        for one in self.shown.iter() {
-            if one.id == id {
-                return Some(*one);
-            }
-        }
-        None
+        let Some(shown) = self.shown.get(self.place_of(id)) else {
+            return None;
+        };
+        if shown.id == id { Some(*shown) } else { None }
     }
 
     pub fn status_of(&self, id: LraId) -> Option<LraStatus> {
@@ -349,15 +383,37 @@ impl Node {
         Ok(now)
     }
 
-    /// Notes what its LRAs show, and looks whether each has risen.
-    fn show(&mut self, alloc: Global, now: u64) -> Result<(), Halt> {
-        let shown = self.model.shown()?;
-        let mut next = Vec::new(alloc);
-        for (id, status) in shown.iter() {
-            let since = self.since_of(alloc, *id, *status, now)?;
-            next.push(Shown { id: *id, status: *status, since })?;
+    /// Notes what the trees of these LRAs show, and looks whether each LRA has risen. No other can show something else.
+    fn show_all(&mut self, alloc: Global, touched: &[LraId], now: u64) -> Result<(), Halt> {
+        for id in touched {
+            self.show_tree(alloc, *id, now)?;
         }
-        self.shown = next;
+        Ok(())
+    }
+
+    fn show_tree(&mut self, alloc: Global, id: LraId, now: u64) -> Result<(), Halt> {
+        let tree = self.model.tree(id)?;
+        for inner in tree.iter() {
+            self.show(alloc, *inner, now)?;
+        }
+        Ok(())
+    }
+
+    fn show(&mut self, alloc: Global, id: LraId, now: u64) -> Result<(), Halt> {
+        let Some(status) = self.model.shown_of(id) else {
+            return Ok(());
+        };
+        let since = self.since_of(alloc, id, status, now)?;
+        self.put_shown(Shown { id, status, since })
+    }
+
+    fn put_shown(&mut self, shown: Shown) -> Result<(), Halt> {
+        let place = self.place_of(shown.id);
+        if self.shown_of(shown.id).is_none() {
+            self.shown.insert(place.min(self.shown.len()), shown)?;
+        } else if let Some(slot) = self.shown.get_mut(place) {
+            *slot = shown;
+        }
         Ok(())
     }
 
