@@ -22,6 +22,7 @@ LAYERS = [
     ("lra_metrics", "what threads know, as text"),
     ("lra_threads", "threads, and what they share"),
     ("lra_sockets", "a connection's life"),
+    ("lra_noting", "what a call leaves"),
     ("lra_mailbox", "what is done next"),
     ("lra_heard", "what was heard of others"),
     ("lra_turns", "whom to call next"),

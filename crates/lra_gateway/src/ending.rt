@@ -5,6 +5,7 @@ use crate::asking::{Answer, Question, ask_node, ask_now, look_at};
 use crate::exchange::Fail;
 use crate::names::Lra;
 use crate::reply::{Reply, plain, refusal};
+use crate::showing::{goes_so, is_to_end};
 use http::Method;
 use lra_id::LraStatus;
 use lra_narayana::{Repeat, text_of};
@@ -70,20 +71,6 @@ pub fn status<R: Host>(agent: &Agent<R>, lra: &Lra) -> Result<Reply, Fail> {
         return Ok(refusal(agent.alloc, &answer)?);
     }
     Ok(plain(agent.alloc, 200, answer.text("status"))?)
-}
-
-/// Whether an LRA that shows this goes the way that a close, or a cancel, asks for.
-fn goes_so(closes: bool, status: LraStatus) -> bool {
-    match status {
-        LraStatus::Active => false,
-        LraStatus::Closing | LraStatus::Closed | LraStatus::FailedToClose => closes,
-        LraStatus::Cancelling | LraStatus::Cancelled | LraStatus::FailedToCancel => !closes,
-    }
-}
-
-/// Whether it is on its way to its end.
-pub fn is_to_end(status: LraStatus) -> bool {
-    status == LraStatus::Closing || status == LraStatus::Cancelling
 }
 
 /// What an LRA shows after a close or cancel: by its answer, or by the refusal of a repeat.

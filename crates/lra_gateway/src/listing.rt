@@ -2,13 +2,14 @@
 
 use crate::agent::{Agent, Host};
 use crate::asking::{Answer, Question, ask_node, ask_now, look_at};
-use crate::ending::{is_to_end, status_in_time};
+use crate::ending::status_in_time;
 use crate::exchange::Fail;
 use crate::gateway::Group;
 use crate::handing::{Errand, hand};
 use crate::names::{Lra, url_of};
 use crate::query::said;
 use crate::reply::{Reply, json, plain, refusal};
+use crate::showing::{is_failed, is_recovering};
 use crate::words::Door;
 use http::Method;
 use lra_id::{LraId, LraStatus};
@@ -25,14 +26,6 @@ pub enum Wanted {
     Status(LraStatus),
     Recovering,
     Failed,
-}
-
-fn is_failed(status: LraStatus) -> bool {
-    status == LraStatus::FailedToClose || status == LraStatus::FailedToCancel
-}
-
-fn is_recovering(status: LraStatus) -> bool {
-    is_to_end(status) || is_failed(status)
 }
 
 fn is_wanted(wanted: Wanted, status: LraStatus) -> bool {

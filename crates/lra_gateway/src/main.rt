@@ -21,6 +21,7 @@ mod reply;
 mod run;
 mod service;
 mod serving;
+mod showing;
 mod starting;
 mod texts;
 mod words;

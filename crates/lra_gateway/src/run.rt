@@ -3,10 +3,10 @@
 use crate::agent::{Agent, Host};
 use crate::gateway::Gateway;
 use crate::serving::{accept, look, serve};
-use lra_sockets::StopReason;
+use lra_sockets::{StopReason, door_of};
 use std::alloc::{AllocError, Global};
 use std::io::{ErrorKind, Read};
-use std::net::{IpAddr, Ipv4Addr, Ipv6Addr, SocketAddr, TcpListener, TcpStream};
+use std::net::{SocketAddr, TcpListener, TcpStream};
 use std::thread;
 use std::thread::{Scope, Threads};
 
@@ -118,20 +118,6 @@ fn drain<I: Read + Drop>(mut input: I) {
             Err(error) if error.kind() == ErrorKind::Interrupted => {}
             Err(_) => return,
         }
-    }
-}
-
-/// Where a port of this machine is reached from it.
-fn door_of(address: SocketAddr) -> SocketAddr {
-    let port = address.port();
-    match address.ip() {
-        IpAddr::V4(ip) if ip.is_unspecified() => {
-            SocketAddr::new(IpAddr::V4(Ipv4Addr::LOCALHOST), port)
-        }
-        IpAddr::V6(ip) if ip.is_unspecified() => {
-            SocketAddr::new(IpAddr::V6(Ipv6Addr::LOCALHOST), port)
-        }
-        _ => address,
     }
 }
 

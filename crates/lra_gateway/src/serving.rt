@@ -9,12 +9,13 @@ use crate::service::serve_service;
 use http::StatusCode;
 use lra_http::{Bytes, Fields, Response, Sink, Source, write_response};
 use lra_narayana::{Request, Told, read_request};
-use lra_sockets::{BufferedSocket, Cutoff, Limit, PendingConnection, Readiness, SLICE_MS, Times};
+use lra_sockets::{
+    BufferedSocket, Cutoff, Limit, NoHolder, Readiness, SLICE_MS, Times, take_in, wait_for_room,
+};
 use std::alloc::{AllocError, Global};
-use std::io::Error;
+use std::io;
 use std::net::{IpAddr, TcpListener, TcpStream};
 use std::time::Duration;
-use std::{io, thread};
 
 /// How long is waited for more of a request that is there, in milliseconds: a body in chunks may still
 /// come.
@@ -25,22 +26,8 @@ const REQUEST_MS: u64 = 5_000;
 
 const ANSWER_MS: u64 = 10_000;
 
-/// How long it waits where no connection can be had, where too many wait, and where nothing comes of
-/// all that wait, in milliseconds.
-const PAUSE_MS: u64 = 10;
-
-const CROWDED_MS: u64 = 1;
-
+/// How long it waits where nothing comes of all that wait, in milliseconds.
 const REST_MS: u64 = 2;
-
-/// What the system answers where the process, or it itself, has no file left.
-const EMFILE: i32 = 24;
-
-const ENFILE: i32 = 23;
-
-fn wants_files(error: &Error) -> bool {
-    matches!(error.raw_os_error(), Some(EMFILE | ENFILE))
-}
 
 /// Whether who connected is of this machine.
 fn is_near(stream: &TcpStream) -> bool {
@@ -53,42 +40,21 @@ fn is_near(stream: &TcpStream) -> bool {
     }
 }
 
-/// Puts a connection on a port's queue, where one came. Where no file is left for it, the one that has
-/// waited longest there is closed.
-fn put<R: Host>(rt: &R, port: &Port, came: io::Result<TcpStream>) {
+/// Whether who connected is to be turned away: from another machine, at a port that serves this one alone.
+fn is_foreign(port: &Port, came: &io::Result<TcpStream>) -> bool {
     match came {
-        Ok(stream) => {
-            if port.is_loopback && !is_near(&stream) {
-                return;
-            }
-            if let Ok(pending) = PendingConnection::new(rt, stream) {
-                port.queue.put(rt, pending);
-            }
-        }
-        Err(error) => {
-            if wants_files(&error) {
-                port.queue.close_first(rt);
-            }
-            thread::sleep(rt, Duration::from_millis(PAUSE_MS));
-        }
-    }
-}
-
-/// Waits while too many connections wait, or until the program is to end.
-fn wait_for_room<R: Host>(agent: &Agent<R>, port: &Port) {
-    for _ in agent.rt.forever() {
-        if !port.queue.is_full(agent.rt) || agent.gateway.signal.has_ended(agent.rt) {
-            return;
-        }
-        thread::sleep(agent.rt, Duration::from_millis(CROWDED_MS));
+        Ok(stream) => port.is_loopback && !is_near(stream),
+        Err(_) => false,
     }
 }
 
 /// Takes connections and puts them on a port's queue, until the program is to end.
 pub fn accept<R: Host>(agent: &Agent<R>, port: &Port, listener: &TcpListener) {
     for came in listener.incoming() {
-        put(agent.rt, port, came);
-        wait_for_room(agent, port);
+        if !is_foreign(port, &came) {
+            take_in(agent.rt, &port.queue, came);
+        }
+        wait_for_room(agent.rt, &agent.gateway.signal, &port.queue);
         if agent.gateway.signal.has_ended(agent.rt) {
             return;
         }
@@ -103,7 +69,7 @@ pub fn look<R: Host>(agent: &Agent<R>, port: &Port) {
         let Some(pending) = port.queue.take(agent.rt) else {
             return;
         };
-        match pending.look(agent.rt, true) {
+        match pending.look(agent.rt, true, &NoHolder) {
             Readiness::Pending(pending) => {
                 silent = silent.saturating_add(1);
                 if silent >= port.queue.put_back(agent.rt, pending) {

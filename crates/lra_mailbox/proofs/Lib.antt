@@ -1,4 +1,5 @@
 mod Firsts
 mod Keeping
+mod Owed
 mod Unheard
 mod Waiting

@@ -1,5 +1,5 @@
 -- When a node looks through its home, and why.
-use Rattle.std.specs.Prelude.{◌+◌, ◌-◌, ◌&&◌, ◌||◌, ℕ, Bool, true, false, min, nat_le, nat_lt}
+use Rattle.std.specs.Prelude.{◌+◌, ◌-◌, ◌&&◌, ◌||◌, Bool, true, false, min, nat_le, nat_lt}
 use Rattle.std.specs.declared.time.Duration.{Duration}
 use Rattle.lra_mailbox.specs.Moments.{is_by}
 use Rattle.lra_mailbox.specs.declared.looking.TheConstants.{MANY}

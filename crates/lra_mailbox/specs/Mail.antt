@@ -1,15 +1,14 @@
 -- What the threads of a node hand to one another, and what is to be done of it when.
-use Rattle.std.specs.Prelude.{◌≡◌, ◌⊎◌, ◌↔◌, ◌≤◌, ◌-◌, ◌+◌, ◌++◌, ◌∷◌, ◌&&◌, ◌||◌, ◌==◌, [], ℕ, Bool, true, false, List, Option, None, Some, IsTrue, MatchBool, if◌then◌else◌, length, nat_le, nat_lt, not}
+use Rattle.std.specs.Prelude.{◌-◌, ◌&&◌, ◌||◌, ◌==◌, ℕ, Bool, true, false, List, Option, if◌then◌else◌, length, nat_le, nat_lt}
 use Rattle.std.specs.List.{list_any}
 use Rattle.std.specs.Duration.{as_nanos}
 use Rattle.std.specs.declared.time.Duration.{Duration}
-use Rattle.lra_id.specs.Fronts.{IsBelow, join_fronts}
+use Rattle.lra_id.specs.Fronts.{join_fronts}
 use Rattle.lra_delta.specs.Frames.{Frame}
 use Rattle.lra_heard.specs.Letters.{Said}
 use Rattle.lra_turns.specs.Calling.{Calling}
 use Rattle.lra_turns.specs.Slips.{at_once}
 use Rattle.lra_turns.specs.Turns.{is_due}
-use Rattle.lra_mailbox.specs.Moments.{IsAfter}
 use Rattle.lra_mailbox.specs.Sweeps.{Sweeps}
 use Rattle.lra_mailbox.specs.declared.asking.Asking.{Asking}
 use Rattle.lra_mailbox.specs.declared.known.Known.{Known}

@@ -1,5 +1,5 @@
 -- How long the thread that enters may wait for something to do.
-use Rattle.std.specs.Prelude.{◌≡◌, ◌-◌, ◌||◌, ℕ, Bool, true, false, Option, None, Some, IsSomeAnd, MatchBool, if◌then◌else◌}
+use Rattle.std.specs.Prelude.{◌≡◌, ◌-◌, ◌||◌, Bool, Option, None, Some, IsSomeAnd, MatchBool, if◌then◌else◌}
 use Rattle.std.specs.Duration.{as_nanos}
 use Rattle.std.specs.declared.time.Duration.{Duration}
 use Rattle.lra_turns.specs.Pausing.{earlier}

@@ -1,5 +1,5 @@
 -- What the thread that enters does next: the kinds of tasks have their turns, so that none waits for ever for others.
-use Rattle.std.specs.Prelude.{⊤, ◌≡◌, ◌≤◌, ◌-◌, ◌+◌, ◌++◌, ◌∷◌, ◌&&◌, ◌||◌, [], ℕ, Bool, true, false, List, Option, None, Some, MatchBool, if◌then◌else◌, is_some, length, nat_le, nat_lt, not}
+use Rattle.std.specs.Prelude.{⊤, ◌≡◌, ◌≤◌, ◌-◌, ◌+◌, ◌∷◌, ◌&&◌, ℕ, Bool, true, false, Option, None, Some, MatchBool, if◌then◌else◌, is_some, length, nat_lt, not}
 use Rattle.std.specs.Duration.{as_nanos}
 use Rattle.std.specs.declared.time.Duration.{Duration}
 use Rattle.lra_delta.specs.Frames.{Frame}

@@ -10,7 +10,7 @@ ghost use Rattle.lra_mailbox.specs.Mail.{after_news, counted, hastened, is_any, 
 ghost use Rattle.lra_mailbox.specs.Noted.{Notes, with_news};
 ghost use Rattle.lra_mailbox.specs.Sweeps.{IsLeftBy, IsSeen, IsTurned, with_ended, with_looking};
 ghost use Rattle.lra_id.specs.declared.TheConstants.{MAX_NODES};
-ghost use Rattle.lra_mailbox.specs.Starts.{IsOpened, heard_by, heard_with, told_by};
+ghost use Rattle.lra_mailbox.specs.Starts.{IsOpened, heard_by, heard_with, is_owed, told_by};
 ghost use Rattle.lra_mailbox.specs.Resting.{IsIdleFor, has_task, is_occupied, looks_at, next_at, rests_until};
 ghost use Rattle.lra_mailbox.specs.Tasks.{Does, IsNextKind, IsNextTask, has, is_spared, may_enter};
 ghost use Rattle.lra_mailbox.specs.declared.task.Wanted.TheVariants.{Nothing};
@@ -352,6 +352,15 @@ impl MailboxState {
         ensures { self.new ≡ with_opening (told_by count self.old.opening) self.old }
     {
         self.opening.hear_count(count);
+    }
+
+    /// Whether one that asks is owed facts of its own: others told of more of them than it counts, and
+    /// these aren't stored here yet. It is answered once they are, so that a node whose journal is
+    /// older hears of each number that it gave.
+    pub fn is_owed(&self, from: NodeId, asks: &Front) -> bool
+        ensures { result ≡ is_owed from asks.now self.now.known.front self.now.opening }
+    {
+        self.opening.is_owed(from, asks, &self.known.front)
     }
 
     /// Whether a start has waited for the others as long as it may, and wasn't opened.

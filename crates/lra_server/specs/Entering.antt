@@ -4,9 +4,11 @@ use Rattle.lra_facts.specs.declared.refusal.Refusal.{Refusal}
 use Rattle.lra_facts.specs.declared.refusal.Refusal.TheVariants.{NoMemory}
 use Rattle.lra_facts.specs.declared.command.Command.{Command as TheCommand}
 use Rattle.lra_callback.specs.HeardCommands.{command_heard}
+use Rattle.lra_callback.specs.declared.duty.Duty.{Duty}
 use Rattle.lra_book.specs.declared.calls.Call.{Call}
 use Rattle.lra_book.specs.declared.calls.Call.TheVariants as call
 use Rattle.lra_book.specs.declared.calls.Reply.{Reply}
+use Rattle.lra_book.specs.declared.calls.Reply.TheVariants.{Due}
 use Rattle.lra_book.specs.declared.clerk.Clerk.{Ghosts as OfClerk}
 use Rattle.lra_api.specs.Serving.{Makes}
 use Rattle.lra_heard.specs.Letters.{Said}
@@ -16,7 +18,7 @@ use Rattle.lra_mailbox.specs.declared.sweep.Chore.{Chore}
 use Rattle.lra_mailbox.specs.declared.sweep.Chore.TheVariants as chore
 use Rattle.lra_mailbox.specs.declared.task.Wanted.{Wanted}
 use Rattle.lra_mailbox.specs.declared.task.Wanted.TheVariants.{Command, Nothing, Question}
-use Rattle.lra_server.specs.Noting.{enters}
+use Rattle.lra_noting.specs.Noting.{enters}
 
 -- what is told of a call: only why it was refused, if it was
 abbrev pub told : Result Reply Refusal → Result ⊤ Refusal
@@ -85,3 +87,8 @@ DoesTask clerk old new task.Rest result = (new ≡ old) × (result ≡ Ok tt)
 abbrev pub DoesEach : {C : Type 0} → OfClerk C → (old : C) → List Task → (new : C) → Type 0
 DoesEach clerk old [] new = new ≡ old
 DoesEach clerk old (last ∷ before) new = (mid : _) × (result : Result ⊤ Refusal) × DoesEach clerk old before mid × DoesTask clerk mid new last result
+
+-- the participants that are to be called, by a reply
+abbrev pub duties_in : Reply → Option (List Duty)
+duties_in (Due duties) = Some duties
+duties_in _ = None

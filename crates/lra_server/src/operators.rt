@@ -11,7 +11,9 @@ use crate::operators::operator_clerk::OperatorClerk;
 use log::Log;
 use lra_api::Paths;
 use lra_operate::serve_operator;
-use lra_sockets::{BufferedSocket, Cutoff, Limit, Readiness, SLICE_MS, Times, unix_millis};
+use lra_sockets::{
+    BufferedSocket, Cutoff, Limit, NoHolder, Readiness, SLICE_MS, Times, unix_millis,
+};
 use lra_threads::Node;
 use std::alloc::Global;
 use std::net::TcpStream;
@@ -81,7 +83,7 @@ pub fn operate<R: Wait + Clock, L: Log>(
         let Some(pending) = node.operators.take(rt) else {
             return;
         };
-        match pending.look(rt, true) {
+        match pending.look(rt, true, &NoHolder) {
             Readiness::Pending(pending) => {
                 silent = silent.saturating_add(1);
                 if silent >= node.operators.put_back(rt, pending) {

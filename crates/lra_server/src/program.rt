@@ -16,7 +16,7 @@ use lra_id::NodeId;
 use lra_mailbox::Keep;
 use lra_sockets::{Peer, Site, Sockets, StopReason};
 use lra_threads::{Build, End, Manners, News, Node, Shutdown, Tally, drain};
-use lra_work::{Addressee, GroupName, query_to};
+use lra_work::{Addressee, GroupName, query_by};
 use sqlite::Alter;
 use std::alloc::{AllocError, Global};
 use std::io::{ErrorKind, Read};
@@ -225,9 +225,10 @@ pub struct Members {
     pub build: Build,
 }
 
-/// What a pull from each of so many nodes says of whom it asks.
+/// What a pull by a node from each of so many says of who asks whom.
 fn queries_of(
     alloc: Global,
+    me: NodeId,
     nodes: u8,
     group: Option<&GroupName>,
 ) -> Result<Vec<String>, AllocError> {
@@ -236,7 +237,7 @@ fn queries_of(
         let Ok(other) = NodeId::new(number) else {
             continue;
         };
-        queries.push(query_to(alloc, other, group)?)?;
+        queries.push(query_by(alloc, me, other, group)?)?;
     }
     Ok(queries)
 }
@@ -250,9 +251,10 @@ fn names_in(alloc: Global, text: &str) -> Result<Vec<Bytes>, AllocError> {
     Ok(names)
 }
 
-/// How each of these members deals with others.
+/// How a member of so many deals with others.
 fn manners_of(
     alloc: Global,
+    me: NodeId,
     nodes: u8,
     group: Option<&GroupName>,
     anew: bool,
@@ -261,7 +263,7 @@ fn manners_of(
 ) -> Result<Manners, AllocError> {
     Ok(Manners {
         waits_for_all: anew,
-        queries: queries_of(alloc, nodes, group)?,
+        queries: queries_of(alloc, me, nodes, group)?,
         names: names_in(alloc, names)?,
         build: Some(build.copied(alloc)?),
     })
@@ -309,7 +311,15 @@ fn nodes_of_members(
         let site = Site::apart(listen, operators, number, Arc::try_clone(&peers)?);
         let own = Arc::try_clone(own)?;
         let told = same_news(alloc, &news)?;
-        let manners = manners_of(alloc, nodes, group.as_ref(), anew, names.as_str(), &build)?;
+        let manners = manners_of(
+            alloc,
+            me,
+            nodes,
+            group.as_ref(),
+            anew,
+            names.as_str(),
+            &build,
+        )?;
         all.push(Node::new(alloc, me, nodes, site, keep, tally(), own, told, manners))?;
         number = number.saturating_add(1);
     }

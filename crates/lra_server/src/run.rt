@@ -3,7 +3,7 @@ pub(crate) mod apply_loop;
 pub(crate) mod connections;
 pub(crate) mod counting;
 pub(crate) mod counting_clerk;
-pub(crate) mod noting;
+pub(crate) mod holding;
 pub(crate) mod refusals;
 pub(crate) mod sweeping;
 

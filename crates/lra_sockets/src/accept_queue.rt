@@ -1,6 +1,7 @@
 // Connections that wait for a worker.
 ghost use Rattle.std.specs.Prelude.{◌≡◌, ◌⊎◌, ◌++◌, ◌∷◌, [], IfNone, IfSome};
 
+use crate::holder::NoHolder;
 use crate::pending_connection::{PendingConnection, Readiness};
 use crate::shared_socket::SharedSocket;
 use std::alloc::Global;
@@ -192,7 +193,7 @@ impl AcceptQueue {
         }
         if let Some(socket) = Rc::into_inner(socket) {
             if let Ok(pending) = to_close(rt, socket) {
-                if let Readiness::Pending(pending) = pending.look(rt, false) {
+                if let Readiness::Pending(pending) = pending.look(rt, false, &NoHolder) {
                     let _waiting = self.put_back(rt, pending);
                 }
             }

@@ -1,5 +1,6 @@
 // A connection that no worker serves now.
 
+use crate::holder::{Holder, is_held};
 use crate::window::{Extent, WINDOW, extent_of};
 use std::io;
 use std::io::{ErrorKind, Read, Write};
@@ -101,7 +102,7 @@ pub enum Readiness {
     Whole(TcpStream),
     /// A long request has begun: a worker may read it as it comes.
     Long(TcpStream),
-    /// Nothing is there yet, or no whole request.
+    /// Nothing is there yet, or no whole request; or a pull that is to wait.
     Pending(PendingConnection),
     /// It is over.
     Closed,
@@ -194,8 +195,8 @@ impl PendingConnection {
         !self.stage.is_unseen() || self.stream.set_nonblocking(true).is_ok()
     }
 
-    // Keeps it, since nothing has come yet. From here on no look waits.
-    fn await_request<R: Clock>(mut self, rt: &R) -> Readiness {
+    // Keeps it, since nothing has come yet, or a pull is to wait. From here on no look waits.
+    fn keep<R: Clock>(mut self, rt: &R) -> Readiness {
         if !self.stop_waiting() {
             return Readiness::Closed;
         }
@@ -224,15 +225,31 @@ impl PendingConnection {
     }
 
     // Looks at what has come of a request, and leaves it.
-    fn peek<R: Clock>(self, rt: &R, reads_on: bool) -> Readiness {
+    fn peek<R: Clock, H: Holder>(self, rt: &R, reads_on: bool, holder: &H) -> Readiness {
         let mut bytes = [0u8; WINDOW];
         match self.stream.peek(&mut bytes) {
             Ok(0) => Readiness::Closed,
-            Ok(count) => self.hand_over(rt, extent_of(&bytes[..count.min(WINDOW)]), reads_on),
-            Err(error) if error.kind() == ErrorKind::WouldBlock => self.await_request(rt),
+            Ok(count) => self.look_at(rt, &bytes[..count.min(WINDOW)], reads_on, holder),
+            Err(error) if error.kind() == ErrorKind::WouldBlock => self.keep(rt),
             Err(error) if error.kind() == ErrorKind::Interrupted => Readiness::Pending(self),
             Err(_) => Readiness::Closed,
         }
+    }
+
+    // Hands the connection over if these bytes of its request are enough, unless they are a pull that
+    // is to wait.
+    fn look_at<R: Clock, H: Holder>(
+        self,
+        rt: &R,
+        bytes: &[u8],
+        reads_on: bool,
+        holder: &H,
+    ) -> Readiness {
+        let extent = extent_of(bytes);
+        if extent == Extent::Whole && is_held(bytes, holder) {
+            return self.keep(rt);
+        }
+        self.hand_over(rt, extent, reads_on)
     }
 
     // Hands the connection over if so much of its request is enough. A long one waits until a
@@ -310,20 +327,21 @@ impl PendingConnection {
     }
 
     // The first look. It says how long a read waits, here and later.
-    fn first_look<R: Clock>(self, rt: &R, reads_on: bool) -> Readiness {
+    fn first_look<R: Clock, H: Holder>(self, rt: &R, reads_on: bool, holder: &H) -> Readiness {
         let wait = Duration::from_millis(FIRST_LOOK_MS);
         match self.stream.set_read_timeout(Some(wait)) {
-            Ok(()) => self.peek(rt, reads_on),
+            Ok(()) => self.peek(rt, reads_on, holder),
             Err(_) => Readiness::Closed,
         }
     }
 
     /// Looks at what has come, or sends on. The first look waits a little for something, and others
-    /// for nothing. A long request is there for a worker where one may read on.
-    pub fn look<R: Clock>(self, rt: &R, reads_on: bool) -> Readiness {
+    /// for nothing. A long request is there for a worker where one may read on, and a pull once
+    /// nobody keeps it waiting.
+    pub fn look<R: Clock, H: Holder>(self, rt: &R, reads_on: bool, holder: &H) -> Readiness {
         match self.stage {
-            Stage::Accepted => self.first_look(rt, reads_on),
-            Stage::Awaiting | Stage::Reading => self.peek(rt, reads_on),
+            Stage::Accepted => self.first_look(rt, reads_on, holder),
+            Stage::Awaiting | Stage::Reading => self.peek(rt, reads_on, holder),
             Stage::Sending(_) => self.send_rest(rt),
             Stage::Closing => self.drain(rt),
         }

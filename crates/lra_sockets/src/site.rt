@@ -69,7 +69,7 @@ fn connect<R: Wait + Clock + Net<Stream = TcpStream>>(
 
 /// Where one is reached from its own machine that listens here: one that listens on every
 /// interface, on the loopback interface.
-fn door_of(address: SocketAddr) -> SocketAddr {
+pub fn door_of(address: SocketAddr) -> SocketAddr {
     let port = address.port();
     match address.ip() {
         IpAddr::V4(ip) if ip.is_unspecified() => {

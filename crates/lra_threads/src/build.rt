@@ -1,4 +1,5 @@
 // Which build of the program runs.
+ghost use Rattle.std.specs.Prelude.{◌≡◌, IfOk, string_bytes};
 
 use std::alloc::{AllocError, Global};
 
@@ -14,12 +15,10 @@ pub struct Build {
 
 impl Build {
     /// The build of which a program says this.
-    pub fn said(
-        alloc: Global,
-        version: &str,
-        commit: &str,
-        kit: &str,
-    ) -> Result<Build, AllocError> {
+    pub fn said(alloc: Global, version: &str, commit: &str, kit: &str) -> Result<Build, AllocError>
+        ensures { IfOk result (λ build. (string_bytes build.version ≡ version.now)
+            × (string_bytes build.commit ≡ commit.now) × (string_bytes build.kit ≡ kit.now)) }
+    {
         Ok(Build {
             version: String::from_str(alloc, version)?,
             commit: String::from_str(alloc, commit)?,
@@ -28,7 +27,11 @@ impl Build {
     }
 
     /// The same, for a node of its own.
-    pub fn copied(&self, alloc: Global) -> Result<Build, AllocError> {
+    pub fn copied(&self, alloc: Global) -> Result<Build, AllocError>
+        ensures { IfOk result (λ build. (string_bytes build.version ≡ string_bytes self.now.version)
+            × (string_bytes build.commit ≡ string_bytes self.now.commit)
+            × (string_bytes build.kit ≡ string_bytes self.now.kit)) }
+    {
         Build::said(
             alloc,
             self.version.as_str(),

@@ -199,6 +199,11 @@ impl Mailbox {
         self.held.lock(rt).state.hear_count(count);
     }
 
+    /// Whether one that asks is owed facts of its own, which others told of and aren't stored here yet.
+    pub fn is_owed<R: Wait>(&self, rt: &R, from: NodeId, asks: &Front) -> bool {
+        self.held.lock(rt).state.is_owed(from, asks)
+    }
+
     /// Waits until commands are entered, or until the program is to end: for a second at most, and
     /// not where the start has waited for that already. It says whether they are entered.
     pub fn wait_to_enter<R: Wait + Clock>(&self, rt: &R) -> bool {

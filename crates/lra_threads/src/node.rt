@@ -34,7 +34,7 @@ const MAX_TURNS: u32 = 100;
 pub struct Manners {
     /// Whether a start waits until all others were heard, without a bound.
     pub waits_for_all: bool,
-    /// What a pull from each node says of whom it asks, in their order; nothing of one that isn't
+    /// What a pull from each node says of who asks whom, in their order; nothing of one that isn't
     /// here.
     pub queries: Vec<String>,
     /// The names by which operators may ask it besides `localhost` and addresses.
@@ -158,7 +158,7 @@ impl Node {
         self.manners.build.as_ref()
     }
 
-    /// What a pull from another node says of whom it asks, if anything.
+    /// What a pull from another node says of who asks whom, if anything.
     pub(crate) fn query_of(&self, other: NodeId) -> &str {
         let place = usize::from(other.number().saturating_sub(1));
         match self.manners.queries.as_slice().get(place) {

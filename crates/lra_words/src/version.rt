@@ -3,12 +3,12 @@ ghost use Rattle.std.specs.Prelude.{◌≡◌, ◌∷◌, [], codes, map, MatchB
 
 use crate::texts::flag_of;
 
-/// The version of the release, by semantic versioning: its interface is what HTTP.md, FORMATS.md and
-/// OPERATING.md say. Behind a release it is the next one's, with `-dev`.
-pub const VERSION: &str = "0.9.0";
+/// The version of the release, by semantic versioning: its interface is what HTTP.md, FORMATS.md,
+/// GATEWAY.md and OPERATING.md say. Behind a release it is the next one's, with `-dev`.
+pub const VERSION: &str = "0.10.0-dev";
 
 /// The commit whose crates these are but for this file, which `tools/release.py cut` writes.
-pub const COMMIT: &str = "14dce7b5272ea068c0f2b3e79f5ba79c0f5fea0f";
+pub const COMMIT: &str = "unknown";
 
 /// The kit that proved the release.
 pub const KIT: &str = "rattle-kit-13f";

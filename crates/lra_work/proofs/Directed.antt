@@ -9,8 +9,8 @@ use Rattle.std.proofs.lemmas.Fmt.{decimal_digit}
 use Rattle.lra_id.specs.Ids.{IsNodeNumber}
 use Rattle.lra_http.specs.declared.message.Request.{Request}
 use Rattle.lra_peer.specs.Texts.{pull_target}
-use Rattle.lra_api.specs.Paths.{query_of}
-use Rattle.lra_work.specs.Addressees.{are_other, asks_other, group_in, is_misdirected, is_number, is_other, is_other_group, is_other_number, names_other, number_in, query_to}
+use Rattle.lra_api.specs.Paths as paths
+use Rattle.lra_work.specs.Addressees.{are_other, asks_other, group_in, is_misdirected, is_number, is_other, is_other_group, is_other_number, names_other, number_in, past_asker, query_by}
 use Rattle.lra_work.specs.Groups.{is_group_name}
 use Rattle.lra_work.specs.declared.addressee.NodeName.{NodeName}
 
@@ -102,18 +102,34 @@ asks_both node to name me some few is =
     ∙ ap (λ (t : List ℕ). not (bytes_eq (digit to ∷ []) t) || is_other_group node.group (Some name)) own
     ∙ ap (λ (b : Bool). not b || is_other_group node.group (Some name)) (same_digit to node.me)
 
-query_behind : (rest : List ℕ) → query_of (codes "/peer/pull?" ++ rest) ≡ Some rest
+query_behind : (rest : List ℕ) → paths.query_of (codes "/peer/pull?" ++ rest) ≡ Some rest
 query_behind rest =
     let size : ℕ = length (codes "/peer/pull?" ++ rest) in
     let long : nat_lt 10 size ≡ true = lt-ltb 10 size (omega arith) in
     rw long refl
 
-asks : (node : NodeName) (to : ℕ) (group : Option (List ℕ)) → IsNodeNumber node.me → IsNodeNumber to → IfSome group (λ name. IsTrue (is_group_name name))
-    → asks_other node (query_of (pull_target (query_to to group))) ≡ (not (to == node.me) || is_other_group node.group group)
-asks node to None me number names =
-    ap (asks_other node) (query_behind (codes "to=" ++ decimal to)) ∙ asks_alone node to me.1 number.0 number.1
-asks node to (Some name) me number names =
-    ap (asks_other node) (query_behind (codes "to=" ++ (decimal to ++ (codes "&group=" ++ name)))) ∙ asks_both node to name me.1 number.0 number.1 names
+-- behind who asks
+behind : (from : ℕ) (rest : List ℕ) → past_asker (codes "from=" ++ (digit from ∷ (codes "&" ++ rest))) ≡ rest
+behind from rest =
+    let no_amp = no_ampersand from in
+    let size : ℕ = length (codes "from=" ++ (digit from ∷ (codes "&" ++ rest))) in
+    let long : nat_lt 6 size ≡ true = lt-ltb 6 size (omega arith) in
+    rw (no_amp, long) refl
+
+asks_behind : (node : NodeName) (from : ℕ) (rest : List ℕ) → from ≤ 8
+    → asks_other node (paths.query_of (codes "/peer/pull?from=" ++ (decimal from ++ (codes "&" ++ rest)))) ≡ names_other node rest
+asks_behind node from rest few =
+    let text : decimal from ≡ digit from ∷ [] = decimal_digit from (omega (arith, few)) in
+    ap (λ (t : List ℕ). asks_other node (paths.query_of (codes "/peer/pull?from=" ++ (t ++ (codes "&" ++ rest))))) text
+    ∙ ap (asks_other node) (query_behind (codes "from=" ++ (digit from ∷ (codes "&" ++ rest))))
+    ∙ ap (names_other node) (behind from rest)
+
+asks : (node : NodeName) (from to : ℕ) (group : Option (List ℕ)) → IsNodeNumber node.me → IsNodeNumber from → IsNodeNumber to → IfSome group (λ name. IsTrue (is_group_name name))
+    → asks_other node (paths.query_of (pull_target (query_by from to group))) ≡ (not (to == node.me) || is_other_group node.group group)
+asks node from to None me asker number names =
+    asks_behind node from (codes "to=" ++ decimal to) asker.1 ∙ asks_alone node to me.1 number.0 number.1
+asks node from to (Some name) me asker number names =
+    asks_behind node from (codes "to=" ++ (decimal to ++ (codes "&group=" ++ name))) asker.1 ∙ asks_both node to name me.1 number.0 number.1 names
 
 -- Requests
 
@@ -121,16 +137,16 @@ asks node to (Some name) me number names =
 abbrev pull_with : (target : List ℕ) → Request → Request
 pull_with target request = record { method = codes "POST"; target = target; fields = request.fields; body = request.body }
 
-pulls : (node : NodeName) (to : ℕ) (group : Option (List ℕ)) (request : Request)
-    → is_misdirected node (pull_with (pull_target (query_to to group)) request) ≡ asks_other node (query_of (pull_target (query_to to group)))
-pulls node to None request = refl
-pulls node to (Some name) request = refl
+pulls : (node : NodeName) (from to : ℕ) (group : Option (List ℕ)) (request : Request)
+    → is_misdirected node (pull_with (pull_target (query_by from to group)) request) ≡ asks_other node (paths.query_of (pull_target (query_by from to group)))
+pulls node from to None request = refl
+pulls node from to (Some name) request = refl
 
-pub misdirected : (node : NodeName) (to : ℕ) (group : Option (List ℕ)) (request : Request) → IsNodeNumber node.me → IsNodeNumber to → IfSome group (λ name. IsTrue (is_group_name name))
-    → request.method ≡ codes "POST" → request.target ≡ pull_target (query_to to group)
+pub misdirected : (node : NodeName) (from to : ℕ) (group : Option (List ℕ)) (request : Request) → IsNodeNumber node.me → IsNodeNumber from → IsNodeNumber to → IfSome group (λ name. IsTrue (is_group_name name))
+    → request.method ≡ codes "POST" → request.target ≡ pull_target (query_by from to group)
     → is_misdirected node request ≡ (not (to == node.me) || is_other_group node.group group)
-misdirected node to group request me number names method target =
+misdirected node from to group request me asker number names method target =
     ap (λ (m : List ℕ). is_misdirected node (record { method = m; target = request.target; fields = request.fields; body = request.body })) method
     ∙ ap (λ (t : List ℕ). is_misdirected node (pull_with t request)) target
-    ∙ pulls node to group request
-    ∙ asks node to group me number names
+    ∙ pulls node from to group request
+    ∙ asks node from to group me asker number names

@@ -13,7 +13,7 @@ use Rattle.std.proofs.lemmas.Str.{IsUtf8-from_ascii}
 use Rattle.httparse.specs.Grammar.{is_uri_byte}
 use Rattle.lra_id.specs.Ids.{IsNodeNumber}
 use Rattle.lra_peer.specs.Texts.{IsQuery}
-use Rattle.lra_work.specs.Addressees.{query_to}
+use Rattle.lra_work.specs.Addressees.{query_by}
 use Rattle.lra_work.specs.Groups.{is_group_name, is_name_byte}
 
 both : (a b : Bool) → (a && b) ≡ true → (a ≡ true) × (b ≡ true)
@@ -120,16 +120,39 @@ name_parts name is =
     let q = both (nat_le (length name) 64) (list_all is_name_byte name) p.1 in
     (below (length name) 64 q.0, names_plain name q.1)
 
-pub query_fits : (to : ℕ) (group : Option (List ℕ)) → IsNodeNumber to → IfSome group (λ name. IsTrue (is_group_name name)) → IsQuery (query_to to group)
-query_fits to None number names =
-    let text : decimal to ≡ (48 + to) ∷ [] = decimal_digit to (omega (arith, number.1)) in
-    let plain : is_plain (48 + to) ≡ true = visible_plain (48 + to) (omega arith, omega (arith, number.1)) in
-    subst (λ (t : List ℕ). IsQuery (codes "?to=" ++ t)) (sym text) (is_a_query (codes "?to=" ++ (48 + to) ∷ []) (rw plain refl) (omega arith))
-query_fits to (Some name) number names =
-    let text : decimal to ≡ (48 + to) ∷ [] = decimal_digit to (omega (arith, number.1)) in
-    let plain : is_plain (48 + to) ≡ true = visible_plain (48 + to) (omega arith, omega (arith, number.1)) in
+-- the digit of a node's number
+abbrev digit : ℕ → ℕ
+digit n = 48 + n
+
+digit_plain : (n : ℕ) → n ≤ 8 → is_plain (digit n) ≡ true
+digit_plain n few = visible_plain (digit n) (omega arith, omega (arith, few))
+
+abbrev OfTexts : (from to : List ℕ) → Option (List ℕ) → Type 0
+OfTexts from to None = IsQuery (codes "?from=" ++ (from ++ (codes "&to=" ++ to)))
+OfTexts from to (Some name) = IsQuery (codes "?from=" ++ (from ++ (codes "&to=" ++ (to ++ (codes "&group=" ++ name)))))
+
+fits_digits : (from to : ℕ) (group : Option (List ℕ)) → from ≤ 8 → to ≤ 8 → IfSome group (λ name. IsTrue (is_group_name name)) → OfTexts (digit from ∷ []) (digit to ∷ []) group
+fits_digits from to None few fewer names =
+    let one = digit_plain from few in
+    let two = digit_plain to fewer in
+    is_a_query (codes "?from=" ++ (digit from ∷ (codes "&to=" ++ digit to ∷ []))) (rw (one, two) refl) (omega arith)
+fits_digits from to (Some name) few fewer names =
+    let one = digit_plain from few in
+    let two = digit_plain to fewer in
     let parts = name_parts name names in
     let bytes = parts.1 in
     let short = parts.0 in
-    subst (λ (t : List ℕ). IsQuery (codes "?to=" ++ (t ++ (codes "&group=" ++ name)))) (sym text)
-    (is_a_query (codes "?to=" ++ ((48 + to) ∷ (codes "&group=" ++ name))) (rw (plain, bytes) refl) (omega (arith, short)))
+    is_a_query (codes "?from=" ++ (digit from ∷ (codes "&to=" ++ (digit to ∷ (codes "&group=" ++ name))))) (rw (one, two, bytes) refl) (omega (arith, short))
+
+of_query : (from to : ℕ) (group : Option (List ℕ)) → OfTexts (decimal from) (decimal to) group → IsQuery (query_by from to group)
+of_query from to None is = is
+of_query from to (Some name) is = is
+
+pub query_fits : (from to : ℕ) (group : Option (List ℕ)) → IsNodeNumber from → IsNodeNumber to → IfSome group (λ name. IsTrue (is_group_name name)) → IsQuery (query_by from to group)
+query_fits from to group asker number names =
+    let one : decimal from ≡ digit from ∷ [] = decimal_digit from (omega (arith, asker.1)) in
+    let two : decimal to ≡ digit to ∷ [] = decimal_digit to (omega (arith, number.1)) in
+    of_query from to group
+    (subst (λ (t : List ℕ). OfTexts t (decimal to) group) (sym one)
+    (subst (λ (t : List ℕ). OfTexts (digit from ∷ []) t group) (sym two)
+    (fits_digits from to group asker.1 number.1 names)))

@@ -54,15 +54,22 @@ are_other node None group = false
 abbrev pub is_ampersand : ℕ → Bool
 is_ampersand b = b == 38
 
--- of `to=N` and `to=N&group=G`; no other query names a node
+-- of `to=N` and `to=N&group=G`; nothing else names a node
 abbrev pub names_other : NodeName → (query : List ℕ) → Bool
 names_other node query =
     if nat_lt (position_or_len is_ampersand query) (length query)
     then are_other node (number_in (before_first is_ampersand query)) (group_in (after_first is_ampersand query))
     else is_other node (number_in query)
 
+-- behind who asks, where a query begins with that; what comes behind the first `&`
+abbrev pub behind_first : (query : List ℕ) → List ℕ
+behind_first query = if nat_lt (position_or_len is_ampersand query) (length query) then after_first is_ampersand query else query
+
+abbrev pub past_asker : (query : List ℕ) → List ℕ
+past_asker query = if bytes_eq (take 5 query) (codes "from=") then behind_first query else query
+
 abbrev pub asks_other : NodeName → (query : Option (List ℕ)) → Bool
-asks_other node (Some query) = names_other node query
+asks_other node (Some query) = names_other node (past_asker query)
 asks_other node None = false
 
 -- Requests
@@ -87,7 +94,7 @@ node_text node = text_by node.me node.group
 abbrev pub misdirected_answer : NodeName → Response
 misdirected_answer node = error_answer 421 [] (node_text node)
 
--- the query of a pull that is meant for a node, and for a group where there is one
-abbrev pub query_to : ℕ → (group : Option (List ℕ)) → List ℕ
-query_to to (Some group) = codes "?to=" ++ (decimal to ++ (codes "&group=" ++ group))
-query_to to None = codes "?to=" ++ decimal to
+-- the query of a pull by a node that is meant for another, and for a group where there is one
+abbrev pub query_by : (from to : ℕ) → (group : Option (List ℕ)) → List ℕ
+query_by from to (Some group) = codes "?from=" ++ (decimal from ++ (codes "&to=" ++ (decimal to ++ (codes "&group=" ++ group))))
+query_by from to None = codes "?from=" ++ (decimal from ++ (codes "&to=" ++ decimal to))

@@ -1,7 +1,7 @@
 // As whom a node is asked.
 ghost use Rattle.std.specs.Prelude.{◌≡◌, IfOk, string_bytes};
 ghost use Rattle.std.specs.Option.{option_copied};
-ghost use Rattle.lra_work.specs.Addressees.{node_text, query_to};
+ghost use Rattle.lra_work.specs.Addressees.{node_text, query_by};
 ghost use Rattle.lra_work.specs.declared.addressee.Addressee.TheVariants.{Anyone as Nobody, Node as OneNode};
 
 use crate::GroupName;
@@ -54,16 +54,21 @@ pub(crate) fn node_text(alloc: Global, node: &NodeName) -> Result<String, AllocE
     }
 }
 
-/// The query of a pull that is meant for a node, and for a group where there is one: `?to=2` or
-/// `?to=2&group=shop`. Errors: out of memory.
-pub fn query_to(alloc: Global, to: NodeId, group: Option<&GroupName>) -> Result<String, AllocError>
-    ensures { IfOk result (λ query. string_bytes query ≡ query_to to (option_copied group.entry)) }
+/// The query of a pull by a node that is meant for another, and for a group where there is one:
+/// `?from=3&to=2` or `?from=3&to=2&group=shop`. Errors: out of memory.
+pub fn query_by(
+    alloc: Global,
+    from: NodeId,
+    to: NodeId,
+    group: Option<&GroupName>,
+) -> Result<String, AllocError>
+    ensures { IfOk result (λ query. string_bytes query ≡ query_by from to (option_copied group.entry)) }
 {
     match group {
         Some(group) => {
             let group = group.as_str();
-            format!(in alloc; "?to={to}&group={group}")
+            format!(in alloc; "?from={from}&to={to}&group={group}")
         }
-        None => format!(in alloc; "?to={to}"),
+        None => format!(in alloc; "?from={from}&to={to}"),
     }
 }

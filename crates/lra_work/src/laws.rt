@@ -3,18 +3,18 @@ ghost use Rattle.std.specs.Prelude.{◌≡◌, ◌||◌, ◌==◌, ℕ, List, Op
 ghost use Rattle.lra_id.specs.Ids.{IsNodeNumber};
 ghost use Rattle.lra_http.specs.declared.message.Request.{Request as TheRequest};
 ghost use Rattle.lra_peer.specs.Texts.{IsQuery, pull_target};
-ghost use Rattle.lra_work.specs.Addressees.{is_misdirected, is_other_group, query_to};
+ghost use Rattle.lra_work.specs.Addressees.{is_misdirected, is_other_group, query_by};
 ghost use Rattle.lra_work.specs.Groups.{is_group_name};
 ghost use Rattle.lra_work.specs.declared.addressee.NodeName.{NodeName as TheName};
 
-/// A pull that is meant for a node, and for a group or none, is misdirected exactly at the nodes
+/// A pull by a node that is meant for another, and for a group or none, is misdirected exactly at the nodes
 /// with other numbers and, where both have a group, at those of other groups. Its query may stand
 /// in a pull.
 pub fn a_pull_to_another_node_is_misdirected()
-    ensures exact { (node : TheName) (to : ℕ) (group : Option (List ℕ)) (request : TheRequest) →
-        IsNodeNumber node.me → IsNodeNumber to → IfSome group (λ name. IsTrue (is_group_name name)) →
-        request.method ≡ codes "POST" → request.target ≡ pull_target (query_to to group) →
+    ensures exact { (node : TheName) (from to : ℕ) (group : Option (List ℕ)) (request : TheRequest) →
+        IsNodeNumber node.me → IsNodeNumber from → IsNodeNumber to → IfSome group (λ name. IsTrue (is_group_name name)) →
+        request.method ≡ codes "POST" → request.target ≡ pull_target (query_by from to group) →
         is_misdirected node request ≡ (not (to == node.me) || is_other_group node.group group) }
-    ensures query { (to : ℕ) (group : Option (List ℕ)) → IsNodeNumber to →
-        IfSome group (λ name. IsTrue (is_group_name name)) → IsQuery (query_to to group) }
+    ensures query { (from to : ℕ) (group : Option (List ℕ)) → IsNodeNumber from → IsNodeNumber to →
+        IfSome group (λ name. IsTrue (is_group_name name)) → IsQuery (query_by from to group) }
 {}

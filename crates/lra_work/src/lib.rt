@@ -12,7 +12,7 @@ mod misdirected;
 mod serving;
 mod working;
 
-pub use addressee::{Addressee, NodeName, query_to};
+pub use addressee::{Addressee, NodeName, query_by};
 pub use arrivals::{Arrivals, Connection};
 pub use gate::{Gate, Open};
 pub use group::{GroupName, is_group_name};

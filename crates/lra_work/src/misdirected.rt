@@ -3,7 +3,7 @@ ghost use Rattle.std.specs.Prelude.{◌≡◌, Some};
 ghost use Rattle.std.specs.Char.{is_ascii_digit};
 ghost use Rattle.std.specs.List.{list_all};
 ghost use Rattle.std.specs.Option.{option_copied};
-ghost use Rattle.lra_work.specs.Addressees.{are_other, asks_other, group_in, is_misdirected, is_number, is_other, is_other_group, is_other_number, is_pull, names_other, number_in};
+ghost use Rattle.lra_work.specs.Addressees.{are_other, asks_other, behind_first, group_in, is_misdirected, is_number, is_other, is_other_group, is_other_number, is_pull, names_other, number_in, past_asker};
 
 use crate::{GroupName, NodeName, is_group_name};
 use lra_api::{path_of, query_of};
@@ -107,11 +107,32 @@ fn names_other(node: &NodeName, query: &str) -> bool
     }
 }
 
+/// What comes behind the first `&` of a query.
+fn behind_first(query: &str) -> &str
+    ensures { result.now ≡ behind_first query.now }
+{
+    match query.split_once('&') {
+        Some((_first, rest)) => rest,
+        None => query,
+    }
+}
+
+/// What a query says behind who asks, where it begins with that.
+fn past_asker(query: &str) -> &str
+    ensures { result.now ≡ past_asker query.now }
+{
+    if query.starts_with("from=") {
+        behind_first(query)
+    } else {
+        query
+    }
+}
+
 fn asks_other(node: &NodeName, query: Option<&str>) -> bool
     ensures { result ≡ asks_other node.now (option_copied query.entry) }
 {
     match query {
-        Some(query) => names_other(node, query),
+        Some(query) => names_other(node, past_asker(query)),
         None => false,
     }
 }

@@ -4,24 +4,23 @@ ghost use Rattle.lra_facts.specs.declared.refusal.Refusal.TheVariants.{NoMemory}
 ghost use Rattle.lra_book.specs.declared.calls.Call.TheVariants.{Duties as AskDuties, Expire as AskExpire, Take as TakeDelta};
 ghost use Rattle.lra_book.specs.declared.calls.Call.{Call as TheCall};
 ghost use Rattle.lra_mailbox.specs.declared.task.Task.{Task as TheTask};
-ghost use Rattle.lra_server.specs.Noting.{duties_in};
-ghost use Rattle.lra_server.specs.Entering.{Counts, DoesEach, DoesTask, EntersLetter, IsMade, IsMadeAndCopied, IsMadeInMemory, MakesIf, fits, told};
+ghost use Rattle.lra_server.specs.Entering.{Counts, DoesEach, DoesTask, EntersLetter, IsMade, IsMadeAndCopied, IsMadeInMemory, MakesIf, duties_in, fits, told};
 
 use crate::operators::errands::{Errand, Errands};
 use crate::run::counting::refused_by;
 use crate::run::refusals::stop_reason_of;
 use crate::run::sweeping::sweep;
-use lra_book::{Call, Clerk, PullBody, Reply};
+use lra_book::{Call, Clerk, Reply};
 use lra_callback::Duties;
 use lra_facts::Refusal;
 use lra_heard::{Letter, Telling};
-use lra_id::{Front, LAST_NUMBER, MAX_NODES};
+use lra_id::MAX_NODES;
 use lra_mailbox::{Task, Wanted};
-use lra_peer::pull_body;
+use lra_noting::body_of_all;
 use lra_sockets::{Sockets, unix_millis};
 use lra_threads::Node;
 use lra_work::ending_by;
-use std::alloc::{AllocError, Global};
+use std::alloc::Global;
 use std::sync::Wait;
 use std::thread;
 use std::time::{Clock, Duration};
@@ -131,14 +130,6 @@ fn expire<R: Wait + Clock, C: Clerk>(
     Ok(())
 }
 
-/// The body of a pull by one that has all facts that there can be of so many nodes.
-fn body_of_all(alloc: Global, nodes: u8) -> Result<PullBody, AllocError> {
-    let counts = [LAST_NUMBER; MAX_NODES as usize];
-    let nodes = usize::from(nodes.clamp(1, MAX_NODES));
-    let bytes = pull_body(alloc, &Front::from_counts(&counts[..nodes]))?;
-    Ok(PullBody::new(bytes))
-}
-
 /// Asks as one that has all facts: so nothing is told but how many this node has. After that the
 /// others are asked, and hear of it (`Node::hear_front`).
 fn count<R: Wait + Clock, C: Clerk>(
@@ -149,7 +140,7 @@ fn count<R: Wait + Clock, C: Clerk>(
 ) -> Result<(), Refusal>
     ensures { Counts C.Clerk clerk.old clerk.new result }
 {
-    match body_of_all(alloc, node.nodes) {
+    match body_of_all(alloc, node.nodes.clamp(1, MAX_NODES)) {
         Ok(body) => clerk.call(alloc, Call::Pull(body), unix_millis(rt)),
         Err(_) => Err(Refusal::NoMemory),
     }

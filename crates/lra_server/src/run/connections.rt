@@ -1,6 +1,7 @@
 // The connections of a node, as its workers take them.
 ghost use Rattle.std.specs.Prelude.{⊤};
 
+use crate::run::holding::Owing;
 use lra_sockets::{
     BufferedSocket, Cutoff, Limit, PendingConnection, REQUEST_MS, Readiness, SharedSocket,
     SocketReader, SocketWriter, Sockets, Times, unix_millis,
@@ -160,6 +161,10 @@ impl<'a, R: Wait + Clock + Sockets> Arrivals for Connections<'a, R> {
         self.node.pass_on(self.rt);
         self.node.end_if_spent(self.rt);
         let mut silent = 0usize;
+        let owing = Owing {
+            rt: self.rt,
+            node: self.node,
+        };
         for _ in self.rt.forever() {
             if self.is_over() {
                 return None;
@@ -170,7 +175,7 @@ impl<'a, R: Wait + Clock + Sockets> Arrivals for Connections<'a, R> {
                 }
                 continue;
             };
-            match pending.look(self.rt, self.node.queue.may_read_on()) {
+            match pending.look(self.rt, self.node.queue.may_read_on(), &owing) {
                 // Who is silent makes room for those who speak.
                 Readiness::Pending(pending) => {
                     let waiting = self.node.queue.put_back(self.rt, pending);

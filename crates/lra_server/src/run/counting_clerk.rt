@@ -3,14 +3,12 @@ ghost use Rattle.std.specs.Prelude.{◌≡◌, ◌⊎◌, ◌≤◌, Err};
 ghost use Rattle.lra_facts.specs.declared.refusal.Refusal.TheVariants.{Stopped};
 
 use crate::run::counting::{asked_by, number_of, refused_by};
-use crate::run::noting::{
-    enters, freed_by, is_any, is_completion, is_own_fact, is_stored, noted_by,
-};
 use lra_book::{Call, Clerk, Reply};
 use lra_delta::Delta;
 use lra_facts::Refusal;
 use lra_id::{Front, LraId, MAX_NODES};
 use lra_mailbox::Noted;
+use lra_noting::{enters, freed_by, is_any, is_completion, is_own_fact, is_stored, noted_by};
 use lra_peer::front_of_pull;
 use lra_sockets::now as moment;
 use lra_threads::{Asked, Node};

@@ -3,9 +3,10 @@ ghost use Rattle.lra_book.specs.declared.calls.Call.TheVariants.{Page as AskPage
 ghost use Rattle.lra_server.specs.Entering.{DoesChore, IsMade};
 
 use lra_book::{Call, Clerk, Reply};
-use lra_facts::{CommandReply, Refusal};
+use lra_facts::Refusal;
 use lra_id::LraId;
-use lra_mailbox::{Chore, Purged, Ripe};
+use lra_mailbox::{Chore, Ripe};
+use lra_noting::purged_by;
 use lra_sockets::unix_millis;
 use lra_threads::Node;
 use std::alloc::Global;
@@ -19,37 +20,6 @@ fn note<R: Wait + Clock>(rt: &R, node: &Node, reply: &Reply) {
             node.mailbox.see(rt, row.id, row.status);
         }
         node.mailbox.turn(rt, page.more());
-    }
-}
-
-/// Why a command was refused, if it was.
-fn refusal_of(reply: &CommandReply) -> Option<Refusal> {
-    match reply {
-        CommandReply::Refused(refusal) => Some(*refusal),
-        _ => None,
-    }
-}
-
-/// What comes of a purge that is refused.
-fn put_off_by(refusal: Refusal) -> Purged {
-    match refusal {
-        Refusal::NotHeld => Purged::Missing,
-        Refusal::NotRoot => Purged::Nested,
-        Refusal::StillToForget(id, _) | Refusal::StillToTell(id, _) => Purged::Waits(id),
-        _ => Purged::Later,
-    }
-}
-
-/// What came of a purge, by its reply.
-fn purged_by(reply: &Reply) -> Purged {
-    match reply {
-        Reply::Shown(_, _) => Purged::Changed,
-        Reply::Refused(refusal) => put_off_by(*refusal),
-        Reply::Command(reply) => match refusal_of(reply) {
-            None => Purged::Gone,
-            Some(refusal) => put_off_by(refusal),
-        },
-        _ => Purged::Later,
     }
 }
 

@@ -1,6 +1,6 @@
 // What a call at the desk leaves for the threads to go on with.
-ghost use Rattle.std.specs.Prelude.{◌≡◌};
-ghost use Rattle.lra_server.specs.Noting.{became_by, became_of, enters, freed_by, is_completion, is_own, is_stored, is_taken, news_by, news_of, noted_by, told_by};
+ghost use Rattle.std.specs.Prelude.{◌≡◌, MatchBool};
+ghost use Rattle.lra_noting.specs.Noting.{became_by, became_of, enters, freed_by, is_completion, is_own, is_stored, is_taken, news_by, news_of, noted_by, nothing, told_by};
 
 use lra_book::{Call, Reply};
 use lra_facts::{Command, CommandReply, Refusal};
@@ -126,7 +126,9 @@ pub fn noted_by(completes: bool, freed: &Option<LraId>, reply: &Reply) -> Noted
 }
 
 /// Whether that is anything.
-pub fn is_any(noted: &Noted) -> bool {
+pub fn is_any(noted: &Noted) -> bool
+    ensures { MatchBool result (noted.now ≡ nothing → ⊥) (noted.now ≡ nothing) }
+{
     noted.news != News::Nobody
         || noted.became != Became::Nothing
         || noted.freed.is_some()

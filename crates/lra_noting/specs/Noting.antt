@@ -1,9 +1,8 @@
 -- What is noted of a call for the other threads.
-use Rattle.std.specs.Prelude.{◌&&◌, ℕ, Bool, true, false, List, Option, None, Some, if◌then◌else◌, not}
+use Rattle.std.specs.Prelude.{◌&&◌, Bool, true, false, Option, None, Some, if◌then◌else◌, not}
 use Rattle.lra_id.specs.Ids.{Id}
 use Rattle.lra_id.specs.declared.outcome.Act.{Act}
 use Rattle.lra_id.specs.declared.outcome.Act.TheVariants as act
-use Rattle.lra_callback.specs.declared.duty.Duty.{Duty}
 use Rattle.lra_facts.specs.declared.command.Command.{Command}
 use Rattle.lra_facts.specs.declared.command.Command.TheVariants as command
 use Rattle.lra_facts.specs.declared.refusal.Refusal.{Refusal}
@@ -13,7 +12,7 @@ use Rattle.lra_facts.specs.declared.command.CommandReply.TheVariants as reply
 use Rattle.lra_book.specs.declared.calls.Call.{Call}
 use Rattle.lra_book.specs.declared.calls.Call.TheVariants as call
 use Rattle.lra_book.specs.declared.calls.Reply.{Reply}
-use Rattle.lra_book.specs.declared.calls.Reply.TheVariants.{Command as OfCommand, Due, Expired, Took}
+use Rattle.lra_book.specs.declared.calls.Reply.TheVariants.{Command as OfCommand, Expired, Took}
 use Rattle.lra_mailbox.specs.declared.noted.Became.{Became}
 use Rattle.lra_mailbox.specs.declared.noted.Became.TheVariants.{Begun, Ended, Full, Nothing, Removed}
 use Rattle.lra_mailbox.specs.declared.noted.News.{News}
@@ -108,7 +107,6 @@ freed_by _ = None
 abbrev pub noted_by : (completes : Bool) (freed : Option Id) → Reply → Noted
 noted_by completes freed reply = record { news = news_of completes reply; became = became_of reply; freed = freed; took = is_taken reply }
 
--- the participants that are to be called, by a reply
-abbrev pub duties_in : Reply → Option (List Duty)
-duties_in (Due duties) = Some duties
-duties_in _ = None
+-- of a call that leaves nothing
+abbrev pub nothing : Noted
+nothing = record { news = Nobody; became = Nothing; freed = None; took = false }

@@ -1,0 +1,40 @@
+// What came of a purge by a sweep.
+ghost use Rattle.std.specs.Prelude.{◌≡◌};
+ghost use Rattle.lra_noting.specs.Purging.{purged_by, purged_in, put_off_by};
+
+use lra_book::Reply;
+use lra_facts::{CommandReply, Refusal};
+use lra_mailbox::Purged;
+
+/// What comes of a purge that is refused.
+fn put_off_by(refusal: Refusal) -> Purged
+    ensures { result ≡ put_off_by refusal }
+{
+    match refusal {
+        Refusal::NotHeld => Purged::Missing,
+        Refusal::NotRoot => Purged::Nested,
+        Refusal::StillToForget(id, _) | Refusal::StillToTell(id, _) => Purged::Waits(id),
+        _ => Purged::Later,
+    }
+}
+
+fn purged_in(reply: &CommandReply) -> Purged
+    ensures { result ≡ purged_in reply.now }
+{
+    match reply {
+        CommandReply::Refused(refusal) => put_off_by(*refusal),
+        _ => Purged::Gone,
+    }
+}
+
+/// What came of a purge by a sweep, by its reply.
+pub fn purged_by(reply: &Reply) -> Purged
+    ensures { result ≡ purged_by reply.now }
+{
+    match reply {
+        Reply::Shown(_, _) => Purged::Changed,
+        Reply::Refused(refusal) => put_off_by(*refusal),
+        Reply::Command(reply) => purged_in(reply),
+        _ => Purged::Later,
+    }
+}

@@ -1,0 +1,32 @@
+// Which pulls wait though they are whole.
+
+use lra_id::{Front, MAX_NODES, NodeId};
+use lra_peer::front_of_pull;
+use lra_sockets::Holder;
+use lra_threads::Node;
+use std::sync::Wait;
+
+/// Keeps those waiting that ask a node which others told of more of their facts than they count, until
+/// these are stored: who starts over an older journal is to hear of each number that it gave.
+#[derive(Drop)]
+pub struct Owing<'n, R> {
+    pub rt: &'n R,
+    pub node: &'n Node,
+}
+
+/// What one counts that asks a node of a group.
+fn asked(node: &Node, body: &[u8]) -> Option<Front> {
+    if !node.site.is_apart() || node.nodes == 0 || node.nodes > MAX_NODES {
+        return None;
+    }
+    front_of_pull(usize::from(node.nodes), body).ok()
+}
+
+impl<'n, R: Wait> Holder for Owing<'n, R> {
+    fn holds(&self, from: u8, body: &[u8]) -> bool {
+        let (Ok(from), Some(front)) = (NodeId::new(from), asked(self.node, body)) else {
+            return false;
+        };
+        self.node.mailbox.is_owed(self.rt, from, &front)
+    }
+}
