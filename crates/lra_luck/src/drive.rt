@@ -5,7 +5,7 @@ ghost use Rattle.sqlite_disk.specs.Events.{settled};
 use crate::luck::Luck;
 use crate::record::Record;
 use sqlite_disk::{Calls, is_no_room};
-use std::alloc::{AllocError, AllocFailed, Global};
+use std::alloc::{AllocError, Global};
 use std::cell::RefCell;
 use std::io;
 use std::rc::Rc;
@@ -210,10 +210,13 @@ impl Content {
         }
     }
 
-    /// Power is lost, and the file is as long as before it was cut, or not quite.
+    /// Power is lost, and the file is as long as before it was cut, or not quite; or it stays cut.
     fn undo_cut(&mut self, undo: &Undo) {
         let kept = self.kept_of(undo.old.len());
-        let back = undo.old.len().saturating_sub(kept).min(undo.old.len());
+        if kept >= undo.old.len() {
+            return;
+        }
+        let back = undo.old.len() - kept;
         self.bytes.truncate(undo.at);
         if self.bytes.len() == undo.at {
             let _ = self.bytes.extend_from_slice(&undo.old[..back]);
