@@ -1,4 +1,5 @@
-// A file in memory, as a database sees it: `sqlite_disk` says what may become of what was written and not synced.
+// A file in memory, as a database sees it: `sqlite_disk` says what may become of what was written
+// and not synced.
 ghost use Rattle.std.specs.Prelude.{◌≡◌, ◌<◌, ◌≤◌, ◌^◌, [], ◌∷◌, length, IfOk};
 ghost use Rattle.sqlite_disk.specs.Events.{settled};
 
@@ -268,8 +269,8 @@ impl FileHandle {
         Ok(Drive { file, log })
     }
 
-    /// What is left of it: all that was written; or, where power is lost, what was synced and any parts of the rest.
-    /// Nothing is where it is in use.
+    /// What is left of it: all that was written; or, where power is lost, what was synced and any
+    /// parts of the rest. Nothing is where it is in use.
     pub fn left(&self, loses_power: bool) -> Option<Vec<u8>> {
         let Ok(mut content) = self.file.try_borrow_mut() else {
             return None;
