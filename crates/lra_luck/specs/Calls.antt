@@ -2,7 +2,8 @@
 use Rattle.std.specs.Prelude.{ℕ, List, ◌∷◌, slice_index, ◌==◌, if◌then◌else◌}
 use Rattle.sqlite_disk.specs.Events.{Event}
 
--- These are which call it was, an offset or a length, a count, 1 where it went well; and of a read that is tested a key and a digest.
+-- These are which call it was, an offset or a length, a count, 1 where it went well; and of a read
+-- that is tested a key and a digest.
 abbrev pub event_of : List ℕ → List ℕ → Event
 event_of numbers bytes = (
   slice_index numbers 0,

@@ -1,4 +1,5 @@
-// The disk of a node: what its two files hold while no journal is open over them, and journals over copies of them.
+// The disk of a node: what its two files hold while no journal is open over them, and journals over
+// copies of them.
 
 use crate::drive::{Drive, FileHandle, Ills};
 use crate::halt::Halt;
@@ -21,7 +22,8 @@ pub enum Doubt {
     Frame(Front),
 }
 
-/// What the files of a node hold, and which facts are there; perhaps with those of a call that was cut off.
+/// What the files of a node hold, and which facts are there; perhaps with those of a call that was
+/// cut off.
 #[derive(Drop)]
 pub struct Image {
     log: Vec<u8>,
@@ -139,8 +141,9 @@ impl Image {
         })
     }
 
-    /// Copies of the files, and a connection to them; none where a call fails before it is open. The log is copied into
-    /// the database file once it is so long, which is sooner than in the server.
+    /// Copies of the files, and a connection to them; none where a call fails before it is open.
+    /// The log is copied into the database file once it is so long, which is sooner than in the
+    /// server.
     pub fn open(
         &self,
         alloc: Global,

@@ -1,11 +1,12 @@
-// A file in memory, as a database sees it: `sqlite_disk` says what may become of what was written and not synced.
+// A file in memory, as a database sees it: `sqlite_disk` says what may become of what was written
+// and not synced.
 ghost use Rattle.std.specs.Prelude.{◌≡◌, ◌<◌, ◌≤◌, ◌^◌, [], ◌∷◌, length, IfOk};
 ghost use Rattle.sqlite_disk.specs.Events.{settled};
 
 use crate::luck::Luck;
 use crate::record::Record;
 use sqlite_disk::{Calls, is_no_room};
-use std::alloc::{AllocError, AllocFailed, Global};
+use std::alloc::{AllocError, Global};
 use std::cell::RefCell;
 use std::io;
 use std::rc::Rc;
@@ -210,10 +211,13 @@ impl Content {
         }
     }
 
-    /// Power is lost, and the file is as long as before it was cut, or not quite.
+    /// Power is lost, and the file is as long as before it was cut, or not quite; or it stays cut.
     fn undo_cut(&mut self, undo: &Undo) {
         let kept = self.kept_of(undo.old.len());
-        let back = undo.old.len().saturating_sub(kept).min(undo.old.len());
+        if kept >= undo.old.len() {
+            return;
+        }
+        let back = undo.old.len() - kept;
         self.bytes.truncate(undo.at);
         if self.bytes.len() == undo.at {
             let _ = self.bytes.extend_from_slice(&undo.old[..back]);
@@ -265,8 +269,8 @@ impl FileHandle {
         Ok(Drive { file, log })
     }
 
-    /// What is left of it: all that was written; or, where power is lost, what was synced and any parts of the rest.
-    /// Nothing is where it is in use.
+    /// What is left of it: all that was written; or, where power is lost, what was synced and any
+    /// parts of the rest. Nothing is where it is in use.
     pub fn left(&self, loses_power: bool) -> Option<Vec<u8>> {
         let Ok(mut content) = self.file.try_borrow_mut() else {
             return None;

@@ -1,4 +1,5 @@
-// What facts say, reckoned apart from the code that is tested: docs/MODEL.md, from "What an LRA wants" to "Duties".
+// What facts say, reckoned apart from the code that is tested: docs/MODEL.md, from "What an LRA
+// wants" to "Duties".
 
 use crate::halt::Halt;
 use lra_callback::Kind;
@@ -73,7 +74,8 @@ fn status_of(one: &Participant, want: Option<Verdict>) -> MemberStatus {
     }
 }
 
-/// How a participant is called that is to do an act: for its status, where it was busy and gave a link for that.
+/// How a participant is called that is to do an act: for its status, where it was busy and gave a
+/// link for that.
 fn kind_of(one: &Participant, act: Act) -> Kind {
     let (heard, kind) = match act {
         Act::Complete => (one.completed, Kind::Complete),
@@ -434,7 +436,8 @@ impl Model {
         }
     }
 
-    /// The LRAs of the tree that one is in, if it is held: those whose statuses a fact about it can change.
+    /// The LRAs of the tree that one is in, if it is held: those whose statuses a fact about it can
+    /// change.
     pub fn tree(&self, id: LraId) -> Result<Vec<LraId>, Halt> {
         let mut ids = Vec::new(self.alloc);
         let Some(lra) = self.lra(id) else {
@@ -505,7 +508,8 @@ impl Model {
             && lra.members.as_slice() == record.members.as_slice()
     }
 
-    /// The last participant under a cancelled LRA that is to compensate, to this depth: the first to be called.
+    /// The last participant under a cancelled LRA that is to compensate, to this depth: the first
+    /// to be called.
     fn last_pending(&self, lra: &Lra, levels: u8) -> Option<DueCall> {
         if levels == 0 {
             return None;
