@@ -1,0 +1,416 @@
+// A file in memory, as a database sees it: `sqlite_disk` says what may become of what was written
+// and not synced.
+ghost use Rattle.std.specs.Prelude.{◌≡◌, ◌<◌, ◌≤◌, ◌^◌, [], ◌∷◌, length, IfOk};
+ghost use Rattle.sqlite_disk.specs.Events.{settled};
+
+use crate::luck::Luck;
+use crate::record::Record;
+use sqlite_disk::{Calls, is_no_room};
+use std::alloc::{AllocError, Global};
+use std::cell::RefCell;
+use std::io;
+use std::rc::Rc;
+
+const SETTLED: u64 = 0;
+
+const MEASURED: u64 = 1;
+
+const READ: u64 = 2;
+
+const WRITTEN: u64 = 3;
+
+const CUT: u64 = 4;
+
+const FLUSHED: u64 = 5;
+
+const TESTED: u64 = 6;
+
+const MAX_OFFSET: usize = (1 << 63) - 1;
+
+/// What a call since the last sync changed.
+#[derive(Drop)]
+struct Undo {
+    at: usize,
+    old: Vec<u8>,
+    /// How long the file was before.
+    len: usize,
+    /// Whether it cut the old bytes off, and wrote none over them.
+    is_cut: bool,
+}
+
+/// When calls of a file fail.
+#[derive(Clone, Copy)]
+pub struct Ills {
+    /// How many calls go well first.
+    pub well: u64,
+    /// How many fail then.
+    pub fail: u64,
+}
+
+/// What a file holds.
+#[derive(Drop)]
+struct Content {
+    alloc: Global,
+    bytes: Vec<u8>,
+    undos: Vec<Undo>,
+    ills: Ills,
+    luck: Luck,
+}
+
+/// A file in memory, some of whose calls fail.
+#[derive(Drop)]
+pub struct Drive {
+    file: Rc<RefCell<Content>>,
+    log: Record,
+}
+
+/// The same file, for one who looks what is left of it.
+#[derive(Drop)]
+pub struct FileHandle {
+    file: Rc<RefCell<Content>>,
+}
+
+fn failed() -> io::Error {
+    io::Error::other("the disk fails")
+}
+
+fn lengthen(file: &mut Vec<u8>, end: usize) -> Result<(), AllocError> {
+    if end > file.len() {
+        file.resize(end, 0)?;
+    }
+    Ok(())
+}
+
+/// The bytes from one offset to another, of those that are there.
+fn part(alloc: Global, file: &[u8], at: usize, end: usize) -> Result<Vec<u8>, AllocError> {
+    if at > end || end > file.len() {
+        return Ok(Vec::new(alloc));
+    }
+    let old = Vec::from_slice(alloc, &file[at..end])?;
+    Ok(old)
+}
+
+/// Writes over what is there; what would go past the end isn't written.
+fn overwrite(file: &mut [u8], at: usize, bytes: &[u8]) {
+    let end = at.saturating_add(bytes.len());
+    if end <= file.len() && end - at == bytes.len() {
+        file[at..end].copy_from_slice(bytes);
+    }
+}
+
+/// Reads as many bytes as there is room for, if they are there.
+fn copy_out(file: &[u8], at: usize, buf: &mut [u8]) -> bool {
+    let end = at.saturating_add(buf.len());
+    if end > file.len() || end - at != buf.len() {
+        return false;
+    }
+    buf.copy_from_slice(&file[at..end]);
+    true
+}
+
+impl Content {
+    fn fails(&mut self) -> bool {
+        if self.ills.well > 0 {
+            self.ills.well -= 1;
+            return false;
+        }
+        if self.ills.fail > 0 {
+            self.ills.fail -= 1;
+            return true;
+        }
+        false
+    }
+
+    fn put(&mut self, at: usize, bytes: &[u8]) -> Result<(), AllocError> {
+        let len = self.bytes.len();
+        let end = at.saturating_add(bytes.len());
+        lengthen(&mut self.bytes, end)?;
+        let old = part(self.alloc, &self.bytes, at, end)?;
+        self.undos.push(Undo {
+            at,
+            old,
+            len,
+            is_cut: false,
+        })?;
+        overwrite(&mut self.bytes, at, bytes);
+        Ok(())
+    }
+
+    fn cut(&mut self, at: usize) -> Result<(), AllocError> {
+        let len = self.bytes.len();
+        let old = part(self.alloc, &self.bytes, at, len)?;
+        self.undos.push(Undo {
+            at,
+            old,
+            len,
+            is_cut: true,
+        })?;
+        self.bytes.truncate(at);
+        Ok(())
+    }
+
+    /// Whether so many bytes were read.
+    fn read(&mut self, at: usize, buf: &mut [u8]) -> bool {
+        if self.fails() {
+            return false;
+        }
+        copy_out(&self.bytes, at, buf)
+    }
+
+    /// A write that fails may have written some.
+    fn write(&mut self, at: usize, bytes: &[u8]) -> bool {
+        if !self.fails() {
+            return self.put(at, bytes).is_ok();
+        }
+        let some = self.luck.place(bytes.len());
+        if self.luck.is_one_in(2) && some < bytes.len() {
+            let _ = self.put(at, &bytes[..some]);
+        }
+        false
+    }
+
+    fn resize(&mut self, len: usize) -> bool {
+        if self.fails() {
+            return false;
+        }
+        if len < self.bytes.len() {
+            return self.cut(len).is_ok();
+        }
+        lengthen(&mut self.bytes, len).is_ok()
+    }
+
+    fn sync(&mut self) -> bool {
+        if self.fails() {
+            return false;
+        }
+        self.undos.clear();
+        true
+    }
+
+    /// How many bytes of a call's are kept as power is lost.
+    fn kept_of(&mut self, count: usize) -> usize {
+        match self.luck.below(4) {
+            0 => count,
+            1 => self.luck.place(count).min(count),
+            _ => 0,
+        }
+    }
+
+    /// Power is lost, and so is what a call wrote, or part of it.
+    fn undo_write(&mut self, undo: &Undo) {
+        let kept = self.kept_of(undo.old.len());
+        if kept < undo.old.len() {
+            overwrite(
+                &mut self.bytes,
+                undo.at.saturating_add(kept),
+                &undo.old[kept..],
+            );
+        }
+        if kept == 0 && self.luck.is_one_in(2) {
+            self.bytes.truncate(undo.len);
+        }
+    }
+
+    /// Power is lost, and the file is as long as before it was cut, or not quite; or it stays cut.
+    fn undo_cut(&mut self, undo: &Undo) {
+        let kept = self.kept_of(undo.old.len());
+        if kept >= undo.old.len() {
+            return;
+        }
+        let back = undo.old.len() - kept;
+        self.bytes.truncate(undo.at);
+        if self.bytes.len() == undo.at {
+            let _ = self.bytes.extend_from_slice(&undo.old[..back]);
+        }
+    }
+
+    /// Power is lost: what was synced is there, and any parts of the rest.
+    fn lose_power(&mut self) {
+        for _ in 0..self.undos.len() {
+            let Some(undo) = self.undos.pop() else {
+                return;
+            };
+            if undo.is_cut {
+                self.undo_cut(&undo);
+            } else {
+                self.undo_write(&undo);
+            }
+        }
+    }
+}
+
+impl FileHandle {
+    /// A file with these bytes.
+    pub fn new(
+        alloc: Global,
+        bytes: &[u8],
+        ills: Ills,
+        seed: u64,
+    ) -> Result<FileHandle, AllocError> {
+        let bytes = Vec::from_slice(alloc, bytes)?;
+        let content = Content {
+            alloc,
+            bytes,
+            undos: Vec::new(alloc),
+            ills,
+            luck: Luck::new(seed),
+        };
+        let file = Rc::new(alloc, RefCell::new(content))?;
+        Ok(FileHandle { file })
+    }
+
+    /// The file as a database has it, which hasn't been called yet.
+    pub(crate) fn drive(&self, key: u64) -> Result<Drive, AllocError>
+        ensures { IfOk result (λ drive. drive.log.events ≡ settled key ∷ []) }
+    {
+        let file = self.file.clone()?;
+        let mut log = Record::new();
+        log.note(&[SETTLED, key, 0, 1], &[]);
+        Ok(Drive { file, log })
+    }
+
+    /// What is left of it: all that was written; or, where power is lost, what was synced and any
+    /// parts of the rest. Nothing is where it is in use.
+    pub fn left(&self, loses_power: bool) -> Option<Vec<u8>> {
+        let Ok(mut content) = self.file.try_borrow_mut() else {
+            return None;
+        };
+        if loses_power {
+            content.lose_power();
+        }
+        let alloc = content.alloc;
+        Some(std::mem::replace(&mut content.bytes, Vec::new(alloc)))
+    }
+}
+
+fn measure(file: &Rc<RefCell<Content>>) -> io::Result<usize> {
+    let Ok(mut content) = file.try_borrow_mut() else {
+        return Err(failed());
+    };
+    if content.fails() {
+        Err(failed())
+    } else {
+        Ok(content.bytes.len())
+    }
+}
+
+fn read(file: &Rc<RefCell<Content>>, at: usize, buf: &mut [u8]) -> io::Result<usize>
+    requires { 0 < length buf.old }
+    ensures { IfOk result (λ n. (0 < n) × (n ≤ length buf.old) × (at < 2 ^ 63)) }
+{
+    let count = buf.len();
+    let Ok(mut content) = file.try_borrow_mut() else {
+        return Err(failed());
+    };
+    if at > MAX_OFFSET || !content.read(at, buf) {
+        return Err(failed());
+    }
+    Ok(count)
+}
+
+fn write(file: &Rc<RefCell<Content>>, at: usize, bytes: &[u8]) -> io::Result<usize>
+    requires { 0 < length bytes.now }
+    ensures { IfOk result (λ n. (0 < n) × (n ≤ length bytes.now) × (at < 2 ^ 63)) }
+{
+    let Ok(mut content) = file.try_borrow_mut() else {
+        return Err(failed());
+    };
+    if at > MAX_OFFSET || !content.write(at, bytes) {
+        return Err(failed());
+    }
+    Ok(bytes.len())
+}
+
+fn resize(file: &Rc<RefCell<Content>>, len: usize) -> io::Result<()> {
+    let Ok(mut content) = file.try_borrow_mut() else {
+        return Err(failed());
+    };
+    if content.resize(len) {
+        Ok(())
+    } else {
+        Err(failed())
+    }
+}
+
+fn sync(file: &Rc<RefCell<Content>>) -> io::Result<()> {
+    let Ok(mut content) = file.try_borrow_mut() else {
+        return Err(failed());
+    };
+    if content.sync() {
+        Ok(())
+    } else {
+        Err(failed())
+    }
+}
+
+// Each makes one call of the file, and then notes it with its answer.
+impl Calls for Drive {
+    ghost history = { λ d. d.log.events };
+
+    fn len(&mut self) -> io::Result<usize> {
+        let answer = measure(&self.file);
+        match answer {
+            Ok(n) => self.log.note(&[MEASURED, n as u64, 0, 1], &[]),
+            Err(_) => self.log.note(&[MEASURED, 0, 0, 0], &[]),
+        }
+        answer
+    }
+
+    fn read_some(&mut self, at: usize, buf: &mut [u8]) -> io::Result<usize> {
+        let (from, room) = (at as u64, buf.len() as u64);
+        let answer = read(&self.file, at, buf);
+        match answer {
+            Ok(n) => self.log.note(&[READ, from, room, 1], &buf[..n]),
+            Err(_) => self.log.note(&[READ, from, room, 0], &[]),
+        }
+        answer
+    }
+
+    fn read_under(&mut self, key: u64, want: u64, at: usize, buf: &mut [u8]) -> io::Result<usize> {
+        let (from, room) = (at as u64, buf.len() as u64);
+        let answer = read(&self.file, at, buf);
+        match answer {
+            Ok(n) => self
+                .log
+                .note(&[TESTED, from, room, 1, key, want], &buf[..n]),
+            Err(_) => self.log.note(&[TESTED, from, room, 0, key, want], &[]),
+        }
+        answer
+    }
+
+    fn write_some(&mut self, at: usize, bytes: &[u8]) -> io::Result<usize> {
+        let answer = write(&self.file, at, bytes);
+        match answer {
+            Ok(n) => self.log.note(&[WRITTEN, at as u64, n as u64, 1], bytes),
+            Err(error) => {
+                self.log.note(
+                    &[WRITTEN, at as u64, u64::from(is_no_room(&error)), 0],
+                    bytes,
+                );
+            }
+        }
+        answer
+    }
+
+    fn resize(&mut self, len: usize) -> io::Result<()> {
+        let answer = resize(&self.file, len);
+        match answer {
+            Ok(()) => self.log.note(&[CUT, len as u64, 0, 1], &[]),
+            Err(error) => self
+                .log
+                .note(&[CUT, len as u64, u64::from(is_no_room(&error)), 0], &[]),
+        }
+        answer
+    }
+
+    fn sync(&mut self) -> io::Result<()> {
+        let answer = sync(&self.file);
+        match answer {
+            Ok(()) => self.log.note(&[FLUSHED, 0, 0, 1], &[]),
+            Err(error) => self
+                .log
+                .note(&[FLUSHED, 0, u64::from(is_no_room(&error)), 0], &[]),
+        }
+        answer
+    }
+}

@@ -1,0 +1,21 @@
+//! What the simulator `lra_sim` plays nodes under, and what it compares them with: numbers that a
+//! seed decides, a plain list of all facts, what these say, and files in memory some of whose calls
+//! fail.
+#![tactic(auto)]
+
+mod disk;
+mod drive;
+mod halt;
+mod history;
+mod luck;
+mod model;
+mod network;
+mod record;
+
+pub use disk::{Doubt, Fate, Image, Remains, Store};
+pub use drive::Drive;
+pub use halt::Halt;
+pub use history::{History, counts};
+pub use luck::Luck;
+pub use model::{DueCall, Model};
+pub use network::{Manner, Pull, Stage};
