@@ -41,7 +41,11 @@ fn kind_by(luck: &mut Luck) -> Kind {
 }
 
 fn act_by(luck: &mut Luck) -> Act {
-    if luck.is_one_in(2) { Act::Complete } else { Act::Compensate }
+    if luck.is_one_in(2) {
+        Act::Complete
+    } else {
+        Act::Compensate
+    }
 }
 
 /// A link in one of so many cases.
@@ -71,8 +75,19 @@ fn links_by(alloc: Global, luck: &mut Luck) -> Result<Links, Halt> {
     if after.is_some() && luck.is_one_in(4) {
         return Ok(Links::read(alloc, None, None, None, None, text_of(&after))?);
     }
-    let (complete, compensate, status) = (text_of(&complete), text_of(&compensate), text_of(&status));
-    Ok(Links::read(alloc, complete, compensate, status, text_of(&forget), text_of(&after))?)
+    let (complete, compensate, status) = (
+        text_of(&complete),
+        text_of(&compensate),
+        text_of(&status),
+    );
+    Ok(Links::read(
+        alloc,
+        complete,
+        compensate,
+        status,
+        text_of(&forget),
+        text_of(&after),
+    )?)
 }
 
 /// What a participant would have said.
@@ -84,7 +99,12 @@ fn said_by(luck: &mut Luck, kind: Kind, id: LraId, member: u8) -> Command {
         Kind::Compensate => Act::Compensate,
         Kind::Status => act_by(luck),
     };
-    Command::Report { id, member, act, outcome: outcome_by(luck) }
+    Command::Report {
+        id,
+        member,
+        act,
+        outcome: outcome_by(luck),
+    }
 }
 
 impl Life {
@@ -92,7 +112,10 @@ impl Life {
     fn want(&mut self, call: Call, wanted: Wanted, now: u64) {
         match &self.errand {
             None => {
-                self.errand = Some(Errand { call, until: now.saturating_add(ERRAND_MS) });
+                self.errand = Some(Errand {
+                    call,
+                    until: now.saturating_add(ERRAND_MS),
+                });
                 self.state.want(wanted);
             }
             Some(errand) => {
@@ -109,13 +132,19 @@ impl Play {
     fn begin_lra(&mut self, place: usize, id: Option<LraId>) -> Command {
         let parent = if self.luck.is_one_in(2) { id } else { None };
         if !self.luck.is_one_in(4) {
-            return Command::Begin { parent, deadline: 0 };
+            return Command::Begin {
+                parent,
+                deadline: 0,
+            };
         }
         let unix = match self.nodes.get(place) {
             Some(node) => node.unix(self.now),
             None => 0,
         };
-        Command::Begin { parent, deadline: unix.saturating_add(self.luck.below(15_000)) }
+        Command::Begin {
+            parent,
+            deadline: unix.saturating_add(self.luck.below(15_000)),
+        }
     }
 
     /// One who is due at a node, by what it has.
@@ -147,10 +176,19 @@ impl Play {
         let sort = if is_home { self.luck.below(20) } else { 19 };
         match sort {
             0..=3 => Ok(self.begin_lra(place, Some(id))),
-            4..=9 => Ok(Command::Join { id, links: links_by(self.alloc, &mut self.luck)? }),
+            4..=9 => Ok(Command::Join {
+                id,
+                links: links_by(self.alloc, &mut self.luck)?,
+            }),
             10 => Ok(Command::Leave { id, member }),
-            11..=13 => Ok(Command::Decide { id, verdict: Verdict::Close }),
-            14..=15 => Ok(Command::Decide { id, verdict: Verdict::Cancel }),
+            11..=13 => Ok(Command::Decide {
+                id,
+                verdict: Verdict::Close,
+            }),
+            14..=15 => Ok(Command::Decide {
+                id,
+                verdict: Verdict::Cancel,
+            }),
             16 => Ok(Command::Purge { root: id }),
             _ => self.say(place, id),
         }

@@ -7,7 +7,13 @@ use lra_facts::{Command, Refusal};
 use lra_luck::{Doubt, Halt};
 
 impl Play {
-    fn make(&mut self, place: usize, caller: usize, call: Call, asked: &Asked) -> Result<Option<Reply>, Refusal> {
+    fn make(
+        &mut self,
+        place: usize,
+        caller: usize,
+        call: Call,
+        asked: &Asked,
+    ) -> Result<Option<Reply>, Refusal> {
         match self.nodes.get_mut(place) {
             Some(node) => node.make(caller, call, asked, self.now),
             None => Ok(None),
@@ -47,7 +53,8 @@ impl Play {
 
     /// The member number that a call would have given: of a join the model says it.
     fn given_to(&self, place: usize, asked: &Asked) -> u8 {
-        let (Some(node), Some(Command::Join { id, .. })) = (self.nodes.get(place), &asked.command) else {
+        let (Some(node), Some(Command::Join { id, .. })) = (self.nodes.get(place), &asked.command)
+        else {
             return 0;
         };
         u8::try_from(node.model.members(*id).saturating_add(1)).unwrap_or(u8::MAX)

@@ -20,7 +20,8 @@ const LATE_MS: u64 = 1_000;
 /// whose begin the node has.
 fn is_refused_so(refusal: Refusal, status: Option<LraStatus>, is_covered: bool) -> bool {
     match refusal {
-        Refusal::NotActive(shown) | Refusal::NotDue(shown) | Refusal::NotEnded(shown) => status == Some(shown),
+        Refusal::NotActive(shown) | Refusal::NotDue(shown) | Refusal::NotEnded(shown) => status
+            == Some(shown),
         Refusal::UnknownLra => !is_covered,
         Refusal::NotHeld => is_covered && status.is_none(),
         _ => true,
@@ -35,7 +36,8 @@ fn is_replied_so(node: &Node, named: Option<LraId>, reply: &CommandReply) -> boo
     };
     match reply {
         CommandReply::Joined(id, member) => node.model.members(*id) == usize::from(*member),
-        CommandReply::Began(id, _) => node.status_of(*id).is_some() && id.num() == node.front.count(node.me),
+        CommandReply::Began(id, _) => node.status_of(*id).is_some()
+            && id.num() == node.front.count(node.me),
         CommandReply::Decided(_, shown) => status == Some(*shown),
         CommandReply::Refused(refusal) => is_refused_so(*refusal, status, is_covered),
         _ => true,
@@ -53,7 +55,9 @@ fn see_swept(alloc: Global, node: &Node, start: &Start, root: LraId, now: u64) -
         None => false,
     };
     if !is_due {
-        let words = format!(in alloc; "{root}, which showed {status} since {since}, is purged before its time")?;
+        let words = format!(in alloc;
+            "{root}, which showed {status} since {since}, is purged before its time"
+        )?;
         return Err(Halt::Found(words));
     }
     Ok(())
@@ -65,7 +69,9 @@ fn see_rows(alloc: Global, node: &Node, rows: &[Row]) -> Result<(), Halt> {
     for (row, shown) in rows.iter().zip(node.shown.iter()) {
         if row.id != shown.id || row.status != shown.status {
             let (id, status, other, wanted) = (row.id, row.status, shown.id, shown.status);
-            let words = format!(in alloc; "node {me} shows {id} {status}, and its facts say {other} {wanted}")?;
+            let words = format!(in alloc;
+                "node {me} shows {id} {status}, and its facts say {other} {wanted}"
+            )?;
             return Err(Halt::Found(words));
         }
     }
@@ -77,7 +83,9 @@ fn see_page(alloc: Global, node: &Node, page: &Page) -> Result<(), Halt> {
     let (me, count) = (node.me, node.shown.len());
     see_rows(alloc, node, page.rows())?;
     if page.rows().len() != count.min(ROWS) || page.more() != (count > ROWS) {
-        return Err(Halt::Found(format!(in alloc; "node {me} lists more or fewer than the {count} of its facts")?));
+        return Err(Halt::Found(format!(in alloc;
+            "node {me} lists more or fewer than the {count} of its facts"
+        )?));
     }
     Ok(())
 }
@@ -93,7 +101,9 @@ impl Play {
             return Ok(());
         };
         if !node.model.is_overdue(*id, node.unix(self.now)) {
-            return Err(Halt::Found(format!(in self.alloc; "{id} is cancelled before its deadline")?));
+            return Err(Halt::Found(format!(in self.alloc;
+                "{id} is cancelled before its deadline"
+            )?));
         }
         Ok(())
     }
@@ -105,10 +115,18 @@ impl Play {
             return Ok(());
         };
         if !node.model.may_be_purged(root) {
-            return Err(Halt::Found(format!(in self.alloc; "{root} is purged, and somebody is to be told")?));
+            return Err(Halt::Found(format!(in self.alloc;
+                "{root} is purged, and somebody is to be told"
+            )?));
         }
         match &node.life {
-            Some(life) if asked.is_sweep => see_swept(self.alloc, node, &life.start, root, self.now),
+            Some(life) if asked.is_sweep => see_swept(
+                self.alloc,
+                node,
+                &life.start,
+                root,
+                self.now,
+            ),
             _ => Ok(()),
         }
     }
@@ -135,7 +153,9 @@ impl Play {
         let is_late = self.now >= start.at.saturating_add(LATE_MS) && !start.waits_for_all;
         let has_own = start.told_own <= node.front.count(node.me);
         if self.nodes.len() > 1 && !(has_own && (is_late || self.are_heard(place, start))) {
-            return Err(Halt::Found(format!(in self.alloc; "it enters something before the others are heard")?));
+            return Err(Halt::Found(format!(in self.alloc;
+                "it enters something before the others are heard"
+            )?));
         }
         Ok(())
     }
@@ -148,7 +168,9 @@ impl Play {
         if is_replied_so(node, named, reply) {
             return Ok(());
         }
-        let words = format!(in self.alloc; "a command is answered {reply:?}, and its facts say otherwise")?;
+        let words = format!(in self.alloc;
+            "a command is answered {reply:?}, and its facts say otherwise"
+        )?;
         Err(Halt::Found(words))
     }
 
@@ -169,7 +191,9 @@ impl Play {
         match (self.nodes.get(place), reply) {
             (Some(node), Some(Reply::Listed(page))) => see_page(self.alloc, node, page),
             (_, None) => Ok(()),
-            _ => Err(Halt::Found(format!(in self.alloc; "a page is asked for, and something else comes")?)),
+            _ => Err(Halt::Found(format!(in self.alloc;
+                "a page is asked for, and something else comes"
+            )?)),
         }
     }
 
@@ -204,7 +228,9 @@ impl Play {
             _ => false,
         };
         if !is_so {
-            return Err(Halt::Found(format!(in self.alloc; "{id} is held otherwise than its facts say: {reply:?}")?));
+            return Err(Halt::Found(format!(in self.alloc;
+                "{id} is held otherwise than its facts say: {reply:?}"
+            )?));
         }
         Ok(())
     }

@@ -1,13 +1,11 @@
-// What the server's threads do between the desk and the mailbox, and is private there. These lines stand twice: in
-// lra_server/src/run, `noting.rt` (all), `sweeping.rt` (`purged_by`), `counting.rt` and `apply_loop.rt` (`body_of_all`).
+// What is to be known of calls, commands, facts and replies.
 
-use lra_book::{Call, PullBody, Reply};
-use lra_facts::{Body, Command, CommandReply, Fact, Refusal};
-use lra_id::{Act, Front, LAST_NUMBER, LraId, MAX_NODES, NodeId, Verdict};
+use lra_book::{Call, Reply};
+use lra_facts::{Body, Command, CommandReply, Fact};
+use lra_id::{Front, LraId, MAX_NODES, NodeId, Verdict};
 use lra_luck::Halt;
-use lra_mailbox::{Became, News, Noted, Purged};
-use lra_peer::pull_body;
-use std::alloc::Global;
+use lra_noting::{body_of_all, enters, freed_by, is_completion};
+use std::alloc::{AllocError, Global};
 
 /// What is to be known of a call once it is made.
 #[derive(Drop)]
@@ -21,97 +19,41 @@ pub struct Asked {
     pub freed: Option<LraId>,
 }
 
-fn freed_by(call: &Call) -> Option<LraId> {
+fn command_in(call: &Call) -> Result<Option<Command>, AllocError> {
     match call {
-        Call::Command(Command::Forgot { id, .. } | Command::Told { id, .. }) => Some(*id),
+        Call::Command(command) => Ok(Some(command.clone()?)),
+        Call::Sweep { root, .. } => Ok(Some(Command::Purge { root: *root })),
+        _ => Ok(None),
+    }
+}
+
+fn taken_in(call: &Call) -> Option<Front> {
+    match call {
+        Call::Take(delta) => Some(delta.front()),
         _ => None,
     }
 }
 
+fn is_sweep(call: &Call) -> bool {
+    matches!(call, Call::Sweep { .. })
+}
+
 impl Asked {
     pub fn of(call: &Call) -> Result<Asked, Halt> {
-        let command = match call {
-            Call::Command(command) => Some(command.clone()?),
-            Call::Sweep { root, .. } => Some(Command::Purge { root: *root }),
-            _ => None,
-        };
-        let taken = match call {
-            Call::Take(delta) => Some(delta.front()),
-            _ => None,
-        };
         Ok(Asked {
-            command,
-            taken,
-            is_sweep: matches!(call, Call::Sweep { .. }),
-            enters: matches!(call, Call::Command(_) | Call::Expire | Call::Sweep { .. }),
-            completes: matches!(call, Call::Command(Command::Report { act: Act::Complete, .. })),
+            command: command_in(call)?,
+            taken: taken_in(call),
+            is_sweep: is_sweep(call),
+            enters: enters(call),
+            completes: is_completion(call),
             freed: freed_by(call),
         })
     }
 }
 
-fn news_of(completes: bool, reply: &Reply) -> News {
-    match reply {
-        Reply::Took | Reply::Expired(_) => News::Others,
-        Reply::Command(CommandReply::Decided(_, _) | CommandReply::Forgotten) => News::Others,
-        Reply::Command(CommandReply::Told) => News::OfCompletion,
-        Reply::Command(CommandReply::Reported) if completes => News::OfCompletion,
-        Reply::Command(CommandReply::Reported) => News::Others,
-        _ => News::Nobody,
-    }
-}
-
-fn became_of(reply: &Reply) -> Became {
-    match reply {
-        Reply::Took | Reply::Expired(_) => Became::Ended,
-        Reply::Command(CommandReply::Began(_, _)) => Became::Begun,
-        Reply::Command(CommandReply::Refused(Refusal::LrasFull)) => Became::Full,
-        Reply::Command(CommandReply::Purged) => Became::Removed,
-        Reply::Command(CommandReply::Decided(_, _) | CommandReply::Reported) => Became::Ended,
-        _ => Became::Nothing,
-    }
-}
-
-/// What a call leaves for the threads to go on with.
-pub fn noted_by(asked: &Asked, reply: &Reply) -> Noted {
-    Noted {
-        news: news_of(asked.completes, reply),
-        became: became_of(reply),
-        freed: asked.freed,
-        took: matches!(reply, Reply::Took),
-    }
-}
-
-/// Whether that is anything.
-pub fn is_any(noted: &Noted) -> bool {
-    noted.news != News::Nobody || noted.became != Became::Nothing || noted.freed.is_some() || noted.took
-}
-
-fn put_off_by(refusal: Refusal) -> Purged {
-    match refusal {
-        Refusal::NotHeld => Purged::Missing,
-        Refusal::NotRoot => Purged::Nested,
-        Refusal::StillToForget(id, _) | Refusal::StillToTell(id, _) => Purged::Waits(id),
-        _ => Purged::Later,
-    }
-}
-
-/// What came of a purge.
-pub fn purged_by(reply: &Reply) -> Purged {
-    match reply {
-        Reply::Shown(_, _) => Purged::Changed,
-        Reply::Refused(refusal) | Reply::Command(CommandReply::Refused(refusal)) => put_off_by(*refusal),
-        Reply::Command(_) => Purged::Gone,
-        _ => Purged::Later,
-    }
-}
-
 /// The pull of one that has all facts that there can be of so many nodes.
 pub fn pull_of_all(alloc: Global, nodes: u8) -> Result<Call, Halt> {
-    let counts = [LAST_NUMBER; MAX_NODES as usize];
-    let nodes = usize::from(nodes.clamp(1, MAX_NODES));
-    let bytes = pull_body(alloc, &Front::from_counts(&counts[..nodes]))?;
-    Ok(Call::Pull(PullBody::new(bytes)))
+    Ok(Call::Pull(body_of_all(alloc, nodes.clamp(1, MAX_NODES))?))
 }
 
 /// The front that counts so many facts of a node, if it counts that node, and else as this one.
@@ -203,17 +145,34 @@ pub fn stored(asked: Asked, reply: &Reply) -> Option<Body> {
 
 /// That an LRA is cancelled.
 pub fn cancel(id: LraId) -> Body {
-    Body::Decide { id, verdict: Verdict::Cancel }
+    Body::Decide {
+        id,
+        verdict: Verdict::Cancel,
+    }
 }
 
 /// What a command enters, where a participant joins under this member number.
 pub fn body_of(command: Command, given: u8) -> Body {
     match command {
         Command::Begin { parent, deadline } => Body::Begin { parent, deadline },
-        Command::Join { id, links } => Body::Join { id, member: given, links },
+        Command::Join { id, links } => Body::Join {
+            id,
+            member: given,
+            links,
+        },
         Command::Leave { id, member } => Body::Leave { id, member },
         Command::Decide { id, verdict } => Body::Decide { id, verdict },
-        Command::Report { id, member, act, outcome } => Body::Report { id, member, act, outcome },
+        Command::Report {
+            id,
+            member,
+            act,
+            outcome,
+        } => Body::Report {
+            id,
+            member,
+            act,
+            outcome,
+        },
         Command::Forgot { id, member } => Body::Forgot { id, member },
         Command::Told { id, member } => Body::Told { id, member },
         Command::Purge { root } => Body::Purge { root },

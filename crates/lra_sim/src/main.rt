@@ -19,10 +19,9 @@ mod words;
 use crate::play::{Play, TOLD};
 use lra_luck::Halt;
 use std::alloc::Global;
-use std::env;
-use std::io;
 use std::process::ExitCode;
 use std::rt::Env;
+use std::{env, io};
 
 const USAGE: &str = "usage: lra_sim SEED SEEDS EVENTS [NODES [TOLD]]";
 
@@ -50,7 +49,9 @@ fn print_halt<R: Print>(rt: &R, play: &Play, seed: u64, halt: &Halt) -> io::Resu
     let (nodes, steps) = (play.count(), play.steps);
     match halt {
         Halt::Found(what) => println!(rt; "seed {seed}, {nodes} nodes, step {steps}: {what}"),
-        Halt::Stuck(what) => println!(rt; "seed {seed}, {nodes} nodes, step {steps}: the simulator is stuck: {what}"),
+        Halt::Stuck(what) => println!(rt;
+            "seed {seed}, {nodes} nodes, step {steps}: the simulator is stuck: {what}"
+        ),
     }
 }
 
@@ -105,11 +106,20 @@ fn numbers<R: Env + Alloc>(rt: &R) -> Option<Asked> {
 
 fn asked_by(given: &[u64]) -> Option<Asked> {
     let (seed, seeds, events) = (*given.get(0)?, *given.get(1)?, *given.get(2)?);
-    let (nodes, told) = (given.get(3).copied().unwrap_or(0), given.get(4).copied().unwrap_or(0));
+    let (nodes, told) = (
+        given.get(3).copied().unwrap_or(0),
+        given.get(4).copied().unwrap_or(0),
+    );
     if given.len() > 5 || nodes > 8 {
         return None;
     }
-    Some(Asked { seed, seeds, events, nodes, told })
+    Some(Asked {
+        seed,
+        seeds,
+        events,
+        nodes,
+        told,
+    })
 }
 
 fn main(rt: HostRuntime) -> io::Result<ExitCode> {

@@ -1,6 +1,6 @@
 // A node: what is there while it runs, what outlives it, and what the simulator knows of it.
 
-use crate::glue::{Asked, about, is_any, is_purge, noted_by, raised};
+use crate::glue::{Asked, about, is_purge, raised};
 use crate::run::Run;
 use lra_book::{Call, Reply};
 use lra_delta::Delta;
@@ -9,6 +9,7 @@ use lra_heard::Telling;
 use lra_id::{Front, LraId, LraStatus, MAX_NODES, NodeId};
 use lra_luck::{Doubt, DueCall, Halt, History, Image, Model, Remains, counts};
 use lra_mailbox::{Keep, MailboxState, Sweeping, Task};
+use lra_noting::{is_any, noted_by};
 use lra_turns::Due;
 use std::alloc::Global;
 use std::time::Duration;
@@ -101,7 +102,12 @@ fn is_among(id: LraId, ids: &[LraId]) -> bool {
 
 impl Start {
     pub fn new(alloc: Global, at: u64, waits_for_all: bool) -> Start {
-        Start { at, waits_for_all, heard: Vec::new(alloc), told_own: 0 }
+        Start {
+            at,
+            waits_for_all,
+            heard: Vec::new(alloc),
+            told_own: 0,
+        }
     }
 
     /// Notes that a node told how many facts of this one it has.
@@ -136,7 +142,14 @@ impl Life {
     }
 
     /// Makes a call. No reply comes where it is held back, or the journal is closed.
-    fn make(&mut self, caller: usize, call: Call, enters: bool, now: u64, unix: u64) -> Result<Option<Reply>, Refusal> {
+    fn make(
+        &mut self,
+        caller: usize,
+        call: Call,
+        enters: bool,
+        now: u64,
+        unix: u64,
+    ) -> Result<Option<Reply>, Refusal> {
         let is_held = !self.state.is_open() || self.state.is_spared(at(now));
         if caller > 0 && enters && is_held {
             return Ok(None);
@@ -157,7 +170,7 @@ impl Life {
 
     /// Notes what a call leaves for the threads to go on with.
     fn note(&mut self, asked: &Asked, reply: &Reply, now: u64) {
-        let noted = noted_by(asked, reply);
+        let noted = noted_by(asked.completes, &asked.freed, reply);
         if is_any(&noted) {
             self.state.note(&noted, at(now));
         }
@@ -231,7 +244,13 @@ impl Node {
     }
 
     /// Makes a call of one of its threads, and notes what that leaves.
-    pub fn make(&mut self, caller: usize, call: Call, asked: &Asked, now: u64) -> Result<Option<Reply>, Refusal> {
+    pub fn make(
+        &mut self,
+        caller: usize,
+        call: Call,
+        asked: &Asked,
+        now: u64,
+    ) -> Result<Option<Reply>, Refusal> {
         let unix = self.unix(now);
         let Some(life) = self.life.as_mut() else {
             return Ok(None);
@@ -258,11 +277,17 @@ impl Node {
     }
 
     /// Keeps what its files hold, as the newest copy.
-    pub fn keep_files(&mut self, files: &Remains, loses_power: bool, doubt: Doubt) -> Result<(), Halt> {
+    pub fn keep_files(
+        &mut self,
+        files: &Remains,
+        loses_power: bool,
+        doubt: Doubt,
+    ) -> Result<(), Halt> {
         if self.images.len() >= IMAGES {
             let _oldest = self.images.remove(0);
         }
-        self.images.push(Image::of(files, loses_power, self.front, doubt)?)?;
+        self.images
+            .push(Image::of(files, loses_power, self.front, doubt)?)?;
         Ok(())
     }
 
@@ -275,7 +300,13 @@ impl Node {
     }
 
     /// What the one own fact leads to that was in doubt.
-    fn settle_fact(&self, history: &mut History, had: Front, has: Front, body: Body) -> Result<Front, Halt> {
+    fn settle_fact(
+        &self,
+        history: &mut History,
+        had: Front,
+        has: Front,
+        body: Body,
+    ) -> Result<Front, Halt> {
         let number = had.count(self.me).saturating_add(1);
         let with = raised(had, self.me, number);
         if has == with && history.count(self.me) == had.count(self.me) {
@@ -285,7 +316,13 @@ impl Node {
     }
 
     /// Looks whether a book that was opened has the facts of its copy, and settles what was in doubt.
-    pub fn settle(&mut self, alloc: Global, history: &mut History, image: usize, has: Front) -> Result<(), Halt> {
+    pub fn settle(
+        &mut self,
+        alloc: Global,
+        history: &mut History,
+        image: usize,
+        has: Front,
+    ) -> Result<(), Halt> {
         let Some(copy) = self.images.get_mut(image) else {
             return Ok(());
         };
@@ -307,7 +344,13 @@ impl Node {
     }
 
     /// It has the facts of a front now, all of which it had or were entered by others.
-    pub fn grow(&mut self, alloc: Global, history: &History, front: Front, now: u64) -> Result<(), Halt> {
+    pub fn grow(
+        &mut self,
+        alloc: Global,
+        history: &History,
+        front: Front,
+        now: u64,
+    ) -> Result<(), Halt> {
         let had = self.front;
         let mut touched = Vec::new(alloc);
         for fact in history.since(&had) {
@@ -340,7 +383,13 @@ impl Node {
     }
 
     /// It has these facts alone: it begins over an older copy.
-    pub fn fall_back(&mut self, alloc: Global, history: &History, front: Front, now: u64) -> Result<(), Halt> {
+    pub fn fall_back(
+        &mut self,
+        alloc: Global,
+        history: &History,
+        front: Front,
+        now: u64,
+    ) -> Result<(), Halt> {
         let nodes = u8::try_from(front.nodes()).unwrap_or(MAX_NODES);
         self.model = Model::new(alloc, nodes)?;
         self.shown = Vec::new(alloc);
@@ -378,7 +427,9 @@ impl Node {
             return Ok(before.since);
         }
         if status.rank() < old.rank() {
-            return Err(Halt::Found(format!(in alloc; "{id} showed {old}, and shows {status} now")?));
+            return Err(Halt::Found(format!(in alloc;
+                "{id} showed {old}, and shows {status} now"
+            )?));
         }
         Ok(now)
     }
@@ -419,7 +470,8 @@ impl Node {
 
     /// The moment by its own clock, in milliseconds since 1970.
     pub fn unix(&self, now: u64) -> u64 {
-        now.saturating_add(self.skew).saturating_add(1_700_000_000_000)
+        now.saturating_add(self.skew)
+            .saturating_add(1_700_000_000_000)
     }
 
     /// How long it keeps a root that shows this.

@@ -12,8 +12,16 @@ const PAUSE_MS: u64 = 100;
 
 impl Play {
     /// A connection to a copy of a node's disk, whose calls may fail, with its files; none where one fails.
-    fn connect(&mut self, place: usize, image: usize) -> Result<(Option<Connection<Store>>, Remains), Halt> {
-        let fate = if self.is_quiet { Fate::good() } else { Fate::by(&mut self.luck) };
+    fn connect(
+        &mut self,
+        place: usize,
+        image: usize,
+    ) -> Result<(Option<Connection<Store>>, Remains), Halt> {
+        let fate = if self.is_quiet {
+            Fate::good()
+        } else {
+            Fate::by(&mut self.luck)
+        };
         let Some(node) = self.nodes.get(place) else {
             return Err(nowhere());
         };
@@ -88,7 +96,13 @@ impl Play {
     }
 
     /// A node has what an older copy has.
-    fn fall_back(&mut self, place: usize, image: usize, me: NodeId, front: Front) -> Result<(), Halt> {
+    fn fall_back(
+        &mut self,
+        place: usize,
+        image: usize,
+        me: NodeId,
+        front: Front,
+    ) -> Result<(), Halt> {
         self.lose(place, me, front.count(me))?;
         let Some(node) = self.nodes.get_mut(place) else {
             return Err(nowhere());
@@ -160,7 +174,13 @@ impl Play {
         self.keep_files(place, &files, loses_power, doubt)
     }
 
-    fn keep_files(&mut self, place: usize, files: &Remains, loses_power: bool, doubt: Doubt) -> Result<(), Halt> {
+    fn keep_files(
+        &mut self,
+        place: usize,
+        files: &Remains,
+        loses_power: bool,
+        doubt: Doubt,
+    ) -> Result<(), Halt> {
         match self.nodes.get_mut(place) {
             Some(node) => node.keep_files(files, loses_power, doubt),
             None => Err(nowhere()),
@@ -214,7 +234,9 @@ impl Play {
             life.run = Some(run);
         }
         if had != has {
-            return Err(Halt::Found(format!(in self.alloc; "its run ended with {had}, and the next has {has}")?));
+            return Err(Halt::Found(format!(in self.alloc;
+                "its run ended with {had}, and the next has {has}"
+            )?));
         }
         Ok(())
     }

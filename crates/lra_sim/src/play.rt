@@ -181,7 +181,11 @@ impl Play {
 
     /// Which LRAs a node may be asked about.
     pub fn some_lra(&mut self, place: usize) -> Result<Option<LraId>, Halt> {
-        let home = if self.luck.is_one_in(5) { self.some_place() } else { place };
+        let home = if self.luck.is_one_in(5) {
+            self.some_place()
+        } else {
+            place
+        };
         let begun = self.history.begun(self.alloc, self.me(home)?, 6)?;
         if begun.is_empty() {
             return Ok(None);

@@ -26,7 +26,9 @@ fn front_told(count: u8, body: &[u8]) -> Result<Front, Halt> {
 fn response_of(alloc: Global, delta: &Delta) -> Result<Vec<u8>, Halt> {
     let frame = encode(alloc, delta)?;
     let size = frame.len();
-    let mut bytes = format!(in alloc; "HTTP/1.1 200 OK\r\nContent-Length: {size}\r\n\r\n")?.into_bytes();
+    let mut bytes = format!(in alloc;
+        "HTTP/1.1 200 OK\r\nContent-Length: {size}\r\n\r\n"
+    )?.into_bytes();
     bytes.extend_from_slice(frame.as_slice())?;
     Ok(bytes)
 }
@@ -52,7 +54,13 @@ impl Life {
     }
 
     /// Hears what another node told, where it said that it has this front.
-    fn hear_telling(&mut self, me: NodeId, teller: usize, asked: &Front, telling: Telling) -> Result<(), Halt> {
+    fn hear_telling(
+        &mut self,
+        me: NodeId,
+        teller: usize,
+        asked: &Front,
+        telling: Telling,
+    ) -> Result<(), Halt> {
         let told = telling.front();
         self.state.note_heard(telling.from(), &telling);
         self.start.hear(teller, told.count(me))?;
@@ -67,7 +75,11 @@ impl Play {
     /// The front that a node counts on, once it knows what it has.
     fn counted(&mut self, place: usize) -> Option<Front> {
         let life = self.life(place)?;
-        if life.state.is_counted() { Some(life.state.front()) } else { None }
+        if life.state.is_counted() {
+            Some(life.state.front())
+        } else {
+            None
+        }
     }
 
     fn is_pulling(&self, asker: usize, teller: usize) -> bool {
@@ -87,7 +99,12 @@ impl Play {
         let Some(front) = self.counted(asker) else {
             return Ok(());
         };
-        self.pulls.push(Pull { asker, teller, front, stage: Stage::Asked })?;
+        self.pulls.push(Pull {
+            asker,
+            teller,
+            front,
+            stage: Stage::Asked,
+        })?;
         Ok(())
     }
 
@@ -96,7 +113,12 @@ impl Play {
         if chosen >= self.pulls.len() {
             return Ok(());
         }
-        let Pull { asker, teller, front, stage } = self.pulls.remove(chosen);
+        let Pull {
+            asker,
+            teller,
+            front,
+            stage,
+        } = self.pulls.remove(chosen);
         if self.is_cut(asker, teller) || (!self.is_quiet && self.luck.is_one_in(10)) {
             return Ok(());
         }
@@ -123,7 +145,9 @@ impl Play {
     fn see_told(&self, teller: usize, delta: &Delta) -> Result<(), Halt> {
         let (me, has) = (self.me(teller)?, self.front(teller)?);
         if delta.front() != has {
-            return Err(Halt::Found(format!(in self.alloc; "node {me} has {has}, and tells otherwise")?));
+            return Err(Halt::Found(format!(in self.alloc;
+                "node {me} has {has}, and tells otherwise"
+            )?));
         }
         Ok(())
     }
@@ -137,17 +161,34 @@ impl Play {
     }
 
     /// The response to a pull is on its way, and may be cut off.
-    fn answer(&mut self, asker: usize, teller: usize, front: Front, delta: &Delta) -> Result<(), Halt> {
+    fn answer(
+        &mut self,
+        asker: usize,
+        teller: usize,
+        front: Front,
+        delta: &Delta,
+    ) -> Result<(), Halt> {
         let mut bytes = response_of(self.alloc, delta)?;
         if !self.is_quiet && self.luck.is_one_in(12) {
             bytes.truncate(self.luck.place(bytes.len()));
         }
-        self.pulls.push(Pull { asker, teller, front, stage: Stage::Answered(bytes) })?;
+        self.pulls.push(Pull {
+            asker,
+            teller,
+            front,
+            stage: Stage::Answered(bytes),
+        })?;
         Ok(())
     }
 
     /// What comes of the bytes that another node told.
-    fn hear_answer(&mut self, asker: usize, teller: usize, front: Front, bytes: Vec<u8>) -> Result<(), Halt> {
+    fn hear_answer(
+        &mut self,
+        asker: usize,
+        teller: usize,
+        front: Front,
+        bytes: Vec<u8>,
+    ) -> Result<(), Halt> {
         let (other, me) = (self.me(teller)?, self.me(asker)?);
         let Some(telling) = told_by(self.alloc, other, &front, bytes.as_slice()) else {
             return Ok(());

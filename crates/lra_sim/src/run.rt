@@ -81,7 +81,13 @@ fn run_of(alloc: Global, mut book: Book<Store>, files: Remains) -> Result<Openin
         return Err(Halt::Stuck("no run"));
     };
     let kept = no_receipts(alloc)?;
-    Ok(Opening::Begun(Run { alloc, book, pass, kept, files }))
+    Ok(Opening::Begun(Run {
+        alloc,
+        book,
+        pass,
+        kept,
+        files,
+    }))
 }
 
 /// Whether an entry and a receipt say the same.
@@ -220,8 +226,17 @@ impl Run {
         if !self.is_whole()? {
             return Err(Halt::Found(format!(in self.alloc; "receipts and trail differ")?));
         }
-        let Run { alloc: _, book, pass: _, kept: _, files } = self;
-        Ok(Ended { connection: book.close(), files })
+        let Run {
+            alloc: _,
+            book,
+            pass: _,
+            kept: _,
+            files,
+        } = self;
+        Ok(Ended {
+            connection: book.close(),
+            files,
+        })
     }
 
     /// What is left of its files, once it is over.

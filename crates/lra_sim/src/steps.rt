@@ -7,6 +7,7 @@ use lra_luck::{Doubt, Halt, Manner};
 
 /// How many rounds the quiet at the end has, and how long each is, in milliseconds.
 const ROUNDS: u64 = 240;
+
 const ROUND_MS: u64 = 500;
 
 /// The rounds that there are at least.
@@ -104,7 +105,11 @@ impl Play {
 
     /// A run ends that had no fault, and the next begins.
     fn end_run(&mut self, place: usize) -> Result<(), Halt> {
-        if self.luck.is_one_in(8) { self.next_run(place) } else { Ok(()) }
+        if self.luck.is_one_in(8) {
+            self.next_run(place)
+        } else {
+            Ok(())
+        }
     }
 
     fn pass_time(&mut self) -> Result<(), Halt> {
@@ -172,7 +177,10 @@ impl Play {
     /// A node starts over the newest copy, or over an older one where the others know what it told.
     fn start_any(&mut self, place: usize) -> Result<(), Halt> {
         let (me, newest) = (self.me(place)?, self.newest(place));
-        let may_be_older = newest > 0 && self.nodes.len() > 1 && self.are_others_open(me) && self.is_all_taken(me);
+        let may_be_older = newest > 0
+            && self.nodes.len() > 1
+            && self.are_others_open(me)
+            && self.is_all_taken(me);
         if may_be_older && !self.luck.is_one_in(3) {
             let image = self.luck.place(newest);
             return self.start(place, image);
@@ -203,7 +211,13 @@ impl Play {
     fn cut(&mut self) {
         let one = self.some_place();
         let other = self.some_place();
-        let _is_kept = self.cuts.push(Cut { low: one.min(other), high: one.max(other) }).is_ok();
+        let _is_kept = self
+            .cuts
+            .push(Cut {
+                low: one.min(other),
+                high: one.max(other),
+            })
+            .is_ok();
     }
 
     fn set_clock(&mut self) {
@@ -319,6 +333,8 @@ impl Play {
                 return self.look_at_all();
             }
         }
-        Err(Halt::Found(format!(in self.alloc; "something is left to be done two minutes after all is well")?))
+        Err(Halt::Found(format!(in self.alloc;
+            "something is left to be done two minutes after all is well"
+        )?))
     }
 }

@@ -1,7 +1,7 @@
 // What the threads of a node do, each a step: who enters, and who calls. `do_task` and what it calls stand once more in
 // lra_server/src/run, `apply_loop.rt` and `sweeping.rt`.
 
-use crate::glue::{pull_of_all, purged_by};
+use crate::glue::pull_of_all;
 use crate::node::{InFlight, Life, at};
 use crate::play::{HOSTS, Play, nowhere};
 use crate::words::of_reply;
@@ -12,6 +12,7 @@ use lra_http::{OverRead, OverWrite};
 use lra_id::LraId;
 use lra_luck::{DueCall, Halt, Manner};
 use lra_mailbox::{Chore, Ripe, Task};
+use lra_noting::purged_by;
 use lra_replica::Page;
 use lra_turns::{Came, Due};
 use std::alloc::Global;
@@ -30,7 +31,11 @@ const PATIENCE_MS: u64 = 10_000;
 const ENTERS: usize = 0;
 
 fn due_call(duty: &Duty) -> DueCall {
-    DueCall { kind: duty.kind, id: duty.id, member: duty.member }
+    DueCall {
+        kind: duty.kind,
+        id: duty.id,
+        member: duty.member,
+    }
 }
 
 fn is_same(one: &DueCall, other: &DueCall) -> bool {
@@ -39,7 +44,13 @@ fn is_same(one: &DueCall, other: &DueCall) -> bool {
 
 /// The place of the host of a link `http://h1/..`.
 fn host_of(duty: &Duty) -> usize {
-    let number = duty.link.as_str().as_bytes().get(8).copied().unwrap_or(b'1');
+    let number = duty
+        .link
+        .as_str()
+        .as_bytes()
+        .get(8)
+        .copied()
+        .unwrap_or(b'1');
     usize::from(number.saturating_sub(b'1')) % HOSTS
 }
 
@@ -75,7 +86,10 @@ fn called(alloc: Global, due: Due, bytes: &[u8]) -> Result<Letter, Unheard> {
 /// What is heard of a host that answers so, and what came where nothing is.
 fn heard_of(alloc: Global, manner: Manner, due: Due) -> Result<Result<Letter, Unheard>, Halt> {
     if manner == Manner::Hangs {
-        return Ok(Err(Unheard { due, came: Came::NoConnection }));
+        return Ok(Err(Unheard {
+            due,
+            came: Came::NoConnection,
+        }));
     }
     let bytes = manner.answer(alloc, due.duty().kind, due.duty().act)?;
     Ok(called(alloc, due, bytes.as_slice()))
@@ -265,7 +279,9 @@ impl Play {
             return Ok(());
         }
         if !is_took(&reply) {
-            return Err(Halt::Found(format!(in self.alloc; "node {me} can't take what node {from} told")?));
+            return Err(Halt::Found(format!(in self.alloc;
+                "node {me} can't take what node {from} told"
+            )?));
         }
         if let Some(life) = self.life(place) {
             life.state.learn(&front);
@@ -297,7 +313,9 @@ impl Play {
     fn put_duties(&mut self, place: usize, duties: Duties) -> Result<(), Halt> {
         let (wanted, listed) = (self.wanted_of(place)?, named_on(self.alloc, &duties)?);
         if !are_same(&listed, &wanted) {
-            return Err(Halt::Found(format!(in self.alloc; "due is {listed:?}, and facts say {wanted:?}")?));
+            return Err(Halt::Found(format!(in self.alloc;
+                "due is {listed:?}, and facts say {wanted:?}"
+            )?));
         }
         let now = at(self.now);
         if let Some(life) = self.life(place) {
@@ -330,7 +348,9 @@ impl Play {
         };
         let me = node.me;
         if node.model.first_overdue(me, node.unix(self.now)).is_some() {
-            return Err(Halt::Found(format!(in self.alloc; "an LRA of node {me} is overdue, and stays")?));
+            return Err(Halt::Found(format!(in self.alloc;
+                "an LRA of node {me} is overdue, and stays"
+            )?));
         }
         Ok(())
     }
@@ -387,7 +407,9 @@ impl Play {
             return Err(Halt::Found(format!(in self.alloc; "a host has three calls at a time")?));
         }
         if !is_listed {
-            let words = format!(in self.alloc; "{id} member {member} is called ({kind:?}), and the newest list has no such call")?;
+            let words = format!(in self.alloc;
+                "{id} member {member} is called ({kind:?}), and the newest list has no such call"
+            )?;
             return Err(Halt::Found(words));
         }
         Ok(())

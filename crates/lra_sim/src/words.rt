@@ -16,7 +16,9 @@ fn of_begin(alloc: Global, parent: Option<LraId>, deadline: u64) -> Result<Strin
 fn of_join(alloc: Global, id: LraId, links: &Links) -> Result<String, Halt> {
     let (complete, status) = (links.complete().is_some(), links.status().is_some());
     let (forget, after) = (links.forget().is_some(), links.after().is_some());
-    Ok(format!(in alloc; "join {id}, completes {complete}, status {status}, forgets {forget}, listens {after}")?)
+    Ok(format!(in alloc;
+        "join {id}, completes {complete}, status {status}, forgets {forget}, listens {after}"
+    )?)
 }
 
 pub fn of_command(alloc: Global, command: &Command) -> Result<String, Halt> {
@@ -25,9 +27,12 @@ pub fn of_command(alloc: Global, command: &Command) -> Result<String, Halt> {
         Command::Join { id, links } => of_join(alloc, *id, links),
         Command::Leave { id, member } => Ok(format!(in alloc; "leave {id} {member}")?),
         Command::Decide { id, verdict } => Ok(format!(in alloc; "{verdict} {id}")?),
-        Command::Report { id, member, act, outcome } => {
-            Ok(format!(in alloc; "report {id} {member} {act} {outcome}")?)
-        }
+        Command::Report {
+            id,
+            member,
+            act,
+            outcome,
+        } => { Ok(format!(in alloc; "report {id} {member} {act} {outcome}")?) }
         Command::Forgot { id, member } => Ok(format!(in alloc; "forgot {id} {member}")?),
         Command::Told { id, member } => Ok(format!(in alloc; "told {id} {member}")?),
         Command::Purge { root } => Ok(format!(in alloc; "purge {root}")?),
