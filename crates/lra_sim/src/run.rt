@@ -173,7 +173,7 @@ impl Run {
     /// Makes room for the receipt of one who makes calls, and looks whether the others stand in the trail.
     fn make_room(&mut self, caller: usize) -> Result<(), Refusal> {
         let Some(receipts) = self.kept.get_mut(caller) else {
-            return Err(Refusal::NoMemory);
+            return Err(Refusal::Stopped);
         };
         receipts.reserve(1)?;
         match self.kept.get(caller) {
