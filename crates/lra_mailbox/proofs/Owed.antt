@@ -1,11 +1,12 @@
--- Who is answered lacks none of its own facts that were told here.
-use Rattle.std.proofs.Common.{◌≡◌, ◌⊎◌, ◌≤◌, ◌&&◌, ◌==◌, ℕ, Bool, true, false, List, arith, if◌then◌else◌, inl, inr, length}
-use Rattle.std.specs.Prelude.{nat_lt}
+-- Who is answered lacks none of its own facts that it told here.
+use Rattle.std.proofs.Common.{◌≡◌, ◌≢◌, ◌⊎◌, ◌∙◌, ◌≤◌, ◌<◌, ◌-◌, ◌&&◌, ℕ, Bool, true, false, List, arith, if◌then◌else◌, inl, inr, length, refl, sym}
+use Rattle.std.specs.Prelude.{max, nat_le, nat_lt, slice_set}
+use Rattle.std.proofs.lemmas.Bool.{cases_eq}
 use Rattle.std.proofs.lemmas.Bool.Decides.{nat_tests}
+use Rattle.std.proofs.lemmas.List.{get_or-set_other, get_or-set_same}
 use Rattle.lra_id.specs.Fronts.{count}
-use Rattle.lra_id.proofs.Pairs.{join_above}
-use Rattle.lra_mailbox.specs.Starts.{heard_by, heard_now, is_owed, with_awaited}
-use Rattle.lra_mailbox.specs.declared.opening.Opening.{Opening}
+use Rattle.lra_mailbox.specs.Mail.{is_owed, told_by_it}
+use Rattle.lra_mailbox.specs.declared.known.Known.{Known}
 
 -- a test of both that fails
 one_is : (asks told known : ℕ) → (nat_lt asks told && nat_lt known told) ≡ false → (told ≤ asks) ⊎ (told ≤ known)
@@ -15,36 +16,43 @@ one_is asks told known e = grind (arith, nat_tests)
 both_are : (asks told more known : ℕ) → told ≤ more → (nat_lt asks told && nat_lt known told) ≡ true → (nat_lt asks more && nat_lt known more) ≡ true
 both_are asks told more known up e = grind (arith, nat_tests)
 
-same_length : (a b : ℕ) → a ≡ b → (a == b) ≡ true
-same_length a b e = grind (arith, nat_tests)
+within : (a b : ℕ) → a ≤ b → nat_le a b ≡ true
+within a b e = grind (arith, nat_tests)
 
--- what was heard is awaited
-is_awaited : (other from : ℕ) (told known : List ℕ) (o : Opening) → length told ≡ length o.awaited → count told from ≤ count (heard_by other told known o).awaited from
-is_awaited other from told known o e =
-    let same = same_length (length told) (length o.awaited) e in
-    rw same ((join_above o.awaited told).1 from)
+-- what it told is untaken
+is_untaken : (from told : ℕ) (known : Known) → 1 ≤ from → from ≤ length known.untaken → told ≤ count (told_by_it from told known).untaken from
+is_untaken from told known some there =
+    let fits = within from (length known.untaken) there in
+    let set = get_or-set_same known.untaken (from - 1) (max (count known.untaken from) told) 0 (omega (arith, some, there)) in
+    rw (fits, set) (omega arith)
 
--- what was awaited still is
-still : (other from : ℕ) (told known : List ℕ) (o : Opening) (fits : Bool)
-    → count o.awaited from ≤ count (if fits then heard_now other told known o else o).awaited from
-still other from told known o true = (join_above o.awaited told).0 from
-still other from told known o false = omega arith
-
-pub answered : (other from : ℕ) (told asks known : List ℕ) (o : Opening) → length told ≡ length o.awaited
-    → is_owed from asks known (heard_by other told known o) ≡ false → (count told from ≤ count asks from) ⊎ (count told from ≤ count known from)
-answered other from told asks known o e owed =
-    settle (one_is (count asks from) (count (heard_by other told known o).awaited from) (count known from) owed)
+-- what was untaken still is
+still : (from other told : ℕ) (untaken : List ℕ) (fits : Bool) → 1 ≤ from → 1 ≤ other → (nat_le other (length untaken) ≡ fits)
+    → count untaken from ≤ count (if fits then slice_set untaken (other - 1) (max (count untaken other) told) else untaken) from
+still from other told untaken false some more e = omega arith
+still from other told untaken true some more e = settle (cases_eq from other)
   where
-    settle : (count (heard_by other told known o).awaited from ≤ count asks from) ⊎ (count (heard_by other told known o).awaited from ≤ count known from)
-        → (count told from ≤ count asks from) ⊎ (count told from ≤ count known from)
-    settle (inl is) = let up = is_awaited other from told known o e in inl (omega (arith, up, is))
-    settle (inr is) = let up = is_awaited other from told known o e in inr (omega (arith, up, is))
+    settle : (from ≡ other) ⊎ (from ≢ other) → count untaken from ≤ count (slice_set untaken (other - 1) (max (count untaken other) told)) from
+    settle (inl is) =
+        let there : other - 1 < length untaken = grind (arith, nat_tests) in
+        let set = get_or-set_same untaken (other - 1) (max (count untaken other) told) 0 there in
+        rw (is, set) (omega arith)
+    settle (inr not_) =
+        let apart : (from - 1) ≢ (other - 1) = λ e. not_ (omega (arith, e, some, more)) in
+        let set = get_or-set_other untaken (other - 1) (from - 1) (max (count untaken other) told) 0 apart in
+        rw set (omega arith)
 
-pub stays : (other from : ℕ) (told asks known : List ℕ) (o : Opening) → is_owed from asks known o ≡ true
-    → (is_owed from asks known (heard_by other told known o) ≡ true) × (is_owed from asks known (with_awaited told o) ≡ true)
-stays other from told asks known o owed = (
-  both_are (count asks from) (count o.awaited from) (count (heard_by other told known o).awaited from) (count known from)
-      (still other from told known o (length told == length o.awaited)) owed,
-  both_are (count asks from) (count o.awaited from) (count (with_awaited told o).awaited from) (count known from)
-      ((join_above o.awaited told).0 from) owed,
-)
+pub answered : (from told : ℕ) (asks : List ℕ) (known : Known) → 1 ≤ from → from ≤ length known.untaken
+    → is_owed from asks (told_by_it from told known) ≡ false → (told ≤ count asks from) ⊎ (told ≤ count known.front from)
+answered from told asks known some there owed =
+    settle (one_is (count asks from) (count (told_by_it from told known).untaken from) (count known.front from) owed)
+  where
+    settle : (count (told_by_it from told known).untaken from ≤ count asks from) ⊎ (count (told_by_it from told known).untaken from ≤ count known.front from)
+        → (told ≤ count asks from) ⊎ (told ≤ count known.front from)
+    settle (inl is) = let up = is_untaken from told known some there in inl (omega (arith, up, is))
+    settle (inr is) = let up = is_untaken from told known some there in inr (omega (arith, up, is))
+
+pub stays : (from other told : ℕ) (asks : List ℕ) (known : Known) → 1 ≤ from → 1 ≤ other → is_owed from asks known ≡ true → is_owed from asks (told_by_it other told known) ≡ true
+stays from other told asks known some more owed =
+    both_are (count asks from) (count known.untaken from) (count (told_by_it other told known).untaken from) (count known.front from)
+    (still from other told known.untaken (nat_le other (length known.untaken)) some more refl) owed

@@ -1,9 +1,9 @@
 -- What the threads of a node hand to one another, and what is to be done of it when.
-use Rattle.std.specs.Prelude.{◌-◌, ◌&&◌, ◌||◌, ◌==◌, ℕ, Bool, true, false, List, Option, if◌then◌else◌, length, nat_le, nat_lt}
+use Rattle.std.specs.Prelude.{◌-◌, ◌&&◌, ◌||◌, ◌==◌, ℕ, Bool, true, false, List, Option, if◌then◌else◌, length, max, nat_le, nat_lt, slice_set}
 use Rattle.std.specs.List.{list_any}
 use Rattle.std.specs.Duration.{as_nanos}
 use Rattle.std.specs.declared.time.Duration.{Duration}
-use Rattle.lra_id.specs.Fronts.{join_fronts}
+use Rattle.lra_id.specs.Fronts.{count, join_fronts}
 use Rattle.lra_delta.specs.Frames.{Frame}
 use Rattle.lra_heard.specs.Letters.{Said}
 use Rattle.lra_turns.specs.Calling.{Calling}
@@ -85,14 +85,28 @@ is_any Command = true
 
 -- once it is known that the node has these facts of each node at least
 abbrev pub learnt : List ℕ → Known → Known
-learnt front known = record { front = if length known.front == length front then join_fronts known.front front else known.front; is_counted = known.is_counted; is_to_count = known.is_to_count; counts_at = known.counts_at }
+learnt front known = record { front = if length known.front == length front then join_fronts known.front front else known.front; is_counted = known.is_counted; is_to_count = known.is_to_count; counts_at = known.counts_at; untaken = known.untaken }
 
 -- once it is known how many it has; and once that is to be asked
 abbrev pub counted : Known → Known
-counted known = record { front = known.front; is_counted = true; is_to_count = known.is_to_count; counts_at = known.counts_at }
+counted known = record { front = known.front; is_counted = true; is_to_count = known.is_to_count; counts_at = known.counts_at; untaken = known.untaken }
 
 abbrev pub to_count : Known → Known
-to_count known = record { front = known.front; is_counted = known.is_counted; is_to_count = true; counts_at = known.counts_at }
+to_count known = record { front = known.front; is_counted = known.is_counted; is_to_count = true; counts_at = known.counts_at; untaken = known.untaken }
+
+-- once so many facts of its own that another node told are untaken; once it told of so many more; and once what it told is given up
+abbrev pub with_untaken : (other told : ℕ) → Known → Known
+with_untaken other told known = record { front = known.front; is_counted = known.is_counted; is_to_count = known.is_to_count; counts_at = known.counts_at; untaken = if nat_le other (length known.untaken) then slice_set known.untaken (other - 1) told else known.untaken }
+
+abbrev pub told_by_it : (other told : ℕ) → Known → Known
+told_by_it other told known = with_untaken other (max (count known.untaken other) told) known
+
+abbrev pub given_up : (other : ℕ) → Known → Known
+given_up other known = with_untaken other 0 known
+
+-- one that asks is owed facts of its own: it told of more of them than it counts, and they aren't stored here yet
+abbrev pub is_owed : (from : ℕ) → (asks : List ℕ) → Known → Bool
+is_owed from asks known = nat_lt (count asks from) (count known.untaken from) && nat_lt (count known.front from) (count known.untaken from)
 
 -- once it is to be asked who is to be called: now, or when deadlines are looked at
 abbrev pub stirred : Asking → Asking

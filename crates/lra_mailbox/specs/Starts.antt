@@ -1,5 +1,5 @@
 -- Whether a node enters anything of its own yet: at a start it hears the others first.
-use Rattle.std.specs.Prelude.{◌≡◌, ◌⊎◌, ◌↔◌, ◌-◌, ◌&&◌, ◌||◌, ◌==◌, ℕ, Bool, false, List, Option, None, Some, IsTrue, MatchBool, if◌then◌else◌, length, max, nat_le, nat_lt, not, slice_set}
+use Rattle.std.specs.Prelude.{◌≡◌, ◌⊎◌, ◌↔◌, ◌-◌, ◌&&◌, ◌||◌, ◌==◌, ℕ, Bool, false, List, Option, None, Some, IsTrue, MatchBool, if◌then◌else◌, length, max, nat_le, not, slice_set}
 use Rattle.std.specs.List.{list_any}
 use Rattle.std.specs.Duration.{as_nanos}
 use Rattle.std.specs.declared.time.Duration.{Duration}
@@ -69,10 +69,6 @@ heard_now other told known o = record { me = o.me; waits_for_all = o.waits_for_a
 
 abbrev pub heard_by : ℕ → (told known : List ℕ) → Opening → Opening
 heard_by other told known o = if length told == length o.awaited then heard_now other told known o else o
-
--- one that asks is owed facts of its own: others told of more of them than it counts, and these aren't stored here yet
-abbrev pub is_owed : (from : ℕ) → (asks known : List ℕ) → Opening → Bool
-is_owed from asks known o = nat_lt (count asks from) (count o.awaited from) && nat_lt (count known from) (count o.awaited from)
 
 -- one that asks counts so many facts of this node: a start waits for them
 abbrev pub with_count : ℕ → Opening → Opening

@@ -6,13 +6,12 @@ ghost use Rattle.lra_id.specs.Fronts.{count};
 ghost use Rattle.lra_id.specs.Ids.{Id};
 ghost use Rattle.lra_id.specs.declared.status.LraStatus.{LraStatus as TheStatus};
 ghost use Rattle.lra_mailbox.specs.Kept.{Kept};
-ghost use Rattle.lra_mailbox.specs.Mail.{Mail};
+ghost use Rattle.lra_mailbox.specs.Mail.{Mail, is_owed, told_by_it};
 ghost use Rattle.lra_mailbox.specs.Resting.{has_task, is_occupied, rests_until};
 ghost use Rattle.lra_mailbox.specs.Sweeps.{AreLeft, AreSince, IsLeftBy, IsNextChore, IsSeen, IsTurned, Root, Sight, Sweeps, WasKept, is_chore, last_seen, sights_after, time_of};
-ghost use Rattle.lra_mailbox.specs.declared.opening.Opening.{Opening as TheOpening};
+ghost use Rattle.lra_mailbox.specs.declared.known.Known.{Known as TheKnown};
 ghost use Rattle.lra_mailbox.specs.declared.sweep.Chore.TheVariants.{List as ToList, Purge};
 ghost use Rattle.lra_mailbox.specs.declared.sweep.Purged.{Purged as ThePurged};
-ghost use Rattle.lra_mailbox.specs.Starts.{heard_by, is_owed, with_awaited};
 ghost use Rattle.lra_mailbox.specs.Tasks.{IsFirstAfter, IsNextTask, StoresNothing, may_enter, turns_to};
 ghost use Rattle.lra_mailbox.specs.declared.task.Task.{Task as TheTask};
 ghost use Rattle.lra_mailbox.specs.declared.turn.Turn.{Turn as TheTurn};
@@ -71,13 +70,12 @@ pub fn nothing_is_entered_before_the_others_are_heard()
         may_enter now old ≡ false → IsNextTask now old new task → StoresNothing task }
 {}
 
-/// Who is answered lacks none of its own facts that were told here, but for those that are stored here and so are in the answer. What is
-/// owed stays owed until it is stored, whatever else is heard.
-pub fn who_is_answered_lacks_nothing_that_was_told()
-    ensures told { (other from : ℕ) (told asks known : List ℕ) (o : TheOpening) → length told ≡ length o.awaited →
-        is_owed from asks known (heard_by other told known o) ≡ false →
-        (count told from ≤ count asks from) ⊎ (count told from ≤ count known from) }
-    ensures stays { (other from : ℕ) (told asks known : List ℕ) (o : TheOpening) → is_owed from asks known o ≡ true →
-        (is_owed from asks known (heard_by other told known o) ≡ true)
-        × (is_owed from asks known (with_awaited told o) ≡ true) }
+/// Who is answered lacks none of its own facts that it told here, but for those that are stored here and so are in the answer. What it is
+/// owed it is owed until that is stored or given up, whatever else is heard of it and of others.
+pub fn who_is_answered_lacks_nothing_that_it_told()
+    ensures told { (from told : ℕ) (asks : List ℕ) (known : TheKnown) → 1 ≤ from → from ≤ length known.untaken →
+        is_owed from asks (told_by_it from told known) ≡ false →
+        (told ≤ count asks from) ⊎ (told ≤ count known.front from) }
+    ensures stays { (from other told : ℕ) (asks : List ℕ) (known : TheKnown) → 1 ≤ from → 1 ≤ other →
+        is_owed from asks known ≡ true → is_owed from asks (told_by_it other told known) ≡ true }
 {}

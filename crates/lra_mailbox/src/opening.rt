@@ -4,7 +4,7 @@ ghost use Rattle.std.specs.Prelude.{◌≡◌, ◌≤◌, ◌&&◌, None, false,
 ghost use Rattle.std.specs.Duration.{as_nanos};
 ghost use Rattle.lra_id.specs.Fronts.{count, join_fronts};
 ghost use Rattle.std.specs.List.{list_any};
-ghost use Rattle.lra_mailbox.specs.Starts.{IsLookedAt, IsNextLook, IsOpened, IsOpenedBy, are_heard, heard_by, heard_with, is_owed, is_silent, may_open_unheard, told_by, with_awaited};
+ghost use Rattle.lra_mailbox.specs.Starts.{IsLookedAt, IsNextLook, IsOpened, IsOpenedBy, are_heard, heard_by, heard_with, is_silent, may_open_unheard, told_by, with_awaited};
 
 use lra_id::{Front, NodeId};
 use std::time::Duration;
@@ -170,15 +170,6 @@ impl Opening {
         }
         let more = self.awaited.count(self.me).max(count);
         self.awaited.set(self.me, more);
-    }
-
-    /// Whether one that asks counts fewer of its own facts than others told of to this node, which
-    /// doesn't have those either yet.
-    pub(crate) fn is_owed(&self, from: NodeId, asks: &Front, known: &Front) -> bool
-        ensures { result ≡ is_owed from asks.now known.now self.now }
-    {
-        let told = self.awaited.count(from);
-        asks.count(from) < told && known.count(from) < told
     }
 
     /// Has commands wait for these facts too.

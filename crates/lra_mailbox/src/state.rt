@@ -6,11 +6,12 @@ ghost use Rattle.lra_turns.specs.Slips.{at_once};
 ghost use Rattle.lra_turns.specs.Turns.{MayTake};
 ghost use Rattle.lra_mailbox.specs.Hearing.{HearsOf, IsAnswered, IsAwaited, IsDueFrom, IsHandedOver, IsListed, IsNoted, IsPutLast, is_harmless, pace_of};
 ghost use Rattle.lra_mailbox.specs.Moments.{earlier_of};
-ghost use Rattle.lra_mailbox.specs.Mail.{after_news, counted, hastened, is_any, is_anyone, learnt, to_count, with_asking, with_calls, with_end, with_hold, with_hurry, with_known, with_opening, with_sweeps, with_wanted};
+ghost use Rattle.lra_mailbox.specs.Mail.{after_news, counted, given_up, hastened, is_any, is_anyone, is_owed, learnt, to_count, told_by_it, with_asking, with_calls, with_end, with_hold, with_hurry, with_known, with_opening, with_sweeps, with_wanted};
 ghost use Rattle.lra_mailbox.specs.Noted.{Notes, with_news};
 ghost use Rattle.lra_mailbox.specs.Sweeps.{IsLeftBy, IsSeen, IsTurned, with_ended, with_looking};
+ghost use Rattle.lra_id.specs.Fronts.{count};
 ghost use Rattle.lra_id.specs.declared.TheConstants.{MAX_NODES};
-ghost use Rattle.lra_mailbox.specs.Starts.{IsOpened, heard_by, heard_with, is_owed, told_by};
+ghost use Rattle.lra_mailbox.specs.Starts.{IsOpened, heard_by, heard_with, told_by};
 ghost use Rattle.lra_mailbox.specs.Resting.{IsIdleFor, has_task, is_occupied, looks_at, next_at, rests_until};
 ghost use Rattle.lra_mailbox.specs.Tasks.{Does, IsNextKind, IsNextTask, has, is_spared, may_enter};
 ghost use Rattle.lra_mailbox.specs.declared.task.Wanted.TheVariants.{Nothing};
@@ -129,7 +130,7 @@ impl MailboxState {
           calls = nothing;
           letters = [];
           telling = None;
-          known = record { front = replicate nodes 0; is_counted = false; is_to_count = are_apart; counts_at = at_once };
+          known = record { front = replicate nodes 0; is_counted = false; is_to_count = are_apart; counts_at = at_once; untaken = replicate nodes 0 };
           opening = record { me = me; waits_for_all = waits_for_all; is_open = not are_apart; opens_at = None; is_late = false; heard = heard_with me (replicate nodes 0); awaited = replicate nodes 0 };
           asking = record { is_stirred = true; is_put_off = false; asked_at = at_once; ticks_at = at_once };
           held_until = at_once;
@@ -340,11 +341,19 @@ impl MailboxState {
 
     /// Notes that another node answered, and what it told.
     pub fn note_heard(&mut self, other: NodeId, telling: &Telling)
-        ensures { self.new ≡ with_opening
-            (heard_by other telling.now.front self.old.known.front self.old.opening) self.old }
+        ensures { self.new ≡ with_known (told_by_it other (count telling.now.front other) self.old.known) (with_opening
+            (heard_by other telling.now.front self.old.known.front self.old.opening) self.old) }
     {
         let (told, known) = (telling.front(), self.known.front);
         self.opening.hear(other, &told, &known);
+        self.known.hear(other, told.count(other));
+    }
+
+    /// Notes that what another node told was taken, or can't be.
+    pub fn give_up(&mut self, other: NodeId)
+        ensures { self.new ≡ with_known (given_up other self.old.known) self.old }
+    {
+        self.known.give_up(other);
     }
 
     /// Notes that one that asks counts so many facts of this node.
@@ -354,13 +363,13 @@ impl MailboxState {
         self.opening.hear_count(count);
     }
 
-    /// Whether one that asks is owed facts of its own: others told of more of them than it counts, and
-    /// these aren't stored here yet. It is answered once they are, so that a node whose journal is
-    /// older hears of each number that it gave.
+    /// Whether one that asks is owed facts of its own: it told of more of them than it counts, and they
+    /// aren't stored here yet. It is answered once they are, so that a node whose journal is older hears of
+    /// each number that it gave.
     pub fn is_owed(&self, from: NodeId, asks: &Front) -> bool
-        ensures { result ≡ is_owed from asks.now self.now.known.front self.now.opening }
+        ensures { result ≡ is_owed from asks.now self.now.known }
     {
-        self.opening.is_owed(from, asks, &self.known.front)
+        self.known.is_owed(from, asks)
     }
 
     /// Whether a start has waited for the others as long as it may, and wasn't opened.

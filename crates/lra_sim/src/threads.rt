@@ -9,7 +9,7 @@ use lra_book::{Call, Reply};
 use lra_callback::{Duties, Duty, NetCaller};
 use lra_heard::{Letter, Telling, Unheard, call_for};
 use lra_http::{OverRead, OverWrite};
-use lra_id::LraId;
+use lra_id::{Front, LraId, NodeId};
 use lra_luck::{DueCall, Halt, Manner};
 use lra_mailbox::{Chore, Ripe, Task};
 use lra_noting::purged_by;
@@ -140,6 +140,14 @@ impl Life {
         }
         self.state.note_entered(&letter, now);
         self.listed.retain(|listed| !is_same(listed, who));
+    }
+
+    /// What another node told is here, or won't be.
+    fn end_telling(&mut self, from: NodeId, front: &Front, is_taken: bool) {
+        if is_taken {
+            self.state.learn(front);
+        }
+        self.state.give_up(from);
     }
 
     /// Shows the sweep what a page lists.
@@ -275,16 +283,14 @@ impl Play {
         let (me, front, from) = (self.me(place)?, telling.front(), telling.from());
         self.tell(format!(in self.alloc; "node {me} takes what node {from} told: {front}")?)?;
         let reply = self.call(place, ENTERS, Call::Take(telling.into_delta()))?;
-        if reply.is_none() {
-            return Ok(());
-        }
-        if !is_took(&reply) {
+        if reply.is_some() && !is_took(&reply) {
             return Err(Halt::Found(format!(in self.alloc;
                 "node {me} can't take what node {from} told"
             )?));
         }
+        let is_taken = reply.is_some();
         if let Some(life) = self.life(place) {
-            life.state.learn(&front);
+            life.end_telling(from, &front, is_taken);
         }
         Ok(())
     }

@@ -199,7 +199,12 @@ impl Mailbox {
         self.held.lock(rt).state.hear_count(count);
     }
 
-    /// Whether one that asks is owed facts of its own, which others told of and aren't stored here yet.
+    /// Tells that what another node told was taken, or can't be.
+    pub fn give_up<R: Wait>(&self, rt: &R, other: NodeId) {
+        self.held.lock(rt).state.give_up(other);
+    }
+
+    /// Whether one that asks is owed facts of its own, which it told of and aren't stored here yet.
     pub fn is_owed<R: Wait>(&self, rt: &R, from: NodeId, asks: &Front) -> bool {
         self.held.lock(rt).state.is_owed(from, asks)
     }

@@ -14,7 +14,7 @@ use lra_book::{Call, Clerk, Reply};
 use lra_callback::Duties;
 use lra_facts::Refusal;
 use lra_heard::{Letter, Telling};
-use lra_id::MAX_NODES;
+use lra_id::{Front, MAX_NODES, NodeId};
 use lra_mailbox::{Task, Wanted};
 use lra_noting::body_of_all;
 use lra_sockets::{Sockets, unix_millis};
@@ -63,6 +63,16 @@ fn is_expired(reply: &Reply) -> bool {
     matches!(reply, Reply::Expired(_))
 }
 
+/// Notes what came of taking what another node told: it is here, or was refused.
+fn note_told<R: Wait>(rt: &R, node: &Node, from: NodeId, front: &Front, reply: &Reply) {
+    if is_taken(reply) {
+        node.mailbox.learn(rt, front);
+    }
+    if let Some(number) = refused_by(reply) {
+        node.note_refused(from, number);
+    }
+}
+
 /// Takes what another node told.
 fn take<R: Wait + Clock, C: Clerk>(
     rt: &R,
@@ -74,14 +84,12 @@ fn take<R: Wait + Clock, C: Clerk>(
     ensures { IsMade C.Clerk clerk.old clerk.new (TakeDelta telling) result }
 {
     let (front, from) = (telling.front(), telling.from());
-    clerk.call(alloc, Call::Take(telling.into_delta()), unix_millis(rt))?;
-    if is_taken(clerk.reply()) {
-        node.mailbox.learn(rt, &front);
+    let taken = clerk.call(alloc, Call::Take(telling.into_delta()), unix_millis(rt));
+    if taken.is_ok() {
+        note_told(rt, node, from, &front, clerk.reply());
     }
-    if let Some(number) = refused_by(clerk.reply()) {
-        node.note_refused(from, number);
-    }
-    Ok(())
+    node.mailbox.give_up(rt, from);
+    taken
 }
 
 /// The participants that are to be called, by a reply.

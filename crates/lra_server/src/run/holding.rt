@@ -6,7 +6,7 @@ use lra_sockets::Holder;
 use lra_threads::Node;
 use std::sync::Wait;
 
-/// Keeps those waiting that ask a node which others told of more of their facts than they count, until
+/// Keeps those waiting that ask a node to which they told of more of their facts than they count now, until
 /// these are stored: who starts over an older journal is to hear of each number that it gave.
 #[derive(Drop)]
 pub struct Owing<'n, R> {

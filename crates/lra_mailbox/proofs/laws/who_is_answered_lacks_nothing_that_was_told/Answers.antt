@@ -1,8 +1,0 @@
-use Rattle.lra_mailbox.proofs.Owed.{answered, stays}
-use Rattle.lra_mailbox.proofs.laws.who_is_answered_lacks_nothing_that_was_told.Goals as goal
-
-pub returns-clause-told : goal.returns-clause-told
-returns-clause-told c = answered
-
-pub returns-clause-stays : goal.returns-clause-stays
-returns-clause-stays c = stays
