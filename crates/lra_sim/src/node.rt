@@ -229,13 +229,27 @@ impl Node {
         }
     }
 
+    /// How many facts of another node a frame has that is in doubt.
+    fn doubted_of(&self, other: NodeId) -> u64 {
+        let Some(copy) = self.images.last() else {
+            return 0;
+        };
+        match &copy.doubt {
+            Doubt::Frame(front) => front.count(other),
+            _ => 0,
+        }
+    }
+
     /// How many facts of another node it has heard of, and perhaps not taken yet.
     pub fn heard_of(&self, other: NodeId) -> u64 {
         let heard = match &self.life {
             Some(life) => life.heard_of(other),
             None => 0,
         };
-        self.front.count(other).max(heard)
+        self.front
+            .count(other)
+            .max(heard)
+            .max(self.doubted_of(other))
     }
 
     /// The place of the newest copy of its disk.

@@ -141,6 +141,26 @@ impl Play {
         self.history.forget(me, count.max(known))
     }
 
+    /// What nobody has or has heard of any more is lost, of those who started over an older copy and aren't open yet.
+    pub fn forget_lost(&mut self) -> Result<(), Halt> {
+        for place in 0..self.nodes.len() {
+            self.forget_lost_of(place)?;
+        }
+        Ok(())
+    }
+
+    fn forget_lost_of(&mut self, place: usize) -> Result<(), Halt> {
+        let Some(node) = self.nodes.get(place) else {
+            return Err(nowhere());
+        };
+        if !node.is_recovering {
+            return Ok(());
+        }
+        let (me, own) = (node.me, node.front.count(node.me));
+        let known = self.known_of(me);
+        self.history.forget(me, own.max(known))
+    }
+
     /// A node whose journal was closed opens it again, and nothing is stored for a while.
     pub fn reopen(&mut self, place: usize) -> Result<(), Halt> {
         let number = self.me(place)?.number();

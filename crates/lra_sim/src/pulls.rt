@@ -1,4 +1,5 @@
-// How nodes pull from one another. `hear_telling` stands once more in lra_threads/src/following.rt, `take_over`.
+// How nodes pull from one another. `hear_telling` stands once more in lra_threads/src/following.rt, `take_over`, and
+// that a pull waits in lra_server/src/run/holding.rt.
 
 use crate::node::Life;
 use crate::play::{Play, nowhere};
@@ -128,8 +129,26 @@ impl Play {
         }
     }
 
-    /// A worker of the one that is asked serves a pull.
+    /// Whether a node that is asked owes the one that asks facts of its own, which it has heard of and not stored.
+    fn is_owed(&mut self, asker: usize, teller: usize, front: &Front) -> Result<bool, Halt> {
+        let from = self.me(asker)?;
+        match self.life(teller) {
+            Some(life) => Ok(life.state.is_owed(from, front)),
+            None => Ok(false),
+        }
+    }
+
+    /// A worker of the one that is asked serves a pull, unless that is to wait.
     fn serve(&mut self, asker: usize, teller: usize, front: Front) -> Result<(), Halt> {
+        if self.is_owed(asker, teller, &front)? {
+            self.pulls.push(Pull {
+                asker,
+                teller,
+                front,
+                stage: Stage::Asked,
+            })?;
+            return Ok(());
+        }
         let body = pull_body(self.alloc, &front)?;
         let told = front_told(self.count(), body.as_slice())?;
         let reply = self.call(teller, SERVES, Call::Pull(PullBody::new(body)))?;

@@ -65,6 +65,7 @@ impl Play {
     /// Something happens.
     pub fn step(&mut self) -> Result<(), Halt> {
         self.steps = self.steps.saturating_add(1);
+        self.forget_lost()?;
         let place = self.some_place();
         if (!self.is_up(place) || self.is_shut(place)) && self.luck.is_one_in(4) {
             self.power(place)?;
@@ -150,16 +151,6 @@ impl Play {
         true
     }
 
-    /// Whether nothing of a node waits in another's mailbox. It isn't heard by who asks that node.
-    fn is_all_taken(&self, me: NodeId) -> bool {
-        for node in self.nodes.iter() {
-            if node.heard_of(me) > node.front.count(me) {
-                return false;
-            }
-        }
-        true
-    }
-
     /// A node starts or stops.
     fn power(&mut self, place: usize) -> Result<(), Halt> {
         if self.is_shut(place) {
@@ -177,10 +168,7 @@ impl Play {
     /// A node starts over the newest copy, or over an older one where the others know what it told.
     fn start_any(&mut self, place: usize) -> Result<(), Halt> {
         let (me, newest) = (self.me(place)?, self.newest(place));
-        let may_be_older = newest > 0
-            && self.nodes.len() > 1
-            && self.are_others_open(me)
-            && self.is_all_taken(me);
+        let may_be_older = newest > 0 && self.nodes.len() > 1 && self.are_others_open(me);
         if may_be_older && !self.luck.is_one_in(3) {
             let image = self.luck.place(newest);
             return self.start(place, image);

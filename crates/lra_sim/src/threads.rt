@@ -189,8 +189,8 @@ impl Play {
 
     /// Does a task, or has it wait for the next step. It says whether there was one.
     fn do_or_wait(&mut self, place: usize, task: Task, waits: bool) -> Result<bool, Halt> {
-        let (is_rest, is_take) = (matches!(&task, Task::Rest), matches!(&task, Task::Take(_)));
-        if !waits || is_take {
+        let is_rest = matches!(&task, Task::Rest);
+        if !waits {
             self.do_task(place, task)?;
         } else if let Some(life) = self.life(place) {
             life.task = Some(task);

@@ -2,10 +2,10 @@
 ghost use Rattle.std.specs.Prelude.{◌≡◌, IfSome, true};
 ghost use Rattle.lra_server.specs.Entering.{fits};
 
-use crate::run::noting::enters;
 use lra_book::{Call, Reply};
 use lra_facts::Refusal;
 use lra_mailbox::Wanted;
+use lra_noting::enters;
 use lra_threads::Node;
 use std::sync::{Condvar, CondvarTimeouts, Mutex, Wait};
 use std::time::{Clock, Duration};

@@ -3,12 +3,12 @@ ghost use Rattle.std.specs.Prelude.{⊤, Err, IfErr, Ok, OnOk};
 ghost use Rattle.lra_book.specs.Clerks.{IsOfClerk, IsOutcome, last_reply};
 
 use crate::operators::errands::Errands;
-use crate::run::noting::enters;
 use log::{Log, warn};
 use lra_book::{Call, Clerk, Receipt, Reply};
 use lra_facts::{Command, CommandReply, Refusal};
 use lra_id::{Act, LraId, Outcome};
 use lra_mailbox::Wanted;
+use lra_noting::enters;
 use lra_threads::Node;
 use std::alloc::Global;
 use std::str;
