@@ -1,5 +1,7 @@
 // A run of a node: its book, and what those who make calls keep of them. It is what a desk of lra_book is, without a lock
 // and without a ledger: a desk can't be kept in a value, since its type has to name the run that it is of.
+ghost use Rattle.std.specs.Prelude.{◌≡◌, ◌≤◌, IfOk, None};
+ghost use Rattle.lra_id.specs.declared.TheConstants.{MAX_NODES};
 
 use lra_book::{Book, Call, Entry, Pass, Receipt, Reply};
 use lra_facts::Refusal;
