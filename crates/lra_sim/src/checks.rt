@@ -5,6 +5,7 @@ use crate::node::{Node, Start};
 use crate::play::{Play, nowhere};
 use lra_book::{Call, Holding, Reply};
 use lra_facts::{CommandReply, Refusal};
+use lra_forest::MAX_HELD;
 use lra_id::{LraId, LraStatus};
 use lra_luck::Halt;
 use lra_replica::{Page, Row};
@@ -28,6 +29,25 @@ fn is_refused_so(refusal: Refusal, status: Option<LraStatus>, is_covered: bool) 
     }
 }
 
+/// How many LRAs of its own a node shows.
+fn held_at_home(node: &Node) -> usize {
+    let mut count = 0usize;
+    for shown in node.shown.iter() {
+        if shown.id.home() == node.me {
+            count = count.saturating_add(1);
+        }
+    }
+    count
+}
+
+/// Whether an LRA has the number of the fact that a node entered last, is shown, and had room.
+fn is_begun_so(node: &Node, id: LraId) -> bool {
+    if id.num() != node.front.count(node.me) || node.status_of(id).is_none() {
+        return false;
+    }
+    held_at_home(node) <= MAX_HELD
+}
+
 /// Whether a reply to a command on this LRA is what the facts of a node say.
 fn is_replied_so(node: &Node, named: Option<LraId>, reply: &CommandReply) -> bool {
     let (status, is_covered) = match named {
@@ -36,9 +56,9 @@ fn is_replied_so(node: &Node, named: Option<LraId>, reply: &CommandReply) -> boo
     };
     match reply {
         CommandReply::Joined(id, member) => node.model.members(*id) == usize::from(*member),
-        CommandReply::Began(id, _) => node.status_of(*id).is_some()
-            && id.num() == node.front.count(node.me),
+        CommandReply::Began(id, _) => is_begun_so(node, *id),
         CommandReply::Decided(_, shown) => status == Some(*shown),
+        CommandReply::Refused(Refusal::LrasFull) => held_at_home(node) >= MAX_HELD,
         CommandReply::Refused(refusal) => is_refused_so(*refusal, status, is_covered),
         _ => true,
     }
