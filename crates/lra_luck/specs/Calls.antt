@@ -1,14 +1,20 @@
--- What a list of calls has of one that was made.
-use Rattle.std.specs.Prelude.{ℕ, List, ◌∷◌, slice_index, ◌==◌, if◌then◌else◌}
-use Rattle.sqlite_disk.specs.Events.{Event}
+-- The calls of a file, by the last one and what was before it.
+use Rattle.std.specs.Prelude.{List, [], ◌∷◌, Option, None, Some}
+use Rattle.std.specs.declared.snapshot.Snapshot.{Snapshot}
+use Rattle.sqlite_disk.specs.Events.{Event, settled, measured, read, read_under, written, cut, flushed}
+use Rattle.lra_luck.specs.declared.noted.Noted.{Noted}
+use Rattle.lra_luck.specs.declared.noted.Noted.TheVariants.{Settle, Measure, Fetch, Test, Store, Resize, Flush}
 
--- These are which call it was, an offset or a length, a count, 1 where it went well; and of a read
--- that is tested a key and a digest.
-abbrev pub event_of : List ℕ → List ℕ → Event
-event_of numbers bytes = (
-  slice_index numbers 0,
-  slice_index numbers 1,
-  slice_index numbers 2,
-  slice_index numbers 3 == 1,
-  if slice_index numbers 0 == 6 then slice_index numbers 4 ∷ slice_index numbers 5 ∷ bytes else bytes,
-)
+abbrev pub event_of : Noted → Event
+event_of (Settle key) = settled key
+event_of (Measure ok len) = measured ok len
+event_of (Fetch at room ok bytes) = read at room ok bytes
+event_of (Test key want at room ok bytes) = read_under key want at room ok bytes
+event_of (Store at bytes ok count) = written at bytes ok count
+event_of (Resize len ok count) = cut len ok count
+event_of (Flush ok count) = flushed ok count
+
+-- The newest first.
+abbrev pub one_call_more : Option (Snapshot (List Event)) → Noted → List Event
+one_call_more None last = []
+one_call_more (Some before) last = event_of last ∷ before.value

@@ -2,28 +2,17 @@
 // and not synced.
 ghost use Rattle.std.specs.Prelude.{◌≡◌, ◌<◌, ◌≤◌, ◌^◌, [], ◌∷◌, length, IfOk};
 ghost use Rattle.sqlite_disk.specs.Events.{settled};
+ghost use Rattle.sqlite_disk.specs.Refusal.{is_no_room, as_number};
 
 use crate::luck::Luck;
+use crate::noted::Noted;
 use crate::record::Record;
+use lra_http::Log;
 use sqlite_disk::{Calls, is_no_room};
 use std::alloc::{AllocError, Global};
 use std::cell::RefCell;
 use std::io;
 use std::rc::Rc;
-
-const SETTLED: u64 = 0;
-
-const MEASURED: u64 = 1;
-
-const READ: u64 = 2;
-
-const WRITTEN: u64 = 3;
-
-const CUT: u64 = 4;
-
-const FLUSHED: u64 = 5;
-
-const TESTED: u64 = 6;
 
 const MAX_OFFSET: usize = (1 << 63) - 1;
 
@@ -261,11 +250,11 @@ impl FileHandle {
 
     /// The file as a database has it, which hasn't been called yet.
     pub(crate) fn drive(&self, key: u64) -> Result<Drive, AllocError>
-        ensures { IfOk result (λ drive. drive.log.events ≡ settled key ∷ []) }
+        ensures { IfOk result (λ drive. drive.log ≡ settled key ∷ []) }
     {
         let file = self.file.clone()?;
         let mut log = Record::new();
-        log.note(&[SETTLED, key, 0, 1], &[]);
+        log.note(&Noted::Settle(key));
         Ok(Drive { file, log })
     }
 
@@ -343,74 +332,85 @@ fn sync(file: &Rc<RefCell<Content>>) -> io::Result<()> {
     }
 }
 
+/// These bytes, as clauses read them.
+fn log_of(bytes: &[u8]) -> Log
+    ensures { result ≡ bytes.now }
+{
+    let mut log = Log::new();
+    log.extend(bytes);
+    log
+}
+
+/// 1 where a call failed as there was no room.
+fn no_room(error: &io::Error) -> usize
+    ensures { result ≡ as_number (is_no_room error.now) }
+{
+    usize::from(is_no_room(error))
+}
+
 // Each makes one call of the file, and then notes it with its answer.
 impl Calls for Drive {
-    ghost history = { λ d. d.log.events };
+    ghost history = { λ d. d.log };
 
     fn len(&mut self) -> io::Result<usize> {
         let answer = measure(&self.file);
-        match answer {
-            Ok(n) => self.log.note(&[MEASURED, n as u64, 0, 1], &[]),
-            Err(_) => self.log.note(&[MEASURED, 0, 0, 0], &[]),
-        }
+        let call = match answer {
+            Ok(n) => Noted::Measure(true, n),
+            Err(_) => Noted::Measure(false, 0),
+        };
+        self.log.note(&call);
         answer
     }
 
     fn read_some(&mut self, at: usize, buf: &mut [u8]) -> io::Result<usize> {
-        let (from, room) = (at as u64, buf.len() as u64);
+        let room = buf.len();
         let answer = read(&self.file, at, buf);
-        match answer {
-            Ok(n) => self.log.note(&[READ, from, room, 1], &buf[..n]),
-            Err(_) => self.log.note(&[READ, from, room, 0], &[]),
-        }
+        let call = match answer {
+            Ok(n) => Noted::Fetch(at, room, true, log_of(&buf[..n])),
+            Err(_) => Noted::Fetch(at, room, false, Log::new()),
+        };
+        self.log.note(&call);
         answer
     }
 
     fn read_under(&mut self, key: u64, want: u64, at: usize, buf: &mut [u8]) -> io::Result<usize> {
-        let (from, room) = (at as u64, buf.len() as u64);
+        let room = buf.len();
         let answer = read(&self.file, at, buf);
-        match answer {
-            Ok(n) => self
-                .log
-                .note(&[TESTED, from, room, 1, key, want], &buf[..n]),
-            Err(_) => self.log.note(&[TESTED, from, room, 0, key, want], &[]),
-        }
+        let call = match answer {
+            Ok(n) => Noted::Test(key, want, at, room, true, log_of(&buf[..n])),
+            Err(_) => Noted::Test(key, want, at, room, false, Log::new()),
+        };
+        self.log.note(&call);
         answer
     }
 
     fn write_some(&mut self, at: usize, bytes: &[u8]) -> io::Result<usize> {
         let answer = write(&self.file, at, bytes);
-        match answer {
-            Ok(n) => self.log.note(&[WRITTEN, at as u64, n as u64, 1], bytes),
-            Err(error) => {
-                self.log.note(
-                    &[WRITTEN, at as u64, u64::from(is_no_room(&error)), 0],
-                    bytes,
-                );
-            }
-        }
+        let call = match answer {
+            Ok(n) => Noted::Store(at, log_of(bytes), true, n),
+            Err(error) => Noted::Store(at, log_of(bytes), false, no_room(&error)),
+        };
+        self.log.note(&call);
         answer
     }
 
     fn resize(&mut self, len: usize) -> io::Result<()> {
         let answer = resize(&self.file, len);
-        match answer {
-            Ok(()) => self.log.note(&[CUT, len as u64, 0, 1], &[]),
-            Err(error) => self
-                .log
-                .note(&[CUT, len as u64, u64::from(is_no_room(&error)), 0], &[]),
-        }
+        let call = match answer {
+            Ok(()) => Noted::Resize(len, true, 0),
+            Err(error) => Noted::Resize(len, false, no_room(&error)),
+        };
+        self.log.note(&call);
         answer
     }
 
     fn sync(&mut self) -> io::Result<()> {
         let answer = sync(&self.file);
-        match answer {
-            Ok(()) => self.log.note(&[FLUSHED, 0, 0, 1], &[]),
-            Err(error) => self
-                .log
-                .note(&[FLUSHED, 0, u64::from(is_no_room(&error)), 0], &[]),
-        }
+        let call = match answer {
+            Ok(()) => Noted::Flush(true, 0),
+            Err(error) => Noted::Flush(false, no_room(&error)),
+        };
+        self.log.note(&call);
         answer
     }
 }

@@ -10,6 +10,7 @@ mod history;
 mod luck;
 mod model;
 mod network;
+mod noted;
 mod record;
 
 pub use disk::{Doubt, Fate, Image, Remains, Store};

@@ -1,33 +1,55 @@
-// A list of calls that clauses alone read. It takes no memory.
-ghost use Rattle.std.specs.Prelude.{◌≡◌, List, [], ◌∷◌};
-ghost use Rattle.std.specs.Borrow.{ftrue};
-ghost use Rattle.sqlite_disk.specs.Events.{Event};
+// The calls of a file, which clauses alone read.
+ghost use Rattle.std.specs.Prelude.{◌≡◌, [], ◌∷◌};
 ghost use Rattle.lra_luck.specs.Calls.{event_of};
 
-use std::marker::{Model, PhantomData};
+use crate::noted::Noted;
+use std::marker::Model;
+use std::snapshot::Snapshot;
 
-/// The calls of a file, the newest first.
+/// The calls of a file, the newest first, which clauses alone read. It holds none of them and takes
+/// one byte, however many there are.
 #[derive(Drop)]
 pub struct Record {
-    nothing: PhantomData<u8>,
-    pub ghost events: { List Event },
+    before: Option<Snapshot<Record>>,
+    last: Snapshot<Noted>,
 }
 
 impl Model for Record {
-    ghost also_owns = { λ _. ftrue };
+    ghost use Rattle.std.specs.Prelude.{List, length};
+    ghost use Rattle.std.specs.Coded.{codes};
+    ghost use Rattle.std.proofs.Common.{arith};
+    ghost use Rattle.sqlite_disk.specs.Events.{Event};
+    ghost use Rattle.lra_luck.specs.Calls.{one_call_more};
+
+    ghost Value = { List Event };
+
+    ghost coded = { Prim.hlevel codes };
+
+    ghost view = { λ r. one_call_more r.before r.last.value };
+
+    ghost size = { λ calls. length calls };
+
+    ghost size_decreases = { λ r h. Prim.grind (arith) };
 }
 
 impl Record {
+    /// No call.
     pub(crate) fn new() -> Record
-        ensures { result.events ≡ [] }
+        ensures { result ≡ [] }
     {
         Record {
-            nothing: PhantomData,
+            before: None,
+            last: Snapshot::of(&Noted::Flush(true, 0)),
         }
     }
 
-    /// Notes a call by its numbers and its bytes.
-    pub(crate) fn note(&mut self, _numbers: &[u64], _bytes: &[u8])
-        ensures { self.new.events ≡ event_of _numbers.now _bytes.now ∷ self.old.events }
-    {}
+    /// One call more, the newest.
+    pub(crate) fn note(&mut self, call: &Noted)
+        ensures { self.new ≡ event_of call.now ∷ self.old }
+    {
+        *self = Record {
+            before: Some(Snapshot::of(self)),
+            last: Snapshot::of(call),
+        };
+    }
 }
