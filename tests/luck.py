@@ -225,6 +225,41 @@ class TestLuck(checks.Checked):
         self.check("all show the same", comes_to(30, group.are_alike))
         self.check("and it is ready", comes_to(10, lambda: group.at(2, "/ready").status == 200))
 
+    def failures(self, group: Operated, node: int) -> int:
+        """How often the journal of a node has failed."""
+        return int(group.samples(node)[("lra_journal_failures_total",)])
+
+    def test_owed(self) -> None:
+        """A member starts over an older journal, with `anew`, while another was told of its newest facts and can't
+        store them yet."""
+        group = self.members(2)
+        group.start()
+        group.end(2)
+        backup = f"{self.folder}/backup"
+        copy(f"{self.folder}/2", backup)
+        group.start(2)
+        first = self.takes(group, 2)
+        self.check("what it begins is shown by both", first and group.all_come_to(first, "Active") is not None, first)
+        limit_files(group.processes[1], 1)
+        second = self.takes(group, 2)
+        # The pause behind a failure doubles up to 1.6 seconds.
+        self.check("the other can't store that", comes_to(20, lambda: self.failures(group, 1) >= 6))
+        before = self.failures(group, 1)
+        comes_to(5, lambda: self.failures(group, 1) > before)
+        time.sleep(0.2)
+        group.kill(2)
+        copy(backup, f"{self.folder}/2")
+        group.start(2, options=["anew"])
+        time.sleep(0.2)
+        seen = group.told(2, "/ready")
+        self.check("it waits for what the other was told", seen == (503, {"ready": False, "cause": "behind"}), seen)
+        limit_files(group.processes[1], -1)
+        lra = self.takes(group, 2)
+        self.check("then it begins one with a new number", lra and lra not in (first, second), (lra, first, second))
+        self.check("and has back what it began", comes_to(30, lambda: {first, second} <= set(group.shown(2))),
+                   group.shown(2))
+        self.check("both show the same", comes_to(30, lambda: group.are_alike((1, 2))))
+
     # ---- disks
 
     def test_missing(self) -> None:
