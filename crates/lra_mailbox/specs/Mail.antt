@@ -1,5 +1,5 @@
 -- What the threads of a node hand to one another, and what is to be done of it when.
-use Rattle.std.specs.Prelude.{◌-◌, ◌&&◌, ◌||◌, ◌==◌, ℕ, Bool, true, false, List, Option, if◌then◌else◌, length, max, nat_le, nat_lt, slice_set}
+use Rattle.std.specs.Prelude.{◌-◌, ◌+◌, ◌&&◌, ◌||◌, ◌==◌, ℕ, Bool, true, false, List, Option, if◌then◌else◌, length, max, min, nat_le, nat_lt, slice_set}
 use Rattle.std.specs.List.{list_any}
 use Rattle.std.specs.Duration.{as_nanos}
 use Rattle.std.specs.declared.time.Duration.{Duration}
@@ -85,24 +85,40 @@ is_any Command = true
 
 -- once it is known that the node has these facts of each node at least
 abbrev pub learnt : List ℕ → Known → Known
-learnt front known = record { front = if length known.front == length front then join_fronts known.front front else known.front; is_counted = known.is_counted; is_to_count = known.is_to_count; counts_at = known.counts_at; untaken = known.untaken }
+learnt front known = record { front = if length known.front == length front then join_fronts known.front front else known.front; is_counted = known.is_counted; is_to_count = known.is_to_count; counts_at = known.counts_at; untaken = known.untaken; tellings = known.tellings }
 
 -- once it is known how many it has; and once that is to be asked
 abbrev pub counted : Known → Known
-counted known = record { front = known.front; is_counted = true; is_to_count = known.is_to_count; counts_at = known.counts_at; untaken = known.untaken }
+counted known = record { front = known.front; is_counted = true; is_to_count = known.is_to_count; counts_at = known.counts_at; untaken = known.untaken; tellings = known.tellings }
 
 abbrev pub to_count : Known → Known
-to_count known = record { front = known.front; is_counted = known.is_counted; is_to_count = true; counts_at = known.counts_at; untaken = known.untaken }
+to_count known = record { front = known.front; is_counted = known.is_counted; is_to_count = true; counts_at = known.counts_at; untaken = known.untaken; tellings = known.tellings }
 
--- once so many facts of its own that another node told are untaken; once it told of so many more; and once what it told is given up
-abbrev pub with_untaken : (other told : ℕ) → Known → Known
-with_untaken other told known = record { front = known.front; is_counted = known.is_counted; is_to_count = known.is_to_count; counts_at = known.counts_at; untaken = if nat_le other (length known.untaken) then slice_set known.untaken (other - 1) told else known.untaken }
+-- once another node told of at most so many facts of its own by what is neither taken nor given up yet, and so many tellings of it are
+-- left
+abbrev pub is_counted_by : (other : ℕ) → Known → Bool
+is_counted_by other known = nat_le other (length known.untaken) && nat_le other (length known.tellings)
 
+abbrev pub set_if : Bool → (other value : ℕ) → List ℕ → List ℕ
+set_if fits other value counts = if fits then slice_set counts (other - 1) value else counts
+
+abbrev pub with_untaken : (other told left : ℕ) → Known → Known
+with_untaken other told left known = record { front = known.front; is_counted = known.is_counted; is_to_count = known.is_to_count; counts_at = known.counts_at; untaken = set_if (is_counted_by other known) other told known.untaken; tellings = set_if (is_counted_by other known) other left known.tellings }
+
+-- once it told of so many more
 abbrev pub told_by_it : (other told : ℕ) → Known → Known
-told_by_it other told known = with_untaken other (max (count known.untaken other) told) known
+told_by_it other told known = with_untaken other (max (count known.untaken other) told) (min (count known.tellings other) 99 + 1) known
 
-abbrev pub given_up : (other : ℕ) → Known → Known
-given_up other known = with_untaken other 0 known
+-- once one of its tellings is taken or given up: with the last, nothing of it is untaken
+abbrev pub left_of : (left told : ℕ) → ℕ
+left_of left told = if left == 0 then 0 else told
+
+abbrev pub settled : (other : ℕ) → Known → Known
+settled other known = with_untaken other (left_of (count known.tellings other - 1) (count known.untaken other)) (count known.tellings other - 1) known
+
+-- once the end of one came, with this front, which was taken or wasn't
+abbrev pub ended_by : (other : ℕ) → List ℕ → (is_taken : Bool) → Known → Known
+ended_by other front is_taken known = settled other (if is_taken then learnt front known else known)
 
 -- one that asks is owed facts of its own: it told of more of them than it counts, and they aren't stored here yet
 abbrev pub is_owed : (from : ℕ) → (asks : List ℕ) → Known → Bool

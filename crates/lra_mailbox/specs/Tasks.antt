@@ -75,7 +75,7 @@ pub record LooksAtDeadlines (now : Duration) (old new : Mail) (task : Task) : Ty
 pub record AsksForCount (now : Duration) (old new : Mail) (task : Task) : Type 0 where
   pub is : task ≡ Count
   pub next : IsAfter 50 now new.known.counts_at
-  pub rest : new ≡ with_last OfCount (with_known (record { front = old.known.front; is_counted = old.known.is_counted; is_to_count = false; counts_at = new.known.counts_at; untaken = old.known.untaken }) old)
+  pub rest : new ≡ with_last OfCount (with_known (record { front = old.known.front; is_counted = old.known.is_counted; is_to_count = false; counts_at = new.known.counts_at; untaken = old.known.untaken; tellings = old.known.tellings }) old)
 
 -- the letter that came first is entered
 pub record EntersFirst (old new : Mail) (task : Task) : Type 0 where

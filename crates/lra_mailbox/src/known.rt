@@ -2,7 +2,7 @@
 ghost use Rattle.lra_id.specs.declared.TheConstants.{MAX_NODES};
 ghost use Rattle.std.specs.Prelude.{◌≡◌, ◌≤◌, ◌&&◌, false, replicate, true};
 ghost use Rattle.lra_mailbox.specs.Moments.{IsAfter, is_by};
-ghost use Rattle.lra_mailbox.specs.Mail.{given_up, is_owed, learnt, told_by_it, with_untaken};
+ghost use Rattle.lra_mailbox.specs.Mail.{ended_by, is_counted_by, is_owed, learnt, left_of, settled, told_by_it, with_untaken};
 ghost use Rattle.lra_turns.specs.Slips.{at_once};
 
 use lra_id::{Front, NodeId};
@@ -10,6 +10,16 @@ use std::time::Duration;
 
 /// How often it is asked at most how many facts the node has.
 const COUNT_MS: u64 = 50;
+
+/// More tellings than one node can have left: one that is taken, one that waits, and one that waits for room.
+const MANY: u64 = 99;
+
+/// What is untaken of one of which so many tellings are left.
+fn left_of(left: u64, told: u64) -> u64
+    ensures { result ≡ left_of left told }
+{
+    if left == 0 { 0 } else { told }
+}
 
 /// How many facts of each node this one has at least, and whether it is to be asked.
 #[derive(Drop)]
@@ -21,14 +31,16 @@ pub(crate) struct Known {
     pub(crate) is_to_count: bool,
     /// Not before this moment.
     pub(crate) counts_at: Duration,
-    /// How many facts of its own each other node told of at most, until what it told is given up.
+    /// How many facts of its own each other node told of at most by what is neither taken nor given up.
     pub(crate) untaken: Front,
+    /// How many tellings of each are neither.
+    pub(crate) tellings: Front,
 }
 
 impl Known {
     pub(crate) fn new(nodes: u8, is_to_count: bool) -> Known
         requires { (1 ≤ nodes) × (nodes ≤ MAX_NODES) }
-        ensures { result ≡ record { front = replicate nodes 0; is_counted = false; is_to_count = is_to_count; counts_at = at_once; untaken = replicate nodes 0 } }
+        ensures { result ≡ record { front = replicate nodes 0; is_counted = false; is_to_count = is_to_count; counts_at = at_once; untaken = replicate nodes 0; tellings = replicate nodes 0 } }
     {
         Known {
             front: Front::zero(usize::from(nodes)),
@@ -36,6 +48,7 @@ impl Known {
             is_to_count,
             counts_at: Duration::ZERO,
             untaken: Front::zero(usize::from(nodes)),
+            tellings: Front::zero(usize::from(nodes)),
         }
     }
 
@@ -48,27 +61,48 @@ impl Known {
         }
     }
 
-    fn set_untaken(&mut self, other: NodeId, told: u64)
-        ensures { self.new ≡ with_untaken other told self.old }
+    fn is_counted_by(&self, other: NodeId) -> bool
+        ensures { result ≡ is_counted_by other self.now }
     {
-        if usize::from(other.number()) <= self.untaken.nodes() {
+        let number = usize::from(other.number());
+        number <= self.untaken.nodes() && number <= self.tellings.nodes()
+    }
+
+    fn set_untaken(&mut self, other: NodeId, told: u64, left: u64)
+        ensures { self.new ≡ with_untaken other told left self.old }
+    {
+        if self.is_counted_by(other) {
             self.untaken.set(other, told);
+            self.tellings.set(other, left);
         }
     }
 
-    /// Notes that another node told that it has so many facts of its own.
+    /// Notes that another node told that it has so many facts of its own. One telling more of it is left.
     pub(crate) fn hear(&mut self, other: NodeId, told: u64)
         ensures { self.new ≡ told_by_it other told self.old }
     {
         let most = self.untaken.count(other).max(told);
-        self.set_untaken(other, most);
+        let left = self.tellings.count(other).min(MANY) + 1;
+        self.set_untaken(other, most, left);
     }
 
-    /// Notes that what it told is taken, or won't be.
-    pub(crate) fn give_up(&mut self, other: NodeId)
-        ensures { self.new ≡ given_up other self.old }
+    /// Notes that one of its tellings is taken or given up.
+    pub(crate) fn settle(&mut self, other: NodeId)
+        ensures { self.new ≡ settled other self.old }
     {
-        self.set_untaken(other, 0);
+        let left = self.tellings.count(other).saturating_sub(1);
+        let told = left_of(left, self.untaken.count(other));
+        self.set_untaken(other, told, left);
+    }
+
+    /// Notes the end of one with this front, which was taken or wasn't.
+    pub(crate) fn end(&mut self, other: NodeId, front: &Front, is_taken: bool)
+        ensures { self.new ≡ ended_by other front.now is_taken self.old }
+    {
+        if is_taken {
+            self.learn(front);
+        }
+        self.settle(other);
     }
 
     /// Whether one that asks counts fewer of its own facts than it told of, which aren't here either
@@ -90,7 +124,7 @@ impl Known {
     /// Has it asked at this moment, and then not for a while.
     pub(crate) fn begin(&mut self, now: Duration)
         ensures at { IsAfter 50 now self.new.counts_at }
-        ensures rest { self.new ≡ record { front = self.old.front; is_counted = self.old.is_counted; is_to_count = false; counts_at = self.new.counts_at; untaken = self.old.untaken } }
+        ensures rest { self.new ≡ record { front = self.old.front; is_counted = self.old.is_counted; is_to_count = false; counts_at = self.new.counts_at; untaken = self.old.untaken; tellings = self.old.tellings } }
     {
         self.is_to_count = false;
         self.counts_at = now.saturating_add(Duration::from_millis(COUNT_MS));

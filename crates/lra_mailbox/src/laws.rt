@@ -6,7 +6,7 @@ ghost use Rattle.lra_id.specs.Fronts.{count};
 ghost use Rattle.lra_id.specs.Ids.{Id};
 ghost use Rattle.lra_id.specs.declared.status.LraStatus.{LraStatus as TheStatus};
 ghost use Rattle.lra_mailbox.specs.Kept.{Kept};
-ghost use Rattle.lra_mailbox.specs.Mail.{Mail, is_owed, told_by_it};
+ghost use Rattle.lra_mailbox.specs.Mail.{Mail, is_counted_by, is_owed, settled, told_by_it};
 ghost use Rattle.lra_mailbox.specs.Resting.{has_task, is_occupied, rests_until};
 ghost use Rattle.lra_mailbox.specs.Sweeps.{AreLeft, AreSince, IsLeftBy, IsNextChore, IsSeen, IsTurned, Root, Sight, Sweeps, WasKept, is_chore, last_seen, sights_after, time_of};
 ghost use Rattle.lra_mailbox.specs.declared.known.Known.{Known as TheKnown};
@@ -71,11 +71,14 @@ pub fn nothing_is_entered_before_the_others_are_heard()
 {}
 
 /// Who is answered lacks none of its own facts that it told here, but for those that are stored here and so are in the answer. What it is
-/// owed it is owed until that is stored or given up, whatever else is heard of it and of others.
+/// owed it is owed until that is stored or given up: whatever else is heard, and whatever else is taken or given up.
 pub fn who_is_answered_lacks_nothing_that_it_told()
-    ensures told { (from told : ℕ) (asks : List ℕ) (known : TheKnown) → 1 ≤ from → from ≤ length known.untaken →
+    ensures told { (from told : ℕ) (asks : List ℕ) (known : TheKnown) → 1 ≤ from → is_counted_by from known ≡ true →
         is_owed from asks (told_by_it from told known) ≡ false →
         (told ≤ count asks from) ⊎ (told ≤ count known.front from) }
     ensures stays { (from other told : ℕ) (asks : List ℕ) (known : TheKnown) → 1 ≤ from → 1 ≤ other →
         is_owed from asks known ≡ true → is_owed from asks (told_by_it other told known) ≡ true }
+    ensures left { (from other : ℕ) (asks : List ℕ) (known : TheKnown) → 1 ≤ from → 1 ≤ other →
+        (from ≡ other → 2 ≤ count known.tellings from) →
+        is_owed from asks known ≡ true → is_owed from asks (settled other known) ≡ true }
 {}

@@ -6,7 +6,7 @@ ghost use Rattle.lra_turns.specs.Slips.{at_once};
 ghost use Rattle.lra_turns.specs.Turns.{MayTake};
 ghost use Rattle.lra_mailbox.specs.Hearing.{HearsOf, IsAnswered, IsAwaited, IsDueFrom, IsHandedOver, IsListed, IsNoted, IsPutLast, is_harmless, pace_of};
 ghost use Rattle.lra_mailbox.specs.Moments.{earlier_of};
-ghost use Rattle.lra_mailbox.specs.Mail.{after_news, counted, given_up, hastened, is_any, is_anyone, is_owed, learnt, to_count, told_by_it, with_asking, with_calls, with_end, with_hold, with_hurry, with_known, with_opening, with_sweeps, with_wanted};
+ghost use Rattle.lra_mailbox.specs.Mail.{after_news, counted, ended_by, hastened, is_any, is_anyone, is_owed, learnt, settled, to_count, told_by_it, with_asking, with_calls, with_end, with_hold, with_hurry, with_known, with_opening, with_sweeps, with_wanted};
 ghost use Rattle.lra_mailbox.specs.Noted.{Notes, with_news};
 ghost use Rattle.lra_mailbox.specs.Sweeps.{IsLeftBy, IsSeen, IsTurned, with_ended, with_looking};
 ghost use Rattle.lra_id.specs.Fronts.{count};
@@ -130,7 +130,7 @@ impl MailboxState {
           calls = nothing;
           letters = [];
           telling = None;
-          known = record { front = replicate nodes 0; is_counted = false; is_to_count = are_apart; counts_at = at_once; untaken = replicate nodes 0 };
+          known = record { front = replicate nodes 0; is_counted = false; is_to_count = are_apart; counts_at = at_once; untaken = replicate nodes 0; tellings = replicate nodes 0 };
           opening = record { me = me; waits_for_all = waits_for_all; is_open = not are_apart; opens_at = None; is_late = false; heard = heard_with me (replicate nodes 0); awaited = replicate nodes 0 };
           asking = record { is_stirred = true; is_put_off = false; asked_at = at_once; ticks_at = at_once };
           held_until = at_once;
@@ -349,11 +349,18 @@ impl MailboxState {
         self.known.hear(other, told.count(other));
     }
 
-    /// Notes that what another node told was taken, or can't be.
-    pub fn give_up(&mut self, other: NodeId)
-        ensures { self.new ≡ with_known (given_up other self.old.known) self.old }
+    /// Notes that what another node told isn't put: nothing of it is new, or the program is to end.
+    pub fn drop_telling(&mut self, other: NodeId)
+        ensures { self.new ≡ with_known (settled other self.old.known) self.old }
     {
-        self.known.give_up(other);
+        self.known.settle(other);
+    }
+
+    /// Notes the end of what another node told, which has this front: it is here, or won't be.
+    pub fn end_telling(&mut self, other: NodeId, front: &Front, is_taken: bool)
+        ensures { self.new ≡ with_known (ended_by other front.now is_taken self.old.known) self.old }
+    {
+        self.known.end(other, front, is_taken);
     }
 
     /// Notes that one that asks counts so many facts of this node.

@@ -7,5 +7,7 @@ mod noting;
 mod purging;
 
 pub use counting::body_of_all;
-pub use noting::{enters, freed_by, is_any, is_completion, is_own_fact, is_stored, noted_by};
+pub use noting::{
+    enters, freed_by, is_any, is_completion, is_own_fact, is_stored, is_taken, noted_by,
+};
 pub use purging::purged_by;

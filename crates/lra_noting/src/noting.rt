@@ -106,7 +106,7 @@ fn became_of(reply: &Reply) -> Became
 }
 
 /// Whether a frame was taken.
-fn is_taken(reply: &Reply) -> bool
+pub fn is_taken(reply: &Reply) -> bool
     ensures { result ≡ is_taken reply.now }
 {
     matches!(reply, Reply::Took)

@@ -139,6 +139,9 @@ fn take_over<R: Wait>(
     // What this node gave until now it knows of.
     let is_newer = told.count(node.me) > node.mailbox.front(rt).count(node.me);
     let is_new = hand_over(rt, node, front, telling);
+    if !is_new {
+        node.mailbox.drop_telling(rt, other);
+    }
     if is_newer {
         return Pulled::Newer;
     }

@@ -199,9 +199,14 @@ impl Mailbox {
         self.held.lock(rt).state.hear_count(count);
     }
 
-    /// Tells that what another node told was taken, or can't be.
-    pub fn give_up<R: Wait>(&self, rt: &R, other: NodeId) {
-        self.held.lock(rt).state.give_up(other);
+    /// Tells that what another node told isn't handed over.
+    pub(crate) fn drop_telling<R: Wait>(&self, rt: &R, other: NodeId) {
+        self.held.lock(rt).state.drop_telling(other);
+    }
+
+    /// Tells the end of what another node told, which has this front: it was taken, or won't be.
+    pub fn end_telling<R: Wait>(&self, rt: &R, other: NodeId, front: &Front, is_taken: bool) {
+        self.held.lock(rt).state.end_telling(other, front, is_taken);
     }
 
     /// Whether one that asks is owed facts of its own, which it told of and aren't stored here yet.

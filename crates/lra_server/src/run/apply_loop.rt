@@ -14,9 +14,9 @@ use lra_book::{Call, Clerk, Reply};
 use lra_callback::Duties;
 use lra_facts::Refusal;
 use lra_heard::{Letter, Telling};
-use lra_id::{Front, MAX_NODES, NodeId};
+use lra_id::{MAX_NODES, NodeId};
 use lra_mailbox::{Task, Wanted};
-use lra_noting::body_of_all;
+use lra_noting::{body_of_all, is_taken};
 use lra_sockets::{Sockets, unix_millis};
 use lra_threads::Node;
 use lra_work::ending_by;
@@ -53,24 +53,17 @@ fn enter<R: Wait + Clock, C: Clerk>(
     }
 }
 
-/// Whether what another node told was taken.
-fn is_taken(reply: &Reply) -> bool {
-    matches!(reply, Reply::Took)
-}
-
 /// Whether an LRA was cancelled since its deadline had passed.
 fn is_expired(reply: &Reply) -> bool {
     matches!(reply, Reply::Expired(_))
 }
 
-/// Notes what came of taking what another node told: it is here, or was refused.
-fn note_told<R: Wait>(rt: &R, node: &Node, from: NodeId, front: &Front, reply: &Reply) {
-    if is_taken(reply) {
-        node.mailbox.learn(rt, front);
-    }
+/// Whether what another node told was taken. Why it was refused is noted.
+fn note_told(node: &Node, from: NodeId, reply: &Reply) -> bool {
     if let Some(number) = refused_by(reply) {
         node.note_refused(from, number);
     }
+    is_taken(reply)
 }
 
 /// Takes what another node told.
@@ -85,10 +78,11 @@ fn take<R: Wait + Clock, C: Clerk>(
 {
     let (front, from) = (telling.front(), telling.from());
     let taken = clerk.call(alloc, Call::Take(telling.into_delta()), unix_millis(rt));
-    if taken.is_ok() {
-        note_told(rt, node, from, &front, clerk.reply());
-    }
-    node.mailbox.give_up(rt, from);
+    let is_taken = match &taken {
+        Ok(()) => note_told(node, from, clerk.reply()),
+        Err(_) => false,
+    };
+    node.mailbox.end_telling(rt, from, &front, is_taken);
     taken
 }
 

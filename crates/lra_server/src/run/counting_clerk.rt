@@ -3,13 +3,13 @@ ghost use Rattle.std.specs.Prelude.{◌≡◌, ◌⊎◌, ◌≤◌, Err};
 ghost use Rattle.lra_facts.specs.declared.refusal.Refusal.TheVariants.{Stopped};
 
 use crate::run::counting::{asked_by, number_of, refused_by};
+use crate::run::holding::front_in;
 use lra_book::{Call, Clerk, Reply};
 use lra_delta::Delta;
 use lra_facts::Refusal;
-use lra_id::{Front, LraId, MAX_NODES};
+use lra_id::{Front, LraId};
 use lra_mailbox::Noted;
 use lra_noting::{enters, freed_by, is_any, is_completion, is_own_fact, is_stored, noted_by};
-use lra_peer::front_of_pull;
 use lra_sockets::now as moment;
 use lra_threads::{Asked, Node};
 use std::alloc::Global;
@@ -121,16 +121,12 @@ fn weight_of_reply(reply: &Reply) -> u64 {
     }
 }
 
-/// How many facts one has that pulls, where that is to be heard: the other nodes are in processes
-/// of their own.
+/// How many facts one has that pulls, where that is to be heard.
 fn front_of(node: &Node, call: &Call) -> Option<Front> {
-    let Call::Pull(body) = call else {
-        return None;
-    };
-    if !node.site.is_apart() || node.nodes == 0 || node.nodes > MAX_NODES {
-        return None;
+    match call {
+        Call::Pull(body) => front_in(node, body.as_slice()),
+        _ => None,
     }
-    front_of_pull(usize::from(node.nodes), body.as_slice()).ok()
 }
 
 /// Whether nothing of the node's own is entered now: the journal is spared, or the other nodes

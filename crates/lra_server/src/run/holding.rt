@@ -14,8 +14,9 @@ pub struct Owing<'n, R> {
     pub node: &'n Node,
 }
 
-/// What one counts that asks a node of a group.
-fn asked(node: &Node, body: &[u8]) -> Option<Front> {
+/// How many facts one has that pulls with this body, where that is to be heard: the other nodes are in
+/// processes of their own.
+pub fn front_in(node: &Node, body: &[u8]) -> Option<Front> {
     if !node.site.is_apart() || node.nodes == 0 || node.nodes > MAX_NODES {
         return None;
     }
@@ -24,7 +25,7 @@ fn asked(node: &Node, body: &[u8]) -> Option<Front> {
 
 impl<'n, R: Wait> Holder for Owing<'n, R> {
     fn holds(&self, from: u8, body: &[u8]) -> bool {
-        let (Ok(from), Some(front)) = (NodeId::new(from), asked(self.node, body)) else {
+        let (Ok(from), Some(front)) = (NodeId::new(from), front_in(self.node, body)) else {
             return false;
         };
         self.node.mailbox.is_owed(self.rt, from, &front)
