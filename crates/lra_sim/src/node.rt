@@ -43,8 +43,8 @@ pub struct Life {
     pub errand: Option<Errand>,
     /// What others told that waits for room in the mailbox.
     pub tellings: Vec<Telling>,
-    /// What the one told that waits in the mailbox, if any waits.
-    pub awaited: Option<Front>,
+    /// What those told that wait in the mailbox, or are being taken.
+    pub awaited: Vec<Front>,
     /// Whom the newest list names who was neither heard nor entered since.
     pub listed: Vec<DueCall>,
     pub start: Start,
@@ -135,7 +135,7 @@ impl Life {
             calls: Vec::new(alloc),
             errand: None,
             tellings: Vec::new(alloc),
-            awaited: None,
+            awaited: Vec::new(alloc),
             listed: Vec::new(alloc),
             start,
         }
@@ -181,10 +181,10 @@ impl Life {
 
     /// How many facts of a node it has heard of, and not taken yet.
     fn heard_of(&self, other: NodeId) -> u64 {
-        let mut most = match &self.awaited {
-            Some(front) => front.count(other),
-            None => 0,
-        };
+        let mut most = 0;
+        for front in self.awaited.iter() {
+            most = front.count(other).max(most);
+        }
         for telling in self.tellings.iter() {
             most = most.max(telling.front().count(other));
         }

@@ -65,9 +65,11 @@ impl Life {
         let told = telling.front();
         self.state.note_heard(telling.from(), &telling);
         self.start.hear(teller, told.count(me))?;
-        if !told.below(asked) {
-            self.tellings.push(telling)?;
+        if told.below(asked) {
+            self.state.drop_telling(telling.from());
+            return Ok(());
         }
+        self.tellings.push(telling)?;
         Ok(())
     }
 }
@@ -219,7 +221,6 @@ impl Play {
             return Ok(());
         };
         life.hear_telling(me, teller, &front, telling)?;
-        life.put_tellings();
-        Ok(())
+        life.put_tellings()
     }
 }

@@ -216,13 +216,16 @@ impl Play {
         }
     }
 
-    /// All is well from now on: every node runs, every host answers, and the network is there.
+    /// All is well from now on: every node runs, every host answers, and the network is there. Some nodes start anew, and
+    /// some go on as they are.
     fn calm(&mut self) -> Result<(), Halt> {
         self.is_quiet = true;
         self.cuts.clear();
         self.hosts = good_hosts(self.alloc)?;
         for place in 0..self.nodes.len() {
-            self.restart(place)?;
+            if self.luck.is_one_in(2) {
+                self.restart(place)?;
+            }
         }
         Ok(())
     }
@@ -234,9 +237,21 @@ impl Play {
         self.start(place, self.newest(place))
     }
 
+    /// A node that is down starts, and one whose journal is closed opens it again.
+    fn revive(&mut self, place: usize) -> Result<(), Halt> {
+        if self.is_shut(place) {
+            return self.reopen(place);
+        }
+        if self.is_up(place) {
+            return Ok(());
+        }
+        self.start(place, self.newest(place))
+    }
+
     /// Each node does all that it has to do at one moment.
     fn settle_down(&mut self) -> Result<(), Halt> {
         for place in 0..self.nodes.len() {
+            self.revive(place)?;
             self.do_all(place)?;
         }
         Ok(())

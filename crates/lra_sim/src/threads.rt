@@ -144,10 +144,10 @@ impl Life {
 
     /// What another node told is here, or won't be.
     fn end_telling(&mut self, from: NodeId, front: &Front, is_taken: bool) {
-        if is_taken {
-            self.state.learn(front);
+        if !self.awaited.is_empty() {
+            let _front = self.awaited.remove(0);
         }
-        self.state.give_up(from);
+        self.state.end_telling(from, front, is_taken);
     }
 
     /// Shows the sweep what a page lists.
@@ -159,17 +159,25 @@ impl Life {
     }
 
     /// Hands what others told to the mailbox, as far as there is room.
-    pub fn put_tellings(&mut self) {
+    pub fn put_tellings(&mut self) -> Result<(), Halt> {
         for _telling in 0..self.tellings.len() {
             if self.tellings.is_empty() || self.state.has_telling() {
-                return;
+                return Ok(());
             }
             let telling = self.tellings.remove(0);
-            let front = telling.front();
-            if self.state.put_awaited(telling) {
-                self.awaited = Some(front);
-            }
+            self.put(telling)?;
         }
+        Ok(())
+    }
+
+    fn put(&mut self, telling: Telling) -> Result<(), Halt> {
+        let (front, from) = (telling.front(), telling.from());
+        if !self.state.put_awaited(telling) {
+            self.state.drop_telling(from);
+            return Ok(());
+        }
+        self.awaited.push(front)?;
+        Ok(())
     }
 }
 
@@ -191,7 +199,7 @@ impl Play {
         let next = life.next_task(now);
         let is_open = life.state.is_open();
         let is_any = self.do_or_wait(place, next, waits)?;
-        self.settle_tellings(place, is_open);
+        self.settle_tellings(place, is_open)?;
         Ok(is_any)
     }
 
@@ -207,15 +215,16 @@ impl Play {
     }
 
     /// A node that is open has what it had lost; what others told goes to its mailbox.
-    fn settle_tellings(&mut self, place: usize, is_open: bool) {
+    fn settle_tellings(&mut self, place: usize, is_open: bool) -> Result<(), Halt> {
         let Some(node) = self.nodes.get_mut(place) else {
-            return;
+            return Ok(());
         };
         if is_open {
             node.is_recovering = false;
         }
-        if let Some(life) = node.life.as_mut() {
-            life.put_tellings();
+        match node.life.as_mut() {
+            Some(life) => life.put_tellings(),
+            None => Ok(()),
         }
     }
 
@@ -277,9 +286,6 @@ impl Play {
     }
 
     fn take(&mut self, place: usize, telling: Telling) -> Result<(), Halt> {
-        if let Some(life) = self.life(place) {
-            life.awaited = None;
-        }
         let (me, front, from) = (self.me(place)?, telling.front(), telling.from());
         self.tell(format!(in self.alloc; "node {me} takes what node {from} told: {front}")?)?;
         let reply = self.call(place, ENTERS, Call::Take(telling.into_delta()))?;
