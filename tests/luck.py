@@ -239,7 +239,8 @@ class TestLuck(checks.Checked):
         copy(f"{self.folder}/2", backup)
         group.start(2)
         first = self.takes(group, 2)
-        self.check("what it begins is shown by both", first and group.all_come_to(first, "Active") is not None, first)
+        self.check("what it begins is shown by both",
+                   first and group.all_come_to(first, "Active", (1, 2)) is not None, first)
         limit_files(group.processes[1], 1)
         second = self.takes(group, 2)
         # The pause behind a failure doubles up to 1.6 seconds.

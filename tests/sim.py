@@ -13,7 +13,7 @@ Played are one to eight nodes: of each its book over files in memory, of which a
 synced is lost or torn; the mailbox with turns, errands, deadlines and sweeps; calls of participants that answer, or
 don't, by the table of docs/HTTP.md; pulls by whole messages over a network that delays, cuts off, loses and parts;
 stops between any two calls of a disk, starts over the newest copy or an older one; clocks that step. What a thread of
-the server does is a step here. Lines that stand in the server once more: glue.rt and threads.rt say which.
+the server does is a step here. Lines that stand in the server once more: pulls.rt, threads.rt and run.rt say which.
 
 After each step it is looked whether the node's pages and records say what the facts do that it has, reckoned from a
 plain list of all facts that were entered; whether statuses rise, and commands are answered so; whether who is due is
