@@ -15,7 +15,7 @@ TESTS = ["test_answers", "test_calls", "test_script", "test_server"]
 # The crates of each layer, and last what they are.
 LAYERS = [
     ("lra_node", "lra_member", "lra_play", "the programs"),
-    ("lra_sim", "lra_luck", "the simulator"),
+    ("lra_luck", "what the simulator plays nodes under"),
     ("lra_words", "the words of `lra_member`"),
     ("lra_gateway", "the gateway for services of Narayana's interface"),
     ("lra_narayana", "what services of Narayana's interface write and read"),
