@@ -1,11 +1,12 @@
 // One link, and the text that is kept of it.
-ghost use Rattle.std.specs.Prelude.{◌≡◌, ◌≤◌, ◌<◌, Err, IfOk, None, Some, true, if◌then◌else◌, length, string_bytes};
+ghost use Rattle.std.specs.Prelude.{◌≡◌, ◌≤◌, ◌<◌, Err, IfOk, None, Some, true, if◌then◌else◌, length};
 ghost use Rattle.lra_facts.specs.declared.refusal.Refusal.TheVariants.{BadText};
 ghost use Rattle.lra_facts.specs.LinkTexts.{Reads, is_kept, is_link, kept_text};
 
 use crate::Refusal;
 use std::alloc::{AllocError, Global};
 use std::marker::Model;
+use std::sync::ArcStr;
 use url::{ParseError, Url};
 
 /// The most bytes of a link.
@@ -14,19 +15,20 @@ pub const MAX_LINK_BYTES: usize = 127;
 /// A link: an http URL of at most 127 bytes, kept as it is serialised.
 #[derive(Debug, Drop)]
 pub struct Link {
-    text: String,
+    text: ArcStr,
 }
 
 impl Model for Link {
-    ghost use Rattle.std.specs.Prelude.{List, ℕ, Some, length, ◌≡◌, ◌≤◌, string_bytes};
+    ghost use Rattle.std.specs.Prelude.{List, ℕ, Some, length, ◌≡◌, ◌≤◌};
+    ghost use Rattle.std.specs.Arc.{arc_str_bytes};
     ghost use Rattle.lra_facts.specs.LinkTexts.{kept_text};
 
     ghost Value = { List ℕ };
 
-    ghost view = { λ link. string_bytes link.text };
+    ghost view = { λ link. arc_str_bytes link.text };
 
-    ghost invariant = { λ link. (length (string_bytes link.text) ≤ 127)
-        × (kept_text (string_bytes link.text) ≡ Some (string_bytes link.text)) };
+    ghost invariant = { λ link. (length (arc_str_bytes link.text) ≤ 127)
+        × (kept_text (arc_str_bytes link.text) ≡ Some (arc_str_bytes link.text)) };
 }
 
 fn is_link(url: &Url) -> bool
@@ -52,7 +54,7 @@ impl Link {
         }
         match Url::parse(alloc, text) {
             Ok(url) if is_link(&url) => Ok(Link {
-                text: String::from_str(alloc, url.as_str())?,
+                text: ArcStr::from_str(alloc, url.as_str())?,
             }),
             // An overflow counts as a lack of memory too. For a short text that is no link the
             // contract allows E17, since the parser may need memory before it can tell.
