@@ -12,11 +12,11 @@ use lra_delta::Delta;
 use lra_http::{Sink, Source};
 use lra_id::{Front, NodeId};
 use lra_peer::{PullError, pull};
-use std::alloc::Global;
+use std::alloc::{AllocError, Global};
 use std::marker::Model;
 
-/// What another node told in a pull: a whole frame. Only `ask_for` makes one, and none is made of
-/// another. So no frame is taken that didn't come, and each is taken once at most. Contracts speak
+/// What another node told in a pull: a whole frame. Only `ask_for` makes one, and `copy` one of
+/// another, for where it couldn't be taken. So no frame is taken that didn't come. Contracts speak
 /// of the frame alone: that it keeps the number of the node that was asked stands in no clause.
 #[derive(Drop)]
 pub struct Telling {
@@ -43,6 +43,16 @@ impl Telling {
         ensures { result ≡ self.now.front }
     {
         self.delta.front()
+    }
+
+    /// One more, to be kept where a journal fails: what it tells is taken later then.
+    pub fn copy(&self) -> Result<Telling, AllocError>
+        ensures { IfOk result (λ copy. copy ≡ self.now) }
+    {
+        Ok(Telling {
+            from: self.from,
+            delta: self.delta.clone()?,
+        })
     }
 
     /// The frame, to be taken.
