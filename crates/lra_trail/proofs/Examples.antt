@@ -1,5 +1,5 @@
 -- What a short trail is in the world.
-use Rattle.std.proofs.Common.{◌≡◌, [], ◌∷◌, refl, None}
+use Rattle.std.proofs.Common.{◌≡◌, ◌==◌, [], ◌∷◌, inl, refl, None}
 use Rattle.std.specs.Prelude.{List, length}
 use Rattle.lra_id.specs.Ids.{Id}
 use Rattle.lra_id.specs.declared.outcome.Verdict.TheVariants.{Close}
@@ -15,6 +15,8 @@ use Rattle.lra_world.specs.declared.event.Reply.TheVariants.{Restarted, Sent}
 use Rattle.lra_book.specs.declared.calls.Call.TheVariants.{Command as Enter, Pull, Status, Take, Expire, Sweep}
 use Rattle.lra_book.specs.declared.calls.Reply.TheVariants.{Command as Entered, Gave, Shown, Expired, Quiet, Took}
 use Rattle.lra_book.specs.Trails.{entry}
+use Rattle.lra_copies.specs.Spreads.{holders}
+use Rattle.lra_trail.specs.Copies.{TakesIn, missed}
 use Rattle.lra_trail.specs.NodeTrails.{Arrival, Elsewhere, Here, Item, events_of}
 
 abbrev one : Id
@@ -59,3 +61,13 @@ arrivals =
 arrived : events_of 1 arrivals
     ≡ Send 2 (0 ∷ 0 ∷ []) One ∷ Deliver 1 1 (length (encoding_as One frame)) ∷ Send 2 (0 ∷ 0 ∷ []) Two ∷ Deliver 2 1 (length (encoding_as Two frame)) ∷ []
 arrived = refl
+
+-- five facts of node 1 are at two others, of which one is heard, and its frame is taken
+copied : holders 1 5 (0 ∷ 5 ∷ 5 ∷ []) ≡ 2
+copied = refl
+
+one_missed : missed 1 3 (λ node. node == 2) ≡ 1
+one_missed = refl
+
+takes_it : TakesIn (entry (Take frame) 7 Took ∷ []) frame
+takes_it = inl (refl, refl)

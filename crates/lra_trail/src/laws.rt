@@ -1,4 +1,5 @@
 //! Laws of a node in the world: each function does nothing, and its contract is the law.
+pub mod copies;
 pub mod crashes;
 pub mod rounds;
 pub mod upgrades;

@@ -1,0 +1,10 @@
+mod Cases
+mod Copied
+mod Counting
+mod Lists
+mod Rushing
+mod Stored
+mod Telling
+mod Tickets
+mod Troubles
+mod Waiting

@@ -1,0 +1,149 @@
+-- One that holds no pull isn't asked in a rush, and each other is asked again.
+use Rattle.std.proofs.Common.{◌≡◌, ◌≤◌, ◌+◌, ◌*◌, ◌++◌, ◌∷◌, [], ℕ, Bool, List, true, false, suc, zero, arith, if◌then◌else◌, refl}
+use Rattle.std.proofs.lemmas.Bool.Decides.{nat_tests}
+use Rattle.std.specs.Prelude.{◌||◌, All, min, nat_lt, replicate}
+use Rattle.lra_copies.specs.Pulls.{Came, behind, behind_all, hasty_after, holds_after, is_at_once, is_soon, nothing_at_once, pause_after, round_after}
+use Rattle.lra_copies.specs.Spreads.{last_ticket}
+use Rattle.lra_copies.specs.declared.pulls.NextPull.{NextPull}
+use Rattle.lra_copies.specs.declared.pulls.Pulled.{Pulled}
+use Rattle.lra_copies.specs.declared.pulls.Pulled.TheVariants.{Lost, Misdirected, New, Newer, Nothing, Older, Refused, Unanswered, Unreached, Untaken}
+
+-- a pull that wasn't held doesn't show that the other node holds pulls
+not_shown : (pulled : Pulled) (held holds : Bool) → held ≡ false → holds ≡ false → holds_after pulled held holds ≡ false
+not_shown New held holds e f = f
+not_shown Untaken held holds e f = refl
+not_shown Nothing held holds e f = rw (e, f) refl
+not_shown Unreached held holds e f = refl
+not_shown Unanswered held holds e f = refl
+not_shown Misdirected held holds e f = refl
+not_shown (Refused number) held holds e f = refl
+not_shown Older held holds e f = f
+not_shown Newer held holds e f = refl
+not_shown Lost held holds e f = refl
+
+unheld : (earlier : List Came) → All (λ (came : Came). came.is_held ≡ false) earlier → (behind_all earlier).holds ≡ false
+unheld [] none = refl
+unheld (came ∷ earlier) none =
+    not_shown came.pulled came.is_held (behind_all earlier).holds (none 0 came (omega arith))
+    (unheld earlier (λ k d l. none (suc k) d (omega (arith, l))))
+
+-- a round is never shorter than the first, nor longer than five seconds
+long_enough : (pulled : Pulled) (round : ℕ) → 100 ≤ round → 100 ≤ round_after pulled round
+long_enough New round h = omega arith
+long_enough Untaken round h = omega arith
+long_enough Nothing round h = omega (arith, h)
+long_enough Unreached round h = omega (arith, h)
+long_enough Unanswered round h = omega (arith, h)
+long_enough Misdirected round h = omega (arith, h)
+long_enough (Refused number) round h = omega (arith, h)
+long_enough Older round h = omega (arith, h)
+long_enough Newer round h = omega arith
+long_enough Lost round h = omega (arith, h)
+
+rounds : (earlier : List Came) → 100 ≤ (behind_all earlier).round_ms
+rounds [] = omega arith
+rounds (came ∷ earlier) = long_enough came.pulled (behind_all earlier).round_ms (rounds earlier)
+
+-- behind one more than so many that came to nothing at once
+record Rushes (more : ℕ) (p : NextPull) : Type 0 where
+  waits : p.waits ≡ true
+  holds : p.holds ≡ false
+  hasty : min more 32 ≤ p.hasty
+  long : min (200 * (more + 1)) 5_000 ≤ p.round_ms
+
+begins : (p : NextPull) → p.holds ≡ false → 100 ≤ p.round_ms → Rushes 0 (behind Nothing false p)
+begins p not_ long = record {
+  waits = refl;
+  holds = not_shown Nothing false p.holds refl not_;
+  hasty = omega arith;
+  long = omega (arith, long);
+}
+
+one_more : (more hasty : ℕ) (waits : Bool) → waits ≡ true → min more 32 ≤ hasty → min (suc more) 32 ≤ hasty_after (is_at_once Nothing false waits) hasty
+one_more more hasty true e h = omega (arith, h)
+one_more more hasty false e h = absurd cc
+
+goes_on : (more : ℕ) (p : NextPull) → Rushes more p → Rushes (suc more) (behind Nothing false p)
+goes_on more p h = record {
+  waits = refl;
+  holds = not_shown Nothing false p.holds refl h.holds;
+  hasty = one_more more p.hasty p.waits h.waits h.hasty;
+  long = omega (arith, h.long);
+}
+
+-- so many and one more
+row : (more : ℕ) (earlier : List Came) → All (λ (came : Came). came.is_held ≡ false) earlier → Rushes more (behind_all (replicate (suc more) nothing_at_once ++ earlier))
+row zero earlier none = begins (behind_all earlier) (unheld earlier none) (rounds earlier)
+row (suc more) earlier none = goes_on more (behind_all (replicate (suc more) nothing_at_once ++ earlier)) (row more earlier none)
+
+waits_long : (waits holds : Bool) (hasty round : ℕ) → waits ≡ true → holds ≡ false → 31 ≤ hasty → 5_000 ≤ round
+    → (if is_at_once Nothing false waits || is_soon Nothing (holds_after Nothing false holds) (hasty_after (is_at_once Nothing false waits) hasty) then 0 else round_after Nothing round) ≡ 5_000
+waits_long true false hasty round e f many long =
+    let few : nat_lt (min (hasty + 1) last_ticket) 32 ≡ false = grind (arith, nat_tests) in
+    rw few (omega (arith, long))
+waits_long true true hasty round e f many long = absurd cc
+waits_long false holds hasty round e f many long = absurd cc
+
+pub no_rush : (more : ℕ) (earlier : List Came) → 31 ≤ more → All (λ (came : Came). came.is_held ≡ false) earlier
+    → (behind_all (replicate (suc (suc more)) nothing_at_once ++ earlier)).wait_ms ≡ 5_000
+no_rush more earlier many none =
+    let p = behind_all (replicate (suc more) nothing_at_once ++ earlier) in
+    let h = row more earlier none in
+    waits_long p.waits p.holds p.hasty p.round_ms h.waits h.holds (omega (arith, many, h.hasty)) (omega (arith, many, h.long))
+
+pub in_a_row : (number : ℕ) (earlier : List Came) → 33 ≤ number → All (λ (came : Came). came.is_held ≡ false) earlier
+    → (behind_all (replicate number nothing_at_once ++ earlier)).wait_ms ≡ 5_000
+in_a_row zero earlier many none = absurd (omega (arith, many))
+in_a_row (suc zero) earlier many none = absurd (omega (arith, many))
+in_a_row (suc (suc more)) earlier many none = no_rush more earlier (omega (arith, many)) none
+
+-- what holds of a number whichever it is
+either : (P : ℕ → Type 0) (b : Bool) (x y : ℕ) → P x → P y → P (if b then x else y)
+either P true x y so not_ = so
+either P false x y so not_ = not_
+
+short_round : (pulled : Pulled) (round : ℕ) → round_after pulled round ≤ 5_000
+short_round New round = omega arith
+short_round Untaken round = omega arith
+short_round Nothing round = omega arith
+short_round Unreached round = omega arith
+short_round Unanswered round = omega arith
+short_round Misdirected round = omega arith
+short_round (Refused number) round = omega arith
+short_round Older round = omega arith
+short_round Newer round = omega arith
+short_round Lost round = omega arith
+
+short_pause : (pulled : Pulled) (round : ℕ) → round ≤ 5_000 → pause_after pulled round ≤ 5_000
+short_pause New round h = omega arith
+short_pause Untaken round h = omega arith
+short_pause Nothing round h = omega arith
+short_pause Unreached round h = omega arith
+short_pause Unanswered round h = omega arith
+short_pause Misdirected round h = h
+short_pause (Refused number) round h = h
+short_pause Older round h = omega arith
+short_pause Newer round h = omega arith
+short_pause Lost round h = h
+
+pub again : (pulled : Pulled) (held : Bool) (p : NextPull) → ((behind pulled held p).pause_ms ≤ 5_000) × ((behind pulled held p).wait_ms ≤ 5_000)
+again pulled held p =
+    let round = round_after pulled p.round_ms in
+    let at_once = is_at_once pulled held p.waits in
+    let short = short_round pulled p.round_ms in (
+      either (λ n. n ≤ 5_000) at_once 0 (pause_after pulled round) (omega arith) (short_pause pulled round short),
+      either (λ n. n ≤ 5_000) (at_once || is_soon pulled (holds_after pulled held p.holds) (hasty_after at_once p.hasty)) 0 round (omega arith) short,
+    )
+
+-- one that is known to hold pulls is asked soon, though it held none now
+pub known : (held : Bool) (p : NextPull) → p.holds ≡ true → ((behind Nothing held p).pause_ms ≤ 50) × ((behind Nothing held p).wait_ms ≡ 0)
+known held p holds =
+    let at_once = is_at_once Nothing held p.waits in (
+      either (λ n. n ≤ 50) at_once 0 50 (omega arith) (omega arith),
+      soon at_once p.holds holds (hasty_after at_once p.hasty) (round_after Nothing p.round_ms),
+    )
+  where
+    soon : (at_once holds : Bool) → holds ≡ true → (hasty round : ℕ) → (if at_once || ((holds || held) || nat_lt hasty 32) then 0 else round) ≡ 0
+    soon true holds e hasty round = refl
+    soon false true e hasty round = refl
+    soon false false e hasty round = absurd cc

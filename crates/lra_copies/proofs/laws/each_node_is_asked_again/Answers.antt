@@ -1,0 +1,8 @@
+use Rattle.lra_copies.proofs.Rushing.{again, known}
+use Rattle.lra_copies.proofs.laws.each_node_is_asked_again.Goals as goal
+
+pub returns-clause-again : goal.returns-clause-again
+returns-clause-again c = again
+
+pub returns-clause-known : goal.returns-clause-known
+returns-clause-known c = known

@@ -1,0 +1,270 @@
+// How far a node's facts have spread.
+ghost use Rattle.std.specs.Prelude.{◌≡◌, ◌≤◌, [], false, length, replicate};
+ghost use Rattle.lra_id.specs.Fronts.{count};
+ghost use Rattle.lra_id.specs.declared.TheConstants.{MAX_NODES};
+ghost use Rattle.lra_copies.specs.Spreads.{begun, counted, drawn, drawn_to_wait, ended, fact_ticket, given, has_news, heard, is_covered, looked, next_ticket, settled, standing_of, stood, target, told_by};
+
+use crate::mark::{Mark, Marks, covered_by, is_any_in_time, put, uncopied};
+use crate::moment::is_over;
+use crate::others::Others;
+use crate::standing::Standing;
+use lra_id::NodeId;
+use std::marker::Model;
+use std::time::Duration;
+
+/// What other nodes have of this node's facts, and for what one waits who shows them.
+#[derive(Drop)]
+pub struct Copies {
+    others: Others,
+    /// For how long one waits.
+    patience: Duration,
+    /// How many calls that may store a fact are under way.
+    entering: u64,
+    /// The last ticket that was drawn; 0 for none.
+    drawn: u64,
+    /// The last for which somebody may wait.
+    stored: u64,
+    /// The greatest of a frame that was given.
+    marked: u64,
+    /// How many facts this node is known to have of its own.
+    counted: u64,
+    marks: Marks,
+    /// Enough others have each fact of a ticket up to this one.
+    covered: u64,
+    is_short: bool,
+    has_strange: bool,
+}
+
+impl Model for Copies {
+    ghost use Rattle.lra_copies.specs.Spreads.{Spread};
+
+    ghost Value = { Spread };
+
+    ghost view = { λ c. record {
+      others = c.others;
+      patience = c.patience;
+      entering = c.entering;
+      drawn = c.drawn;
+      stored = c.stored;
+      marked = c.marked;
+      counted = c.counted;
+      marks = c.marks.items;
+      covered = c.covered;
+      is_short = c.is_short;
+      has_strange = c.has_strange;
+    } };
+}
+
+impl Copies {
+    /// Of a node of so many, 1 to 8, which wants so many copies of each fact at other nodes (0:
+    /// none), and waits so long for them.
+    pub fn new(me: NodeId, nodes: u8, wanted: u8, patience: Duration) -> Copies
+        requires { (1 ≤ nodes) × (nodes ≤ MAX_NODES) }
+        ensures { result ≡ record {
+          others = record { me = me; wanted = wanted; told = replicate nodes 0 };
+          patience = patience;
+          entering = 0;
+          drawn = 0;
+          stored = 0;
+          marked = 0;
+          counted = 0;
+          marks = [];
+          covered = 0;
+          is_short = false;
+          has_strange = false;
+        } }
+    {
+        Copies {
+            others: Others::new(me, nodes, wanted),
+            patience,
+            entering: 0,
+            drawn: 0,
+            stored: 0,
+            marked: 0,
+            counted: 0,
+            marks: Marks::new(),
+            covered: 0,
+            is_short: false,
+            has_strange: false,
+        }
+    }
+
+    fn draw(&mut self) -> u64
+        ensures drawn { self.new ≡ drawn self.old }
+        ensures ticket { result ≡ next_ticket self.old }
+    {
+        self.drawn = self.drawn.saturating_add(1);
+        self.drawn
+    }
+
+    fn draw_to_wait(&mut self) -> u64
+        ensures drawn { self.new ≡ drawn_to_wait self.old }
+        ensures ticket { result ≡ next_ticket self.old }
+    {
+        self.stored = self.draw();
+        self.stored
+    }
+
+    /// Notes that a call begins that may store a fact of this node.
+    pub fn begin(&mut self)
+        ensures { self.new ≡ begun self.old }
+    {
+        self.entering = self.entering.saturating_add(1);
+    }
+
+    /// Notes that it is over, and draws the ticket of its fact; 0 where none was stored.
+    pub fn end(&mut self, is_stored: bool) -> u64
+        ensures ended { self.new ≡ ended is_stored self.old }
+        ensures ticket { result ≡ fact_ticket is_stored self.old }
+    {
+        self.entering = self.entering.saturating_sub(1);
+        if !is_stored {
+            return 0;
+        }
+        self.draw_to_wait()
+    }
+
+    /// Notes that a frame is asked for, and draws a ticket: the frame has each fact of a lesser one.
+    pub fn ask(&mut self) -> u64
+        ensures drawn { self.new ≡ drawn self.old }
+        ensures ticket { result ≡ next_ticket self.old }
+    {
+        self.draw()
+    }
+
+    /// Notes that a frame was given which was asked for with this ticket, and counts so many facts of
+    /// this node. Of those that too few others have it remembers `MAX_MARKS`: one more replaces the
+    /// last.
+    pub fn give(&mut self, ticket: u64, count: u64, now: Duration)
+        ensures { self.new ≡ given (record { ticket = ticket; count = count; at = now }) self.old }
+    {
+        self.marked = self.marked.max(ticket);
+        self.counted = self.counted.max(count);
+        if self.others.wanted > 0 && ticket < u64::MAX {
+            let at = now;
+            put(&mut self.marks, Mark { ticket, count, at });
+        }
+    }
+
+    /// Notes how many facts of its own this node has.
+    pub fn note_count(&mut self, count: u64)
+        ensures { self.new ≡ counted count self.old }
+    {
+        self.counted = self.counted.max(count);
+    }
+
+    /// Lets those frames go that enough others have.
+    fn settle(&mut self, now: Duration)
+        ensures { self.new ≡ settled now self.old }
+    {
+        let marks = self.marks.as_slice();
+        let is_in_time = is_any_in_time(marks, &self.others, self.patience, now);
+        self.covered = covered_by(marks, &self.others, self.covered);
+        self.is_short = self.is_short && !is_in_time;
+        self.marks = uncopied(&self.marks, &self.others);
+    }
+
+    /// Notes how many facts of this node another acknowledges.
+    fn acknowledge(&mut self, other: NodeId, count: u64)
+        requires { other ≤ length self.old.others.told }
+        ensures { self.new ≡ told_by other count self.old }
+    {
+        let is_strange = count > self.counted;
+        let count = if is_strange { 0 } else { count };
+        self.others.note(other, count);
+        self.has_strange = self.has_strange || is_strange;
+    }
+
+    /// Notes that another node tells how many facts of this node it has stored. More than this node
+    /// knows of acknowledges nothing.
+    pub fn hear(&mut self, other: NodeId, count: u64, now: Duration)
+        ensures { self.new ≡ heard other count now self.old }
+    {
+        if self.others.has(other) {
+            self.acknowledge(other, count);
+            self.settle(now);
+        }
+    }
+
+    /// The ticket for which one waits who may have seen what is stored now; 0 where there is nothing
+    /// to wait for. While a call is under way a new one is drawn.
+    pub fn target(&mut self) -> u64
+        ensures looked { self.new ≡ looked self.old }
+        ensures ticket { result ≡ target (looked self.old) }
+    {
+        if self.others.wanted > 0 && self.entering > 0 {
+            let _ = self.draw_to_wait();
+        }
+        if self.is_covered(self.stored) {
+            0
+        } else {
+            self.stored
+        }
+    }
+
+    /// Whether as many others as are wanted have each fact of a ticket up to this one.
+    pub fn is_covered(&self, ticket: u64) -> bool
+        ensures { result ≡ is_covered ticket self.now }
+    {
+        self.others.wanted == 0 || ticket <= self.covered
+    }
+
+    /// The ticket up to which as many others as are wanted have each fact.
+    pub fn covered(&self) -> u64
+        ensures { result ≡ self.now.covered }
+    {
+        self.covered
+    }
+
+    /// Whether there is something of this node's own for one that has so many facts of it.
+    pub fn has_news(&self, count: u64) -> bool
+        ensures { result ≡ has_news count self.now }
+    {
+        self.stored > self.marked || self.counted > count
+    }
+
+    /// How many facts of this node another told that it has.
+    pub fn told(&self, other: NodeId) -> u64
+        ensures { result ≡ count self.now.others.told other }
+    {
+        self.others.told.count(other)
+    }
+
+    /// Whether others fell behind for longer than the patience, so that nobody waits unless that is
+    /// strict. It is over once enough have a frame within the patience.
+    pub fn is_short(&self) -> bool
+        ensures { result ≡ self.now.is_short }
+    {
+        self.is_short
+    }
+
+    /// Whether another told of more facts of this node than this node knew of: its journal is older,
+    /// or there are two processes of its number.
+    pub fn has_strange(&self) -> bool
+        ensures { result ≡ self.now.has_strange }
+    {
+        self.has_strange
+    }
+
+    /// How one stands that waits for a ticket since a moment. Where that is strict, it waits though
+    /// others fell behind.
+    pub fn standing(
+        &mut self,
+        ticket: u64,
+        since: Duration,
+        now: Duration,
+        is_strict: bool,
+    ) -> Standing
+        ensures standing { result ≡ standing_of ticket since now is_strict self.old }
+        ensures stood { self.new ≡ stood ticket since now is_strict self.old }
+    {
+        if self.is_covered(ticket) {
+            return Standing::Copied;
+        }
+        if (!is_strict && self.is_short) || is_over(self.patience, since, now) {
+            self.is_short = true;
+            return Standing::Late;
+        }
+        Standing::Waits
+    }
+}

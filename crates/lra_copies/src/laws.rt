@@ -1,0 +1,166 @@
+// Laws of the definitions: each function does nothing, and its contract is the law. Those over steps, or pulls, are of all that may happen
+// to a node since its start, where the last of a list stands first. The others are of one step, from any state.
+ghost use Rattle.std.specs.Prelude.{◌≡◌, ◌≢◌, ◌⊎◌, ◌<◌, ◌≤◌, ◌+◌, ◌++◌, ◌∷◌, [], ℕ, All, Bool, IfSome, List, None, Option, Some, false, length, replicate, true};
+ghost use Rattle.std.specs.Duration.{as_nanos};
+ghost use Rattle.std.specs.declared.time.Duration.{Duration as TheDuration};
+ghost use Rattle.lra_id.specs.Fronts.{count};
+ghost use Rattle.lra_copies.specs.Outlooks.{Failure, Trouble, after_failures, is_due, none, since_of, with_failure};
+ghost use Rattle.lra_copies.specs.Paces.{Pace, at_rest, given_at, moment_of, verdict_of, with_begin, with_end};
+ghost use Rattle.lra_copies.specs.Pulls.{Came, behind, behind_all, nothing_at_once};
+ghost use Rattle.lra_copies.specs.Spreads.{Spread, is_covered, last_ticket, looked, standing_of, target};
+ghost use Rattle.lra_copies.specs.Steps.{Asks, Begins, Ends, Gives, Hears, Looks, Node, Step, WasCopied, after_all, at_start, begins_in, copied_at, drawn_by, ends_in, first_of_three, last_told, second};
+ghost use Rattle.lra_copies.specs.declared.pulls.NextPull.{NextPull as ThePull};
+ghost use Rattle.lra_copies.specs.declared.pulls.Pulled.{Pulled as ThePulled};
+ghost use Rattle.lra_copies.specs.declared.pulls.Pulled.TheVariants.{New, Nothing, Untaken};
+ghost use Rattle.lra_copies.specs.Waits.{Wait, after_of, fate_of, nobody, with_calls, with_question};
+ghost use Rattle.lra_copies.specs.declared.standing.Fate.TheVariants.{Called, OnHold, Outdated};
+ghost use Rattle.lra_copies.specs.declared.standing.Standing.TheVariants.{Late as IsLate, Waits as DoesWait};
+ghost use Rattle.lra_copies.specs.declared.standing.Verdict.TheVariants.{Later as ToLater, Soon as ToSoon};
+ghost use Rattle.lra_copies.specs.declared.waiters.CallsHeld.{CallsHeld as TheCalls};
+
+/// Of two tickets that are drawn the later is greater, unless the earlier is the last that there is. So a fact's ticket is above each that
+/// was drawn before it, and below that of each frame that is asked for behind it.
+pub fn a_later_ticket_is_greater()
+    ensures { (node : Node) (between earlier : List Step) (one later : Step) →
+        0 < drawn_by one (after_all earlier (at_start node)) →
+        drawn_by one (after_all earlier (at_start node)) < last_ticket →
+        0 < drawn_by later (after_all (between ++ one ∷ earlier) (at_start node)) →
+        drawn_by one (after_all earlier (at_start node)) < drawn_by later (after_all (between ++ one ∷ earlier) (at_start node)) }
+{}
+
+/// What is covered was copied: the covered ticket is none, or that of a frame that was given; and at some moment since, as many others as
+/// are wanted had told of all facts that it counts. A node told of what it told last, and of nothing where that was more than there was.
+pub fn what_is_covered_was_copied()
+    ensures covered { (node : Node) (steps : List Step) →
+        ((after_all steps (at_start node)).covered ≡ 0)
+        ⊎ WasCopied (after_all steps (at_start node)).covered steps (at_start node) }
+    ensures told { (node : Node) (other : ℕ) (steps : List Step) →
+        1 ≤ other → other ≤ node.nodes → other ≢ node.me →
+        count (after_all steps (at_start node)).others.told other ≡ last_told other steps (at_start node) }
+{}
+
+/// A fact isn't covered by a frame that was asked for before it was stored.
+pub fn what_came_later_is_not_covered()
+    ensures { (node : Node) (later between earlier : List Step) → 0 < node.wanted →
+        (after_all (later ++ (Ends true ∷ (between ++ (Asks ∷ earlier)))) (at_start node)).covered ≡ drawn_by Asks (after_all earlier (at_start node)) →
+        is_covered (drawn_by (Ends true) (after_all (between ++ (Asks ∷ earlier)) (at_start node)))
+        (after_all (later ++ (Ends true ∷ (between ++ (Asks ∷ earlier)))) (at_start node)) ≡ false }
+{}
+
+/// Who looks waits for each fact that was stored before, unless that is covered; and while more calls have begun than are over, a new ticket
+/// is drawn for what those may have stored.
+pub fn who_looks_waits_for_what_was_stored()
+    ensures stored { (node : Node) (later earlier : List Step) →
+        (is_covered (drawn_by (Ends true) (after_all earlier (at_start node))) (looked (after_all (later ++ (Ends true ∷ earlier)) (at_start node))) ≡ true)
+        ⊎ (drawn_by (Ends true) (after_all earlier (at_start node)) ≤ target (looked (after_all (later ++ (Ends true ∷ earlier)) (at_start node)))) }
+    ensures under_way { (node : Node) (steps : List Step) → 0 < node.wanted → length steps ≤ last_ticket → ends_in steps < begins_in steps →
+        0 < drawn_by Looks (after_all steps (at_start node)) }
+{}
+
+/// Nobody waits for ever: an answer for no longer than the patience, and so a list of calls unless that is strict; a pull without news for
+/// four seconds at most, and one with news until 50 ms after the last frame that its asker got.
+pub fn nobody_waits_for_ever()
+    ensures answers { (ticket : ℕ) (since now : TheDuration) (is_strict : Bool) (s : Spread) →
+        as_nanos since + as_nanos s.patience ≤ as_nanos now →
+        standing_of ticket since now is_strict s ≢ DoesWait }
+    ensures pulls { (nodes other : ℕ) (since now : TheDuration) (has_news lacks_others : Bool) (p : Pace) →
+        as_nanos since + 4_000_000_000 ≤ as_nanos now →
+        verdict_of nodes other since has_news lacks_others now p ≢ ToLater }
+    ensures apart { (nodes other : ℕ) (since now at : TheDuration) (has_news lacks_others : Bool) (p : Pace) →
+        moment_of p.given other ≡ Some at → as_nanos at + 50_000_000 ≤ as_nanos now →
+        verdict_of nodes other since has_news lacks_others now p ≢ ToSoon }
+    ensures first { (nodes other : ℕ) (since now : TheDuration) (has_news lacks_others : Bool) (p : Pace) →
+        moment_of p.given other ≡ None →
+        verdict_of nodes other since has_news lacks_others now p ≢ ToSoon }
+    ensures lists { (calls : TheCalls) (now : TheDuration) (s : Spread) (asks_again : Bool) →
+        as_nanos calls.since + as_nanos s.patience ≤ as_nanos now →
+        fate_of (Some calls) now false s asks_again ≢ OnHold }
+{}
+
+/// Where that is strict nobody is called before others have what was seen. What was seen then may not be so any more: a list that was
+/// late is too old from then on, and nobody is called by it.
+pub fn nobody_is_called_by_a_list_that_was_late()
+    ensures strict { (calls : TheCalls) (now : TheDuration) (s : Spread) (asks_again : Bool) → is_covered calls.ticket s ≡ false →
+        (fate_of (Some calls) now true s asks_again ≡ OnHold) ⊎ (fate_of (Some calls) now true s asks_again ≡ Outdated) }
+    ensures outdated { (calls : TheCalls) (now : TheDuration) (is_strict : Bool) (s : Spread) (w : Wait) →
+        fate_of (Some calls) now is_strict s w.asks_again ≡ Outdated →
+        IfSome (after_of (Some calls) now is_strict s w).calls (λ (left : TheCalls). left.is_old ≡ true) }
+    ensures kept { (calls : TheCalls) (now : TheDuration) (is_strict : Bool) (s : Spread) (w : Wait) → calls.is_old ≡ true →
+        IfSome (after_of (Some calls) now is_strict s w).calls (λ (left : TheCalls). left.is_old ≡ true) }
+    ensures old { (calls : TheCalls) (now : TheDuration) (is_strict : Bool) (s : Spread) (asks_again again : Bool) → calls.is_old ≡ true →
+        fate_of (Some calls) now is_strict s asks_again ≢ Called again }
+{}
+
+/// Where it was put off to ask who is to be called, since participants waited, that is made up for once those wait no longer: they aren't
+/// called without it.
+pub fn what_was_put_off_is_asked()
+    ensures { (now : TheDuration) (is_strict : Bool) (s : Spread) (w : Wait) →
+        fate_of (with_question w).calls now is_strict s (with_question w).asks_again ≢ Called false }
+{}
+
+/// What was told and isn't taken yet is told once more soon: the next pull waits neither at the other node nor for news of it.
+pub fn what_is_untaken_is_asked_for_soon()
+    ensures pause { (is_held : Bool) (p : ThePull) → (behind Untaken is_held p).pause_ms ≤ 50 }
+    ensures wait { (is_held : Bool) (p : ThePull) → (behind Untaken is_held p).wait_ms ≡ 0 }
+    ensures waits { (is_held : Bool) (p : ThePull) → (behind Untaken is_held p).waits ≡ false }
+{}
+
+/// One of an older version holds no pull, and isn't asked in a rush: behind 33 pulls in a row that came to nothing at once, where none
+/// before them was held, the next one waits five seconds for news of it.
+pub fn one_of_an_older_version_is_not_asked_in_a_rush()
+    ensures { (number : ℕ) (earlier : List Came) → 33 ≤ number → All (λ (came : Came). came.is_held ≡ false) earlier →
+        (behind_all (replicate number nothing_at_once ++ earlier)).wait_ms ≡ 5_000 }
+{}
+
+/// Each node is asked again: a pause is five seconds at most, and so is the wait for news. One that holds pulls is asked soon: at once
+/// behind a pull that brought something or was held, and after 50 ms at most behind any other that came to nothing.
+pub fn each_node_is_asked_again()
+    ensures again { (pulled : ThePulled) (is_held : Bool) (p : ThePull) →
+        ((behind pulled is_held p).pause_ms ≤ 5_000) × ((behind pulled is_held p).wait_ms ≤ 5_000) }
+    ensures brought { (is_held : Bool) (p : ThePull) →
+        ((behind New is_held p).pause_ms ≡ 0) × ((behind New is_held p).wait_ms ≡ 0) }
+    ensures held { (p : ThePull) →
+        ((behind Nothing true p).pause_ms ≡ 0) × ((behind Nothing true p).wait_ms ≡ 0) × ((behind Nothing true p).holds ≡ true) }
+    ensures known { (is_held : Bool) (p : ThePull) → p.holds ≡ true →
+        ((behind Nothing is_held p).pause_ms ≤ 50) × ((behind Nothing is_held p).wait_ms ≡ 0) }
+{}
+
+/// What is wrong with another node is told once nothing can be had of it for five seconds, and then not again however many pulls fail, until
+/// it answers: that is told too.
+pub fn what_is_wrong_is_told_once()
+    ensures soon { (began now : TheDuration) (t : Trouble) → t.is_told ≡ false →
+        as_nanos (since_of t.since began) + 5_000_000_000 ≤ as_nanos now → is_due began now t ≡ true }
+    ensures once { (first again : Failure) (between : List Failure) (t : Trouble) → is_due first.began first.now t ≡ true →
+        is_due again.began again.now (after_failures between (with_failure first.began first.now t)) ≡ false }
+    ensures told { (first : Failure) (between : List Failure) (t : Trouble) → is_due first.began first.now t ≡ true →
+        (after_failures between (with_failure first.began first.now t)).is_told ≡ true }
+{}
+
+/// What these laws speak of happens. Node 1 of three stores a fact, gives a frame that was asked for behind it, and node 2 tells that it
+/// has it; and so does it where the frame was asked for before the fact was stored. Who waits a second for it waits, and is late then; and
+/// who had a frame had it at that moment.
+pub fn these_happen()
+    ensures drawn { (patience : TheDuration) →
+        (drawn_by (Ends true) (after_all (Begins ∷ []) (at_start (first_of_three patience))) ≡ 1)
+        × (drawn_by Asks (after_all (Ends true ∷ (Begins ∷ [])) (at_start (first_of_three patience))) ≡ 2)
+        × (drawn_by Looks (after_all (Begins ∷ []) (at_start (first_of_three patience))) ≡ 1) }
+    ensures covered { (patience now : TheDuration) →
+        (after_all (copied_at now) (at_start (first_of_three patience))).covered ≡ 2 }
+    ensures told { (patience now : TheDuration) →
+        last_told 2 (copied_at now) (at_start (first_of_three patience)) ≡ 1 }
+    ensures uncovered { (patience now : TheDuration) →
+        (after_all (Hears 2 1 now ∷ (Gives (record { ticket = 1; count = 1; at = now }) ∷ (Ends true ∷ (Begins ∷ (Asks ∷ [])))))
+        (at_start (first_of_three patience))).covered
+        ≡ drawn_by Asks (at_start (first_of_three patience)) }
+    ensures waits { standing_of 1 (second 0) (second 0) true (after_all (Ends true ∷ (Begins ∷ [])) (at_start (first_of_three (second 1)))) ≡ DoesWait }
+    ensures late { standing_of 1 (second 0) (second 1) true (after_all (Ends true ∷ (Begins ∷ [])) (at_start (first_of_three (second 1)))) ≡ IsLate }
+    ensures had { (now : TheDuration) → moment_of (given_at 2 now at_rest).given 2 ≡ Some now }
+    ensures soon { verdict_of 3 2 (second 0) true false (second 0) (given_at 2 (second 0) (with_begin (second 1) (with_end (second 0) at_rest))) ≡ ToSoon }
+    ensures later { verdict_of 3 2 (second 0) false false (second 3) at_rest ≡ ToLater }
+    ensures rush { ((behind_all (replicate 33 nothing_at_once)).wait_ms ≡ 5_000) × ((behind_all (replicate 32 nothing_at_once)).wait_ms ≡ 0) }
+    ensures outdated { fate_of (with_calls 1 (second 0) nobody).calls (second 1) true
+        (after_all (Ends true ∷ (Begins ∷ [])) (at_start (first_of_three (second 1)))) false ≡ Outdated }
+    ensures called { (patience now : TheDuration) →
+        fate_of (with_calls 2 now nobody).calls now true (after_all (copied_at now) (at_start (first_of_three patience))) false ≡ Called false }
+    ensures due { is_due (second 0) (second 5) none ≡ true }
+{}

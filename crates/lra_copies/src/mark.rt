@@ -1,0 +1,75 @@
+// Frames that were given, and that too few others are known to have.
+ghost use Rattle.std.specs.Prelude.{◌≡◌, ◌&&◌, filter, max};
+ghost use Rattle.std.specs.List.{list_any};
+ghost use Rattle.lra_copies.specs.Spreads.{copied_tickets, greatest, is_copied, is_in_time, is_uncopied, put};
+
+use crate::moment::is_over;
+use crate::others::Others;
+use arrayvec::ArrayVec;
+use std::time::Duration;
+
+/// How many are remembered at most.
+pub const MAX_MARKS: usize = 64;
+
+/// A frame that was given: it has each fact of a ticket up to this one, and counts so many facts of
+/// this node.
+#[derive(Clone, Copy, Default)]
+pub(crate) struct Mark {
+    pub(crate) ticket: u64,
+    pub(crate) count: u64,
+    /// When it was given.
+    pub(crate) at: Duration,
+}
+
+pub(crate) type Marks = ArrayVec<Mark, MAX_MARKS>;
+
+/// Puts one last. Where there is no room it replaces the last.
+pub(crate) fn put(marks: &mut Marks, mark: Mark)
+    ensures { marks.new.items ≡ put mark marks.old.items }
+{
+    marks.truncate(MAX_MARKS - 1);
+    marks.push(mark);
+}
+
+/// Those that too few others have.
+pub(crate) fn uncopied(marks: &Marks, others: &Others) -> Marks
+    ensures { result.items ≡ filter (is_uncopied others.now) marks.now.items }
+{
+    let mut left = Marks::new();
+    for mark in marks.as_slice() {
+        if !others.have(mark.count) {
+            left.push(*mark);
+        }
+    }
+    left
+}
+
+/// The greatest of a ticket and those of the marks that enough others have.
+pub(crate) fn covered_by(marks: &[Mark], others: &Others, covered: u64) -> u64
+    ensures { result ≡ max covered (greatest (copied_tickets others.now marks.now)) }
+{
+    let mut most = covered;
+    for mark in marks {
+        if others.have(mark.count) {
+            most = most.max(mark.ticket);
+        }
+    }
+    most
+}
+
+/// Whether enough others have one that was given within the patience.
+pub(crate) fn is_any_in_time(
+    marks: &[Mark],
+    others: &Others,
+    patience: Duration,
+    now: Duration,
+) -> bool
+    ensures { result ≡ list_any (is_in_time others.now patience now) marks.now }
+{
+    for mark in marks {
+        if others.have(mark.count) && !is_over(patience, mark.at, now) {
+            return true;
+        }
+    }
+    false
+}

@@ -1,0 +1,182 @@
+// How the next pull from another node goes.
+ghost use Rattle.std.specs.Prelude.{◌≡◌};
+ghost use Rattle.lra_copies.specs.Pulls.{behind, first, hasty_after, holds_after, is_at_once, is_held, is_soon, may_wait, next_of, pause_after, round_after};
+
+use crate::moment::is_over;
+use std::time::Duration;
+
+/// How long a node pauses after a pull, save where the next follows at once.
+const PAUSE_MS: u64 = 50;
+
+/// From how long a pull on that comes to nothing the other node has held it: it does so for half a
+/// second at least.
+const HELD_MS: u64 = 400;
+
+/// How many pulls in a row may come to nothing at once before the other node seems to hold none.
+const MANY_HASTY: u64 = 32;
+
+/// How long it waits before it tries again one that wasn't heard yet. It doubles each time.
+const FIRST_ROUND_MS: u64 = 100;
+
+/// How long it waits for news of another node where something was new the last time.
+const SHORT_ROUND_MS: u64 = 500;
+
+/// How long it waits at rest, and where the other can't be reached, at last.
+const LONG_ROUND_MS: u64 = 5_000;
+
+/// What a pull came to.
+#[derive(Clone, Copy, Debug, PartialEq, Eq)]
+pub enum Pulled {
+    /// Something new was told, and is taken.
+    New,
+    /// Something new is handed over, and isn't taken yet.
+    Untaken,
+    /// Nothing is new.
+    Nothing,
+    /// The other can't be reached.
+    Unreached,
+    /// It gives no frame.
+    Unanswered,
+    /// What is reached there is another node, or one of another group.
+    Misdirected,
+    /// What it told can't be taken, by the number of the refusal.
+    Refused(u64),
+    /// It has fewer facts of its own than it told before.
+    Older,
+    /// It has more facts of this node than this node's journal.
+    Newer,
+    /// It has facts of this node, whose journal is new, and nobody said that the old one is lost.
+    Lost,
+}
+
+/// How long a round is, in milliseconds, by what the last pull came to.
+fn round_after(pulled: Pulled, round_ms: u64) -> u64
+    ensures { result ≡ round_after pulled round_ms }
+{
+    match pulled {
+        Pulled::New | Pulled::Untaken | Pulled::Newer => SHORT_ROUND_MS,
+        _ => round_ms.saturating_mul(2).min(LONG_ROUND_MS),
+    }
+}
+
+/// How long is paused after a pull, in milliseconds, whatever news there is.
+fn pause_after(pulled: Pulled, round_ms: u64) -> u64
+    ensures { result ≡ pause_after pulled round_ms }
+{
+    match pulled {
+        Pulled::Refused(_) | Pulled::Misdirected | Pulled::Lost => round_ms,
+        _ => PAUSE_MS,
+    }
+}
+
+/// Whether the next pull may wait at the other node until there is something new.
+fn may_wait(pulled: Pulled) -> bool
+    ensures { result ≡ may_wait pulled }
+{
+    matches!(pulled, Pulled::New | Pulled::Nothing | Pulled::Older)
+}
+
+/// Whether the next pull follows at once, by whether this one was held, and might wait.
+fn is_at_once(pulled: Pulled, is_held: bool, waits: bool) -> bool
+    ensures { result ≡ is_at_once pulled is_held waits }
+{
+    match pulled {
+        Pulled::New => true,
+        Pulled::Nothing => is_held || !waits,
+        _ => false,
+    }
+}
+
+/// Whether the other node is known to hold pulls, by whether it was before, and this one was held.
+fn holds_after(pulled: Pulled, is_held: bool, holds: bool) -> bool
+    ensures { result ≡ holds_after pulled is_held holds }
+{
+    match pulled {
+        Pulled::Nothing => holds || is_held,
+        _ => may_wait(pulled) && holds,
+    }
+}
+
+/// How many in a row weren't followed at once.
+fn hasty_after(is_at_once: bool, hasty: u64) -> u64
+    ensures { result ≡ hasty_after is_at_once hasty }
+{
+    if is_at_once {
+        0
+    } else {
+        hasty.saturating_add(1)
+    }
+}
+
+/// Whether the next pull waits for no news. One of an older version never holds any. What isn't taken
+/// is told once more soon, since only so is it owed.
+fn is_soon(pulled: Pulled, holds: bool, hasty: u64) -> bool
+    ensures { result ≡ is_soon pulled holds hasty }
+{
+    match pulled {
+        Pulled::Nothing => holds || hasty < MANY_HASTY,
+        Pulled::Untaken => true,
+        _ => false,
+    }
+}
+
+/// How the next pull from another node goes.
+#[derive(Clone, Copy)]
+pub struct NextPull {
+    /// How long a round is, in milliseconds.
+    pub round_ms: u64,
+    /// How long is paused first, and then waited for news of the other node, in milliseconds.
+    pub pause_ms: u64,
+    pub wait_ms: u64,
+    /// Whether it may wait at the other node.
+    pub waits: bool,
+    /// Whether the other node has held one since it was last heard anew.
+    pub holds: bool,
+    /// How many in a row weren't followed at once.
+    pub hasty: u64,
+}
+
+impl NextPull {
+    /// The first one, which waits for nothing.
+    pub fn first() -> NextPull
+        ensures { result ≡ first }
+    {
+        NextPull {
+            round_ms: FIRST_ROUND_MS,
+            pause_ms: 0,
+            wait_ms: 0,
+            waits: false,
+            holds: false,
+            hasty: 0,
+        }
+    }
+
+    /// The one behind this one, which came to so much, and was held or wasn't. It follows at once where
+    /// this one brought something, was held, or waited for nothing; and after a pause alone where the
+    /// other node is known to hold pulls, or may do so.
+    pub fn behind(self, pulled: Pulled, is_held: bool) -> NextPull
+        ensures { result ≡ behind pulled is_held self }
+    {
+        let is_at_once = is_at_once(pulled, is_held, self.waits);
+        let round_ms = round_after(pulled, self.round_ms);
+        let pause_ms = pause_after(pulled, round_ms);
+        let holds = holds_after(pulled, is_held, self.holds);
+        let hasty = hasty_after(is_at_once, self.hasty);
+        let is_soon = is_at_once || is_soon(pulled, holds, hasty);
+        NextPull {
+            round_ms,
+            pause_ms: if is_at_once { 0 } else { pause_ms },
+            wait_ms: if is_soon { 0 } else { round_ms },
+            waits: may_wait(pulled),
+            holds,
+            hasty,
+        }
+    }
+
+    /// Whether a pull that went so was held, which began at a moment and is over now.
+    pub fn is_held(self, began: Duration, now: Duration) -> bool
+        ensures { result ≡ is_held began now self }
+    {
+        self.waits && is_over(Duration::from_millis(HELD_MS), began, now)
+    }
+}

@@ -1,0 +1,205 @@
+// Who waits until other nodes have what it may show.
+ghost use Rattle.std.specs.Prelude.{◌≡◌, is_some};
+ghost use Rattle.lra_copies.specs.Spreads.{standing_of, stood};
+ghost use Rattle.lra_copies.specs.Waits.{after_of, counted, fate_kept, fate_of, fate_released, go_on, kept, nobody, released, stood_of, with_calls, with_question, with_told};
+
+use crate::copies::Copies;
+use crate::standing::{Fate, Standing};
+use std::marker::Model;
+use std::time::Duration;
+
+/// Participants and listeners that wait to be called until a ticket is covered.
+#[derive(Clone, Copy)]
+pub(crate) struct CallsHeld {
+    pub(crate) ticket: u64,
+    pub(crate) since: Duration,
+    /// Whether their list is too old by now.
+    pub(crate) is_old: bool,
+}
+
+/// Whether participants that stand so wait no longer.
+fn go_on(standing: Standing, is_strict: bool) -> bool
+    ensures { result ≡ go_on standing is_strict }
+{
+    match standing {
+        Standing::Copied => true,
+        Standing::Late => !is_strict,
+        Standing::Waits => false,
+    }
+}
+
+/// Who waits until others have what it may show, and how many went on. It doesn't know their list.
+#[derive(Drop)]
+pub struct Waiters {
+    calls: Option<CallsHeld>,
+    /// Whether it is to be asked again who is to be called, once those don't wait.
+    asks_again: bool,
+    copied: u64,
+    late: u64,
+    /// How many were late since that was last told.
+    untold: u64,
+}
+
+impl Model for Waiters {
+    ghost use Rattle.lra_copies.specs.Waits.{Wait};
+
+    ghost Value = { Wait };
+
+    ghost view = { λ w. record {
+      calls = w.calls;
+      asks_again = w.asks_again;
+      copied = w.copied;
+      late = w.late;
+      untold = w.untold;
+    } };
+}
+
+impl Waiters {
+    /// Nobody waits.
+    pub fn new() -> Waiters
+        ensures { result ≡ nobody }
+    {
+        Waiters {
+            calls: None,
+            asks_again: false,
+            copied: 0,
+            late: 0,
+            untold: 0,
+        }
+    }
+
+    /// Counts one that stands so, if it goes on.
+    fn count(&mut self, standing: Standing)
+        ensures { self.new ≡ counted standing self.old }
+    {
+        match standing {
+            Standing::Copied => self.copied = self.copied.saturating_add(1),
+            Standing::Late => {
+                self.late = self.late.saturating_add(1);
+                self.untold = self.untold.saturating_add(1);
+            }
+            Standing::Waits => {}
+        }
+    }
+
+    /// How an answer stands that waits for a ticket since a moment. It is counted once it goes on.
+    pub fn stand(
+        &mut self,
+        copies: &mut Copies,
+        ticket: u64,
+        since: Duration,
+        now: Duration,
+        is_strict: bool,
+    ) -> Standing
+        ensures standing { result ≡ standing_of ticket since now is_strict copies.old }
+        ensures stood { copies.new ≡ stood ticket since now is_strict copies.old }
+        ensures counted { self.new ≡ counted (standing_of ticket since now is_strict copies.old) self.old }
+    {
+        let standing = copies.standing(ticket, since, now, is_strict);
+        self.count(standing);
+        standing
+    }
+
+    /// Has participants wait for a ticket.
+    pub fn hold_calls(&mut self, ticket: u64, now: Duration)
+        ensures { self.new ≡ with_calls ticket now self.old }
+    {
+        self.calls = Some(CallsHeld {
+            ticket,
+            since: now,
+            is_old: false,
+        });
+    }
+
+    /// Whether participants wait.
+    pub fn holds_calls(&self) -> bool
+        ensures { result ≡ is_some self.now.calls }
+    {
+        self.calls.is_some()
+    }
+
+    /// Whether participants wait. Then it is asked again who is to be called, once they don't.
+    pub fn puts_off(&mut self) -> bool
+        ensures holds { result ≡ is_some self.old.calls }
+        ensures asks { self.new ≡ with_question self.old }
+    {
+        let holds = self.holds_calls();
+        self.asks_again = self.asks_again || holds;
+        holds
+    }
+
+    /// Has those go on who waited, and stand so.
+    fn release(&mut self, calls: CallsHeld, standing: Standing) -> Fate
+        ensures released { self.new ≡ released standing self.old }
+        ensures fate { result ≡ fate_released calls self.old.asks_again }
+    {
+        let asks_again = self.asks_again;
+        self.count(standing);
+        self.calls = None;
+        self.asks_again = false;
+        if calls.is_old {
+            Fate::Asked
+        } else {
+            Fate::Called { asks_again }
+        }
+    }
+
+    /// Has those wait on who stand so.
+    fn keep(&mut self, calls: CallsHeld, standing: Standing) -> Fate
+        ensures kept { self.new ≡ kept calls standing self.old }
+        ensures fate { result ≡ fate_kept standing }
+    {
+        let is_late = standing == Standing::Late;
+        self.calls = Some(CallsHeld {
+            ticket: calls.ticket,
+            since: calls.since,
+            is_old: calls.is_old || is_late,
+        });
+        if is_late {
+            Fate::Outdated
+        } else {
+            Fate::OnHold
+        }
+    }
+
+    /// What becomes of the participants that wait, if some do. Where that is strict those that are late
+    /// aren't called: it is asked anew who is, once others are back.
+    pub fn take_calls(&mut self, copies: &mut Copies, now: Duration, is_strict: bool) -> Fate
+        ensures fate { result ≡ fate_of self.old.calls now is_strict copies.old self.old.asks_again }
+        ensures stood { copies.new ≡ stood_of self.old.calls now is_strict copies.old }
+        ensures after { self.new ≡ after_of self.old.calls now is_strict copies.old self.old }
+    {
+        let Some(calls) = self.calls else {
+            return Fate::OnHold;
+        };
+        let standing = copies.standing(calls.ticket, calls.since, now, is_strict);
+        if go_on(standing, is_strict) {
+            return self.release(calls, standing);
+        }
+        self.keep(calls, standing)
+    }
+
+    /// How many answers and lists went on that as many others had as are wanted.
+    pub fn copied(&self) -> u64
+        ensures { result ≡ self.now.copied }
+    {
+        self.copied
+    }
+
+    /// How many went on that were late.
+    pub fn late(&self) -> u64
+        ensures { result ≡ self.now.late }
+    {
+        self.late
+    }
+
+    /// How many were late since this was last asked.
+    pub fn take_untold(&mut self) -> u64
+        ensures untold { result ≡ self.old.untold }
+        ensures told { self.new ≡ with_told self.old }
+    {
+        let untold = self.untold;
+        self.untold = 0;
+        untold
+    }
+}

@@ -1,0 +1,46 @@
+// Laws of what other nodes have of a node's facts: each function does nothing, and its contract is the
+// law.
+ghost use Rattle.std.specs.Prelude.{◌≡◌, ◌≤◌, ◌<◌, ◌+◌, ℕ, Bool, List, length, true};
+ghost use Rattle.lra_id.specs.Fronts.{IsBelow, count};
+ghost use Rattle.lra_history.specs.Views.{View};
+ghost use Rattle.lra_delta.specs.Frames.{Frame};
+ghost use Rattle.lra_world.specs.Worlds.{State};
+ghost use Rattle.lra_book.specs.declared.calls.Call.TheVariants.{Pull};
+ghost use Rattle.lra_book.specs.declared.calls.Reply.TheVariants.{Gave};
+ghost use Rattle.lra_book.specs.Next.{IsNext};
+ghost use Rattle.lra_copies.specs.Spreads.{holders};
+ghost use Rattle.lra_trail.specs.Copies.{HearsEach, TakesIn, missed};
+ghost use Rattle.lra_trail.specs.NodeTrails.{IsPlayed, Item, trail_of};
+
+/// A frame that a node gives counts at least as many facts of each node as the node held at any moment
+/// before. So it has each fact that was stored before it was asked for.
+pub fn a_frame_has_what_was_stored_before_it()
+    ensures { (me now : ℕ) (s t : State) (a b c : View) (items : List Item) (body : List ℕ) (delta : Frame) →
+        IsPlayed me s a items t b → IsNext me b (Pull body) now (Gave delta) c → IsBelow a.front delta.front }
+{}
+
+/// A node holds what the frames counted that it gave and took, from then on: so what it tells by its
+/// next pull, which is what these counted, it has stored.
+pub fn a_front_that_is_told_is_held()
+    ensures gave { (me now : ℕ) (s t : State) (a b c : View) (items : List Item) (body : List ℕ) (delta : Frame) →
+        IsNext me c (Pull body) now (Gave delta) a → IsPlayed me s a items t b → IsBelow delta.front b.front }
+    ensures took { (me : ℕ) (s t : State) (a b : View) (items : List Item) (delta : Frame) →
+        IsPlayed me s a items t b → TakesIn (trail_of items) delta → IsBelow delta.front b.front }
+{}
+
+/// Where as many other nodes as are wanted told that they have n facts of a node, and its trail takes a
+/// frame of each other but fewer than that, the node has its first n facts again, whatever it began
+/// with.
+pub fn a_lost_node_takes_back_what_was_copied()
+    ensures { (me wanted n : ℕ) (told : List ℕ) (heard : ℕ → Bool) (s t : State) (a b : View) (items : List Item) →
+        IsPlayed me s a items t b → wanted ≤ holders me n told → missed me (length told) heard < wanted →
+        HearsEach me heard told (trail_of items) → n ≤ count b.front me }
+{}
+
+/// Where it takes a frame of each other, the number that it gives next is new to all of them.
+pub fn its_numbers_go_on()
+    ensures { (me : ℕ) (told : List ℕ) (heard : ℕ → Bool) (s t : State) (a b : View) (items : List Item) →
+        IsPlayed me s a items t b → ((node : ℕ) → (node ≡ me → ⊥) → heard node ≡ true) →
+        HearsEach me heard told (trail_of items) → (node : ℕ) → (node ≡ me → ⊥) →
+        count told node < count b.front me + 1 }
+{}
