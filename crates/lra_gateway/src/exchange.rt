@@ -116,7 +116,16 @@ fn buffered<'a, R: Host>(
         writing: Limit::of_millis(ms),
     };
     let (signal, cutoff) = (&agent.gateway.signal, Cutoff::ProgramEnd);
-    let buffered = BufferedSocket::new(agent.rt, agent.alloc, signal, cutoff, None, stream, times);
+    let buffered = BufferedSocket::new(
+        agent.rt,
+        agent.alloc,
+        signal,
+        cutoff,
+        None,
+        None,
+        stream,
+        times,
+    );
     let (reader, writer, _socket) = buffered.ok()?.into_parts();
     Some((reader, writer))
 }

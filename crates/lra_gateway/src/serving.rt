@@ -70,7 +70,7 @@ pub fn look<R: Host>(agent: &Agent<R>, port: &Port) {
             return;
         };
         match pending.look(agent.rt, true, &NoHolder) {
-            Readiness::Pending(pending) => {
+            Readiness::Pending(pending) | Readiness::Held(pending) => {
                 silent = silent.saturating_add(1);
                 if silent >= port.queue.put_back(agent.rt, pending) {
                     port.queue.rest(agent.rt, Duration::from_millis(REST_MS));
@@ -137,7 +137,12 @@ fn answered<R: Host>(
 
 /// Serves one connection, if there is memory for it. Who has gone isn't served: a node that has given
 /// up calls again, and its first call, come late, might be out of order.
-fn serve_one<R: Host>(agent: &Agent<R>, port: &Port, number: u8, stream: TcpStream) -> Option<()> {
+fn serve_one<'a, R: Host>(
+    agent: &'a Agent<R>,
+    port: &'a Port,
+    number: u8,
+    stream: TcpStream,
+) -> Option<()> {
     let (rt, alloc) = (agent.rt, agent.alloc);
     stream
         .set_read_timeout(Some(Duration::from_millis(SLICE_MS)))
@@ -148,7 +153,7 @@ fn serve_one<R: Host>(agent: &Agent<R>, port: &Port, number: u8, stream: TcpStre
         writing: Limit::of_millis(ANSWER_MS),
     };
     let (signal, queue, cutoff) = (&agent.gateway.signal, Some(&port.queue), Cutoff::ProgramEnd);
-    let buffered = BufferedSocket::new(rt, alloc, signal, cutoff, queue, stream, times);
+    let buffered = BufferedSocket::new(rt, alloc, signal, cutoff, queue, None, stream, times);
     let (mut reader, mut writer, socket) = buffered.ok()?.into_parts();
     let request = read(alloc, &mut reader);
     if is_gone(&watched) {

@@ -1,5 +1,5 @@
 -- Whether a node enters anything of its own yet: at a start it hears the others first.
-use Rattle.std.specs.Prelude.{◌≡◌, ◌⊎◌, ◌↔◌, ◌-◌, ◌&&◌, ◌||◌, ◌==◌, ℕ, Bool, false, List, Option, None, Some, IsTrue, MatchBool, if◌then◌else◌, length, max, nat_le, not, slice_set}
+use Rattle.std.specs.Prelude.{◌≡◌, ◌⊎◌, ◌↔◌, ◌-◌, ◌&&◌, ◌||◌, ◌==◌, ℕ, Bool, false, List, Option, None, Some, IsTrue, MatchBool, if◌then◌else◌, length, max, nat_le, not, slice_set, true}
 use Rattle.std.specs.List.{list_any}
 use Rattle.std.specs.Duration.{as_nanos}
 use Rattle.std.specs.declared.time.Duration.{Duration}
@@ -69,6 +69,10 @@ heard_now other told known o = record { me = o.me; waits_for_all = o.waits_for_a
 
 abbrev pub heard_by : ℕ → (told known : List ℕ) → Opening → Opening
 heard_by other told known o = if length told == length o.awaited then heard_now other told known o else o
+
+-- a start waits for all others, however long that takes
+abbrev pub patient : Opening → Opening
+patient o = record { me = o.me; waits_for_all = true; is_open = o.is_open; opens_at = o.opens_at; is_late = o.is_late; heard = o.heard; awaited = o.awaited }
 
 -- one that asks counts so many facts of this node: a start waits for them
 abbrev pub with_count : ℕ → Opening → Opening

@@ -4,7 +4,7 @@ ghost use Rattle.std.specs.Prelude.{◌≡◌, ◌≤◌, ◌&&◌, None, false,
 ghost use Rattle.std.specs.Duration.{as_nanos};
 ghost use Rattle.lra_id.specs.Fronts.{count, join_fronts};
 ghost use Rattle.std.specs.List.{list_any};
-ghost use Rattle.lra_mailbox.specs.Starts.{IsLookedAt, IsNextLook, IsOpened, IsOpenedBy, are_heard, heard_by, heard_with, is_silent, may_open_unheard, told_by, with_awaited};
+ghost use Rattle.lra_mailbox.specs.Starts.{IsLookedAt, IsNextLook, IsOpened, IsOpenedBy, are_heard, heard_by, heard_with, is_silent, may_open_unheard, told_by, with_awaited, patient};
 
 use lra_id::{Front, NodeId};
 use std::time::Duration;
@@ -170,6 +170,13 @@ impl Opening {
         }
         let more = self.awaited.count(self.me).max(count);
         self.awaited.set(self.me, more);
+    }
+
+    /// Has a start wait for all others, however long that takes.
+    pub(crate) fn wait_for_all(&mut self)
+        ensures { self.new ≡ patient self.old }
+    {
+        self.waits_for_all = true;
     }
 
     /// Has commands wait for these facts too.

@@ -11,7 +11,7 @@ ghost use Rattle.lra_mailbox.specs.Noted.{Notes, with_news};
 ghost use Rattle.lra_mailbox.specs.Sweeps.{IsLeftBy, IsSeen, IsTurned, with_ended, with_looking};
 ghost use Rattle.lra_id.specs.Fronts.{count};
 ghost use Rattle.lra_id.specs.declared.TheConstants.{MAX_NODES};
-ghost use Rattle.lra_mailbox.specs.Starts.{IsOpened, heard_by, heard_with, told_by};
+ghost use Rattle.lra_mailbox.specs.Starts.{IsOpened, heard_by, heard_with, patient, told_by};
 ghost use Rattle.lra_mailbox.specs.Resting.{IsIdleFor, has_task, is_occupied, looks_at, next_at, rests_until};
 ghost use Rattle.lra_mailbox.specs.Tasks.{Does, IsNextKind, IsNextTask, has, is_spared, may_enter};
 ghost use Rattle.lra_mailbox.specs.declared.task.Wanted.TheVariants.{Nothing};
@@ -377,6 +377,13 @@ impl MailboxState {
         ensures { result ≡ is_owed from asks.now self.now.known }
     {
         self.known.is_owed(from, asks)
+    }
+
+    /// Has a start wait for all others, however long that takes.
+    pub fn wait_for_all(&mut self)
+        ensures { self.new ≡ with_opening (patient self.old.opening) self.old }
+    {
+        self.opening.wait_for_all();
     }
 
     /// Whether a start has waited for the others as long as it may, and wasn't opened.

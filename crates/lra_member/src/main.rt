@@ -4,13 +4,13 @@
 
 ghost use Rattle.lra_id.specs.declared.TheConstants.{MAX_NODES};
 ghost use Rattle.lra_work.specs.Groups.{is_group_name};
-ghost use Rattle.std.specs.Prelude.{◌≡◌, ◌≤◌, IfNone, IfOk, IfSome, IsFalse, IsSomeAnd, option_map, string_bytes, vec_len};
+ghost use Rattle.std.specs.Prelude.{◌≡◌, ◌≤◌, IfNone, IfOk, IfSome, IsFalse, IsSomeAnd, min, option_map, string_bytes, unwrap_or, vec_len};
 
 use log::{Level, Log, Logged};
 use lra_mailbox::Keep;
 use lra_script::arguments;
 use lra_server::{Folder, Members, Stores, UnknownFiles, hold, serve_members};
-use lra_threads::{Build, ToLines, lines_of};
+use lra_threads::{Build, ToLines, Wants, lines_of};
 use lra_words::{Asked, COMMIT, KIT, Unasked, VERSION, asked_by, is_version};
 use lra_work::GroupName;
 use std::alloc::Global;
@@ -23,16 +23,30 @@ use std::thread::Threads;
 use std::time::{Clock, Duration};
 
 const USAGE: &str =
-    "usage: lra_member I|I-J DIR [listen=IP:PORT] [operate=IP:PORT] [names=NAME,..] [keep=MS] [keep-failed=MS] [group=NAME] [anew] HOST:PORT.. | --version";
+    "usage: lra_member I|I-J DIR [listen=IP:PORT] [operate=IP:PORT] [names=NAME,..] [keep=MS] [keep-failed=MS] [group=NAME] [copies=K] [patience=MS] [strict] [anew] HOST:PORT.. | --version";
 
 /// How long the last warnings have to be written at the end, in milliseconds.
 const LAST_LINES_MS: u64 = 500;
+
+/// For how many milliseconds copies are waited for where nothing is said.
+const PATIENCE_MS: u64 = 1_000;
 
 /// The members that the words ask for, and the folder in which their journals lie.
 #[derive(Drop)]
 struct Given {
     members: Members,
     folder: String,
+}
+
+/// How many copies are wanted, for how long they are waited for, and what comes then.
+fn wants_of(copies: Option<u64>, patience: Option<u64>, is_strict: bool) -> Wants
+    ensures { result ≡ record { copies = min (unwrap_or copies 0) 7; patience_ms = unwrap_or patience 1000; is_strict = is_strict } }
+{
+    Wants {
+        copies: copies.unwrap_or(0).min(7) as u8,
+        patience_ms: patience.unwrap_or(PATIENCE_MS),
+        is_strict,
+    }
 }
 
 /// The members that are asked for, and the folder in which their journals lie; nothing where the
@@ -42,7 +56,9 @@ fn members_of(asked: Asked, build: Build) -> Option<(Members, String)>
         × (made.0.peers ≡ asked.peers) × (made.1 ≡ asked.folder)) }
     ensures choices { IfSome result (λ made. (made.0.listen ≡ asked.listen) × (made.0.operate ≡ asked.operate)
         × (made.0.names ≡ asked.names) × (made.0.keep.ended ≡ asked.ended) × (made.0.keep.failed ≡ asked.failed)
-        × (made.0.group ≡ option_map string_bytes asked.group) × (made.0.anew ≡ asked.anew)
+        × (made.0.group ≡ option_map string_bytes asked.group)
+        × (made.0.wants.copies ≡ min (unwrap_or asked.copies 0) 7) × (made.0.wants.patience_ms ≡ unwrap_or asked.patience 1000)
+        × (made.0.wants.is_strict ≡ asked.strict) × (made.0.anew ≡ asked.anew)
         × (made.0.build ≡ build)) }
     ensures none { IfNone result (IsSomeAnd asked.group (λ name. IsFalse (is_group_name (string_bytes name)))) }
 {
@@ -56,6 +72,9 @@ fn members_of(asked: Asked, build: Build) -> Option<(Members, String)>
         ended,
         failed,
         group,
+        copies,
+        patience,
+        strict,
         anew,
         peers,
     } = asked;
@@ -77,6 +96,7 @@ fn members_of(asked: Asked, build: Build) -> Option<(Members, String)>
         names,
         keep: Keep { ended, failed },
         group,
+        wants: wants_of(copies, patience, strict),
         anew,
         build,
     };

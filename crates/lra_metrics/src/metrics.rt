@@ -1,7 +1,7 @@
 // The counts of a node in the text format of Prometheus, version 0.0.4.
 
 use lra_forest::MAX_HELD;
-use lra_id::{LraStatus, MAX_NODES};
+use lra_id::{LraStatus, MAX_NODES, NodeId};
 use lra_sockets::now;
 use lra_threads::{Build, CALL_NAMES, HEARD, KINDS, Node, Numbers, PULLS, REFUSALS, RUNS, SWEPT};
 use std::alloc::{AllocError, Global};
@@ -261,6 +261,47 @@ fn push_participants<R: Wait>(
     )
 }
 
+fn push_told<R: Wait>(page: &mut MetricsPage, rt: &R, node: &Node) -> Result<(), AllocError> {
+    let name = "lra_told";
+    let help = "Facts of this node that another told that it stored.";
+    page.family(name, "gauge", help)?;
+    for number in 1..=node.nodes {
+        let Ok(other) = NodeId::new(number) else {
+            continue;
+        };
+        if other != node.me {
+            page.open(name)?;
+            page.label_number("by", u64::from(number))?;
+            page.close(node.followers.told(rt, other))?;
+        }
+    }
+    Ok(())
+}
+
+/// The families of those who wait until other nodes have what is stored here.
+fn push_waiting<R: Wait>(page: &mut MetricsPage, rt: &R, node: &Node) -> Result<(), AllocError> {
+    let help = "Pulls of other nodes that wait until there is something new.";
+    page.single("lra_pulls_held", "gauge", help, node.queue.holding())?;
+    if node.nodes > 1 {
+        push_told(page, rt, node)?;
+    }
+    let help = "Answers that wait until other nodes have what they show.";
+    page.single("lra_answers_waiting", "gauge", help, node.queue.promises())?;
+    let name = "lra_answers_waited_total";
+    let help = "Answers and lists of calls that waited, by whether others had it in time.";
+    page.family(name, "counter", help)?;
+    let waited = node.followers.waited(rt);
+    page.named(
+        name,
+        "came",
+        &["copied", "late"],
+        &[waited.copied, waited.late],
+    )?;
+    let help = "Whether others fell behind for longer than an answer waits.";
+    let short = u64::from(node.followers.is_short(rt));
+    page.single("lra_copies_short", "gauge", help, short)
+}
+
 /// The families of other nodes and connections.
 fn push_others<R: Wait>(
     page: &mut MetricsPage,
@@ -273,6 +314,7 @@ fn push_others<R: Wait>(
         push_pulls(page, node, numbers)?;
         push_ages(page, node, numbers, now)?;
     }
+    push_waiting(page, rt, node)?;
     push_front(page, rt, node)?;
     push_held(page, rt, node)?;
     page.single(

@@ -355,6 +355,32 @@ where
     }
 }
 
+/// The runs of a node beside the threads that outlive them. It is a function of its own, or the prover's
+/// search ends at a limit (docs/PROVING.md, "spawn-requires-send").
+fn run_beside<'s, E, R, L, S: Stores>(
+    scope: &Scope<'s, E>,
+    rt: &'s R,
+    log: &'s L,
+    alloc: Global,
+    node: &'s Node,
+    stores: &S,
+    shared: &'s Shared,
+    listeners: &'s Listeners,
+    begun: Begun<S::Store>,
+) -> Result<(), Failure>
+where
+    R: Threads + Wait + Clock + Sockets + Sync,
+    L: Log + Sync,
+{
+    if !start_helpers(scope, rt, log, alloc, node, shared, listeners) {
+        node.end_program(rt);
+        return Err(Failure::Run);
+    }
+    let outcome = run_on(rt, log, alloc, node, stores, shared, begun);
+    node.end_program(rt);
+    outcome
+}
+
 /// Runs a node: its runs, with the threads that accept, call and pull beside them, until the
 /// program is to end.
 pub fn run_node<R, L, S: Stores + Sync>(
@@ -375,6 +401,7 @@ where
         addressee,
     } = runtime;
     node.note_start(rt);
+    node.note_journal(rt, &begun.book.front());
     let Some(paths) = paths_of(rt, alloc, node) else {
         return Ok(());
     };
@@ -385,12 +412,8 @@ where
     };
     let (listeners, shared) = (&listeners, &shared);
     thread::scope(thread::scope_env(), rt, move |scope| {
-        if !start_helpers(scope, rt, log, alloc, node, shared, listeners) {
-            node.end_program(rt);
-            return Err(Failure::Run);
-        }
-        let outcome = run_on(rt, log, alloc, node, stores, shared, begun);
-        node.end_program(rt);
-        outcome
+        run_beside(
+            scope, rt, log, alloc, node, stores, shared, listeners, begun,
+        )
     })
 }

@@ -48,7 +48,7 @@ fn serve_one<'a, R: Wait + Clock, L: Log>(
         writing: Limit::of_millis(ANSWER_MS),
     };
     let (signal, queue, cutoff) = (&node.signal, Some(&node.operators), Cutoff::ProgramEnd);
-    let buffered = BufferedSocket::new(rt, alloc, signal, cutoff, queue, stream, times);
+    let buffered = BufferedSocket::new(rt, alloc, signal, cutoff, queue, None, stream, times);
     let (mut reader, mut writer, socket) = buffered.ok()?.into_parts();
     let mut clerk = OperatorClerk::new(rt, log, alloc, node, errands);
     let cause = node.unready(rt);
@@ -84,7 +84,7 @@ pub fn operate<R: Wait + Clock, L: Log>(
             return;
         };
         match pending.look(rt, true, &NoHolder) {
-            Readiness::Pending(pending) => {
+            Readiness::Pending(pending) | Readiness::Held(pending) => {
                 silent = silent.saturating_add(1);
                 if silent >= node.operators.put_back(rt, pending) {
                     node.operators.rest(rt, Duration::from_millis(REST_MS));

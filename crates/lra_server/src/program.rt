@@ -15,7 +15,7 @@ use lra_http::Bytes;
 use lra_id::NodeId;
 use lra_mailbox::Keep;
 use lra_sockets::{Peer, Site, Sockets, StopReason};
-use lra_threads::{Build, End, Manners, News, Node, Shutdown, Tally, drain};
+use lra_threads::{Build, End, Manners, News, Node, Shutdown, Tally, Wants, drain};
 use lra_work::{Addressee, GroupName, query_by};
 use sqlite::Alter;
 use std::alloc::{AllocError, Global};
@@ -218,6 +218,8 @@ pub struct Members {
     /// The name of their group, if it has one. A pull of another group's node is refused, and so is
     /// what one of another group answers.
     pub group: Option<GroupName>,
+    /// How many other nodes are to have a fact before who may have seen it goes on.
+    pub wants: Wants,
     /// Whether each waits at its start until it has heard all others, without a bound: its journal
     /// is lost, or not the newest.
     pub anew: bool,
@@ -231,13 +233,14 @@ fn queries_of(
     me: NodeId,
     nodes: u8,
     group: Option<&GroupName>,
+    waits: bool,
 ) -> Result<Vec<String>, AllocError> {
     let mut queries = Vec::new(alloc);
     for number in 1..=nodes {
         let Ok(other) = NodeId::new(number) else {
             continue;
         };
-        queries.push(query_by(alloc, me, other, group)?)?;
+        queries.push(query_by(alloc, waits, me, other, group)?)?;
     }
     Ok(queries)
 }
@@ -258,12 +261,15 @@ fn manners_of(
     nodes: u8,
     group: Option<&GroupName>,
     anew: bool,
+    wants: Wants,
     names: &str,
     build: &Build,
 ) -> Result<Manners, AllocError> {
     Ok(Manners {
         waits_for_all: anew,
-        queries: queries_of(alloc, me, nodes, group)?,
+        wants,
+        queries: queries_of(alloc, me, nodes, group, false)?,
+        waiting: queries_of(alloc, me, nodes, group, true)?,
         names: names_in(alloc, names)?,
         build: Some(build.copied(alloc)?),
     })
@@ -292,6 +298,7 @@ fn nodes_of_members(
         names,
         keep,
         group,
+        wants,
         anew,
         build,
     } = members;
@@ -317,6 +324,7 @@ fn nodes_of_members(
             nodes,
             group.as_ref(),
             anew,
+            wants,
             names.as_str(),
             &build,
         )?;

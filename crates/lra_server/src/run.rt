@@ -21,7 +21,7 @@ use crate::shared::Shared;
 use log::{Log, warn};
 use lra_api::Paths;
 use lra_book::{Book, Desk, DeskClerk, DeskPass, Run};
-use lra_sockets::{Sockets, StopReason};
+use lra_sockets::{Promise, Sockets, StopReason};
 use lra_threads::Node;
 use lra_work::{Addressee, Open, work};
 use sqlite::Alter;
@@ -47,13 +47,15 @@ fn run_worker<R: Wait + Clock + Sockets, J: Run, S: Alter + Drop>(
     pass: DeskPass<J>,
     place: usize,
 ) -> DeskPass<J> {
-    let mut connections = Connections::new(rt, alloc, node);
-    let mut clerk = CountingClerk::of_worker(rt, node, DeskClerk::new(rt, desk, pass), place);
+    let promise = Promise::new();
+    let mut connections = Connections::new(rt, alloc, node, addressee, &promise);
+    let clerk = DeskClerk::new(rt, desk, pass);
+    let mut clerk = CountingClerk::of_worker(rt, node, clerk, place, &promise);
     for _ in rt.forever() {
         let (back, ending) = work(rt, alloc, paths, &mut connections, clerk, &Open, addressee);
         connections.close_served();
         clerk = back;
-        // A command that was held back ends no run.
+        // A call that was refused ends no run.
         if clerk.take_held() {
             continue;
         }
@@ -251,6 +253,7 @@ where
         return None;
     };
     node.tally.begin();
+    node.followers.note_begun(rt);
     node.queue.begin(rt);
     let passes = run_threads(rt, alloc, node, shared, &desk, passes);
     if passes.len() != PASSES {

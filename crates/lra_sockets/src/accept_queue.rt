@@ -34,9 +34,13 @@ const MAX_KEPT: usize = 64 << 20;
 #[derive(Drop)]
 struct Waiting {
     pending: VecDeque<PendingConnection>,
-    /// At how many of them nobody has looked yet.
+    /// Pulls that are held: no worker looks at them until they are freed.
+    held: VecDeque<PendingConnection>,
+    /// Answers that wait until other nodes have what they show.
+    promised: VecDeque<PendingConnection>,
+    /// At how many of those that wait for a worker nobody has looked yet.
     unseen: usize,
-    /// How many bytes of answers they have still to take.
+    /// How many bytes of answers all have still to take.
     kept: usize,
     /// Whether a worker looks, and doesn't sleep.
     watched: bool,
@@ -55,6 +59,11 @@ pub struct AcceptQueue {
     count: AtomicU64,
     /// How many bytes of answers wait, for who asks without the lock.
     kept: AtomicU64,
+    /// How many pulls are held, likewise, and how often they were freed.
+    holding: AtomicU64,
+    freed: AtomicU64,
+    /// How many answers wait, likewise.
+    promises: AtomicU64,
     /// How many workers read a long request as it comes.
     reading: AtomicU64,
     /// How many connections were closed for want of files since that was last asked.
@@ -72,6 +81,73 @@ impl Waiting {
             self.unseen = self.unseen.saturating_add(unseen);
             self.kept = self.kept.saturating_add(kept);
         }
+    }
+
+    /// Holds no pull of this node any longer: it has sent another.
+    fn release(&mut self, asker: Option<u8>) {
+        let count = self.held.len();
+        for _pull in 0..count {
+            let Some(mut pending) = self.held.pop_front() else {
+                return;
+            };
+            if pending.asker() == asker {
+                pending.release();
+                self.push(pending);
+            } else {
+                let _ = self.held.push_back(pending);
+            }
+        }
+    }
+
+    /// Puts the held pulls behind the connections that wait. It says how many.
+    fn free(&mut self) -> usize {
+        let count = self.held.len();
+        for _pull in 0..count {
+            if let Some(pending) = self.held.pop_front() {
+                self.push(pending);
+            }
+        }
+        count
+    }
+
+    /// Keeps an answer that waits. One for which there is no memory is never sent.
+    fn keep(&mut self, pending: PendingConnection) {
+        let kept = pending.kept();
+        if self.promised.push_back(pending).is_ok() {
+            self.kept = self.kept.saturating_add(kept);
+        }
+    }
+
+    /// Puts the answers for this ticket and lesser ones behind the connections that wait. It says how
+    /// many.
+    fn fulfil(&mut self, ticket: u64) -> usize {
+        let (count, mut put) = (self.promised.len(), 0usize);
+        for _answer in 0..count {
+            let Some(pending) = self.promised.pop_front() else {
+                return put;
+            };
+            if pending.ticket().is_some_and(|wanted| wanted > ticket) {
+                let _ = self.promised.push_back(pending);
+                continue;
+            }
+            self.kept = self.kept.saturating_sub(pending.kept());
+            self.push(pending);
+            put = put.saturating_add(1);
+        }
+        put
+    }
+
+    /// Drops the connection that has waited longest for a worker, or else the oldest answer that waits,
+    /// or the oldest held pull. It says whether there was one.
+    fn drop_first(&mut self) -> bool {
+        if self.pop().is_some() {
+            return true;
+        }
+        if let Some(pending) = self.promised.pop_front() {
+            self.kept = self.kept.saturating_sub(pending.kept());
+            return true;
+        }
+        self.held.pop_front().is_some()
     }
 
     /// Takes the connection that has waited longest.
@@ -103,6 +179,8 @@ impl AcceptQueue {
         AcceptQueue {
             waiting: Mutex::new(Waiting {
                 pending: VecDeque::new(alloc),
+                held: VecDeque::new(alloc),
+                promised: VecDeque::new(alloc),
                 unseen: 0,
                 kept: 0,
                 watched: false,
@@ -112,6 +190,9 @@ impl AcceptQueue {
             came: Condvar::new(),
             count: AtomicU64::new(0),
             kept: AtomicU64::new(0),
+            holding: AtomicU64::new(0),
+            freed: AtomicU64::new(0),
+            promises: AtomicU64::new(0),
             reading: AtomicU64::new(0),
             closed: AtomicU64::new(0),
         }
@@ -127,6 +208,10 @@ impl AcceptQueue {
         };
         self.count.store(told, Ordering::SeqCst);
         self.kept.store(waiting.kept as u64, Ordering::SeqCst);
+        self.holding
+            .store(waiting.held.len() as u64, Ordering::SeqCst);
+        self.promises
+            .store(waiting.promised.len() as u64, Ordering::SeqCst);
         count
     }
 
@@ -183,6 +268,62 @@ impl AcceptQueue {
     pub fn put_back<R: Wait>(&self, rt: &R, pending: PendingConnection) -> usize {
         let (count, _is_seen) = self.push(rt, pending);
         count
+    }
+
+    /// How often pulls that are held were freed.
+    pub fn freed(&self) -> u64 {
+        self.freed.load(Ordering::SeqCst)
+    }
+
+    /// How many pulls are held.
+    pub fn holding(&self) -> u64 {
+        self.holding.load(Ordering::SeqCst)
+    }
+
+    /// Holds a pull until `free`. Where that was called since `freed` was so great, a worker looks at it
+    /// again. An earlier one of the same node is served. One for which there is no memory is closed.
+    pub fn hold<R: Wait>(&self, rt: &R, pending: PendingConnection, freed: u64) {
+        let mut waiting = self.waiting.lock(rt);
+        waiting.release(pending.asker());
+        if self.freed() != freed {
+            waiting.push(pending);
+        } else {
+            let _ = waiting.held.push_back(pending);
+        }
+        let _count = self.tell(&waiting);
+    }
+
+    /// Has workers look again at the pulls that are held.
+    pub fn free<R: Wait>(&self, rt: &R) {
+        let mut waiting = self.waiting.lock(rt);
+        self.freed.fetch_add(1, Ordering::SeqCst);
+        let count = waiting.free();
+        let _count = self.tell(&waiting);
+        for _pull in 0..count {
+            self.came.notify_one();
+        }
+    }
+
+    /// How many answers wait until other nodes have what they show.
+    pub fn promises(&self) -> u64 {
+        self.promises.load(Ordering::SeqCst)
+    }
+
+    /// Keeps an answer until those are sent that wait for its ticket (`fulfil`).
+    pub fn keep<R: Wait>(&self, rt: &R, pending: PendingConnection) {
+        let mut waiting = self.waiting.lock(rt);
+        waiting.keep(pending);
+        let _count = self.tell(&waiting);
+    }
+
+    /// Has workers look again at the answers that wait for this ticket or a lesser one.
+    pub fn fulfil<R: Wait>(&self, rt: &R, ticket: u64) {
+        let mut waiting = self.waiting.lock(rt);
+        let count = waiting.fulfil(ticket);
+        let _count = self.tell(&waiting);
+        for _answer in 0..count {
+            self.came.notify_one();
+        }
     }
 
     /// Closes a connection that was served, so that its client gets the answer whole: what is left of
@@ -298,7 +439,7 @@ impl AcceptQueue {
     /// Closes the connection that has waited longest, since no file is left.
     pub fn close_first<R: Wait>(&self, rt: &R) {
         let mut waiting = self.waiting.lock(rt);
-        if waiting.pop().is_some() {
+        if waiting.drop_first() {
             self.closed.fetch_add(1, Ordering::SeqCst);
         }
         let _left = self.tell(&waiting);
@@ -313,6 +454,9 @@ impl AcceptQueue {
     pub fn end<R: Wait>(&self, rt: &R) {
         let mut waiting = self.waiting.lock(rt);
         waiting.ended = true;
+        self.freed.fetch_add(1, Ordering::SeqCst);
+        let _freed = waiting.free();
+        let _put = waiting.fulfil(u64::MAX);
         let _left = self.tell(&waiting);
         self.came.notify_all();
     }

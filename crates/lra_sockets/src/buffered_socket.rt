@@ -2,6 +2,7 @@
 
 use crate::accept_queue::AcceptQueue;
 use crate::deadline_stream::{Cutoff, DeadlineStream, Limit};
+use crate::promise::Promise;
 use crate::shared_socket::SharedSocket;
 use crate::signal::Signal;
 use lra_http::{OverRead, OverWrite};
@@ -41,21 +42,23 @@ pub struct BufferedSocket<'a, R: Wait + Clock> {
 
 impl<'a, R: Wait + Clock> BufferedSocket<'a, R> {
     /// Over this connection. What its client doesn't take at once of what is written goes to a
-    /// queue, if one is said.
+    /// queue, if one is said, and so does all of an answer that waits for something.
     pub fn new(
         rt: &'a R,
         alloc: Global,
         signal: &'a Signal,
         cutoff: Cutoff,
         queue: Option<&'a AcceptQueue>,
+        promise: Option<&'a Promise>,
         stream: TcpStream,
         times: Times,
     ) -> io::Result<BufferedSocket<'a, R>> {
         let Ok(socket) = Rc::new(alloc, SharedSocket::new(alloc, stream)) else {
             return Err(Error::from(ErrorKind::OutOfMemory));
         };
-        let reader = DeadlineStream::new(rt, signal, cutoff, queue, socket.clone()?, times.reading);
-        let writer = DeadlineStream::new(rt, signal, cutoff, queue, socket.clone()?, times.writing);
+        let (reads, writes) = (socket.clone()?, socket.clone()?);
+        let reader = DeadlineStream::new(rt, signal, cutoff, queue, None, reads, times.reading);
+        let writer = DeadlineStream::new(rt, signal, cutoff, queue, promise, writes, times.writing);
         let reader = BufReader::with_capacity(alloc, BUFFER, reader)?;
         let writer = BufWriter::with_capacity(alloc, BUFFER, writer)?;
         Ok(BufferedSocket {

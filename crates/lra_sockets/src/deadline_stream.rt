@@ -2,6 +2,7 @@
 ghost use Rattle.std.specs.Prelude.{◌≤◌, IfOk, length};
 
 use crate::accept_queue::AcceptQueue;
+use crate::promise::Promise;
 use crate::shared_socket::SharedSocket;
 use crate::signal::Signal;
 use std::io;
@@ -64,13 +65,14 @@ pub enum Cutoff {
 
 /// A connection whose reads, or writes, of one message end: with `TimedOut` where the message takes
 /// too long. What its client doesn't take of an answer at once goes to a queue, if one is said and
-/// has room, and is sent on from there.
+/// has room, and is sent on from there. An answer that waits for something is kept whole.
 #[derive(Drop)]
 pub struct DeadlineStream<'a, R: Wait + Clock> {
     rt: &'a R,
     signal: &'a Signal,
     cutoff: Cutoff,
     queue: Option<&'a AcceptQueue>,
+    promise: Option<&'a Promise>,
     socket: Rc<SharedSocket>,
     limit: Limit,
     /// When the whole message has to be over.
@@ -95,6 +97,7 @@ impl<'a, R: Wait + Clock> DeadlineStream<'a, R> {
         signal: &'a Signal,
         cutoff: Cutoff,
         queue: Option<&'a AcceptQueue>,
+        promise: Option<&'a Promise>,
         socket: Rc<SharedSocket>,
         limit: Limit,
     ) -> DeadlineStream<'a, R> {
@@ -103,6 +106,7 @@ impl<'a, R: Wait + Clock> DeadlineStream<'a, R> {
             signal,
             cutoff,
             queue,
+            promise,
             socket,
             limit,
             until: None,
@@ -134,6 +138,11 @@ impl<'a, R: Wait + Clock> DeadlineStream<'a, R> {
             Some(queue) => queue.may_keep(self.socket.kept().saturating_add(count)),
             None => false,
         }
+    }
+
+    // Whether the answer waits for something.
+    fn is_promised(&self) -> bool {
+        self.promise.is_some_and(|promise| promise.is_made())
     }
 
     // Keeps bytes of the answer for later, or fails.
@@ -229,7 +238,7 @@ impl<'a, R: Wait + Clock> Read for DeadlineStream<'a, R> {
 impl<'a, R: Wait + Clock> Write for DeadlineStream<'a, R> {
     fn write(&mut self, buf: &[u8]) -> io::Result<usize> {
         self.socket.note_written(buf);
-        if self.socket.kept() > 0 {
+        if self.socket.kept() > 0 || self.is_promised() {
             return self.keep(buf);
         }
         for _turn in 0..MAX_TURNS {

@@ -1,17 +1,56 @@
 // Pulls that wait though they are whole.
 
-use httparse::{EMPTY_HEADER, Request, Status};
+use crate::window::body_of;
+use std::time::Duration;
 
-/// How a pull begins that says who asks.
-const PULL: &[u8] = b"POST /peer/pull?from=";
+/// How a pull begins that says who asks: the number stands behind the key, before `&`.
+const PULL: &[u8] = b"POST /peer/pull?";
 
-/// How many field lines of a pull are looked at. One with more waits for nothing.
-const MAX_LINES: usize = 16;
+/// What says who asks, and what says so of one that waits until there is something new.
+const ASKS: &[u8] = b"from=";
 
-/// Who keeps pulls waiting.
+const WAITS: &[u8] = b"wait=";
+
+/// What becomes of a pull that is whole.
+#[derive(Clone, Copy, PartialEq, Eq, Debug)]
+pub enum Hold {
+    /// It is served now.
+    Serve,
+    /// It is, in some milliseconds.
+    Soon,
+    /// It waits until its holder has something for it, or for some seconds.
+    Later,
+}
+
+/// What becomes of an answer that waits until other nodes have what it shows.
+#[derive(Clone, Copy, PartialEq, Eq, Debug)]
+pub enum Stand {
+    /// It is sent now.
+    Send,
+    /// It waits on.
+    Wait,
+    /// It is never sent: its client hears nothing.
+    Drop,
+}
+
+/// A pull that says who asks.
+#[derive(Clone, Copy)]
+pub struct Asked {
+    /// The number of the node that asks, a digit.
+    pub from: u8,
+    /// Whether it waits until there is something new.
+    pub waits: bool,
+    /// Since when it is held, if it is.
+    pub since: Option<Duration>,
+}
+
+/// Who keeps pulls and answers waiting.
 pub trait Holder {
-    /// Whether a pull by the node of this number, with this body, is to wait still.
-    fn holds(&self, from: u8, body: &[u8]) -> bool;
+    /// What becomes of an answer that waits for a ticket since a moment.
+    fn stand(&self, ticket: u64, since: Duration) -> Stand;
+
+    /// What becomes of a pull with this query and this body.
+    fn hold(&self, asked: &Asked, query: &[u8], body: &[u8]) -> Hold;
 }
 
 /// Keeps nobody waiting.
@@ -19,17 +58,28 @@ pub trait Holder {
 pub struct NoHolder;
 
 impl Holder for NoHolder {
-    fn holds(&self, _from: u8, _body: &[u8]) -> bool {
-        false
+    fn stand(&self, _ticket: u64, _since: Duration) -> Stand {
+        Stand::Send
+    }
+
+    fn hold(&self, _asked: &Asked, _query: &[u8], _body: &[u8]) -> Hold {
+        Hold::Serve
     }
 }
 
-/// The number of the node that asks, a digit before `&`, where a pull begins so that says it.
-fn asker_in(bytes: &[u8]) -> Option<u8> {
-    if !bytes.starts_with(PULL) {
-        return None;
-    }
-    let (Some(digit), Some(next)) = (bytes.get(PULL.len()), bytes.get(PULL.len() + 1)) else {
+/// The query of a pull that has one, up to the space behind it.
+fn query_in(bytes: &[u8]) -> &[u8] {
+    let rest = match bytes.strip_prefix(PULL) {
+        Some(rest) => rest,
+        None => &[],
+    };
+    let end = rest.iter().position(|byte| *byte == b' ');
+    rest.get(..end.unwrap_or(0)).unwrap_or(&[])
+}
+
+/// The digit behind a key of as many bytes as both have, before `&`.
+fn digit_in(query: &[u8]) -> Option<u8> {
+    let (Some(digit), Some(next)) = (query.get(ASKS.len()), query.get(ASKS.len() + 1)) else {
         return None;
     };
     if !digit.is_ascii_digit() || *next != b'&' {
@@ -38,26 +88,24 @@ fn asker_in(bytes: &[u8]) -> Option<u8> {
     Some(digit.saturating_sub(b'0'))
 }
 
-/// Where the body of a request begins that is whole.
-fn body_from(bytes: &[u8]) -> Option<usize> {
-    let mut headers = [EMPTY_HEADER; MAX_LINES];
-    let mut request = Request::new(&mut headers);
-    match request.parse(bytes) {
-        Ok(Status::Complete(head)) => Some(head),
-        _ => None,
+/// Who asks by this query, where it says so.
+fn asked_in(query: &[u8], since: Option<Duration>) -> Option<Asked> {
+    let waits = query.starts_with(WAITS);
+    if !waits && !query.starts_with(ASKS) {
+        return None;
     }
+    let from = digit_in(query)?;
+    Some(Asked { from, waits, since })
 }
 
-/// Whether a whole request is a pull that is to wait still.
-pub(crate) fn is_held<H: Holder>(bytes: &[u8], holder: &H) -> bool {
-    let Some(from) = asker_in(bytes) else {
-        return false;
-    };
-    let Some(head) = body_from(bytes) else {
-        return false;
-    };
-    match bytes.get(head..) {
-        Some(body) => holder.holds(from, body),
-        None => false,
-    }
+/// Who asks by a whole request, and what becomes of it, where it is a pull that says so.
+pub(crate) fn hold_of<H: Holder>(
+    bytes: &[u8],
+    since: Option<Duration>,
+    holder: &H,
+) -> Option<(u8, Hold)> {
+    let query = query_in(bytes);
+    let asked = asked_in(query, since)?;
+    let hold = holder.hold(&asked, query, body_of(bytes));
+    Some((asked.from, hold))
 }

@@ -1,6 +1,6 @@
 // A connection that no worker serves now.
 
-use crate::holder::{Holder, is_held};
+use crate::holder::{Hold, Holder, Stand, hold_of};
 use crate::window::{Extent, WINDOW, extent_of};
 use std::io;
 use std::io::{ErrorKind, Read, Write};
@@ -15,6 +15,9 @@ const SILENCE_MS: u64 = 30_000;
 
 /// How long a request may take to come once it has begun.
 pub const REQUEST_MS: u64 = 5_000;
+
+/// How long a pull is held at most. Who asks waits little longer.
+const HELD_MS: u64 = 5_000;
 
 /// How long a connection that is served is kept for what its client still sends.
 const LINGER_MS: u64 = 1_000;
@@ -31,6 +34,17 @@ struct Rest {
     bytes: Vec<u8>,
     from: usize,
     ends: Duration,
+    /// Whether nothing is left of the request that its client could still send.
+    is_done: bool,
+}
+
+/// An answer that waits for a ticket since a moment.
+#[derive(Drop)]
+struct Promised {
+    bytes: Vec<u8>,
+    is_done: bool,
+    ticket: u64,
+    since: Duration,
 }
 
 /// What a write of the rest of an answer comes to.
@@ -80,6 +94,12 @@ enum Stage {
     Awaiting,
     /// The rest of its request.
     Reading,
+    /// It is a pull of the node of this number, which is held since this moment.
+    Held(u8, Duration),
+    /// It is one that isn't held any longer, as that node has sent another.
+    Released,
+    /// Its answer, once other nodes have what that shows.
+    Promised(Promised),
     /// The rest of its answer goes to the client.
     Sending(Rest),
     /// Its end: it has its answer.
@@ -102,8 +122,10 @@ pub enum Readiness {
     Whole(TcpStream),
     /// A long request has begun: a worker may read it as it comes.
     Long(TcpStream),
-    /// Nothing is there yet, or no whole request; or a pull that is to wait.
+    /// Nothing is there yet, or no whole request; or a pull that is to be served in a moment.
     Pending(PendingConnection),
+    /// A pull is there, or an answer, that is to wait until there is something for it.
+    Held(PendingConnection),
     /// It is over.
     Closed,
 }
@@ -118,7 +140,32 @@ impl Stage {
     fn kept(&self) -> usize {
         match self {
             Stage::Sending(rest) => rest.bytes.len(),
+            Stage::Promised(promised) => promised.bytes.len(),
             _ => 0,
+        }
+    }
+
+    /// The ticket for which an answer waits.
+    fn ticket(&self) -> Option<u64> {
+        match self {
+            Stage::Promised(promised) => Some(promised.ticket),
+            _ => None,
+        }
+    }
+
+    /// The number of the node whose pull is held.
+    fn asker(&self) -> Option<u8> {
+        match self {
+            Stage::Held(from, _since) => Some(*from),
+            _ => None,
+        }
+    }
+
+    /// Since when it is.
+    fn since(&self) -> Option<Duration> {
+        match self {
+            Stage::Held(_from, since) => Some(*since),
+            _ => None,
         }
     }
 }
@@ -146,6 +193,16 @@ impl PendingConnection {
         self.stage.kept()
     }
 
+    /// The number of the node whose pull is held, if one is.
+    pub(crate) fn asker(&self) -> Option<u8> {
+        self.stage.asker()
+    }
+
+    /// Holds its pull no longer: it is served at the next look.
+    pub(crate) fn release(&mut self) {
+        self.stage = Stage::Released;
+    }
+
     /// A connection that has its answer. What its client still sends is read on for a moment, so
     /// that the answer reaches it; none where the client is gone already.
     pub fn closing<R: Clock>(rt: &R, stream: TcpStream) -> io::Result<PendingConnection> {
@@ -169,17 +226,57 @@ impl PendingConnection {
         bytes: Vec<u8>,
     ) -> io::Result<PendingConnection> {
         stream.set_nonblocking(true)?;
+        PendingConnection::with_rest(rt, stream, bytes, false)
+    }
+
+    // One of whose answer these bytes are still to be sent, where no look waits.
+    fn with_rest<R: Clock>(
+        rt: &R,
+        stream: TcpStream,
+        bytes: Vec<u8>,
+        is_done: bool,
+    ) -> io::Result<PendingConnection> {
         let now = rt.monotonic()?;
         let rest = Rest {
             bytes,
             from: 0,
             ends: now.saturating_add(Duration::from_millis(SENDING_MS)),
+            is_done,
         };
         Ok(PendingConnection {
             stream,
             until: rest.until(now),
             stage: Stage::Sending(rest),
         })
+    }
+
+    /// A connection whose answer has these bytes and waits for a ticket. Its client could still send
+    /// something, or couldn't.
+    pub fn promised<R: Clock>(
+        rt: &R,
+        stream: TcpStream,
+        bytes: Vec<u8>,
+        is_done: bool,
+        ticket: u64,
+    ) -> io::Result<PendingConnection> {
+        stream.set_nonblocking(true)?;
+        let since = rt.monotonic()?;
+        let promised = Promised {
+            bytes,
+            is_done,
+            ticket,
+            since,
+        };
+        Ok(PendingConnection {
+            stream,
+            until: since,
+            stage: Stage::Promised(promised),
+        })
+    }
+
+    /// The ticket for which its answer waits, if it does.
+    pub fn ticket(&self) -> Option<u64> {
+        self.stage.ticket()
     }
 
     // Keeps it until its time is up.
@@ -195,13 +292,37 @@ impl PendingConnection {
         !self.stage.is_unseen() || self.stream.set_nonblocking(true).is_ok()
     }
 
-    // Keeps it, since nothing has come yet, or a pull is to wait. From here on no look waits.
+    // Keeps it, since nothing has come yet. From here on no look waits.
     fn keep<R: Clock>(mut self, rt: &R) -> Readiness {
         if !self.stop_waiting() {
             return Readiness::Closed;
         }
         self.stage = Stage::Awaiting;
         self.keep_or_drop(rt)
+    }
+
+    // Holds the pull of a node. From here on no look waits.
+    fn hold<R: Clock>(mut self, rt: &R, from: u8) -> Readiness {
+        if self.stage.asker().is_some() {
+            return self.keep_or_drop(rt);
+        }
+        let Ok(now) = rt.monotonic() else {
+            return Readiness::Closed;
+        };
+        if !self.stop_waiting() {
+            return Readiness::Closed;
+        }
+        self.stage = Stage::Held(from, now);
+        self.until = now.saturating_add(Duration::from_millis(HELD_MS));
+        Readiness::Pending(self)
+    }
+
+    // Holds it until there is something for it.
+    fn hold_on<R: Clock>(self, rt: &R, from: u8) -> Readiness {
+        match self.hold(rt, from) {
+            Readiness::Pending(pending) => Readiness::Held(pending),
+            other => other,
+        }
     }
 
     // Waits for the rest of a request. The time for that goes from here; when it is over, the
@@ -236,6 +357,14 @@ impl PendingConnection {
         }
     }
 
+    // What becomes of these bytes of its request, where they are a whole pull that may wait.
+    fn judged<H: Holder>(&self, bytes: &[u8], extent: Extent, holder: &H) -> Option<(u8, Hold)> {
+        if extent != Extent::Whole || matches!(self.stage, Stage::Released) {
+            return None;
+        }
+        hold_of(bytes, self.stage.since(), holder)
+    }
+
     // Hands the connection over if these bytes of its request are enough, unless they are a pull that
     // is to wait.
     fn look_at<R: Clock, H: Holder>(
@@ -246,10 +375,11 @@ impl PendingConnection {
         holder: &H,
     ) -> Readiness {
         let extent = extent_of(bytes);
-        if extent == Extent::Whole && is_held(bytes, holder) {
-            return self.keep(rt);
+        match self.judged(bytes, extent, holder) {
+            Some((from, Hold::Later)) => self.hold_on(rt, from),
+            Some((from, Hold::Soon)) => self.hold(rt, from),
+            _ => self.hand_over(rt, extent, reads_on),
         }
-        self.hand_over(rt, extent, reads_on)
     }
 
     // Hands the connection over if so much of its request is enough. A long one waits until a
@@ -287,13 +417,50 @@ impl PendingConnection {
         self.keep_or_drop(rt)
     }
 
+    // Sends an answer that has waited.
+    fn fulfil<R: Clock>(rt: &R, stream: TcpStream, promised: Promised) -> Readiness {
+        let Promised {
+            bytes,
+            is_done,
+            ticket: _,
+            since: _,
+        } = promised;
+        match PendingConnection::with_rest(rt, stream, bytes, is_done) {
+            Ok(pending) => pending.send_rest(rt),
+            Err(_) => Readiness::Closed,
+        }
+    }
+
+    // Sends its answer, if it needn't wait any longer.
+    fn stand<R: Clock, H: Holder>(self, rt: &R, holder: &H) -> Readiness {
+        let stand = match &self.stage {
+            Stage::Promised(promised) => holder.stand(promised.ticket, promised.since),
+            _ => Stand::Drop,
+        };
+        match stand {
+            Stand::Send => {}
+            Stand::Wait => return Readiness::Held(self),
+            Stand::Drop => return Readiness::Closed,
+        }
+        let PendingConnection {
+            stream,
+            stage,
+            until: _,
+        } = self;
+        match stage {
+            Stage::Promised(promised) => PendingConnection::fulfil(rt, stream, promised),
+            _ => Readiness::Closed,
+        }
+    }
+
     // Sends more of its answer.
     fn send_rest<R: Clock>(mut self, rt: &R) -> Readiness {
-        let sent = match &mut self.stage {
-            Stage::Sending(rest) => rest.send(&self.stream),
-            _ => Sent::All,
+        let (sent, is_done) = match &mut self.stage {
+            Stage::Sending(rest) => (rest.send(&self.stream), rest.is_done),
+            _ => (Sent::All, false),
         };
         match sent {
+            Sent::All if is_done => Readiness::Closed,
             Sent::Failed => Readiness::Closed,
             Sent::Nothing => self.keep_or_drop(rt),
             Sent::Part => self.go_on(rt),
@@ -336,12 +503,15 @@ impl PendingConnection {
     }
 
     /// Looks at what has come, or sends on. The first look waits a little for something, and others
-    /// for nothing. A long request is there for a worker where one may read on, and a pull once
-    /// nobody keeps it waiting.
+    /// for nothing. A long request is there for a worker where one may read on, and a pull once its
+    /// holder keeps it waiting no longer. An answer that waits is sent then too.
     pub fn look<R: Clock, H: Holder>(self, rt: &R, reads_on: bool, holder: &H) -> Readiness {
         match self.stage {
             Stage::Accepted => self.first_look(rt, reads_on, holder),
-            Stage::Awaiting | Stage::Reading => self.peek(rt, reads_on, holder),
+            Stage::Awaiting | Stage::Reading | Stage::Held(_, _) | Stage::Released => {
+                self.peek(rt, reads_on, holder)
+            }
+            Stage::Promised(_) => self.stand(rt, holder),
             Stage::Sending(_) => self.send_rest(rt),
             Stage::Closing => self.drain(rt),
         }

@@ -34,6 +34,19 @@ fn length_of(headers: &[Header]) -> usize {
     0
 }
 
+/// The body of a whole request, as long as its head states; nothing where it is none.
+pub(crate) fn body_of(bytes: &[u8]) -> &[u8] {
+    let mut headers = [EMPTY_HEADER; MAX_LINES];
+    let mut request = Request::new(&mut headers);
+    match request.parse(bytes) {
+        Ok(Status::Complete(head)) => {
+            let whole = head.saturating_add(length_of(request.headers));
+            bytes.get(head..whole).unwrap_or(&[])
+        }
+        _ => &[],
+    }
+}
+
 /// What has come of a request.
 #[derive(Clone, Copy, PartialEq, Eq, Debug)]
 pub(crate) enum Extent {

@@ -17,6 +17,9 @@ use std::time::{Clock, Duration};
 /// How long another node may be silent.
 const PATIENCE_MS: u64 = 5_000;
 
+/// How long it may be where it holds the pull until there is something new, for five seconds at most.
+const WAITING_MS: u64 = 8_000;
+
 /// How long its whole answer may take, over a slow line.
 const FRAME_MS: u64 = 300_000;
 
@@ -29,13 +32,15 @@ const SHORT_ROUND_MS: u64 = 500;
 /// How long it takes at rest.
 const LONG_ROUND_MS: u64 = 5_000;
 
-/// What another node has beyond a front, over a connection to it; or why nothing can be had of it.
+/// What another node has beyond a front, over a connection to it, at once or once there is something
+/// new; or why nothing can be had of it.
 pub(crate) fn pull_over<'a, R: Wait + Clock>(
     rt: &'a R,
     alloc: Global,
     node: &'a Node,
     other: NodeId,
     front: &Front,
+    waits: bool,
     stream: TcpStream,
 ) -> Result<Telling, PullError> {
     if stream
@@ -44,18 +49,19 @@ pub(crate) fn pull_over<'a, R: Wait + Clock>(
     {
         return Err(PullError::Fault(Fault::ReadFault));
     }
-    let patience = Limit::of_silence(PATIENCE_MS, FRAME_MS);
+    let silence_ms = if waits { WAITING_MS } else { PATIENCE_MS };
+    let patience = Limit::of_silence(silence_ms, FRAME_MS);
     let times = Times {
         reading: patience,
         writing: patience,
     };
     let (signal, cutoff) = (&node.signal, Cutoff::ProgramEnd);
-    let buffered = BufferedSocket::new(rt, alloc, signal, cutoff, None, stream, times);
+    let buffered = BufferedSocket::new(rt, alloc, signal, cutoff, None, None, stream, times);
     let Ok(buffered) = buffered else {
         return Err(PullError::Fault(Fault::NoMemory));
     };
     let (mut reader, mut writer, _socket) = buffered.into_parts();
-    let query = node.query_of(other);
+    let query = node.query_of(other, waits);
     ask_for(alloc, &mut reader, &mut writer, other, query, front)
 }
 
@@ -68,7 +74,7 @@ fn pull_one<R: Wait + Clock + Sockets>(rt: &R, alloc: Global, node: &Node, other
     let Ok(stream) = node.site.reach(rt, alloc, &node.signal, other) else {
         return Pull::Failed;
     };
-    let Ok(telling) = pull_over(rt, alloc, node, who, &front, stream) else {
+    let Ok(telling) = pull_over(rt, alloc, node, who, &front, false, stream) else {
         return Pull::Failed;
     };
     let told = telling.front();

@@ -72,7 +72,7 @@ fn caller_over<'a, R: Wait + Clock>(
         writing: patience,
     };
     let (signal, cutoff) = (&node.signal, Cutoff::ProgramEnd);
-    let buffered = BufferedSocket::new(rt, alloc, signal, cutoff, None, stream, times);
+    let buffered = BufferedSocket::new(rt, alloc, signal, cutoff, None, None, stream, times);
     let (reader, writer, _socket) = buffered.ok()?.into_parts();
     Some(NetCaller::new(reader, writer))
 }

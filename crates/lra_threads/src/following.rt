@@ -5,6 +5,7 @@ use crate::asking::pull_over;
 use crate::counts::Pull;
 use crate::node::Node;
 use log::{Log, warn};
+use lra_copies::{NextPull, Outlook, Pulled};
 use lra_heard::Telling;
 use lra_id::{Front, NodeId};
 use lra_peer::PullError;
@@ -13,106 +14,8 @@ use std::alloc::Global;
 use std::sync::Wait;
 use std::time::{Clock, Duration};
 
-/// How long a node pauses after each pull.
-const PAUSE_MS: u64 = 50;
-
-/// How long it waits before it tries again one that wasn't heard yet. It doubles each time.
-const FIRST_ROUND_MS: u64 = 100;
-
-/// How long it waits for news of another node where something was new the last time.
-const SHORT_ROUND_MS: u64 = 500;
-
-/// How long it waits at rest, and where the other can't be reached, at last.
-const LONG_ROUND_MS: u64 = 5_000;
-
-/// For how long nothing can be had of another node before that is told.
-const SILENCE_MS: u64 = 5_000;
-
-/// What a pull came to.
-#[derive(Clone, Copy, PartialEq, Eq)]
-enum Pulled {
-    /// Something new is handed over.
-    New,
-    /// Nothing is new.
-    Nothing,
-    /// The other can't be reached.
-    Unreached,
-    /// It gives no frame.
-    Unanswered,
-    /// What is reached there is another node, or one of another group.
-    Misdirected,
-    /// What it told can't be taken, by the number of the refusal.
-    Refused(u64),
-    /// It has fewer facts of its own than it told before.
-    Older,
-    /// It has more facts of this node than this node's journal.
-    Newer,
-}
-
-/// What is remembered of another node, to tell what is wrong with it: once, until it is well again.
-#[derive(Drop)]
-struct Outlook {
-    /// Since when nothing can be had of it.
-    since: Option<Duration>,
-    /// Whether that was told.
-    is_told: bool,
-    /// Whether it was told that its journal, or this node's, is older than what was told; or that
-    /// what it told can't be taken.
-    is_odd: bool,
-}
-
-impl Outlook {
-    fn new() -> Outlook {
-        Outlook {
-            since: None,
-            is_told: false,
-            is_odd: false,
-        }
-    }
-
-    /// Notes that nothing can be had that was asked for at a moment. It says whether that is to be
-    /// told now.
-    fn note_failure(&mut self, began: Duration, now: Duration) -> bool {
-        let since = match self.since {
-            Some(since) => since,
-            None => began,
-        };
-        self.since = Some(since);
-        let is_due = !self.is_told
-            && now.saturating_sub(since) >= Duration::from_millis(SILENCE_MS);
-        self.is_told = self.is_told || is_due;
-        is_due
-    }
-
-    /// Notes that it answers. It says whether it is to be told now that it does again.
-    fn note_answer(&mut self) -> bool {
-        let was_told = self.is_told;
-        self.since = None;
-        self.is_told = false;
-        was_told
-    }
-
-    /// Notes that no journal is older, and what was told is taken.
-    fn note_well(&mut self) {
-        self.is_odd = false;
-    }
-
-    /// Notes that a journal is older, or that something can't be taken. It says whether that is to be
-    /// told now.
-    fn note_odd(&mut self) -> bool {
-        let was_odd = self.is_odd;
-        self.is_odd = true;
-        !was_odd
-    }
-}
-
-/// How many facts of a node a front counts.
-fn count_of(front: &Front, number: u8) -> u64 {
-    match front.as_slice().get(usize::from(number.saturating_sub(1))) {
-        Some(count) => *count,
-        None => 0,
-    }
-}
+/// How long is waited at most until what was told is taken. Then the other is asked once more.
+const TAKING_MS: u64 = 200;
 
 /// Hands over what another node told, if that is more than a front counts. It says whether it did.
 fn hand_over<R: Wait>(rt: &R, node: &Node, front: &Front, telling: Telling) -> bool {
@@ -122,8 +25,19 @@ fn hand_over<R: Wait>(rt: &R, node: &Node, front: &Front, telling: Telling) -> b
     node.mailbox.hand_over(rt, telling)
 }
 
+/// What was handed over came to, which has this front, where so many tellings had ended before. The
+/// next pull tells that it is taken.
+fn handed<R: Wait + Clock>(rt: &R, node: &Node, other: NodeId, seen: u64, told: &Front) -> Pulled {
+    let time = Duration::from_millis(TAKING_MS);
+    if node.mailbox.wait_until_taken(rt, other, seen, told, time) {
+        Pulled::New
+    } else {
+        Pulled::Untaken
+    }
+}
+
 /// What comes of what another node told, beyond the front from which it was asked.
-fn take_over<R: Wait>(
+fn take_over<R: Wait + Clock>(
     rt: &R,
     node: &Node,
     other: NodeId,
@@ -134,10 +48,18 @@ fn take_over<R: Wait>(
     if told.nodes() != front.nodes() {
         return Pulled::Unanswered;
     }
+    if node.is_lost(rt, &told) {
+        return Pulled::Lost;
+    }
+    let was_open = !node.mailbox.is_behind(rt);
     node.mailbox.note_heard(rt, other, &telling);
     let is_older = told.count(other) < front.count(other);
     // What this node gave until now it knows of.
     let is_newer = told.count(node.me) > node.mailbox.front(rt).count(node.me);
+    if is_newer && was_open {
+        node.doubt(rt);
+    }
+    let seen = node.mailbox.ended(rt, other);
     let is_new = hand_over(rt, node, front, telling);
     if !is_new {
         node.mailbox.drop_telling(rt, other);
@@ -148,31 +70,35 @@ fn take_over<R: Wait>(
     if is_older {
         return Pulled::Older;
     }
-    if is_new { Pulled::New } else { Pulled::Nothing }
+    if is_new {
+        return handed(rt, node, other, seen, &told);
+    }
+    Pulled::Nothing
 }
 
 /// What a pull is counted as.
 fn counted(pulled: Pulled) -> Pull {
     match pulled {
-        Pulled::New => Pull::New,
-        Pulled::Nothing | Pulled::Older | Pulled::Newer => Pull::Nothing,
+        Pulled::New | Pulled::Untaken => Pull::New,
+        Pulled::Nothing | Pulled::Older | Pulled::Newer | Pulled::Lost => Pull::Nothing,
         Pulled::Unreached | Pulled::Unanswered | Pulled::Misdirected => Pull::Failed,
         Pulled::Refused(_) => Pull::Refused,
     }
 }
 
-/// Pulls from another node once, and hands over what is new.
+/// Pulls from another node once, at once or once there is something new, and hands over what is.
 fn pull_once<R: Wait + Clock + Sockets>(
     rt: &R,
     alloc: Global,
     node: &Node,
     other: NodeId,
+    waits: bool,
 ) -> Pulled {
     let front = node.mailbox.front(rt);
     let Ok(stream) = node.site.reach(rt, alloc, &node.signal, other.number()) else {
         return Pulled::Unreached;
     };
-    match pull_over(rt, alloc, node, other, &front, stream) {
+    match pull_over(rt, alloc, node, other, &front, waits, stream) {
         Ok(telling) => take_over(rt, node, other, &front, telling),
         Err(PullError::Misdirected) => Pulled::Misdirected,
         Err(_) => Pulled::Unanswered,
@@ -211,6 +137,11 @@ fn warn_of_odd<L: Log>(log: &L, number: u8, other: NodeId, pulled: Pulled, outlo
                 warn!(log; "node {}: node {} has more facts of this node: the journal here is older", number, other);
             }
         }
+        Pulled::Lost => {
+            if outlook.note_odd() {
+                warn!(log; "node {}: node {} has facts of this node, and the journal here is new: start it with the word anew if the old one is lost", number, other);
+            }
+        }
         Pulled::Refused(refusal) => {
             if outlook.note_odd() {
                 warn!(log; "node {}: what node {} tells can't be taken (E{})", number, other, refusal);
@@ -247,26 +178,28 @@ fn warn_of<R: Wait + Clock, L: Log>(
     warn_of_odd(log, number, other, pulled, outlook);
 }
 
-/// How long a round is, in milliseconds, by what the last pull came to.
-fn round_after(pulled: Pulled, round_ms: u64) -> u64 {
-    match pulled {
-        Pulled::New | Pulled::Newer => SHORT_ROUND_MS,
-        _ => round_ms.saturating_mul(2).min(LONG_ROUND_MS),
+/// Pauses before a pull, and waits for news of the other node. It gives how often that told news;
+/// nothing where the program is to end.
+fn rest_before<R: Wait + Clock>(
+    rt: &R,
+    node: &Node,
+    other: NodeId,
+    next: NextPull,
+    seen: u64,
+) -> Option<u64> {
+    if node.mailbox.sleep(rt, Duration::from_millis(next.pause_ms)) {
+        return None;
     }
+    let time = Duration::from_millis(next.wait_ms);
+    node.news.wait_for(rt, other.number(), seen, time)
 }
 
-/// How long is paused after a pull, in milliseconds, whatever news there is.
-fn pause_after(pulled: Pulled, round_ms: u64) -> u64 {
-    match pulled {
-        Pulled::Refused(_) | Pulled::Misdirected => round_ms,
-        _ => PAUSE_MS,
-    }
-}
-
-/// Pulls from another node, until the program is to end: at once where it is known to have
-/// something new, or is to hear that this one has, if there was a pause after the last pull; else
-/// twice a second while that brings anything, and every five seconds at rest. One that wasn't heard
-/// yet is tried sooner. What can't be taken is asked for again after a round.
+/// Pulls from another node, until the program is to end. A pull waits there until there is something
+/// new, once the node is heard; the next one follows at once. Where it can't wait, as at a member of
+/// an older version, it is asked at once where it is known to have something new, or is to hear that
+/// this one has, if there was a pause after the last pull; else twice a second while that brings
+/// anything, and every five seconds at rest. One that wasn't heard yet is tried sooner. What can't be
+/// taken is asked for again after a round.
 pub fn follow<R: Wait + Clock + Sockets, L: Log>(
     rt: &R,
     log: &L,
@@ -278,21 +211,16 @@ pub fn follow<R: Wait + Clock + Sockets, L: Log>(
         return;
     }
     let mut outlook = Outlook::new();
-    let mut seen = 0u64;
-    let mut round_ms = FIRST_ROUND_MS;
-    let mut pause_ms = PAUSE_MS;
+    let (mut seen, mut next) = (0u64, NextPull::first());
     for _ in rt.forever() {
         let began = now(rt);
-        let pulled = pull_once(rt, alloc, node, other);
-        if node.mailbox.sleep(rt, Duration::from_millis(pause_ms)) {
-            return;
-        }
+        let pulled = pull_once(rt, alloc, node, other, next.waits);
+        let is_held = next.is_held(began, now(rt));
         let pulled = came_to(node, other, pulled);
         warn_of(rt, log, node, other, began, pulled, &mut outlook);
-        round_ms = round_after(pulled, round_ms);
-        pause_ms = pause_after(pulled, round_ms);
-        let time = Duration::from_millis(round_ms);
-        let Some(told) = node.news.wait_for(rt, other.number(), seen, time) else {
+        node.note_silent(other, fault_of(pulled).is_some());
+        next = next.behind(pulled, is_held);
+        let Some(told) = rest_before(rt, node, other, next, seen) else {
             return;
         };
         seen = told;

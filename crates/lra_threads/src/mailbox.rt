@@ -7,7 +7,7 @@ ghost use Rattle.lra_id.specs.declared.TheConstants.{MAX_NODES};
 use crate::plaints::{Plaint, Sought, drop_sought, forget_found, note_sought, plaints_of};
 use lra_callback::Duties;
 use lra_heard::{Letter, Telling, Unheard};
-use lra_id::{Front, LraId, LraStatus, NodeId};
+use lra_id::{Front, LraId, LraStatus, MAX_NODES, NodeId};
 use lra_mailbox::{Fill, MailboxState, Noted, OPENING_MS, Purged, Sweeping, Task, Wanted};
 use lra_sockets::now;
 use lra_turns::{Called, Due, Plight};
@@ -15,8 +15,24 @@ use std::alloc::{AllocError, Global};
 use std::sync::{Condvar, CondvarTimeouts, Mutex, Wait};
 use std::time::{Clock, Duration};
 
+/// How many nodes there are at most.
+const NODES: usize = MAX_NODES as usize;
+
 /// How long the thread that enters rests at most.
 const REST_MS: u64 = 250;
+
+/// How long it is until what the journal couldn't take is tried again: at first, and at most.
+const SHORT_KEPT_MS: u64 = 500;
+
+const LONG_KEPT_MS: u64 = 16_000;
+
+/// Whether what is kept, if anything, tells something beyond a front.
+fn is_beyond(kept: &Option<Telling>, front: &Front) -> bool {
+    match kept {
+        Some(telling) => !telling.front().below(front),
+        None => false,
+    }
+}
 
 /// What lies under the lock.
 #[derive(Drop)]
@@ -25,9 +41,117 @@ struct Held {
     state: MailboxState,
     /// Whose last call was in vain, where it was called.
     sought: Vec<Sought>,
+    /// Of each node how many of its tellings were taken, or weren't.
+    ended: [u64; NODES],
+    /// What each node told that couldn't be taken.
+    kept: [Option<Telling>; NODES],
+    /// At which place the next one is looked for, when it is tried, and how long the pause is then.
+    kept_place: usize,
+    kept_at: Duration,
+    kept_pause: Duration,
 }
 
 impl Held {
+    /// How many tellings of another node were taken, or weren't.
+    fn ended(&self, other: NodeId) -> u64 {
+        let place = usize::from(other.number().saturating_sub(1));
+        self.ended.get(place).copied().unwrap_or(0)
+    }
+
+    /// Notes that one more is.
+    fn note_end(&mut self, other: NodeId) {
+        let place = usize::from(other.number().saturating_sub(1));
+        if let Some(ended) = self.ended.get_mut(place) {
+            *ended = ended.saturating_add(1);
+        }
+    }
+
+    /// Notes the end of a telling, which was taken or wasn't.
+    fn end_telling(&mut self, other: NodeId, front: &Front, is_taken: bool) {
+        self.state.end_telling(other, front, is_taken);
+        self.note_end(other);
+    }
+
+    /// Puts one in place of what is kept there. It gives back what isn't kept then, if there is one.
+    fn replace_kept(&mut self, place: usize, telling: Telling) -> Option<Telling> {
+        match self.kept.get_mut(place) {
+            Some(kept) => kept.replace(telling),
+            None => Some(telling),
+        }
+    }
+
+    /// Whether what is kept of the node at a place tells something beyond a front.
+    fn keeps_more(&self, place: usize, front: &Front) -> bool {
+        match self.kept.get(place) {
+            Some(kept) => is_beyond(kept, front),
+            None => false,
+        }
+    }
+
+    /// Keeps what couldn't be taken, in place of what its node told before, unless that is more: so
+    /// nothing is lost of a node that told more before its journal went back. It gives back the one
+    /// that isn't kept, if there are two.
+    fn keep(&mut self, telling: Telling) -> Option<Telling> {
+        let (from, front) = (telling.from(), telling.front());
+        let place = usize::from(from.number().saturating_sub(1));
+        let other = if self.keeps_more(place, &front) {
+            Some(telling)
+        } else {
+            self.replace_kept(place, telling)
+        };
+        if other.is_some() {
+            self.end_telling(from, &front, false);
+        }
+        other
+    }
+
+    /// Has what is kept tried again after a pause, which doubles each time.
+    fn pause_kept(&mut self, now: Duration) {
+        self.kept_at = now.saturating_add(self.kept_pause);
+        let longest = Duration::from_millis(LONG_KEPT_MS);
+        self.kept_pause = self.kept_pause.saturating_mul(2).min(longest);
+    }
+
+    /// Whether one is kept of the node at a place.
+    fn is_kept(&self, place: usize) -> bool {
+        match self.kept.get(place) {
+            Some(kept) => kept.is_some(),
+            None => false,
+        }
+    }
+
+    /// The next one that is kept, of each node in turn.
+    fn next_kept(&mut self) -> Option<Telling> {
+        for step in 0..NODES {
+            let place = self.kept_place.saturating_add(step) % NODES;
+            if self.is_kept(place) {
+                self.kept_place = place.saturating_add(1);
+                return match self.kept.get_mut(place) {
+                    Some(kept) => kept.take(),
+                    None => None,
+                };
+            }
+        }
+        None
+    }
+
+    /// Has what was kept taken next, if nothing else waits for that, and the pause is over. What is here
+    /// by now isn't.
+    fn put_kept(&mut self, now: Duration) {
+        if self.state.has_telling() || now < self.kept_at {
+            return;
+        }
+        let Some(telling) = self.next_kept() else {
+            return;
+        };
+        let (from, front) = (telling.from(), telling.front());
+        if front.below(&self.state.front()) {
+            self.end_telling(from, &front, true);
+        } else {
+            let _is_put = self.state.put_telling(telling);
+        }
+    }
+
     /// Puts what came of a call that took so long. It gives what is to be told of calls in vain.
     fn hear(
         &mut self,
@@ -83,6 +207,11 @@ impl Mailbox {
             alloc,
             state: MailboxState::new(alloc, me, nodes, are_apart, waits_for_all, sweeping),
             sought: Vec::new(alloc),
+            ended: [0; NODES],
+            kept: [None, None, None, None, None, None, None, None],
+            kept_place: 0,
+            kept_at: Duration::ZERO,
+            kept_pause: Duration::from_millis(SHORT_KEPT_MS),
         };
         Mailbox {
             held: Mutex::new(held),
@@ -167,6 +296,11 @@ impl Mailbox {
         !self.held.lock(rt).state.is_open()
     }
 
+    /// Has a start wait for all others, however long that takes.
+    pub(crate) fn wait_for_all<R: Wait>(&self, rt: &R) {
+        self.held.lock(rt).state.wait_for_all();
+    }
+
     /// How many wait for a call, are called, or pause before the next.
     pub fn due<R: Wait>(&self, rt: &R) -> u64 {
         self.held.lock(rt).state.calls().len() as u64
@@ -206,7 +340,48 @@ impl Mailbox {
 
     /// Tells the end of what another node told, which has this front: it was taken, or won't be.
     pub fn end_telling<R: Wait>(&self, rt: &R, other: NodeId, front: &Front, is_taken: bool) {
-        self.held.lock(rt).state.end_telling(other, front, is_taken);
+        let mut held = self.held.lock(rt);
+        held.end_telling(other, front, is_taken);
+        if is_taken {
+            held.kept_pause = Duration::from_millis(SHORT_KEPT_MS);
+        }
+        self.changed.notify_all();
+    }
+
+    /// Keeps what another node told and couldn't be taken. It is tried again, where the journal failed
+    /// after a pause: the other may have lost it meanwhile, and is owed it (`is_owed`).
+    pub fn keep_telling<R: Wait + Clock>(&self, rt: &R, telling: Telling, has_failed: bool) {
+        let moment = now(rt);
+        if has_failed {
+            self.held.lock(rt).pause_kept(moment);
+        }
+        // (the other one, which may be long, is dropped once others may have the lock again)
+        let _other = self.held.lock(rt).keep(telling);
+        self.changed.notify_all();
+    }
+
+    /// How many tellings of another node were taken, or weren't.
+    pub(crate) fn ended<R: Wait>(&self, rt: &R, other: NodeId) -> u64 {
+        self.held.lock(rt).ended(other)
+    }
+
+    /// Waits until this node has what a front counts, until one more telling of the other node is
+    /// taken or isn't, for so long at most, or until the program is to end. It says whether it has.
+    pub(crate) fn wait_until_taken<R: Wait + Clock>(
+        &self,
+        rt: &R,
+        other: NodeId,
+        seen: u64,
+        front: &Front,
+        time: Duration,
+    ) -> bool {
+        let (held, _) = self
+            .changed
+            .wait_timeout_while(rt, self.held.lock(rt), time, |held| {
+                let is_over = held.ended(other) > seen || held.state.has_ended();
+                !is_over && !front.below(&held.state.front())
+            });
+        front.below(&held.state.front())
     }
 
     /// Whether one that asks is owed facts of its own, which it told of and aren't stored here yet.
@@ -242,6 +417,7 @@ impl Mailbox {
         if held.state.resume_calls(moment) {
             self.due.notify_all();
         }
+        held.put_kept(moment);
         if let Some(rest) = held.state.idle_time(moment) {
             let (waited, _) = self
                 .came

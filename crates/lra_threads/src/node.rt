@@ -5,9 +5,12 @@ ghost use Rattle.lra_id.specs.declared.TheConstants.{MAX_NODES};
 use crate::build::Build;
 use crate::counts::Counts;
 use crate::desk_watch::DeskWatch;
+use crate::followers::{Followers, Released, Wants};
 use crate::mailbox::Mailbox;
 use crate::news::News;
 use crate::tally::Tally;
+use lra_callback::Duties;
+use lra_copies::Verdict;
 use lra_http::Bytes;
 use lra_id::{Front, LAST_NUMBER, MAX_NODES, NodeId};
 use lra_mailbox::{Keep, Sweeping};
@@ -29,6 +32,12 @@ const PAUSE_MS: u64 = 10;
 /// How often it tries that.
 const MAX_TURNS: u32 = 100;
 
+/// How often it looks at the end, as long apart, whether answers wait: for half a second.
+const LAST_TURNS: u32 = 50;
+
+/// How many looks in a row have to find none.
+const QUIET_TURNS: u32 = 5;
+
 /// How a node deals with others, as its program was told.
 #[derive(Drop)]
 pub struct Manners {
@@ -37,6 +46,10 @@ pub struct Manners {
     /// What a pull from each node says of who asks whom, in their order; nothing of one that isn't
     /// here.
     pub queries: Vec<String>,
+    /// The same, of a pull that waits until there is something new.
+    pub waiting: Vec<String>,
+    /// How many other nodes are to have a fact before who may have seen it goes on.
+    pub wants: Wants,
     /// The names by which operators may ask it besides `localhost` and addresses.
     pub names: Vec<Bytes>,
     /// Which build of the program runs it, where that says so.
@@ -49,14 +62,16 @@ impl Manners {
         Manners {
             waits_for_all: false,
             queries: Vec::new(alloc),
+            waiting: Vec::new(alloc),
+            wants: Wants::none(),
             names: Vec::new(alloc),
             build: None,
         }
     }
 }
 
-/// No refusal of what any node told.
-fn none_refused() -> [AtomicU64; MAX_NODES as usize] {
+/// A number of each node, 0 at first.
+fn no_numbers() -> [AtomicU64; MAX_NODES as usize] {
     [
         AtomicU64::new(0),
         AtomicU64::new(0),
@@ -82,6 +97,8 @@ pub struct Node {
     pub tally: Tally,
     pub mailbox: Mailbox,
     pub counts: Counts,
+    /// How the nodes stand that pull from it.
+    pub followers: Followers,
     /// Since when calls wait at its desk.
     pub desk: DeskWatch,
     /// Where it hears that others have something new.
@@ -89,12 +106,20 @@ pub struct Node {
     /// Where it tells that it has: where the nodes of its process hear it.
     told: Vec<Arc<News>>,
     has_news: AtomicBool,
+    /// Whether a fact of its own was stored since the start.
+    has_entered: AtomicBool,
     /// Whether its journal is closed, to be opened again.
     is_shut: AtomicBool,
+    /// Whether its journal is new where copies are wanted, and nobody said that the old one is lost.
+    is_new: AtomicBool,
+    /// Whether the program is about to end.
+    is_ending: AtomicBool,
     /// How many calls of operators were made after they were answered that nobody knows (E18).
     late: AtomicU64,
     /// Of each node the number of the refusal of what it told last, or 0.
     refused: [AtomicU64; MAX_NODES as usize],
+    /// Of each node 1 where the last pull from it failed, else 0.
+    silent: [AtomicU64; MAX_NODES as usize],
     manners: Manners,
     /// When it started: milliseconds by the monotonic clock, and seconds since 1970.
     started_ms: AtomicU64,
@@ -134,14 +159,19 @@ impl Node {
                 Sweeping::new(alloc, me, keep, site.is_apart(), site.operate.is_some()),
             ),
             counts: Counts::new(),
+            followers: Followers::new(me, nodes, manners.wants),
             desk: DeskWatch::new(),
             site,
             news,
             told,
             has_news: AtomicBool::new(false),
+            has_entered: AtomicBool::new(false),
             is_shut: AtomicBool::new(false),
+            is_new: AtomicBool::new(false),
+            is_ending: AtomicBool::new(false),
             late: AtomicU64::new(0),
-            refused: none_refused(),
+            refused: no_numbers(),
+            silent: no_numbers(),
             manners,
             started_ms: AtomicU64::new(0),
             start_seconds: AtomicU64::new(0),
@@ -158,10 +188,16 @@ impl Node {
         self.manners.build.as_ref()
     }
 
-    /// What a pull from another node says of who asks whom, if anything.
-    pub(crate) fn query_of(&self, other: NodeId) -> &str {
+    /// What a pull from another node says of who asks whom, if anything, where it waits until there
+    /// is something new and where it doesn't.
+    pub(crate) fn query_of(&self, other: NodeId, waits: bool) -> &str {
         let place = usize::from(other.number().saturating_sub(1));
-        match self.manners.queries.as_slice().get(place) {
+        let queries = if waits {
+            &self.manners.waiting
+        } else {
+            &self.manners.queries
+        };
+        match queries.as_slice().get(place) {
             Some(query) => query.as_str(),
             None => "",
         }
@@ -180,6 +216,27 @@ impl Node {
         let place = usize::from(other.number().saturating_sub(1));
         let number = self.refused.get(place)?.swap(0, Ordering::SeqCst);
         if number == 0 { None } else { Some(number) }
+    }
+
+    /// Notes whether the last pull from another node failed.
+    pub(crate) fn note_silent(&self, other: NodeId, is_silent: bool) {
+        let place = usize::from(other.number().saturating_sub(1));
+        if let Some(silent) = self.silent.get(place) {
+            silent.store(u64::from(is_silent), Ordering::SeqCst);
+        }
+    }
+
+    /// Notes that another node asks, and so lives: where the last pull from it failed, it is asked again
+    /// at once.
+    pub fn note_asked<R: Wait>(&self, rt: &R, other: NodeId) {
+        let place = usize::from(other.number().saturating_sub(1));
+        let was_silent = match self.silent.get(place) {
+            Some(silent) => silent.swap(0, Ordering::SeqCst) > 0,
+            None => false,
+        };
+        if was_silent {
+            self.news.tell(rt, other.number());
+        }
     }
 
     /// Its number, 1 to 8.
@@ -227,10 +284,14 @@ impl Node {
 
     /// Why it enters no commands now, if it doesn't: `journal` from when the journal failed until a
     /// fact was stored, `disk` where a call waits for seconds, `behind` where the other nodes aren't
-    /// heard yet or have more of its facts, `ending` where the program is to end.
+    /// heard yet or have more of its facts, `copies` where too few have what is stored and that is
+    /// strict, or there are two processes of its number, `ending` where the program is to end.
     pub fn unready<R: Wait + Clock>(&self, rt: &R) -> Option<&'static str> {
-        if self.signal.has_ended(rt) {
+        if self.is_ending() || self.signal.has_ended(rt) {
             return Some("ending");
+        }
+        if self.followers.refuses(rt) {
+            return Some("copies");
         }
         if self.is_shut() || self.tally.has_failed() || self.mailbox.is_spared(rt) {
             return Some("journal");
@@ -246,21 +307,152 @@ impl Node {
 
     /// Notes that a fact of the node's own was stored.
     pub fn note_fact(&self) {
+        self.has_entered.store(true, Ordering::SeqCst);
         self.has_news.store(true, Ordering::SeqCst);
+    }
+
+    /// For which ticket an answer waits that may show what is stored now; 0 for none. The others are to
+    /// ask for it then (`pass_on`), though nothing more may be stored.
+    pub fn target<R: Wait>(&self, rt: &R) -> u64 {
+        let ticket = self.followers.target(rt);
+        if ticket > 0 {
+            self.has_news.store(true, Ordering::SeqCst);
+        }
+        ticket
     }
 
     /// Wakes those who are to go on with what the calls so far came to: who enters, and the other
     /// nodes. That is done after the answer, so that no client waits for it.
-    pub fn pass_on<R: Wait>(&self, rt: &R) {
+    pub fn pass_on<R: Wait + Clock>(&self, rt: &R) {
         self.mailbox.pass_on(rt);
         if self.has_news.swap(false, Ordering::SeqCst) {
             for news in self.told.iter() {
                 news.tell(rt, self.number());
             }
             if self.site.is_apart() {
-                self.mailbox.want_count(rt);
+                self.tell_others(rt);
             }
         }
+    }
+
+    // Has other nodes hear that there is something new: those whose pulls are held get it. Where one
+    // has none, this one asks each, which so hears how many facts there are.
+    fn tell_others<R: Wait + Clock>(&self, rt: &R) {
+        self.queue.free(rt);
+        if self.nodes == 1 || !self.followers.do_all_listen(rt) {
+            self.mailbox.want_count(rt);
+        }
+    }
+
+    /// Notes which facts its journal has at the start. Where copies are wanted, and it has none of its
+    /// own, the disk may be lost: the start waits for all others. Else others may lack the last of them.
+    pub fn note_journal<R: Wait>(&self, rt: &R, front: &Front) {
+        self.followers.note_count(rt, front);
+        if !self.followers.wants().any() {
+            return;
+        }
+        if front.count(self.me) == 0 {
+            self.is_new
+                .store(!self.manners.waits_for_all, Ordering::SeqCst);
+            self.mailbox.wait_for_all(rt);
+        } else {
+            self.followers.begin(rt);
+            let _ticket = self.followers.end(rt, true);
+        }
+    }
+
+    /// Whether its journal is new where another knows facts of its own, and nobody said that the old
+    /// one is lost.
+    pub(crate) fn is_lost<R: Wait>(&self, rt: &R, told: &Front) -> bool {
+        let is_said = self.manners.waits_for_all || !self.followers.wants().any();
+        !is_said && told.count(self.me) > 0 && self.mailbox.front(rt).count(self.me) == 0
+    }
+
+    /// Whether it answers nothing but pulls: its disk may be lost, and an LRA that it doesn't hold would
+    /// seem to be none. A group's first start ends that, once all others were heard.
+    pub fn answers_nothing<R: Wait>(&self, rt: &R) -> bool {
+        if !self.is_new.load(Ordering::SeqCst) {
+            return false;
+        }
+        let is_behind = self.mailbox.is_behind(rt);
+        self.is_new.store(is_behind, Ordering::SeqCst);
+        is_behind
+    }
+
+    /// Whether the program is about to end: answers that wait are sent, and nothing is entered.
+    pub fn is_ending(&self) -> bool {
+        self.is_ending.load(Ordering::SeqCst)
+    }
+
+    /// Hears how many facts of this node another has stored that asks, and has those go on who waited
+    /// for that. At a start what others have beyond this node's journal is taken back first.
+    pub fn hear_copies<R: Wait + Clock>(&self, rt: &R, other: NodeId, front: &Front) {
+        let known = self.mailbox.front(rt);
+        let (theirs, ours) = (front.count(self.me), known.count(self.me));
+        if theirs >= LAST_NUMBER || (theirs > ours && self.mailbox.is_behind(rt)) {
+            return;
+        }
+        let covered = self.followers.hear(rt, other, front, &known);
+        if !self.followers.wants().any() {
+            return;
+        }
+        if self.queue.promises() > 0 {
+            self.queue.fulfil(rt, covered);
+        }
+        if self.followers.holds_calls(rt) {
+            self.mailbox.wake(rt);
+        }
+    }
+
+    /// Has nothing entered from here on, where copies are wanted: another answered with facts of this node
+    /// that it never gave, so two processes may have its number. One that has entered nothing yet takes
+    /// them back: they were on their way when it ended.
+    pub(crate) fn doubt<R: Wait>(&self, rt: &R) {
+        if self.followers.wants().any() && self.has_entered.load(Ordering::SeqCst) {
+            self.followers.doubt(rt);
+            self.mailbox.hear_count(rt, LAST_NUMBER);
+        }
+    }
+
+    /// Hands those who are to be called to the threads that call, once other nodes have what was
+    /// seen.
+    pub fn put_duties<R: Wait + Clock>(&self, rt: &R, duties: Duties) {
+        let ticket = self.target(rt);
+        if ticket == 0 {
+            self.mailbox.put_duties(rt, duties);
+        } else {
+            self.followers.hold_calls(rt, duties, ticket);
+        }
+    }
+
+    /// Hands over those who have waited for that.
+    pub fn put_held<R: Wait + Clock>(&self, rt: &R) {
+        if !self.followers.wants().any() {
+            return;
+        }
+        let Some(released) = self.followers.take_calls(rt) else {
+            return;
+        };
+        let Released { duties, asks_again } = released;
+        if let Some(duties) = duties {
+            self.mailbox.put_duties(rt, duties);
+        }
+        if asks_again {
+            self.mailbox.stir(rt, false);
+        }
+    }
+
+    /// What becomes of a pull by another node that has so many facts of each, and has waited since a
+    /// moment, if it has.
+    pub fn judge<R: Wait + Clock>(
+        &self,
+        rt: &R,
+        other: NodeId,
+        front: &Front,
+        since: Option<Duration>,
+    ) -> Verdict {
+        let known = self.mailbox.front(rt);
+        self.followers.judge(rt, other, front, &known, since)
     }
 
     /// Hears how many facts of each node one has that asks this one. Where that is more of another
@@ -287,8 +479,9 @@ impl Node {
     }
 
     /// Ends the run for this cause: sets the signal, and has the threads of the run look at it.
-    pub fn end_run<R: Wait>(&self, rt: &R, why: StopReason) {
+    pub fn end_run<R: Wait + Clock>(&self, rt: &R, why: StopReason) {
         if self.signal.end(rt, why) {
+            self.followers.note_end(rt);
             self.queue.end(rt);
             self.mailbox.wake(rt);
         }
@@ -297,6 +490,7 @@ impl Node {
     /// Ends all the node's threads, as the program is to end: the one place where that is told. It
     /// sets the signal, and has those look at it who wait for a connection, a task, a duty, or news.
     pub fn end_program<R: Wait + Clock + Sockets>(&self, rt: &R) {
+        self.wait_for_answers(rt);
         let _is_first = self.signal.end(rt, StopReason::Program);
         self.queue.end(rt);
         self.operators.end(rt);
@@ -308,8 +502,27 @@ impl Node {
         }
     }
 
+    // Waits a little until answers are sent that wait for other nodes, also of calls that are at the desk
+    // still. No command is entered meanwhile.
+    fn wait_for_answers<R: Wait + Clock>(&self, rt: &R) {
+        self.is_ending.store(true, Ordering::SeqCst);
+        let mut quiet = 0u32;
+        for _turn in 0..LAST_TURNS {
+            quiet = if self.queue.promises() == 0 {
+                quiet.saturating_add(1)
+            } else {
+                0
+            };
+            let is_needless = !self.followers.wants().any() || quiet >= QUIET_TURNS;
+            if is_needless || self.signal.has_ended(rt) {
+                return;
+            }
+            thread::sleep(rt, Duration::from_millis(PAUSE_MS));
+        }
+    }
+
     /// Ends a run that is nearly full.
-    pub fn end_if_spent<R: Wait>(&self, rt: &R) {
+    pub fn end_if_spent<R: Wait + Clock>(&self, rt: &R) {
         if self.tally.is_spent() {
             self.end_run(rt, StopReason::Full);
         }

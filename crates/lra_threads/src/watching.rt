@@ -175,14 +175,62 @@ fn warn_of_disk<L: Log>(
     hangs
 }
 
+/// Whether others lagged, and whether it was told that this node's numbers seem to be given twice, or
+/// are, as is remembered.
+#[derive(Clone, Copy)]
+struct Lag {
+    was_short: bool,
+    was_strange: bool,
+    was_doubted: bool,
+}
+
+/// Warns of answers and calls that didn't wait for copies, and tells once that is over; and, once, that
+/// another process gives this node's numbers. It gives what is to be remembered.
+fn warn_of_copies<R: Wait, L: Log>(
+    rt: &R,
+    log: &L,
+    node: &Node,
+    late: &mut Dropped,
+    lag: Lag,
+    now: Duration,
+) -> Lag {
+    let (number, copies) = (node.number(), node.followers.wants().copies);
+    let is_short = node.followers.is_short(rt);
+    let is_strange = node.followers.has_strange(rt);
+    let is_doubted = node.followers.is_doubted(rt);
+    if let Some(count) = late.add(node.followers.take_late(rt), now) {
+        warn!(log; "node {number}: {count} answers or lists of calls went on before {copies} other nodes had what they show");
+    }
+    if lag.was_short && !is_short {
+        warn!(log; "node {number}: {copies} other nodes have its facts again");
+    }
+    if is_strange && !lag.was_strange {
+        warn!(log; "node {number}: another asks as if it had facts of this node that it never gave");
+    }
+    if is_doubted && !lag.was_doubted {
+        warn!(log; "node {number}: another has facts of this node that it never gave: it enters nothing more, since two processes may have its number");
+    }
+    Lag {
+        was_short: is_short,
+        was_strange: is_strange,
+        was_doubted: is_doubted,
+    }
+}
+
 /// Warns when three quarters and nine tenths of the home's places are taken, and when an LRA
 /// couldn't be begun, until the program is to end. It tells each once, and again once there was
 /// room and a minute is over. It warns of LRAs that failed, and of connections that were closed
 /// since no file was left, each once a minute at most, of calls of operators that were made after
-/// they were answered E18, and of a disk that hangs.
+/// they were answered E18, of a disk that hangs, and of answers that didn't wait for copies.
 pub fn watch<R: Wait + Clock, L: Log>(rt: &R, log: &L, node: &Node) {
     let (mut warned, mut closed) = (Warned::new(), Dropped::new());
     let (mut failures, mut hung) = (Failures::new(), None);
+    let mut late = Dropped::new();
+    let mut lag = Lag {
+        was_short: false,
+        was_strange: false,
+        was_doubted: false,
+    };
     for _ in rt.forever() {
         if node.mailbox.sleep(rt, Duration::from_millis(LOOK_MS)) {
             return;
@@ -196,6 +244,9 @@ pub fn watch<R: Wait + Clock, L: Log>(rt: &R, log: &L, node: &Node) {
         let failed = failed_of(&node.mailbox.held(rt));
         if failures.note(failed, now) {
             warn!(log; "node {}: LRAs of its home that failed to close or to cancel: {}", node.number(), failed);
+        }
+        if node.followers.wants().any() {
+            lag = warn_of_copies(rt, log, node, &mut late, lag, now);
         }
         if node.take_late() > 0 {
             warn!(log; "node {}: a call at the operator's port was made after it was answered E18", node.number());

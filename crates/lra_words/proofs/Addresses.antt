@@ -67,11 +67,12 @@ unnamed_host host none =
       | false ↦ none
     ]
 
--- an address has no `=`, and isn't `anew`
+-- an address has no `=`, and isn't `strict` or `anew`
 pub unnamed : (words : List (List ℕ)) (peers : List (List ℕ × ℕ)) → AllZip SaysPeer words peers → IsUnnamed words
 unnamed [] peers say = tt
 unnamed (word ∷ words) [] say = absurd say
 unnamed (word ∷ words) ((host, port) ∷ peers) ((is, low, high, e), more) = (
   ap (has 61) e ∙ list_any-append (λ b. b == 61) (host_text host) (58 ∷ decimal port) ∙ neither _ _ (unnamed_host host is.1) (no_digit 61 (omega arith) port (omega arith)),
+  λ strict. true≢false (sym (colon_in (host_text host) (decimal port)) ∙ ap (has 58) (sym e ∙ strict)),
   λ anew. true≢false (sym (colon_in (host_text host) (decimal port)) ∙ ap (has 58) (sym e ∙ anew)),
 )

@@ -1,9 +1,9 @@
 -- The word that says the nodes.
-use Rattle.std.proofs.Common.{◌≡◌, ◌≤◌, ◌+◌, inl, inr, ℕ, List, [], ◌∷◌, ◌++◌, Some, Option, map, get_or, drop, subst, sym, ap, ◌∙◌, arith}
+use Rattle.std.proofs.Common.{Bool, ◌≡◌, ◌≤◌, ◌+◌, inl, inr, ℕ, List, [], ◌∷◌, ◌++◌, Some, Option, map, get_or, drop, subst, sym, ap, ◌∙◌, arith}
 use Rattle.std.specs.Fmt.{decimal}
 use Rattle.std.specs.Prelude.{unwrap_or}
 use Rattle.std.proofs.lemmas.Fmt.{decimal_digit}
-use Rattle.lra_words.specs.Arguments.{AskNodes, Choices, SayChoices, SaysNodes}
+use Rattle.lra_words.specs.Arguments.{HaveCopies, AskNodes, Choices, SayChoices, SaysNodes}
 use Rattle.lra_words.specs.Readings.{IsOneOrTwo}
 
 -- nodes are said by digits
@@ -36,3 +36,14 @@ begins f words rest behind x y one two first last choices folder addresses asks 
       subst (λ word. SaysNodes word first last) (sym (ap (λ l. get_or l 0 []) e)) asks.say_nodes,
       subst (λ words. SayChoices words choices addresses) (sym (ap (drop 2) e)) asks.say_choices,
     )
+
+-- the same copies of the same nodes
+pub other_copies : (first last nodes a b n : ℕ) (copies patience k p : Option ℕ) (strict s : Bool)
+    → a ≡ first → b ≡ last → n ≡ nodes → k ≡ copies → p ≡ patience → s ≡ strict → HaveCopies first last nodes copies patience strict → HaveCopies a b n k p s
+other_copies first last nodes a b n copies patience k p strict s e f g h i j have =
+    subst (λ (x : ℕ). HaveCopies x b n k p s) (sym e)
+    (subst (λ (x : ℕ). HaveCopies first x n k p s) (sym f)
+    (subst (λ (x : ℕ). HaveCopies first last x k p s) (sym g)
+    (subst (λ (x : Option ℕ). HaveCopies first last nodes x p s) (sym h)
+    (subst (λ (x : Option ℕ). HaveCopies first last nodes copies x s) (sym i)
+    (subst (λ (x : Bool). HaveCopies first last nodes copies patience x) (sym j) have)))))

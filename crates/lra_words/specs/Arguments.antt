@@ -1,5 +1,5 @@
 -- What the program's arguments ask for.
-use Rattle.std.specs.Prelude.{◌≡◌, ◌≢◌, ◌≤◌, ◌<◌, ◌+◌, ◌-◌, ◌^◌, ◌==◌, ◌&&◌, ◌||◌, ◌⊎◌, ⊤, ℕ, Bool, true, false, cond, IsTrue, List, [], ◌∷◌, ◌++◌, length, nat_le, codes, Option, Some, None, IfSome, option_map, string_bytes}
+use Rattle.std.specs.Prelude.{◌≡◌, ◌≢◌, ◌≤◌, ◌<◌, ◌+◌, ◌-◌, ◌^◌, ◌==◌, ◌&&◌, ◌||◌, ◌⊎◌, ⊤, ℕ, Bool, true, false, cond, IsTrue, List, [], ◌∷◌, ◌++◌, length, nat_le, codes, Option, Some, None, IfSome, MatchOption, option_map, string_bytes}
 use Rattle.std.specs.Char.{is_ascii_alphanumeric}
 use Rattle.std.specs.Fmt.{decimal}
 use Rattle.std.specs.List.{AllPairs, AllZip, list_all, list_any}
@@ -21,7 +21,7 @@ IsListen None (Some address) = ⊥
 IsListen (Some text) None = ⊥
 IsListen (Some text) (Some address) = IsSocketText text address × (1 ≤ socket_port address)
 
--- milliseconds in decimal, or not said
+-- milliseconds, or another number, in decimal, or not said
 abbrev pub IsTime : Option (List ℕ) → Option ℕ → Type 0
 IsTime None None = ⊤
 IsTime None (Some n) = ⊥
@@ -55,7 +55,8 @@ IsGroup None group = group ≡ None
 IsGroup (Some text) group = (group ≡ Some text) × IsTrue (is_group_name text)
 
 -- what is chosen: where the node listens, and where for operators, by which names these ask it, how long roots that ended and roots that
--- failed are kept, the name of the group, and whether the node starts anew
+-- failed are kept, the name of the group, how many other nodes are to have a fact before it is acknowledged, for how many milliseconds that
+-- is waited for, whether nothing is acknowledged then, and whether the node starts anew
 pub record Choices : Type 0 where
   pub listen : Option SocketAddr
   pub operate : Option SocketAddr
@@ -63,9 +64,12 @@ pub record Choices : Type 0 where
   pub ended : Option ℕ
   pub failed : Option ℕ
   pub group : Option (List ℕ)
+  pub copies : Option ℕ
+  pub patience : Option ℕ
+  pub strict : Bool
   pub anew : Bool
 
--- what stands behind the name of each word that is there, and whether the word `anew` is
+-- what stands behind the name of each word that is there, and whether the words `strict` and `anew` are
 pub record Texts : Type 0 where
   pub listen : Option (List ℕ)
   pub operate : Option (List ℕ)
@@ -73,6 +77,9 @@ pub record Texts : Type 0 where
   pub ended : Option (List ℕ)
   pub failed : Option (List ℕ)
   pub group : Option (List ℕ)
+  pub copies : Option (List ℕ)
+  pub patience : Option (List ℕ)
+  pub strict : Bool
   pub anew : Bool
 
 -- the word of such a name, if there is one
@@ -89,7 +96,8 @@ flagged word true = word ∷ []
 abbrev pub in_words : Texts → List (List ℕ) → List (List ℕ)
 in_words texts addresses =
     said (codes "listen=") texts.listen ++ (said (codes "operate=") texts.operate ++ (said (codes "names=") texts.names ++ (said (codes "keep=") texts.ended ++ (said (codes "keep-failed=") texts.failed
-    ++ (said (codes "group=") texts.group ++ (flagged (codes "anew") texts.anew ++ addresses))))))
+    ++ (said (codes "group=") texts.group ++ (said (codes "copies=") texts.copies ++ (said (codes "patience=") texts.patience
+    ++ (flagged (codes "strict") texts.strict ++ (flagged (codes "anew") texts.anew ++ addresses)))))))))
 
 -- texts mean choices
 pub record Mean (texts : Texts) (choices : Choices) : Type 0 where
@@ -99,6 +107,9 @@ pub record Mean (texts : Texts) (choices : Choices) : Type 0 where
   pub ended : IsTime texts.ended choices.ended
   pub failed : IsTime texts.failed choices.failed
   pub group : IsGroup texts.group choices.group
+  pub copies : IsTime texts.copies choices.copies
+  pub patience : IsTime texts.patience choices.patience
+  pub strict : texts.strict ≡ choices.strict
   pub anew : texts.anew ≡ choices.anew
 
 -- words say choices, and behind them the addresses
@@ -108,6 +119,10 @@ SayChoices words choices addresses = (texts : Texts) × Mean texts choices × (w
 -- each of these nodes has a port for operators, the first of them the one that is said, each other the one behind
 abbrev pub HavePorts : (first last : ℕ) → Option SocketAddr → Type 0
 HavePorts first last operate = IfSome operate (λ address. socket_port address + (last - first) < 2 ^ 16)
+
+-- fewer copies than there are nodes, by one node alone in its process; what goes with copies is said only where these are
+abbrev pub HaveCopies : (first last nodes : ℕ) → (copies patience : Option ℕ) → (strict : Bool) → Type 0
+HaveCopies first last nodes copies patience strict = MatchOption copies ((patience ≡ None) × (strict ≡ false)) (λ k. (k < nodes) × (last ≤ first))
 
 -- whether a byte is in a text, as 58 is for a colon
 abbrev pub has : ℕ → List ℕ → Bool
@@ -139,6 +154,7 @@ pub record AskNodes (words : List (List ℕ)) (first last : ℕ) (choices : Choi
   pub in_order : (1 ≤ first) × (first ≤ last) × (last ≤ length addresses) × (length addresses ≤ MAX_NODES)
   pub listens_alone : first < last → choices.listen ≡ None
   pub have_ports : HavePorts first last choices.operate
+  pub have_copies : HaveCopies first last (length addresses) choices.copies choices.patience choices.strict
 
 -- the same, with the peers that the addresses say
 abbrev pub AskMembers : List (List ℕ) → (first last : ℕ) → Choices → List (List ℕ × ℕ) → List ℕ → Type 0
@@ -157,5 +173,8 @@ choices_of asked = record {
   ended = asked.ended;
   failed = asked.failed;
   group = option_map string_bytes asked.group;
+  copies = asked.copies;
+  patience = asked.patience;
+  strict = asked.strict;
   anew = asked.anew;
 }

@@ -16,10 +16,10 @@ IsNotSaid name words = (text : List ℕ) (others : List (List ℕ)) → words �
 abbrev pub IsNotFirst : List ℕ → List (List ℕ) → Type 0
 IsNotFirst word words = (others : List (List ℕ)) → words ≡ word ∷ others → ⊥
 
--- the first of some words has no `=`, and isn't `anew`
+-- the first of some words has no `=`, and isn't `strict` or `anew`
 abbrev pub IsUnnamed : List (List ℕ) → Type 0
 IsUnnamed [] = ⊤
-IsUnnamed (word ∷ words) = (has 61 word ≡ false) × (word ≢ codes "anew")
+IsUnnamed (word ∷ words) = (has 61 word ≡ false) × (word ≢ codes "strict") × (word ≢ codes "anew")
 
 -- the texts that words were found to give
 abbrev pub texts_in : Given → Texts
@@ -30,9 +30,12 @@ texts_in it = record {
   ended = option_copied it.ended;
   failed = option_copied it.failed;
   group = option_copied it.group;
+  copies = option_copied it.copies;
+  patience = option_copied it.patience;
+  strict = it.strict;
   anew = it.anew;
 }
 
 -- what is chosen by words
 abbrev pub chosen : Chosen → Choices
-chosen it = record { listen = it.listen; operate = it.operate; names = it.names.now; ended = it.ended; failed = it.failed; group = option_copied it.group; anew = it.anew }
+chosen it = record { listen = it.listen; operate = it.operate; names = it.names.now; ended = it.ended; failed = it.failed; group = option_copied it.group; copies = it.copies; patience = it.patience; strict = it.strict; anew = it.anew }

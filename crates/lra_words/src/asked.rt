@@ -2,7 +2,7 @@
 ghost use Rattle.std.specs.Prelude.{◌≡◌, ◌≢◌, ◌≤◌, ◌<◌, ◌+◌, ℕ, List, Option, Some, None, IfOk, IfSome, IsSomeAnd, MatchBool, MatchOption, MatchResult, map, option_copied, option_map, string_bytes, vec_len};
 ghost use Rattle.std.specs.List.{AllPairs, Contains};
 ghost use Rattle.lra_id.specs.declared.TheConstants.{MAX_NODES};
-ghost use Rattle.lra_words.specs.Arguments.{AskMembers, AskNodes, Choices, HavePorts, SayPeers, SaysNodes, choices_of, reached};
+ghost use Rattle.lra_words.specs.Arguments.{AskMembers, AskNodes, Choices, HaveCopies, HavePorts, SayPeers, SaysNodes, choices_of, reached};
 ghost use Rattle.lra_words.specs.Readings.{IsOneOrTwo, IsUnnamed, chosen};
 ghost use Rattle.lra_words.specs.declared.words.Unasked.TheVariants as unasked;
 
@@ -30,6 +30,12 @@ pub struct Asked {
     pub failed: Option<u64>,
     /// The name of the group.
     pub group: Option<String>,
+    /// How many other nodes are to have a fact before it is acknowledged, and for how many
+    /// milliseconds that is waited for.
+    pub copies: Option<u64>,
+    pub patience: Option<u64>,
+    /// Whether nothing is acknowledged after that.
+    pub strict: bool,
     /// Whether the node waits at its start until it has heard all others.
     pub anew: bool,
     pub peers: Vec<Peer>,
@@ -92,6 +98,25 @@ fn have_ports(first: u8, last: u8, operate: Option<SocketAddr>) -> bool
     u32::from(address.port()) + u32::from(last) <= u32::from(u16::MAX) + u32::from(first)
 }
 
+/// Whether one node in its process, of so many, is to have so many copies at others. What goes with
+/// copies isn't said without them.
+fn have_copies(
+    first: u8,
+    last: u8,
+    nodes: usize,
+    copies: Option<u64>,
+    patience: Option<u64>,
+    strict: bool,
+) -> bool
+    ensures { MatchBool result (HaveCopies first last nodes copies patience strict)
+        (HaveCopies first last nodes copies patience strict → ⊥) }
+{
+    match copies {
+        Some(count) => count < nodes as u64 && last <= first,
+        None => patience.is_none() && !strict,
+    }
+}
+
 /// Whether these are nodes of so many. Several can't listen at one address that is said.
 fn is_group(first: u8, last: u8, listen: Option<SocketAddr>, count: usize) -> bool
     ensures { MatchBool result ((last ≤ count) × (count ≤ MAX_NODES) × (first < last → listen ≡ None))
@@ -136,6 +161,10 @@ fn reading_of(words: &[String]) -> Option<Reading<'_>>
         return None;
     }
     if !have_ports(first, last, choices.operate) {
+        return None;
+    }
+    let (nodes, copies) = (choices.addresses.len(), choices.copies);
+    if !have_copies(first, last, nodes, copies, choices.patience, choices.strict) {
         return None;
     }
     Some(Reading {
@@ -243,6 +272,9 @@ pub fn asked_by(alloc: Global, words: &[String]) -> Result<Asked, Unasked>
         ended: reading.choices.ended,
         failed: reading.choices.failed,
         group,
+        copies: reading.choices.copies,
+        patience: reading.choices.patience,
+        strict: reading.choices.strict,
         anew: reading.choices.anew,
         peers,
     })

@@ -24,7 +24,7 @@ fn address_of(text: Option<&str>) -> Option<Option<SocketAddr>>
     }
 }
 
-/// How many milliseconds a text says, if there is one; nothing where it says it badly.
+/// How many a text says, as milliseconds, if there is one; nothing where it says it badly.
 fn time_of(text: Option<&str>) -> Option<Option<u64>>
     ensures { MatchOption result ((time : Option ℕ) → IsTime (option_copied text.entry) time → ⊥)
         (λ time. IsTime (option_copied text.entry) time) }
@@ -122,6 +122,9 @@ pub(crate) struct Chosen<'a> {
     pub ended: Option<u64>,
     pub failed: Option<u64>,
     pub group: Option<&'a str>,
+    pub copies: Option<u64>,
+    pub patience: Option<u64>,
+    pub strict: bool,
     pub anew: bool,
     pub addresses: &'a [String],
 }
@@ -131,6 +134,7 @@ pub(crate) fn choices_of(words: &[String]) -> Option<Chosen<'_>>
     ensures one { (choices : Choices) (addresses : List (List ℕ)) → IsUnnamed addresses →
         SayChoices (map string_bytes words.now) choices addresses →
         IsSomeAnd result (λ it. (it.listen ≡ choices.listen) × (it.operate ≡ choices.operate)
+        × (it.copies ≡ choices.copies) × (it.patience ≡ choices.patience) × (it.strict ≡ choices.strict)
         × (map string_bytes it.addresses.now ≡ addresses)) }
     ensures are { IfSome result
         (λ it. SayChoices (map string_bytes words.now) (chosen it) (map string_bytes it.addresses.now)) }
@@ -154,6 +158,12 @@ pub(crate) fn choices_of(words: &[String]) -> Option<Chosen<'_>>
     let Some(group) = group_of(given.group) else {
         return None;
     };
+    let Some(copies) = time_of(given.copies) else {
+        return None;
+    };
+    let Some(patience) = time_of(given.patience) else {
+        return None;
+    };
     Some(Chosen {
         listen,
         operate,
@@ -161,6 +171,9 @@ pub(crate) fn choices_of(words: &[String]) -> Option<Chosen<'_>>
         ended,
         failed,
         group,
+        copies,
+        patience,
+        strict: given.strict,
         anew: given.anew,
         addresses: given.addresses,
     })

@@ -48,7 +48,7 @@ pub(crate) fn flag_of<'a>(word: &str, words: &'a [String]) -> (bool, &'a [String
     (true, others)
 }
 
-/// What stands behind the name of each word, whether `anew` is there, and the addresses.
+/// What stands behind the name of each word, whether `strict` and `anew` are there, and the addresses.
 #[derive(Clone, Copy)]
 pub(crate) struct Given<'a> {
     pub listen: Option<&'a str>,
@@ -57,6 +57,9 @@ pub(crate) struct Given<'a> {
     pub ended: Option<&'a str>,
     pub failed: Option<&'a str>,
     pub group: Option<&'a str>,
+    pub copies: Option<&'a str>,
+    pub patience: Option<&'a str>,
+    pub strict: bool,
     pub anew: bool,
     pub addresses: &'a [String],
 }
@@ -75,6 +78,9 @@ pub(crate) fn given_by(words: &[String]) -> Given<'_>
     let (ended, rest) = text_of("keep=", rest);
     let (failed, rest) = text_of("keep-failed=", rest);
     let (group, rest) = text_of("group=", rest);
+    let (copies, rest) = text_of("copies=", rest);
+    let (patience, rest) = text_of("patience=", rest);
+    let (strict, rest) = flag_of("strict", rest);
     let (anew, addresses) = flag_of("anew", rest);
     Given {
         listen,
@@ -83,6 +89,9 @@ pub(crate) fn given_by(words: &[String]) -> Given<'_>
         ended,
         failed,
         group,
+        copies,
+        patience,
+        strict,
         anew,
         addresses,
     }

@@ -1,6 +1,6 @@
 -- At which nodes a pull is misdirected.
 use Rattle.std.specs.Prelude.{IfSome, nat_le, nat_lt, not}
-use Rattle.std.proofs.Common.{◌≡◌, ◌≢◌, ◌⊎◌, ◌∙◌, ℕ, ◌+◌, ◌<◌, ◌≤◌, Bool, true, false, ◌&&◌, ◌||◌, ◌==◌, List, [], ◌∷◌, ◌++◌, length, codes, Option, Some, None, IsTrue, ap, arith, inl, inr, refl, sym}
+use Rattle.std.proofs.Common.{◌≡◌, ◌≢◌, ◌⊎◌, ◌∙◌, ℕ, ◌+◌, ◌≤◌, Bool, true, false, ◌&&◌, ◌||◌, ◌==◌, List, [], ◌∷◌, ◌++◌, length, codes, Option, Some, None, IsTrue, ap, arith, inl, inr, refl, sym}
 use Rattle.std.specs.Fmt.{decimal}
 use Rattle.std.specs.Str.{bytes_eq}
 use Rattle.std.proofs.lemmas.Bool.{cases_eq, lt-ltb}
@@ -108,28 +108,41 @@ query_behind rest =
     let long : nat_lt 10 size ≡ true = lt-ltb 10 size (omega arith) in
     rw long refl
 
--- behind who asks
-behind : (from : ℕ) (rest : List ℕ) → past_asker (codes "from=" ++ (digit from ∷ (codes "&" ++ rest))) ≡ rest
-behind from rest =
+-- behind who asks, or waits
+abbrev key_of : Bool → List ℕ
+key_of true = codes "wait="
+key_of false = codes "from="
+
+behind : (waits : Bool) (from : ℕ) (rest : List ℕ) → past_asker (key_of waits ++ (digit from ∷ (codes "&" ++ rest))) ≡ rest
+behind true from rest =
+    let no_amp = no_ampersand from in
+    let size : ℕ = length (codes "wait=" ++ (digit from ∷ (codes "&" ++ rest))) in
+    let long : nat_lt 6 size ≡ true = lt-ltb 6 size (omega arith) in
+    rw (no_amp, long) refl
+behind false from rest =
     let no_amp = no_ampersand from in
     let size : ℕ = length (codes "from=" ++ (digit from ∷ (codes "&" ++ rest))) in
     let long : nat_lt 6 size ≡ true = lt-ltb 6 size (omega arith) in
     rw (no_amp, long) refl
 
-asks_behind : (node : NodeName) (from : ℕ) (rest : List ℕ) → from ≤ 8
-    → asks_other node (paths.query_of (codes "/peer/pull?from=" ++ (decimal from ++ (codes "&" ++ rest)))) ≡ names_other node rest
-asks_behind node from rest few =
+asks_behind : (waits : Bool) (node : NodeName) (from : ℕ) (rest : List ℕ) → from ≤ 8
+    → asks_other node (paths.query_of (codes "/peer/pull?" ++ (key_of waits ++ (decimal from ++ (codes "&" ++ rest))))) ≡ names_other node rest
+asks_behind waits node from rest few =
     let text : decimal from ≡ digit from ∷ [] = decimal_digit from (omega (arith, few)) in
-    ap (λ (t : List ℕ). asks_other node (paths.query_of (codes "/peer/pull?from=" ++ (t ++ (codes "&" ++ rest))))) text
-    ∙ ap (asks_other node) (query_behind (codes "from=" ++ (digit from ∷ (codes "&" ++ rest))))
-    ∙ ap (names_other node) (behind from rest)
+    ap (λ (t : List ℕ). asks_other node (paths.query_of (codes "/peer/pull?" ++ (key_of waits ++ (t ++ (codes "&" ++ rest)))))) text
+    ∙ ap (asks_other node) (query_behind (key_of waits ++ (digit from ∷ (codes "&" ++ rest))))
+    ∙ ap (names_other node) (behind waits from rest)
 
-asks : (node : NodeName) (from to : ℕ) (group : Option (List ℕ)) → IsNodeNumber node.me → IsNodeNumber from → IsNodeNumber to → IfSome group (λ name. IsTrue (is_group_name name))
-    → asks_other node (paths.query_of (pull_target (query_by from to group))) ≡ (not (to == node.me) || is_other_group node.group group)
-asks node from to None me asker number names =
-    asks_behind node from (codes "to=" ++ decimal to) asker.1 ∙ asks_alone node to me.1 number.0 number.1
-asks node from to (Some name) me asker number names =
-    asks_behind node from (codes "to=" ++ (decimal to ++ (codes "&group=" ++ name))) asker.1 ∙ asks_both node to name me.1 number.0 number.1 names
+asks : (waits : Bool) (node : NodeName) (from to : ℕ) (group : Option (List ℕ)) → IsNodeNumber node.me → IsNodeNumber from → IsNodeNumber to → IfSome group (λ name. IsTrue (is_group_name name))
+    → asks_other node (paths.query_of (pull_target (query_by waits from to group))) ≡ (not (to == node.me) || is_other_group node.group group)
+asks true node from to None me asker number names =
+    asks_behind true node from (codes "to=" ++ decimal to) asker.1 ∙ asks_alone node to me.1 number.0 number.1
+asks false node from to None me asker number names =
+    asks_behind false node from (codes "to=" ++ decimal to) asker.1 ∙ asks_alone node to me.1 number.0 number.1
+asks true node from to (Some name) me asker number names =
+    asks_behind true node from (codes "to=" ++ (decimal to ++ (codes "&group=" ++ name))) asker.1 ∙ asks_both node to name me.1 number.0 number.1 names
+asks false node from to (Some name) me asker number names =
+    asks_behind false node from (codes "to=" ++ (decimal to ++ (codes "&group=" ++ name))) asker.1 ∙ asks_both node to name me.1 number.0 number.1 names
 
 -- Requests
 
@@ -137,16 +150,18 @@ asks node from to (Some name) me asker number names =
 abbrev pull_with : (target : List ℕ) → Request → Request
 pull_with target request = record { method = codes "POST"; target = target; fields = request.fields; body = request.body }
 
-pulls : (node : NodeName) (from to : ℕ) (group : Option (List ℕ)) (request : Request)
-    → is_misdirected node (pull_with (pull_target (query_by from to group)) request) ≡ asks_other node (paths.query_of (pull_target (query_by from to group)))
-pulls node from to None request = refl
-pulls node from to (Some name) request = refl
+pulls : (node : NodeName) (waits : Bool) (from to : ℕ) (group : Option (List ℕ)) (request : Request)
+    → is_misdirected node (pull_with (pull_target (query_by waits from to group)) request) ≡ asks_other node (paths.query_of (pull_target (query_by waits from to group)))
+pulls node true from to None request = refl
+pulls node false from to None request = refl
+pulls node true from to (Some name) request = refl
+pulls node false from to (Some name) request = refl
 
-pub misdirected : (node : NodeName) (from to : ℕ) (group : Option (List ℕ)) (request : Request) → IsNodeNumber node.me → IsNodeNumber from → IsNodeNumber to → IfSome group (λ name. IsTrue (is_group_name name))
-    → request.method ≡ codes "POST" → request.target ≡ pull_target (query_by from to group)
+pub misdirected : (node : NodeName) (waits : Bool) (from to : ℕ) (group : Option (List ℕ)) (request : Request) → IsNodeNumber node.me → IsNodeNumber from → IsNodeNumber to → IfSome group (λ name. IsTrue (is_group_name name))
+    → request.method ≡ codes "POST" → request.target ≡ pull_target (query_by waits from to group)
     → is_misdirected node request ≡ (not (to == node.me) || is_other_group node.group group)
-misdirected node from to group request me asker number names method target =
+misdirected node waits from to group request me asker number names method target =
     ap (λ (m : List ℕ). is_misdirected node (record { method = m; target = request.target; fields = request.fields; body = request.body })) method
     ∙ ap (λ (t : List ℕ). is_misdirected node (pull_with t request)) target
-    ∙ pulls node from to group request
-    ∙ asks node from to group me asker number names
+    ∙ pulls node waits from to group request
+    ∙ asks waits node from to group me asker number names

@@ -1,6 +1,6 @@
 -- The query of a pull that is meant for a node may stand in a target.
-use Rattle.std.specs.Prelude.{IfSome, IsUtf8, nat_le, nat_lt, slice_index}
-use Rattle.std.proofs.Common.{◌≡◌, ◌∙◌, ◌⊎◌, ℕ, zero, suc, ◌+◌, ◌<◌, ◌≤◌, Bool, true, false, ◌&&◌, ◌||◌, ◌==◌, List, [], ◌∷◌, ◌++◌, length, codes, Option, Some, None, IsTrue, ap, arith, inl, inr, refl, sym, subst, All}
+use Rattle.std.specs.Prelude.{IfSome, nat_le, nat_lt}
+use Rattle.std.proofs.Common.{◌≡◌, ◌⊎◌, ℕ, zero, suc, ◌+◌, ◌<◌, ◌≤◌, Bool, true, false, ◌&&◌, ◌||◌, ◌==◌, List, [], ◌∷◌, ◌++◌, length, codes, Option, Some, None, IsTrue, arith, inl, inr, refl, sym, subst}
 use Rattle.std.specs.Char.{is_ascii_alphanumeric}
 use Rattle.std.specs.Fmt.{decimal}
 use Rattle.std.specs.Int.{is_in_range}
@@ -13,7 +13,7 @@ use Rattle.std.proofs.lemmas.Str.{IsUtf8-from_ascii}
 use Rattle.httparse.specs.Grammar.{is_uri_byte}
 use Rattle.lra_id.specs.Ids.{IsNodeNumber}
 use Rattle.lra_peer.specs.Texts.{IsQuery}
-use Rattle.lra_work.specs.Addressees.{query_by}
+use Rattle.lra_work.specs.Addressees.{opening_of, query_by}
 use Rattle.lra_work.specs.Groups.{is_group_name, is_name_byte}
 
 both : (a b : Bool) → (a && b) ≡ true → (a ≡ true) × (b ≡ true)
@@ -127,32 +127,45 @@ digit n = 48 + n
 digit_plain : (n : ℕ) → n ≤ 8 → is_plain (digit n) ≡ true
 digit_plain n few = visible_plain (digit n) (omega arith, omega (arith, few))
 
-abbrev OfTexts : (from to : List ℕ) → Option (List ℕ) → Type 0
-OfTexts from to None = IsQuery (codes "?from=" ++ (from ++ (codes "&to=" ++ to)))
-OfTexts from to (Some name) = IsQuery (codes "?from=" ++ (from ++ (codes "&to=" ++ (to ++ (codes "&group=" ++ name)))))
+abbrev OfTexts : (waits : Bool) → (from to : List ℕ) → Option (List ℕ) → Type 0
+OfTexts waits from to None = IsQuery (opening_of waits ++ (from ++ (codes "&to=" ++ to)))
+OfTexts waits from to (Some name) = IsQuery (opening_of waits ++ (from ++ (codes "&to=" ++ (to ++ (codes "&group=" ++ name)))))
 
-fits_digits : (from to : ℕ) (group : Option (List ℕ)) → from ≤ 8 → to ≤ 8 → IfSome group (λ name. IsTrue (is_group_name name)) → OfTexts (digit from ∷ []) (digit to ∷ []) group
-fits_digits from to None few fewer names =
+fits_alone : (waits : Bool) (from to : ℕ) → from ≤ 8 → to ≤ 8 → OfTexts waits (digit from ∷ []) (digit to ∷ []) None
+fits_alone true from to few fewer =
+    let one = digit_plain from few in
+    let two = digit_plain to fewer in
+    is_a_query (codes "?wait=" ++ (digit from ∷ (codes "&to=" ++ digit to ∷ []))) (rw (one, two) refl) (omega arith)
+fits_alone false from to few fewer =
     let one = digit_plain from few in
     let two = digit_plain to fewer in
     is_a_query (codes "?from=" ++ (digit from ∷ (codes "&to=" ++ digit to ∷ []))) (rw (one, two) refl) (omega arith)
-fits_digits from to (Some name) few fewer names =
+
+fits_group : (waits : Bool) (from to : ℕ) (name : List ℕ) → from ≤ 8 → to ≤ 8 → length name ≤ 64 → list_all is_plain name ≡ true → OfTexts waits (digit from ∷ []) (digit to ∷ []) (Some name)
+fits_group true from to name few fewer short bytes =
     let one = digit_plain from few in
     let two = digit_plain to fewer in
-    let parts = name_parts name names in
-    let bytes = parts.1 in
-    let short = parts.0 in
+    is_a_query (codes "?wait=" ++ (digit from ∷ (codes "&to=" ++ (digit to ∷ (codes "&group=" ++ name))))) (rw (one, two, bytes) refl) (omega (arith, short))
+fits_group false from to name few fewer short bytes =
+    let one = digit_plain from few in
+    let two = digit_plain to fewer in
     is_a_query (codes "?from=" ++ (digit from ∷ (codes "&to=" ++ (digit to ∷ (codes "&group=" ++ name))))) (rw (one, two, bytes) refl) (omega (arith, short))
 
-of_query : (from to : ℕ) (group : Option (List ℕ)) → OfTexts (decimal from) (decimal to) group → IsQuery (query_by from to group)
-of_query from to None is = is
-of_query from to (Some name) is = is
+fits_digits : (waits : Bool) (from to : ℕ) (group : Option (List ℕ)) → from ≤ 8 → to ≤ 8 → IfSome group (λ name. IsTrue (is_group_name name)) → OfTexts waits (digit from ∷ []) (digit to ∷ []) group
+fits_digits waits from to None few fewer names = fits_alone waits from to few fewer
+fits_digits waits from to (Some name) few fewer names =
+    let parts = name_parts name names in
+    fits_group waits from to name few fewer parts.0 parts.1
 
-pub query_fits : (from to : ℕ) (group : Option (List ℕ)) → IsNodeNumber from → IsNodeNumber to → IfSome group (λ name. IsTrue (is_group_name name)) → IsQuery (query_by from to group)
-query_fits from to group asker number names =
+of_query : (waits : Bool) (from to : ℕ) (group : Option (List ℕ)) → OfTexts waits (decimal from) (decimal to) group → IsQuery (query_by waits from to group)
+of_query waits from to None is = is
+of_query waits from to (Some name) is = is
+
+pub query_fits : (waits : Bool) (from to : ℕ) (group : Option (List ℕ)) → IsNodeNumber from → IsNodeNumber to → IfSome group (λ name. IsTrue (is_group_name name)) → IsQuery (query_by waits from to group)
+query_fits waits from to group asker number names =
     let one : decimal from ≡ digit from ∷ [] = decimal_digit from (omega (arith, asker.1)) in
     let two : decimal to ≡ digit to ∷ [] = decimal_digit to (omega (arith, number.1)) in
-    of_query from to group
-    (subst (λ (t : List ℕ). OfTexts t (decimal to) group) (sym one)
-    (subst (λ (t : List ℕ). OfTexts (digit from ∷ []) t group) (sym two)
-    (fits_digits from to group asker.1 number.1 names)))
+    of_query waits from to group
+    (subst (λ (t : List ℕ). OfTexts waits t (decimal to) group) (sym one)
+    (subst (λ (t : List ℕ). OfTexts waits (digit from ∷ []) t group) (sym two)
+    (fits_digits waits from to group asker.1 number.1 names)))

@@ -9,6 +9,8 @@ use Rattle.lra_http.specs.declared.message.Request.{Request}
 use Rattle.lra_api.specs.Answers.{error_answer}
 use Rattle.lra_api.specs.Paths.{path_of, query_of}
 use Rattle.lra_work.specs.Groups.{is_group_name}
+use Rattle.lra_work.specs.declared.addressee.Addressee.{Addressee}
+use Rattle.lra_work.specs.declared.addressee.Addressee.TheVariants.{Anyone, Node}
 use Rattle.lra_work.specs.declared.addressee.NodeName.{NodeName}
 
 -- Whom a query names
@@ -61,16 +63,21 @@ names_other node query =
     then are_other node (number_in (before_first is_ampersand query)) (group_in (after_first is_ampersand query))
     else is_other node (number_in query)
 
--- behind who asks, where a query begins with that; what comes behind the first `&`
+-- behind who asks, or waits, where a query begins with that; what comes behind the first `&`
 abbrev pub behind_first : (query : List ℕ) → List ℕ
 behind_first query = if nat_lt (position_or_len is_ampersand query) (length query) then after_first is_ampersand query else query
 
 abbrev pub past_asker : (query : List ℕ) → List ℕ
-past_asker query = if bytes_eq (take 5 query) (codes "from=") then behind_first query else query
+past_asker query = if bytes_eq (take 5 query) (codes "from=") || bytes_eq (take 5 query) (codes "wait=") then behind_first query else query
 
 abbrev pub asks_other : NodeName → (query : Option (List ℕ)) → Bool
 asks_other node (Some query) = names_other node (past_asker query)
 asks_other node None = false
+
+-- whether a pull with a query is meant for who is asked so
+abbrev pub is_meant : Addressee → (query : List ℕ) → Bool
+is_meant Anyone query = true
+is_meant (Node node) query = not (asks_other node (Some query))
 
 -- Requests
 
@@ -94,7 +101,12 @@ node_text node = text_by node.me node.group
 abbrev pub misdirected_answer : NodeName → Response
 misdirected_answer node = error_answer 421 [] (node_text node)
 
+-- how the query begins of one that waits until there is something new, and of one that doesn't
+abbrev pub opening_of : (waits : Bool) → List ℕ
+opening_of true = codes "?wait="
+opening_of false = codes "?from="
+
 -- the query of a pull by a node that is meant for another, and for a group where there is one
-abbrev pub query_by : (from to : ℕ) → (group : Option (List ℕ)) → List ℕ
-query_by from to (Some group) = codes "?from=" ++ (decimal from ++ (codes "&to=" ++ (decimal to ++ (codes "&group=" ++ group))))
-query_by from to None = codes "?from=" ++ (decimal from ++ (codes "&to=" ++ decimal to))
+abbrev pub query_by : (waits : Bool) → (from to : ℕ) → (group : Option (List ℕ)) → List ℕ
+query_by waits from to (Some group) = opening_of waits ++ (decimal from ++ (codes "&to=" ++ (decimal to ++ (codes "&group=" ++ group))))
+query_by waits from to None = opening_of waits ++ (decimal from ++ (codes "&to=" ++ decimal to))

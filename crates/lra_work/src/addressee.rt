@@ -1,10 +1,11 @@
 // As whom a node is asked.
-ghost use Rattle.std.specs.Prelude.{◌≡◌, IfOk, string_bytes};
+ghost use Rattle.std.specs.Prelude.{◌≡◌, IfOk, None, Some, string_bytes};
 ghost use Rattle.std.specs.Option.{option_copied};
-ghost use Rattle.lra_work.specs.Addressees.{node_text, query_by};
+ghost use Rattle.lra_work.specs.Addressees.{is_meant, node_text, query_by};
 ghost use Rattle.lra_work.specs.declared.addressee.Addressee.TheVariants.{Anyone as Nobody, Node as OneNode};
 
 use crate::GroupName;
+use crate::misdirected::asks_other;
 use lra_id::NodeId;
 use std::alloc::{AllocError, Global};
 
@@ -32,6 +33,16 @@ impl Addressee {
         Addressee::Anyone
     }
 
+    /// Whether a pull with this query is meant for it.
+    pub fn is_meant(&self, query: &str) -> bool
+        ensures { result ≡ is_meant self.now query.now }
+    {
+        match self {
+            Addressee::Anyone => true,
+            Addressee::Node(node) => !asks_other(node, Some(query)),
+        }
+    }
+
     /// Refuses pulls that name another node; and another group, where this node has one.
     pub fn of(me: NodeId, group: Option<GroupName>) -> Addressee
         ensures { result ≡ OneNode (record { me = me; group = group }) }
@@ -55,20 +66,46 @@ pub(crate) fn node_text(alloc: Global, node: &NodeName) -> Result<String, AllocE
 }
 
 /// The query of a pull by a node that is meant for another, and for a group where there is one:
-/// `?from=3&to=2` or `?from=3&to=2&group=shop`. Errors: out of memory.
+/// `?from=3&to=2` or `?from=3&to=2&group=shop`. Who waits until the other has something new writes
+/// `wait` for `from`. Errors: out of memory.
 pub fn query_by(
     alloc: Global,
+    waits: bool,
     from: NodeId,
     to: NodeId,
     group: Option<&GroupName>,
 ) -> Result<String, AllocError>
-    ensures { IfOk result (λ query. string_bytes query ≡ query_by from to (option_copied group.entry)) }
+    ensures { IfOk result (λ query. string_bytes query ≡ query_by waits from to (option_copied group.entry)) }
 {
     match group {
-        Some(group) => {
-            let group = group.as_str();
-            format!(in alloc; "?from={from}&to={to}&group={group}")
-        }
-        None => format!(in alloc; "?from={from}&to={to}"),
+        Some(group) => in_group(alloc, waits, from, to, group),
+        None => alone(alloc, waits, from, to),
+    }
+}
+
+fn alone(alloc: Global, waits: bool, from: NodeId, to: NodeId) -> Result<String, AllocError>
+    ensures { IfOk result (λ query. string_bytes query ≡ query_by waits from to None) }
+{
+    if waits {
+        format!(in alloc; "?wait={from}&to={to}")
+    } else {
+        format!(in alloc; "?from={from}&to={to}")
+    }
+}
+
+fn in_group(
+    alloc: Global,
+    waits: bool,
+    from: NodeId,
+    to: NodeId,
+    group: &GroupName,
+) -> Result<String, AllocError>
+    ensures { IfOk result (λ query. string_bytes query ≡ query_by waits from to (Some group.now)) }
+{
+    let group = group.as_str();
+    if waits {
+        format!(in alloc; "?wait={from}&to={to}&group={group}")
+    } else {
+        format!(in alloc; "?from={from}&to={to}&group={group}")
     }
 }

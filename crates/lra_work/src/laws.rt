@@ -1,5 +1,5 @@
 // A law of workers: the function does nothing, and its contract is the law.
-ghost use Rattle.std.specs.Prelude.{◌≡◌, ◌||◌, ◌==◌, ℕ, List, Option, IfSome, IsTrue, codes, not};
+ghost use Rattle.std.specs.Prelude.{◌≡◌, ◌||◌, ◌==◌, ℕ, Bool, List, Option, IfSome, IsTrue, codes, not};
 ghost use Rattle.lra_id.specs.Ids.{IsNodeNumber};
 ghost use Rattle.lra_http.specs.declared.message.Request.{Request as TheRequest};
 ghost use Rattle.lra_peer.specs.Texts.{IsQuery, pull_target};
@@ -8,13 +8,13 @@ ghost use Rattle.lra_work.specs.Groups.{is_group_name};
 ghost use Rattle.lra_work.specs.declared.addressee.NodeName.{NodeName as TheName};
 
 /// A pull by a node that is meant for another, and for a group or none, is misdirected exactly at the nodes
-/// with other numbers and, where both have a group, at those of other groups. Its query may stand
-/// in a pull.
+/// with other numbers and, where both have a group, at those of other groups, whether it waits or
+/// not. Its query may stand in a pull.
 pub fn a_pull_to_another_node_is_misdirected()
-    ensures exact { (node : TheName) (from to : ℕ) (group : Option (List ℕ)) (request : TheRequest) →
+    ensures exact { (node : TheName) (waits : Bool) (from to : ℕ) (group : Option (List ℕ)) (request : TheRequest) →
         IsNodeNumber node.me → IsNodeNumber from → IsNodeNumber to → IfSome group (λ name. IsTrue (is_group_name name)) →
-        request.method ≡ codes "POST" → request.target ≡ pull_target (query_by from to group) →
+        request.method ≡ codes "POST" → request.target ≡ pull_target (query_by waits from to group) →
         is_misdirected node request ≡ (not (to == node.me) || is_other_group node.group group) }
-    ensures query { (from to : ℕ) (group : Option (List ℕ)) → IsNodeNumber from → IsNodeNumber to →
-        IfSome group (λ name. IsTrue (is_group_name name)) → IsQuery (query_by from to group) }
+    ensures query { (waits : Bool) (from to : ℕ) (group : Option (List ℕ)) → IsNodeNumber from → IsNodeNumber to →
+        IfSome group (λ name. IsTrue (is_group_name name)) → IsQuery (query_by waits from to group) }
 {}

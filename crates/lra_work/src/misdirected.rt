@@ -121,14 +121,15 @@ fn behind_first(query: &str) -> &str
 fn past_asker(query: &str) -> &str
     ensures { result.now ≡ past_asker query.now }
 {
-    if query.starts_with("from=") {
+    if query.starts_with("from=") || query.starts_with("wait=") {
         behind_first(query)
     } else {
         query
     }
 }
 
-fn asks_other(node: &NodeName, query: Option<&str>) -> bool
+/// Whether a query, if there is one, names another node, or another group.
+pub(crate) fn asks_other(node: &NodeName, query: Option<&str>) -> bool
     ensures { result ≡ asks_other node.now (option_copied query.entry) }
 {
     match query {

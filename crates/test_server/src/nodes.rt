@@ -8,7 +8,7 @@ use log::{Level, Log, Logged};
 use lra_mailbox::Keep;
 use lra_server::{Members, serve, serve_members};
 use lra_sockets::Peer;
-use lra_threads::Build;
+use lra_threads::{Build, Wants};
 use std::alloc::Global;
 use std::io::Read;
 use std::net::{Net, TcpListener, TcpStream};
@@ -176,6 +176,7 @@ fn group(alloc: Global) -> Option<Members>
             failed: None,
         },
         group: None,
+        wants: Wants::none(),
         anew: false,
         build: Build::said(alloc, "1.2.3", "unknown", "none").ok()?,
     })

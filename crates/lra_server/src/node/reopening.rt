@@ -104,8 +104,8 @@ fn refuse_for<R: Wait + Clock + Sockets>(
     shared: &Shared,
     time: Duration,
 ) {
-    let now = now(rt);
-    let mut connections = Connections::between_runs(rt, alloc, node, now.saturating_add(time));
+    let (until, addressee) = (now(rt).saturating_add(time), &shared.addressee);
+    let mut connections = Connections::between_runs(rt, alloc, node, addressee, until);
     for _ in rt.forever() {
         let (_clerk, ending) = work(
             rt,

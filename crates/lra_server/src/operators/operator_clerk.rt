@@ -5,18 +5,27 @@ ghost use Rattle.lra_book.specs.Clerks.{IsOfClerk, IsOutcome, last_reply};
 use crate::operators::errands::Errands;
 use log::{Log, warn};
 use lra_book::{Call, Clerk, Receipt, Reply};
+use lra_copies::Standing;
 use lra_facts::{Command, CommandReply, Refusal};
 use lra_id::{Act, LraId, Outcome};
 use lra_mailbox::Wanted;
 use lra_noting::enters;
+use lra_sockets::now;
 use lra_threads::Node;
 use std::alloc::Global;
-use std::str;
 use std::sync::Wait;
-use std::time::Clock;
+use std::time::{Clock, Duration};
+use std::{str, thread};
+
+/// How long an answer waits at most until other nodes have what it shows, and how often that is looked
+/// at.
+const COPIES_MS: u64 = 1_000;
+
+const LOOK_MS: u64 = 2;
 
 /// Has calls made by the thread that enters. Where the journal is closed it refuses them at once
-/// (E19), and while it is spared commands.
+/// (E19), and commands while it is spared, or others are to have more first. What it answers waits
+/// until they have it.
 #[derive(Drop)]
 pub struct OperatorClerk<'n, R, L> {
     rt: &'n R,
@@ -43,9 +52,18 @@ impl<'n, R: Wait + Clock, L: Log> OperatorClerk<'n, R, L> {
         }
     }
 
+    // Whether nothing is to be entered: the program is about to end, the journal is spared, or too few
+    // others have what is stored.
+    fn is_held_back(&self) -> bool {
+        self.node.is_ending()
+            || self.node.mailbox.is_spared(self.rt)
+            || self.node.followers.refuses(self.rt)
+    }
+
     // Has a call made.
     fn make(&self, call: Call, now: u64) -> Result<Reply, Refusal> {
-        if self.node.is_shut() || (enters(&call) && self.node.mailbox.is_spared(self.rt)) {
+        let is_closed = self.node.is_shut() || self.node.answers_nothing(self.rt);
+        if is_closed || (enters(&call) && self.is_held_back()) {
             return Err(Refusal::Stopped);
         }
         let wanted = wanted_by(&call);
@@ -107,6 +125,18 @@ fn is_entered(reply: &Reply) -> bool {
     )
 }
 
+/// What is answered where too few others have what an answer shows, and that is strict: nobody knows
+/// whether a command is kept (E18), and of a question nothing was done (E19).
+fn unacknowledged(call: &Call) -> Refusal
+    ensures { IsOfClerk result }
+{
+    if enters(call) {
+        Refusal::JournalFailed
+    } else {
+        Refusal::Stopped
+    }
+}
+
 /// A refusal of a clerk: E17 to E21.
 fn of_clerk(refusal: Refusal) -> Refusal
     ensures { IsOfClerk result }
@@ -139,6 +169,39 @@ fn put_last(receipts: &mut Vec<Receipt>, call: Call, reply: Reply) -> Result<(),
 }
 
 impl<'n, R: Wait + Clock, L: Log> OperatorClerk<'n, R, L> {
+    // How an answer stands that waits for a ticket since a moment. It waits for a second at most, since
+    // others' questions wait behind it.
+    fn stand(&self, ticket: u64, since: Duration) -> Standing {
+        let standing = self.node.followers.stand(self.rt, ticket, since);
+        let is_over = now(self.rt).saturating_sub(since) >= Duration::from_millis(COPIES_MS);
+        if standing == Standing::Waits && (is_over || self.node.signal.has_ended(self.rt)) {
+            return Standing::Late;
+        }
+        standing
+    }
+
+    // Waits until other nodes have what an answer may show. It says whether it may be given: one that
+    // is late isn't where that is strict.
+    fn wait_for_copies(&self) -> bool {
+        let (ticket, followers) = (self.node.target(self.rt), &self.node.followers);
+        if ticket == 0 {
+            return true;
+        }
+        if followers.wants().is_strict && followers.is_short(self.rt) {
+            return false;
+        }
+        self.node.pass_on(self.rt);
+        let since = now(self.rt);
+        for _ in self.rt.forever() {
+            match self.stand(ticket, since) {
+                Standing::Copied => return true,
+                Standing::Late => return !self.node.followers.wants().is_strict,
+                Standing::Waits => thread::sleep(self.rt, Duration::from_millis(LOOK_MS)),
+            }
+        }
+        unreachable!()
+    }
+
     // Tells of what was said in the place of a participant, if it was entered.
     fn tell(&self, call: &Call, reply: &Reply) {
         if let Call::Command(command) = call {
@@ -160,6 +223,9 @@ impl<'n, R: Wait + Clock, L: Log> Clerk for OperatorClerk<'n, R, L> {
         match self.make(copy, now) {
             Ok(reply) => {
                 self.tell(&call, &reply);
+                if !self.wait_for_copies() {
+                    return Err(unacknowledged(&call));
+                }
                 put_last(&mut self.receipts, call, reply)
             }
             Err(refusal) => Err(of_clerk(refusal)),

@@ -14,16 +14,19 @@ use lra_book::{Call, Clerk, Reply};
 use lra_callback::Duties;
 use lra_facts::Refusal;
 use lra_heard::{Letter, Telling};
-use lra_id::{MAX_NODES, NodeId};
+use lra_id::{Front, MAX_NODES, NodeId};
 use lra_mailbox::{Task, Wanted};
 use lra_noting::{body_of_all, is_taken};
-use lra_sockets::{Sockets, unix_millis};
+use lra_sockets::{Sockets, now, unix_millis};
 use lra_threads::Node;
 use lra_work::ending_by;
 use std::alloc::Global;
 use std::sync::Wait;
 use std::thread;
 use std::time::{Clock, Duration};
+
+/// How long it is from one look at the pulls and answers that wait to the next.
+const LOOK_MS: u64 = 200;
 
 /// How long it rests where memory runs out.
 const REST_MS: u64 = 20;
@@ -66,7 +69,35 @@ fn note_told(node: &Node, from: NodeId, reply: &Reply) -> bool {
     is_taken(reply)
 }
 
-/// Takes what another node told.
+/// A copy of what another node told, to be kept where the journal can't take it. None is where the
+/// nodes are in one process, whose disk is one.
+fn spare_of(node: &Node, telling: &Telling) -> Option<Telling> {
+    if !node.site.is_apart() {
+        return None;
+    }
+    telling.copy().ok()
+}
+
+/// What becomes of what another node told and couldn't be taken, which has this front. Where memory
+/// ran out it isn't kept, but told again.
+fn keep<R: Wait + Clock>(
+    rt: &R,
+    node: &Node,
+    from: NodeId,
+    front: &Front,
+    spare: Option<Telling>,
+    refusal: Refusal,
+) {
+    let has_failed = matches!(refusal, Refusal::JournalFailed | Refusal::Stopped);
+    match spare {
+        Some(telling) if refusal != Refusal::NoMemory => {
+            node.mailbox.keep_telling(rt, telling, has_failed);
+        }
+        _ => node.mailbox.end_telling(rt, from, front, false),
+    }
+}
+
+/// Takes what another node told. What couldn't be taken is kept.
 fn take<R: Wait + Clock, C: Clerk>(
     rt: &R,
     alloc: Global,
@@ -77,12 +108,18 @@ fn take<R: Wait + Clock, C: Clerk>(
     ensures { IsMade C.Clerk clerk.old clerk.new (TakeDelta telling) result }
 {
     let (front, from) = (telling.front(), telling.from());
+    let spare = spare_of(node, &telling);
     let taken = clerk.call(alloc, Call::Take(telling.into_delta()), unix_millis(rt));
-    let is_taken = match &taken {
-        Ok(()) => note_told(node, from, clerk.reply()),
-        Err(_) => false,
-    };
-    node.mailbox.end_telling(rt, from, &front, is_taken);
+    match &taken {
+        Ok(()) => {
+            let is_taken = note_told(node, from, clerk.reply());
+            node.mailbox.end_telling(rt, from, &front, is_taken);
+        }
+        Err(refusal) => keep(rt, node, from, &front, spare, *refusal),
+    }
+    if node.queue.holding() > 0 {
+        node.queue.free(rt);
+    }
     taken
 }
 
@@ -111,7 +148,7 @@ fn ask<R: Wait + Clock, C: Clerk>(
 {
     clerk.call(alloc, Call::Duties, unix_millis(rt))?;
     if let Some(duties) = duties_of(clerk.reply())? {
-        node.mailbox.put_duties(rt, duties);
+        node.put_duties(rt, duties);
     }
     Ok(())
 }
@@ -240,6 +277,22 @@ fn do_task<R: Wait + Clock, C: Clerk>(
     }
 }
 
+/// Has pulls and answers that wait looked at again, some times a second. It gives when that was last done.
+fn look_again<R: Wait + Clock>(rt: &R, node: &Node, last: Duration) -> Duration {
+    let moment = now(rt);
+    let is_due = moment.saturating_sub(last) >= Duration::from_millis(LOOK_MS);
+    if !is_due {
+        return last;
+    }
+    if node.queue.holding() > 0 {
+        node.queue.free(rt);
+    }
+    if node.queue.promises() > 0 {
+        node.queue.fulfil(rt, u64::MAX);
+    }
+    moment
+}
+
 /// Ends the run where a refusal does, and rests for a moment where memory runs out.
 fn rest<R: Wait + Clock + Sockets>(rt: &R, node: &Node, refusal: Refusal) {
     match ending_by(refusal) {
@@ -259,13 +312,19 @@ pub fn enter_all<R: Wait + Clock + Sockets, C: Clerk + Drop>(
 ) -> C
     ensures { (tasks : List TheTask) × DoesEach C.Clerk clerk tasks result }
 {
+    let mut looked = now(rt);
     for _ in rt.forever() {
         node.pass_on(rt);
         node.end_if_spent(rt);
         if node.signal.stop_reason(rt).is_some() {
             return clerk;
         }
+        looked = look_again(rt, node, looked);
+        node.put_held(rt);
         let task = node.mailbox.next(rt);
+        if matches!(&task, Task::Ask) && node.followers.are_calls_held(rt) {
+            continue;
+        }
         if let Err(refusal) = do_task(rt, alloc, node, errands, &mut clerk, task) {
             rest(rt, node, refusal);
         }

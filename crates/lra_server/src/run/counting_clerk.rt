@@ -10,7 +10,7 @@ use lra_facts::Refusal;
 use lra_id::{Front, LraId};
 use lra_mailbox::Noted;
 use lra_noting::{enters, freed_by, is_any, is_completion, is_own_fact, is_stored, noted_by};
-use lra_sockets::now as moment;
+use lra_sockets::{Promise, now as moment};
 use lra_threads::{Asked, Node};
 use std::alloc::Global;
 use std::sync::Wait;
@@ -41,6 +41,8 @@ pub struct CountingClerk<'n, R, C: Clerk> {
     holds: bool,
     /// Whether one was since that was last asked.
     held: bool,
+    /// For what the answer of its thread waits, if it writes answers.
+    promise: Option<&'n Promise>,
 }
 
 impl<'n, R, C: Clerk> CountingClerk<'n, R, C> {
@@ -54,12 +56,20 @@ impl<'n, R, C: Clerk> CountingClerk<'n, R, C> {
             place,
             holds: false,
             held: false,
+            promise: None,
         }
     }
 
     /// Of a worker. While the journal is spared after a failure, and while the others aren't heard
-    /// or have more of the node's facts, it refuses commands (E19), and asks the clerk all else.
-    pub fn of_worker(rt: &'n R, node: &'n Node, clerk: C, place: usize) -> CountingClerk<'n, R, C> {
+    /// or have more of the node's facts, it refuses commands (E19), and asks the clerk all else; but
+    /// pulls alone where the disk may be lost. Its answers wait until other nodes have what they show.
+    pub fn of_worker(
+        rt: &'n R,
+        node: &'n Node,
+        clerk: C,
+        place: usize,
+        promise: &'n Promise,
+    ) -> CountingClerk<'n, R, C> {
         CountingClerk {
             rt,
             node,
@@ -67,6 +77,7 @@ impl<'n, R, C: Clerk> CountingClerk<'n, R, C> {
             place,
             holds: true,
             held: false,
+            promise: Some(promise),
         }
     }
 
@@ -86,6 +97,7 @@ impl<'n, R, C: Clerk> CountingClerk<'n, R, C> {
             place: _,
             holds: _,
             held: _,
+            promise: _,
         } = self;
         clerk
     }
@@ -130,9 +142,21 @@ fn front_of(node: &Node, call: &Call) -> Option<Front> {
 }
 
 /// Whether nothing of the node's own is entered now: the journal is spared, or the other nodes
-/// aren't heard or have more of its facts, for which it waits a little.
+/// aren't heard or have more of its facts, for which it waits a little; or too few have what is
+/// stored.
 fn is_held_back<R: Wait + Clock>(rt: &R, node: &Node) -> bool {
-    node.mailbox.is_spared(rt) || (node.site.is_apart() && !node.mailbox.wait_to_enter(rt))
+    node.mailbox.is_spared(rt)
+        || (node.site.is_apart() && !node.mailbox.wait_to_enter(rt))
+        || node.followers.refuses(rt)
+}
+
+/// Whether a call is refused, and the clerk not asked: a command that is held back, or any but a pull at
+/// a node whose journal may be lost.
+fn is_refused<R: Wait + Clock>(rt: &R, node: &Node, call: &Call) -> bool {
+    if node.answers_nothing(rt) && !matches!(call, Call::Pull(_)) {
+        return true;
+    }
+    enters(call) && (node.is_ending() || is_held_back(rt, node))
 }
 
 /// Notes what the other threads are to go on with.
@@ -159,6 +183,65 @@ fn tell<R: Wait + Clock>(
     }
 }
 
+/// What a call is for those who pull from the node.
+#[derive(Clone, Copy)]
+enum Step {
+    /// It may store a fact of the node.
+    Enters,
+    /// It asks for a frame, with this ticket.
+    Asks(u64),
+    Other,
+}
+
+/// Notes that a call begins, where others pull from this process. A frame that is asked for here, to
+/// count facts, goes to nobody.
+fn begin<R: Wait>(rt: &R, node: &Node, call: &Call, answers: bool) -> Step {
+    if !node.site.is_apart() {
+        return Step::Other;
+    }
+    if enters(call) {
+        node.followers.begin(rt);
+        return Step::Enters;
+    }
+    match call {
+        Call::Pull(_) if answers => Step::Asks(node.followers.ask(rt)),
+        _ => Step::Other,
+    }
+}
+
+/// Notes that it is over, with this reply. It gives the ticket of the fact that it stored; 0 for none.
+fn end<R: Wait + Clock>(rt: &R, node: &Node, step: Step, reply: &Reply) -> u64 {
+    match (step, reply) {
+        (Step::Enters, _) => node.followers.end(rt, is_own_fact(reply)),
+        (Step::Asks(ticket), Reply::Gave(delta)) => {
+            node.followers.give(rt, ticket, &delta.front());
+            0
+        }
+        _ => 0,
+    }
+}
+
+/// Has an answer wait for the fact that its call stored, or for all that it may show. A frame waits for
+/// nothing.
+fn make<R: Wait>(rt: &R, node: &Node, promise: &Promise, step: Step, ticket: u64) {
+    if matches!(step, Step::Asks(_)) {
+        return;
+    }
+    if ticket > 0 {
+        promise.make(ticket);
+    } else {
+        promise.make(node.target(rt));
+    }
+}
+
+/// Notes that it is over, and was refused so. Where the journal failed something may be stored.
+fn give_up<R: Wait>(rt: &R, node: &Node, step: Step, refusal: &Refusal) {
+    if matches!(step, Step::Enters) {
+        let is_unknown = matches!(refusal, Refusal::JournalFailed);
+        let _ticket = node.followers.end(rt, is_unknown);
+    }
+}
+
 /// Notes why a call was refused.
 fn tell_refused<R: Wait>(rt: &R, node: &Node, asked: Asked, refusal: &Refusal) {
     if matches!(refusal, Refusal::JournalFailed) {
@@ -170,7 +253,7 @@ fn tell_refused<R: Wait>(rt: &R, node: &Node, asked: Asked, refusal: &Refusal) {
 impl<'n, R: Wait + Clock, C: Clerk + Drop> Clerk for CountingClerk<'n, R, C> {
     ghost receipts = { λ s. C.receipts s.clerk };
 
-    // The clerk was called; or the command was held back, and the clerk not asked.
+    // The clerk was called; or the call was refused, and the clerk not asked.
     ghost called = { λ old new call now outcome. C.called old.clerk new.clerk call now outcome
         ⊎ ((new.clerk ≡ old.clerk) × (outcome ≡ Err Stopped)) };
 
@@ -178,17 +261,23 @@ impl<'n, R: Wait + Clock, C: Clerk + Drop> Clerk for CountingClerk<'n, R, C> {
         let (is_move, completes, asked) = (call.is_move(), is_completion(&call), asked_by(&call));
         let weight = weight_of_call(&call);
         let (front, freed) = (front_of(self.node, &call), freed_by(&call));
-        if self.holds && enters(&call) && is_held_back(self.rt, self.node) {
+        if self.holds && is_refused(self.rt, self.node, &call) {
             self.held = true;
             tell_refused(self.rt, self.node, asked, &Refusal::Stopped);
             return Err(Refusal::Stopped);
         }
+        let promise = self.promise;
+        let step = begin(self.rt, self.node, &call, promise.is_some());
         self.node.desk.begin(self.place, moment(self.rt));
         let outcome = self.clerk.call(alloc, call, now);
         self.node.desk.end(self.place);
         match outcome {
             Ok(()) => {
                 let reply = self.clerk.reply();
+                let ticket = end(self.rt, self.node, step, reply);
+                if let Some(promise) = promise {
+                    make(self.rt, self.node, promise, step, ticket);
+                }
                 let calls = weight.saturating_add(weight_of_reply(reply));
                 self.node.tally.count(calls, is_move, is_stored(reply));
                 tell(self.rt, self.node, reply, completes, &freed);
@@ -199,6 +288,7 @@ impl<'n, R: Wait + Clock, C: Clerk + Drop> Clerk for CountingClerk<'n, R, C> {
                 Ok(())
             }
             Err(refusal) => {
+                give_up(self.rt, self.node, step, &refusal);
                 tell_refused(self.rt, self.node, asked, &refusal);
                 Err(refusal)
             }

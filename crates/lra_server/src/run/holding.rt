@@ -1,17 +1,26 @@
 // Which pulls wait though they are whole.
 
+use lra_copies::{Standing, Verdict};
 use lra_id::{Front, MAX_NODES, NodeId};
 use lra_peer::front_of_pull;
-use lra_sockets::Holder;
+use lra_sockets::{Asked, Hold, Holder, Stand};
 use lra_threads::Node;
+use lra_work::Addressee;
+use std::str;
 use std::sync::Wait;
+use std::time::{Clock, Duration};
 
-/// Keeps those waiting that ask a node to which they told of more of their facts than they count now, until
-/// these are stored: who starts over an older journal is to hear of each number that it gave.
+/// From how many connections on that wait for a worker no pull waits among them.
+const CROWD: u64 = 512;
+
+/// Holds pulls of other nodes: of one that waits, until this node has something new for it; and of one that
+/// told of more of its facts than it counts now, until these are stored, since who starts over an older
+/// journal is to hear of each number that it gave. Answers wait until other nodes have what they show.
 #[derive(Drop)]
-pub struct Owing<'n, R> {
+pub struct Holding<'n, R> {
     pub rt: &'n R,
     pub node: &'n Node,
+    pub addressee: &'n Addressee,
 }
 
 /// How many facts one has that pulls with this body, where that is to be heard: the other nodes are in
@@ -23,11 +32,58 @@ pub fn front_in(node: &Node, body: &[u8]) -> Option<Front> {
     front_of_pull(usize::from(node.nodes), body).ok()
 }
 
-impl<'n, R: Wait> Holder for Owing<'n, R> {
-    fn holds(&self, from: u8, body: &[u8]) -> bool {
-        let (Ok(from), Some(front)) = (NodeId::new(from), front_in(self.node, body)) else {
-            return false;
+impl<'n, R: Wait + Clock> Holding<'n, R> {
+    // Whether a query is of another node, and means this one.
+    fn is_meant(&self, from: NodeId, query: &[u8]) -> bool {
+        match str::from_utf8(query) {
+            Ok(query) => from != self.node.me && self.addressee.is_meant(query),
+            Err(_) => false,
+        }
+    }
+
+    // What becomes of the pull of a node that has so many facts of each.
+    fn judge(&self, from: NodeId, asked: &Asked, front: &Front) -> Hold {
+        if self.node.mailbox.is_owed(self.rt, from, front) {
+            return Hold::Later;
+        }
+        if !asked.waits {
+            return Hold::Serve;
+        }
+        match self.node.judge(self.rt, from, front, asked.since) {
+            Verdict::Serve => Hold::Serve,
+            Verdict::Soon if self.node.queue.waiting(self.rt) > CROWD => Hold::Serve,
+            Verdict::Soon => Hold::Soon,
+            Verdict::Later => Hold::Later,
+        }
+    }
+}
+
+impl<'n, R: Wait + Clock> Holder for Holding<'n, R> {
+    fn stand(&self, ticket: u64, since: Duration) -> Stand {
+        let followers = &self.node.followers;
+        match followers.stand(self.rt, ticket, since) {
+            Standing::Copied => Stand::Send,
+            Standing::Late if followers.wants().is_strict => Stand::Drop,
+            Standing::Late => Stand::Send,
+            Standing::Waits => Stand::Wait,
+        }
+    }
+
+    fn hold(&self, asked: &Asked, query: &[u8], body: &[u8]) -> Hold {
+        let (Ok(from), Some(front)) = (NodeId::new(asked.from), front_in(self.node, body)) else {
+            return Hold::Serve;
         };
-        self.node.mailbox.is_owed(self.rt, from, &front)
+        if !self.is_meant(from, query) {
+            return Hold::Serve;
+        }
+        if asked.since.is_none() {
+            self.node.note_asked(self.rt, from);
+            self.node.hear_copies(self.rt, from, &front);
+        }
+        let hold = self.judge(from, asked, &front);
+        if hold == Hold::Later && asked.since.is_none() {
+            self.node.hear_front(self.rt, &front);
+        }
+        hold
     }
 }

@@ -1,0 +1,326 @@
+// How the nodes stand that pull from this one.
+
+ghost use Rattle.std.specs.Prelude.{◌≤◌};
+ghost use Rattle.lra_id.specs.declared.TheConstants.{MAX_NODES};
+
+use lra_callback::Duties;
+use lra_copies::{Copies, Fate, Pacing, Standing, Verdict, Waiters};
+use lra_id::{Front, MAX_NODES, NodeId};
+use lra_sockets::now;
+use std::sync::{Mutex, Wait};
+use std::time::{Clock, Duration};
+
+/// For how long one waits for copies at the least: in less nobody may acknowledge.
+const LEAST_MS: u64 = 50;
+
+/// How many other nodes are to have a fact before who may have seen it goes on, and for how long one
+/// waits for that.
+#[derive(Clone, Copy)]
+pub struct Wants {
+    /// 0 for nobody waits.
+    pub copies: u8,
+    pub patience_ms: u64,
+    /// Whether nothing is acknowledged after that, and nothing entered while too few have what is
+    /// stored.
+    pub is_strict: bool,
+}
+
+impl Wants {
+    /// Nobody waits.
+    pub fn none() -> Wants {
+        Wants {
+            copies: 0,
+            patience_ms: 0,
+            is_strict: false,
+        }
+    }
+
+    /// Whether anybody waits.
+    pub fn any(&self) -> bool {
+        self.copies > 0
+    }
+}
+
+/// Participants that wait no longer, if they are to be called, and whether it is to be asked again who
+/// is.
+#[derive(Drop)]
+pub(crate) struct Released {
+    pub(crate) duties: Option<Duties>,
+    pub(crate) asks_again: bool,
+}
+
+/// How answers and lists went on that waited.
+#[derive(Clone, Copy)]
+pub struct Waited {
+    /// How many had as many copies as are wanted, and how many hadn't.
+    pub copied: u64,
+    pub late: u64,
+}
+
+/// What lies under the lock.
+#[derive(Drop)]
+struct Held {
+    copies: Copies,
+    pacing: Pacing,
+    waiters: Waiters,
+    /// Participants and listeners that wait to be called; none where their list is too old.
+    duties: Option<Duties>,
+    /// Whether another answered with facts of this node that it never gave: there are two processes of
+    /// this number, or its journal went back.
+    is_doubted: bool,
+}
+
+impl Held {
+    /// How one stands that waits for a ticket since a moment.
+    fn stand(&mut self, ticket: u64, since: Duration, moment: Duration, strict: bool) -> Standing {
+        self.waiters
+            .stand(&mut self.copies, ticket, since, moment, strict)
+    }
+
+    /// What becomes of the participants that wait, if they don't wait on.
+    fn take_called(&mut self, moment: Duration, strict: bool) -> Option<Released> {
+        let fate = self.waiters.take_calls(&mut self.copies, moment, strict);
+        match fate {
+            Fate::OnHold => None,
+            Fate::Outdated => {
+                self.duties = None;
+                None
+            }
+            Fate::Called { asks_again } => {
+                let duties = self.duties.take();
+                Some(Released { duties, asks_again })
+            }
+            Fate::Asked => Some(Released {
+                duties: None,
+                asks_again: true,
+            }),
+        }
+    }
+}
+
+/// How the nodes stand that pull from this one: what they have of its facts, when they are served,
+/// and who waits for that. It outlives the runs of the node.
+#[derive(Drop)]
+pub struct Followers {
+    me: NodeId,
+    nodes: u8,
+    wants: Wants,
+    held: Mutex<Held>,
+}
+
+impl Followers {
+    /// Of a node of so many, which nobody has asked yet.
+    pub fn new(me: NodeId, nodes: u8, wants: Wants) -> Followers
+        requires { (1 ≤ nodes) × (nodes ≤ MAX_NODES) }
+    {
+        let patience = Duration::from_millis(wants.patience_ms.max(LEAST_MS));
+        Followers {
+            me,
+            nodes,
+            wants,
+            held: Mutex::new(Held {
+                copies: Copies::new(me, nodes, wants.copies, patience),
+                pacing: Pacing::new(),
+                waiters: Waiters::new(),
+                duties: None,
+                is_doubted: false,
+            }),
+        }
+    }
+
+    /// What is wanted of them.
+    pub fn wants(&self) -> Wants {
+        self.wants
+    }
+
+    /// Notes that a call begins that may store a fact of this node.
+    pub fn begin<R: Wait>(&self, rt: &R) {
+        self.held.lock(rt).copies.begin();
+    }
+
+    /// Notes that it is over. It gives the ticket for which its answer waits; 0 for none.
+    pub fn end<R: Wait>(&self, rt: &R, is_stored: bool) -> u64 {
+        let mut held = self.held.lock(rt);
+        let ticket = held.copies.end(is_stored);
+        if self.wants.any() && is_stored {
+            return ticket;
+        }
+        0
+    }
+
+    /// For which ticket an answer waits that may show what is stored now; 0 for none.
+    pub(crate) fn target<R: Wait>(&self, rt: &R) -> u64 {
+        if !self.wants.any() {
+            return 0;
+        }
+        self.held.lock(rt).copies.target()
+    }
+
+    /// Notes how many facts of its own this node has.
+    pub fn note_count<R: Wait>(&self, rt: &R, front: &Front) {
+        let count = front.count(self.me);
+        self.held.lock(rt).copies.note_count(count);
+    }
+
+    /// Notes that a frame is asked for. It gives a ticket.
+    pub fn ask<R: Wait>(&self, rt: &R) -> u64 {
+        self.held.lock(rt).copies.ask()
+    }
+
+    /// Notes that a frame with this front was given, which was asked for with this ticket.
+    pub fn give<R: Wait + Clock>(&self, rt: &R, ticket: u64, front: &Front) {
+        let moment = now(rt);
+        let count = front.count(self.me);
+        self.held.lock(rt).copies.give(ticket, count, moment);
+    }
+
+    /// Hears how many facts of this node another has stored that asks, where this one has so many. It
+    /// gives the ticket up to which as many others as are wanted have each fact.
+    pub(crate) fn hear<R: Wait + Clock>(
+        &self,
+        rt: &R,
+        other: NodeId,
+        front: &Front,
+        known: &Front,
+    ) -> u64 {
+        let moment = now(rt);
+        let mut held = self.held.lock(rt);
+        held.copies.note_count(known.count(self.me));
+        held.copies.hear(other, front.count(self.me), moment);
+        held.copies.covered()
+    }
+
+    /// Whether another asked as if it had facts of this node that it never gave. Anybody who can connect
+    /// may say so.
+    pub(crate) fn has_strange<R: Wait>(&self, rt: &R) -> bool {
+        self.held.lock(rt).copies.has_strange()
+    }
+
+    /// Has nothing entered from here on: another has facts of this node that it never gave.
+    pub(crate) fn doubt<R: Wait>(&self, rt: &R) {
+        self.held.lock(rt).is_doubted = true;
+    }
+
+    /// The ticket up to which as many others as are wanted have each fact.
+    pub fn covered<R: Wait>(&self, rt: &R) -> u64 {
+        self.held.lock(rt).copies.covered()
+    }
+
+    /// What becomes of a pull by another node that has so many facts of each, and has waited since a
+    /// moment, where this one has so many.
+    pub(crate) fn judge<R: Wait + Clock>(
+        &self,
+        rt: &R,
+        other: NodeId,
+        front: &Front,
+        known: &Front,
+        since: Option<Duration>,
+    ) -> Verdict {
+        let moment = now(rt);
+        let lacks_others = !known.below(front);
+        let mut held = self.held.lock(rt);
+        held.pacing.note_asked(other, moment);
+        let has_news = held.copies.has_news(front.count(self.me));
+        let since = since.unwrap_or(moment);
+        let verdict = held
+            .pacing
+            .verdict(self.nodes, other, since, has_news, lacks_others, moment);
+        if verdict == Verdict::Serve {
+            held.pacing.note_given(other, moment);
+        }
+        verdict
+    }
+
+    /// How an answer stands that waits for a ticket since a moment.
+    pub fn stand<R: Wait + Clock>(&self, rt: &R, ticket: u64, since: Duration) -> Standing {
+        let moment = now(rt);
+        let mut held = self.held.lock(rt);
+        held.stand(ticket, since, moment, self.wants.is_strict)
+    }
+
+    /// Has participants wait for a ticket.
+    pub(crate) fn hold_calls<R: Wait + Clock>(&self, rt: &R, duties: Duties, ticket: u64) {
+        let since = now(rt);
+        let mut held = self.held.lock(rt);
+        held.duties = Some(duties);
+        held.waiters.hold_calls(ticket, since);
+    }
+
+    /// Whether participants wait.
+    pub(crate) fn holds_calls<R: Wait>(&self, rt: &R) -> bool {
+        self.held.lock(rt).waiters.holds_calls()
+    }
+
+    /// Whether participants wait. Then it is asked again who is to be called, once they don't.
+    pub fn are_calls_held<R: Wait>(&self, rt: &R) -> bool {
+        if !self.wants.any() {
+            return false;
+        }
+        self.held.lock(rt).waiters.puts_off()
+    }
+
+    /// What becomes of the participants that wait, if they don't wait on.
+    pub(crate) fn take_calls<R: Wait + Clock>(&self, rt: &R) -> Option<Released> {
+        let moment = now(rt);
+        let mut held = self.held.lock(rt);
+        held.take_called(moment, self.wants.is_strict)
+    }
+
+    /// Whether nothing is entered, since others fell behind and that is strict, or since there are
+    /// two processes of this number, or its journal is older.
+    pub fn refuses<R: Wait>(&self, rt: &R) -> bool {
+        if !self.wants.any() {
+            return false;
+        }
+        let held = self.held.lock(rt);
+        held.is_doubted || (self.wants.is_strict && held.copies.is_short())
+    }
+
+    /// Whether another was heard to have facts of this node that it never gave.
+    pub fn is_doubted<R: Wait>(&self, rt: &R) -> bool {
+        self.held.lock(rt).is_doubted
+    }
+
+    /// Whether others fell behind for longer than one waits.
+    pub fn is_short<R: Wait>(&self, rt: &R) -> bool {
+        self.held.lock(rt).copies.is_short()
+    }
+
+    /// How answers and lists went on that waited.
+    pub fn waited<R: Wait>(&self, rt: &R) -> Waited {
+        let held = self.held.lock(rt);
+        Waited {
+            copied: held.waiters.copied(),
+            late: held.waiters.late(),
+        }
+    }
+
+    /// How many were late since this was last asked.
+    pub(crate) fn take_late<R: Wait>(&self, rt: &R) -> u64 {
+        self.held.lock(rt).waiters.take_untold()
+    }
+
+    /// How many facts of this node another told that it stored.
+    pub fn told<R: Wait>(&self, rt: &R, other: NodeId) -> u64 {
+        self.held.lock(rt).copies.told(other)
+    }
+
+    /// Whether each other node asks by itself for what is new here.
+    pub(crate) fn do_all_listen<R: Wait + Clock>(&self, rt: &R) -> bool {
+        let moment = now(rt);
+        let held = self.held.lock(rt);
+        held.pacing.do_all_listen(self.me, self.nodes, moment)
+    }
+
+    /// Notes that a run ends.
+    pub(crate) fn note_end<R: Wait + Clock>(&self, rt: &R) {
+        let moment = now(rt);
+        self.held.lock(rt).pacing.note_end(moment);
+    }
+
+    /// Notes that the next one has begun.
+    pub fn note_begun<R: Wait + Clock>(&self, rt: &R) {
+        let moment = now(rt);
+        self.held.lock(rt).pacing.note_begun(moment);
+    }
+}
