@@ -125,6 +125,9 @@ impl History {
 
     /// Forgets what a node entered beyond so many facts.
     pub fn forget(&mut self, node: NodeId, count: u64) -> Result<(), Halt> {
+        if self.count(node) <= count {
+            return Ok(());
+        }
         self.facts.retain(|fact| is_kept(fact, node, count));
         self.places = Vec::new(self.alloc);
         self.note_all_places()

@@ -412,22 +412,6 @@ impl Model {
         }
     }
 
-    fn add_shown(&self, lras: &[Lra], all: &mut Vec<(LraId, LraStatus)>) -> Result<(), Halt> {
-        for lra in lras {
-            all.push((lra.id, self.status(lra)))?;
-        }
-        Ok(())
-    }
-
-    /// What each LRA shows that is held, in order of homes and numbers.
-    pub fn shown(&self) -> Result<Vec<(LraId, LraStatus)>, Halt> {
-        let mut all = Vec::new(self.alloc);
-        for home in self.homes.iter() {
-            self.add_shown(home, &mut all)?;
-        }
-        Ok(all)
-    }
-
     /// What an LRA shows, if it is held.
     pub fn shown_of(&self, id: LraId) -> Option<LraStatus> {
         match self.lra(id) {

@@ -1,0 +1,61 @@
+// Whom a node calls.
+
+use lra_callback::{Duties, Duty};
+use lra_luck::{DueCall, Halt};
+use std::alloc::Global;
+
+/// How many hosts participants are at.
+pub const HOSTS: usize = 5;
+
+/// A call, by whom it goes to.
+pub fn due_call(duty: &Duty) -> DueCall {
+    DueCall {
+        kind: duty.kind,
+        id: duty.id,
+        member: duty.member,
+    }
+}
+
+pub fn is_same(one: &DueCall, other: &DueCall) -> bool {
+    one.id == other.id && one.member == other.member && one.kind == other.kind
+}
+
+pub fn is_among(listed: &[DueCall], who: &DueCall) -> bool {
+    for one in listed {
+        if is_same(one, who) {
+            return true;
+        }
+    }
+    false
+}
+
+/// The place of the host of a link `http://h1/..`.
+pub fn host_of(duty: &Duty) -> usize {
+    let number = duty
+        .link
+        .as_str()
+        .as_bytes()
+        .get(8)
+        .copied()
+        .unwrap_or(b'1');
+    usize::from(number.saturating_sub(b'1')) % HOSTS
+}
+
+/// Whom a list names.
+pub fn named_on(alloc: Global, duties: &Duties) -> Result<Vec<DueCall>, Halt> {
+    let mut listed = Vec::new(alloc);
+    for duty in duties.as_slice() {
+        listed.push(due_call(duty))?;
+    }
+    Ok(listed)
+}
+
+/// Whether two lists name the same, in the same order.
+pub fn are_same(ones: &[DueCall], others: &[DueCall]) -> bool {
+    for (one, other) in ones.iter().zip(others.iter()) {
+        if !is_same(one, other) {
+            return false;
+        }
+    }
+    ones.len() == others.len()
+}

@@ -1,0 +1,153 @@
+// What is to be known of calls, commands, facts and replies.
+
+use lra_book::{Call, Reply};
+use lra_facts::{Body, Command, CommandReply, Fact};
+use lra_id::{Front, LraId, MAX_NODES, NodeId, Verdict};
+use lra_luck::Halt;
+use lra_noting::{body_of_all, enters, freed_by, is_completion};
+use std::alloc::{AllocError, Global};
+
+/// What is to be known of a call once it is made.
+#[derive(Drop)]
+pub struct Asked {
+    pub command: Option<Command>,
+    /// The front to which a frame leads that is taken.
+    pub taken: Option<Front>,
+    pub is_sweep: bool,
+    pub enters: bool,
+    pub completes: bool,
+    pub freed: Option<LraId>,
+}
+
+fn command_in(call: &Call) -> Result<Option<Command>, AllocError> {
+    match call {
+        Call::Command(command) => Ok(Some(command.clone()?)),
+        Call::Sweep { root, .. } => Ok(Some(Command::Purge { root: *root })),
+        _ => Ok(None),
+    }
+}
+
+fn taken_in(call: &Call) -> Option<Front> {
+    match call {
+        Call::Take(delta) => Some(delta.front()),
+        _ => None,
+    }
+}
+
+fn is_sweep(call: &Call) -> bool {
+    matches!(call, Call::Sweep { .. })
+}
+
+impl Asked {
+    pub fn of(call: &Call) -> Result<Asked, Halt> {
+        Ok(Asked {
+            command: command_in(call)?,
+            taken: taken_in(call),
+            is_sweep: is_sweep(call),
+            enters: enters(call),
+            completes: is_completion(call),
+            freed: freed_by(call),
+        })
+    }
+}
+
+/// The pull of one that has all facts that there can be of so many nodes.
+pub fn pull_of_all(alloc: Global, nodes: u8) -> Result<Call, Halt> {
+    Ok(Call::Pull(body_of_all(alloc, nodes.clamp(1, MAX_NODES))?))
+}
+
+/// The LRA that a command names.
+pub fn named_by(command: &Command) -> Option<LraId> {
+    match command {
+        Command::Begin { parent, .. } => *parent,
+        Command::Purge { root } => Some(*root),
+        Command::Join { id, .. }
+        | Command::Leave { id, .. }
+        | Command::Decide { id, .. }
+        | Command::Report { id, .. }
+        | Command::Forgot { id, .. }
+        | Command::Told { id, .. } => Some(*id),
+    }
+}
+
+/// The LRA that a call's command names, if it is a command.
+pub fn named_in(asked: &Asked) -> Option<LraId> {
+    match &asked.command {
+        Some(command) => named_by(command),
+        None => None,
+    }
+}
+
+/// Where a frame leads to that was taken.
+pub fn taken_by(asked: &Asked, reply: &Reply) -> Option<Front> {
+    match reply {
+        Reply::Took => asked.taken,
+        _ => None,
+    }
+}
+
+/// The root that a call was to purge, where it was purged.
+pub fn purged_root(asked: &Asked, reply: &Reply) -> Option<LraId> {
+    match (&asked.command, reply) {
+        (Some(Command::Purge { root }), Reply::Command(CommandReply::Purged)) => Some(*root),
+        _ => None,
+    }
+}
+
+/// The member number that a command was given, or 0, if it stored anything.
+fn given_by(reply: &CommandReply) -> Option<u8> {
+    match reply {
+        CommandReply::Known | CommandReply::Refused(_) => None,
+        CommandReply::Joined(_, member) => Some(*member),
+        _ => Some(0),
+    }
+}
+
+/// What is stored of a call of a node that was replied so: a fact's body.
+pub fn stored(asked: Asked, reply: &Reply) -> Option<Body> {
+    let given = match reply {
+        Reply::Expired(id) => return Some(cancel(*id)),
+        Reply::Command(reply) => given_by(reply),
+        _ => None,
+    };
+    let (Some(given), Some(command)) = (given, asked.command) else {
+        return None;
+    };
+    Some(body_of(command, given))
+}
+
+/// That an LRA is cancelled.
+pub fn cancel(id: LraId) -> Body {
+    Body::Decide {
+        id,
+        verdict: Verdict::Cancel,
+    }
+}
+
+/// What a command enters, where a participant joins under this member number.
+pub fn body_of(command: Command, given: u8) -> Body {
+    match command {
+        Command::Begin { parent, deadline } => Body::Begin { parent, deadline },
+        Command::Join { id, links } => Body::Join {
+            id,
+            member: given,
+            links,
+        },
+        Command::Leave { id, member } => Body::Leave { id, member },
+        Command::Decide { id, verdict } => Body::Decide { id, verdict },
+        Command::Report {
+            id,
+            member,
+            act,
+            outcome,
+        } => Body::Report {
+            id,
+            member,
+            act,
+            outcome,
+        },
+        Command::Forgot { id, member } => Body::Forgot { id, member },
+        Command::Told { id, member } => Body::Told { id, member },
+        Command::Purge { root } => Body::Purge { root },
+    }
+}

@@ -1,0 +1,14 @@
+//! A node that the simulator plays: what is there of it while it runs, what outlives that, and whether what
+//! it says is what its facts say.
+#![tactic(auto)]
+
+mod due;
+mod glue;
+mod life;
+mod node;
+mod seeing;
+
+pub use due::{HOSTS, due_call, host_of};
+pub use glue::{Asked, body_of, cancel, named_in, pull_of_all, stored, taken_by};
+pub use life::Life;
+pub use node::Node;

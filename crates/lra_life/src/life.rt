@@ -1,0 +1,484 @@
+// What is there of a node from a start to the next stop. `hear_telling` stands once more in lra_threads/src/following.rt,
+// `take_over`.
+
+use crate::due::{host_of, is_among, is_same};
+use crate::glue::Asked;
+use lra_book::{Call, Reply};
+use lra_callback::Duties;
+use lra_delta::Delta;
+use lra_facts::Refusal;
+use lra_heard::{Letter, Telling, Unheard};
+use lra_id::{Front, LAST_NUMBER, LraId, LraStatus, MAX_NODES, NodeId};
+use lra_luck::{DueCall, Halt};
+use lra_mailbox::{Keep, MailboxState, Sweeping, Task, Wanted};
+use lra_noting::{is_any, noted_by, purged_by};
+use lra_replica::Page;
+use lra_run::Runs;
+use lra_turns::Due;
+use std::alloc::Global;
+use std::time::Duration;
+
+/// How many threads of a node call participants.
+const CALLERS: usize = 4;
+
+/// How long operators wait for a call, in milliseconds.
+const ERRAND_MS: u64 = 5_000;
+
+/// How long a node waits for the others before it enters something, in milliseconds.
+const LATE_MS: u64 = 1_000;
+
+/// A participant that is called.
+#[derive(Drop)]
+struct InFlight {
+    due: Due,
+    began: u64,
+}
+
+/// A call that operators want made.
+#[derive(Drop)]
+struct Errand {
+    call: Call,
+    until: u64,
+}
+
+/// What another node told that waits in the mailbox, or is being taken.
+#[derive(Clone, Copy)]
+struct Awaited {
+    from: NodeId,
+    front: Front,
+}
+
+/// How a life began, and whom it has heard since.
+#[derive(Drop)]
+struct Start {
+    at: u64,
+    waits_for_all: bool,
+    /// Whom it has heard, by their places.
+    heard: Vec<usize>,
+    /// How many facts of this node others told of.
+    told_own: u64,
+}
+
+/// What is there of a node from a start to the next stop.
+#[derive(Drop)]
+pub struct Life<R: Runs> {
+    run: Option<R>,
+    state: MailboxState,
+    /// What the thread that enters is about to do.
+    task: Option<Task>,
+    calls: Vec<InFlight>,
+    /// What operators want made, and until when they wait for it.
+    errand: Option<Errand>,
+    /// What others told that waits for room in the mailbox.
+    tellings: Vec<Telling>,
+    awaited: Vec<Awaited>,
+    /// Whom the newest list names who was neither heard nor entered since.
+    listed: Vec<DueCall>,
+    start: Start,
+}
+
+/// A moment of the monotonic clock.
+pub fn at(now: u64) -> Duration {
+    Duration::from_millis(now)
+}
+
+impl Start {
+    fn new(alloc: Global, at: u64, waits_for_all: bool) -> Start {
+        Start {
+            at,
+            waits_for_all,
+            heard: Vec::new(alloc),
+            told_own: 0,
+        }
+    }
+
+    /// Notes that a node told how many facts of this one it has.
+    fn hear(&mut self, place: usize, told_own: u64) -> Result<(), Halt> {
+        self.told_own = self.told_own.max(told_own);
+        self.heard.push(place)?;
+        Ok(())
+    }
+
+    /// Whether all of so many nodes were heard but the one at this place.
+    fn has_heard_all(&self, place: usize, count: usize) -> bool {
+        for other in 0..count {
+            if other != place && !self.heard.contains(&other) {
+                return false;
+            }
+        }
+        true
+    }
+}
+
+impl<R: Runs> Life<R> {
+    /// A life that begins at a moment, of one of so many nodes.
+    pub fn new(
+        alloc: Global,
+        me: NodeId,
+        keep: Keep,
+        nodes: u8,
+        run: R,
+        now: u64,
+        waits_for_all: bool,
+    ) -> Life<R> {
+        let nodes = nodes.clamp(1, MAX_NODES);
+        let are_apart = nodes > 1;
+        let sweeping = Sweeping::new(alloc, me, keep, are_apart, true);
+        Life {
+            run: Some(run),
+            state: MailboxState::new(alloc, me, nodes, are_apart, waits_for_all, sweeping),
+            task: None,
+            calls: Vec::new(alloc),
+            errand: None,
+            tellings: Vec::new(alloc),
+            awaited: Vec::new(alloc),
+            listed: Vec::new(alloc),
+            start: Start::new(alloc, now, waits_for_all),
+        }
+    }
+
+    /// Whether its journal is closed.
+    pub fn is_shut(&self) -> bool {
+        self.run.is_none()
+    }
+
+    /// Whether it may enter something of its own.
+    pub fn is_open(&self) -> bool {
+        self.state.is_open()
+    }
+
+    /// When it began.
+    pub fn began_at(&self) -> u64 {
+        self.start.at
+    }
+
+    /// Whether it may enter something: the others were heard, or for a second none that has more than so many facts of
+    /// this node, which stands at this place of so many.
+    pub fn may_enter(&self, own: u64, place: usize, count: usize, now: u64) -> bool {
+        let start = &self.start;
+        let is_late = now >= start.at.saturating_add(LATE_MS) && !start.waits_for_all;
+        start.told_own <= own && (is_late || start.has_heard_all(place, count))
+    }
+
+    /// The run of its journal, which is closed then.
+    pub fn take_run(&mut self) -> Option<R> {
+        self.run.take()
+    }
+
+    /// The next run is on.
+    pub fn put_run(&mut self, run: R) {
+        self.run = Some(run);
+    }
+
+    /// A run is on over a journal that was opened again, and nothing is stored until a moment.
+    pub fn reopen(&mut self, run: R, until: u64) {
+        self.state.hold_until(at(until));
+        self.put_run(run);
+    }
+
+    /// Whether a call that enters something is held back.
+    fn is_held(&self, now: u64) -> bool {
+        !self.state.is_open() || self.state.is_spared(at(now))
+    }
+
+    /// Makes a call. No reply comes where it is held back, or the journal is closed.
+    pub fn make(
+        &mut self,
+        caller: usize,
+        call: Call,
+        enters: bool,
+        now: u64,
+        unix: u64,
+    ) -> Result<Option<Reply>, Refusal> {
+        if caller > 0 && enters && self.is_held(now) {
+            return Ok(None);
+        }
+        let Some(run) = self.run.as_mut() else {
+            return Ok(None);
+        };
+        match run.call(caller, call, unix) {
+            Ok(reply) => Ok(Some(reply)),
+            Err(refusal) => Err(refusal),
+        }
+    }
+
+    fn learn(&mut self, delta: &Delta) {
+        self.state.learn(&delta.front());
+        self.state.note_counted();
+    }
+
+    /// Notes what a call leaves for the threads to go on with.
+    pub fn note(&mut self, asked: &Asked, reply: &Reply, now: u64) {
+        let noted = noted_by(asked.completes, &asked.freed, reply);
+        if is_any(&noted) {
+            self.state.note(&noted, at(now));
+        }
+        if let Reply::Gave(delta) = reply {
+            self.learn(delta);
+        }
+    }
+
+    /// How many facts of a node it has heard of, and not taken yet.
+    pub fn heard_of(&self, other: NodeId) -> u64 {
+        let mut most = 0;
+        for one in self.awaited.iter() {
+            most = one.front.count(other).max(most);
+        }
+        for telling in self.tellings.iter() {
+            most = most.max(telling.front().count(other));
+        }
+        most
+    }
+}
+
+/// What the thread that enters does.
+impl<R: Runs> Life<R> {
+    /// What it took and hasn't done.
+    pub fn take_task(&mut self) -> Option<Task> {
+        self.task.take()
+    }
+
+    /// It took this, and does it at the next step.
+    pub fn put_task(&mut self, task: Task) {
+        self.task = Some(task);
+    }
+
+    /// What it does next, if its journal is open.
+    pub fn next_task(&mut self, now: u64) -> Task {
+        let now = at(now);
+        let _opens = self.state.open_if_due(now);
+        let _may_call = self.state.resume_calls(now);
+        self.state.next_task(now)
+    }
+
+    /// What was heard is entered, or waits once more.
+    pub fn end_letter(&mut self, letter: Letter, who: &DueCall, is_entered: bool, now: u64) {
+        if !is_entered {
+            self.state.put_letter(letter);
+            return;
+        }
+        self.state.note_entered(&letter, at(now));
+        self.listed.retain(|listed| !is_same(listed, who));
+    }
+
+    /// What another node told is here, or won't be.
+    pub fn end_telling(&mut self, from: NodeId, front: &Front, is_taken: bool) {
+        if !self.awaited.is_empty() {
+            let _told = self.awaited.remove(0);
+        }
+        self.state.end_telling(from, front, is_taken);
+    }
+
+    /// Shows the sweep what a page lists.
+    pub fn see_page(&mut self, page: &Page, now: u64) {
+        for row in page.rows() {
+            self.state.see(at(now), row.id, row.status);
+        }
+        self.state.turn(page.more());
+    }
+
+    /// A root was to be purged by itself, and this was replied.
+    pub fn end_sweep(&mut self, root: LraId, reply: &Reply, now: u64) {
+        self.state.purged(at(now), root, purged_by(reply));
+    }
+
+    /// How many facts there are is to be asked for once more.
+    pub fn want_count(&mut self) {
+        self.state.want_count();
+    }
+
+    /// Whom to call is to be asked for once more.
+    pub fn stir(&mut self) {
+        self.state.stir(false);
+    }
+
+    /// An LRA was cancelled for its deadline, and another may be overdue.
+    pub fn tick(&mut self) {
+        self.state.tick();
+    }
+
+    /// Whom to call, as the newest list says, which names these.
+    pub fn put_duties(&mut self, duties: Duties, listed: Vec<DueCall>, now: u64) {
+        self.listed = listed;
+        self.state.put_duties(duties, at(now));
+    }
+}
+
+/// What operators want.
+impl<R: Runs> Life<R> {
+    /// Operators want a call; or give up what they wanted, and it isn't made any more, unless it is being made.
+    pub fn want(&mut self, call: Call, wanted: Wanted, now: u64) {
+        match &self.errand {
+            None => {
+                self.errand = Some(Errand {
+                    call,
+                    until: now.saturating_add(ERRAND_MS),
+                });
+                self.state.want(wanted);
+            }
+            Some(errand) => {
+                if now >= errand.until && self.state.take_back() {
+                    self.errand = None;
+                }
+            }
+        }
+    }
+
+    /// The call that they want, which is being made now.
+    pub fn take_errand(&mut self) -> Option<Call> {
+        match self.errand.take() {
+            Some(errand) => Some(errand.call),
+            None => None,
+        }
+    }
+}
+
+/// How it pulls, and is pulled from.
+impl<R: Runs> Life<R> {
+    /// The front that it counts on, once it knows what it has.
+    pub fn counted(&self) -> Option<Front> {
+        if self.state.is_counted() {
+            Some(self.state.front())
+        } else {
+            None
+        }
+    }
+
+    /// Whether it owes a node that asks facts of that node's own, which it has heard of and not stored.
+    pub fn is_owed(&self, from: NodeId, asks: &Front) -> bool {
+        self.state.is_owed(from, asks)
+    }
+
+    fn is_awaited(&self, from: NodeId) -> bool {
+        for one in self.awaited.iter() {
+            if one.from == from {
+                return true;
+            }
+        }
+        false
+    }
+
+    fn is_left(&self, from: NodeId) -> bool {
+        for telling in self.tellings.iter() {
+            if telling.from() == from {
+                return true;
+            }
+        }
+        false
+    }
+
+    /// Whether something that a node told is neither taken nor given up.
+    pub fn waits_for(&self, from: NodeId) -> bool {
+        self.is_awaited(from) || self.is_left(from)
+    }
+
+    /// Hears by a pull how many facts of this node another has.
+    pub fn hear_own(&mut self, me: NodeId, told: &Front) {
+        let (theirs, ours) = (told.count(me), self.state.front().count(me));
+        if theirs > ours && theirs < LAST_NUMBER {
+            self.state.hear_count(theirs);
+            self.start.told_own = self.start.told_own.max(theirs);
+        }
+    }
+
+    /// Hears what the node at a place told, where it was said that this node has a front.
+    pub fn hear_telling(
+        &mut self,
+        me: NodeId,
+        teller: usize,
+        asked: &Front,
+        telling: Telling,
+    ) -> Result<(), Halt> {
+        let told = telling.front();
+        self.state.note_heard(telling.from(), &telling);
+        self.start.hear(teller, told.count(me))?;
+        if told.below(asked) {
+            self.state.drop_telling(telling.from());
+            return Ok(());
+        }
+        self.tellings.push(telling)?;
+        Ok(())
+    }
+
+    /// Hands what others told to the mailbox, as far as there is room.
+    pub fn put_tellings(&mut self) -> Result<(), Halt> {
+        for _telling in 0..self.tellings.len() {
+            if self.tellings.is_empty() || self.state.has_telling() {
+                return Ok(());
+            }
+            let telling = self.tellings.remove(0);
+            self.put_telling(telling)?;
+        }
+        Ok(())
+    }
+
+    fn put_telling(&mut self, telling: Telling) -> Result<(), Halt> {
+        let (front, from) = (telling.front(), telling.from());
+        if !self.state.put_awaited(telling) {
+            self.state.drop_telling(from);
+            return Ok(());
+        }
+        self.awaited.push(Awaited { from, front })?;
+        Ok(())
+    }
+}
+
+/// Whom it calls.
+impl<R: Runs> Life<R> {
+    /// How many calls are on their way.
+    pub fn calls(&self) -> usize {
+        self.calls.len()
+    }
+
+    /// How many calls to a host are on their way.
+    pub fn calls_to(&self, host: usize) -> usize {
+        let mut count = 0usize;
+        for call in self.calls.iter() {
+            if host_of(call.due.duty()) == host {
+                count = count.saturating_add(1);
+            }
+        }
+        count
+    }
+
+    /// Whether the newest list has this call.
+    pub fn is_listed(&self, who: &DueCall) -> bool {
+        is_among(&self.listed, who)
+    }
+
+    /// Who is called next, if a thread is free.
+    pub fn take_due(&mut self) -> Option<Due> {
+        if self.calls.len() >= CALLERS || !self.state.may_call() {
+            return None;
+        }
+        self.state.take_due()
+    }
+
+    /// A call begins.
+    pub fn begin_call(&mut self, due: Due, began: u64) -> Result<(), Halt> {
+        self.calls.push(InFlight { due, began })?;
+        Ok(())
+    }
+
+    /// The host of the call at a place, and when it began.
+    pub fn call_at(&self, place: usize) -> Option<(usize, u64)> {
+        match self.calls.get(place) {
+            Some(call) => Some((host_of(call.due.duty()), call.began)),
+            None => None,
+        }
+    }
+
+    /// The call at a place ends.
+    pub fn end_call(&mut self, place: usize) -> Option<Due> {
+        if place >= self.calls.len() {
+            return None;
+        }
+        let InFlight { due, began: _ } = self.calls.remove(place);
+        Some(due)
+    }
+
+    /// Hears what came of a call that took so many milliseconds.
+    pub fn hear(&mut self, time: u64, came: Result<Letter, Unheard>, now: u64) {
+        let _plight = self.state.hear(at(time), came, at(now));
+    }
+}

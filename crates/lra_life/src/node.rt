@@ -1,0 +1,283 @@
+// A node: what outlives its lives, and what the simulator knows of it.
+
+use crate::glue::{Asked, body_of, cancel};
+use crate::life::Life;
+use lra_book::{Call, Reply};
+use lra_callback::Duties;
+use lra_facts::{Command, Refusal};
+use lra_id::{Front, LraStatus, MAX_NODES, NodeId};
+use lra_luck::{Copies, Doubt, Fate, Halt, History, Known, Luck, Remains, raised};
+use lra_mailbox::Keep;
+use lra_run::{Opening, Runs};
+use std::alloc::Global;
+
+/// A node that is played.
+#[derive(Drop)]
+pub struct Node<R: Runs> {
+    pub(crate) alloc: Global,
+    pub me: NodeId,
+    /// How many nodes there are.
+    pub(crate) nodes: u8,
+    keep: Keep,
+    /// By how much its clock goes before the others', in milliseconds.
+    pub skew: u64,
+    /// What is there of it while it runs.
+    pub life: Option<Life<R>>,
+    /// What its files held at each stop.
+    copies: Copies,
+    /// The facts that it has, and what they say.
+    pub known: Known,
+    /// Whether it has started over an older copy, and isn't open yet.
+    pub is_recovering: bool,
+}
+
+impl<R: Runs> Node<R> {
+    /// A new node, which doesn't run, with this number and of so many.
+    pub fn new(
+        alloc: Global,
+        number: u8,
+        nodes: u8,
+        keep: Keep,
+        skew: u64,
+    ) -> Result<Node<R>, Halt> {
+        let (me, nodes) = (NodeId::new(number)?, nodes.clamp(1, MAX_NODES));
+        let copies = Copies::new(alloc, me, nodes)?;
+        let known = Known::new(alloc, me, nodes)?;
+        Ok(Node {
+            alloc,
+            me,
+            nodes,
+            keep,
+            skew,
+            life: None,
+            copies,
+            known,
+            is_recovering: false,
+        })
+    }
+
+    pub fn is_up(&self) -> bool {
+        self.life.is_some()
+    }
+
+    /// Whether it runs, and its journal is closed.
+    pub fn is_shut(&self) -> bool {
+        match &self.life {
+            Some(life) => life.is_shut(),
+            None => false,
+        }
+    }
+
+    /// Whether it runs, and may enter something of its own.
+    pub fn is_open(&self) -> bool {
+        match &self.life {
+            Some(life) => life.is_open(),
+            None => false,
+        }
+    }
+
+    /// The facts that it has.
+    pub fn front(&self) -> Front {
+        self.known.front()
+    }
+
+    /// How many facts of another node it has heard of, and perhaps not taken yet.
+    pub fn heard_of(&self, other: NodeId) -> u64 {
+        let heard = match &self.life {
+            Some(life) => life.heard_of(other),
+            None => 0,
+        };
+        let doubted = self.copies.doubted_of(other);
+        self.front().count(other).max(heard).max(doubted)
+    }
+
+    /// The place of the newest copy of its disk.
+    pub fn newest(&self) -> usize {
+        self.copies.newest()
+    }
+
+    /// How many calls of it are on their way.
+    pub fn calls(&self) -> usize {
+        match &self.life {
+            Some(life) => life.calls(),
+            None => 0,
+        }
+    }
+
+    /// The moment by its own clock, in milliseconds since 1970.
+    pub fn unix(&self, now: u64) -> u64 {
+        now.saturating_add(self.skew)
+            .saturating_add(1_700_000_000_000)
+    }
+
+    /// How long it keeps a root that shows this.
+    pub fn time_of(&self, status: LraStatus) -> Option<u64> {
+        match status {
+            LraStatus::Closed | LraStatus::Cancelled => self.keep.ended,
+            LraStatus::FailedToClose | LraStatus::FailedToCancel => self.keep.failed,
+            _ => None,
+        }
+    }
+
+    /// Makes a call of one of its threads, and notes what that leaves.
+    pub fn make(
+        &mut self,
+        caller: usize,
+        call: Call,
+        asked: &Asked,
+        now: u64,
+    ) -> Result<Option<Reply>, Refusal> {
+        let unix = self.unix(now);
+        let Some(life) = self.life.as_mut() else {
+            return Ok(None);
+        };
+        match life.make(caller, call, asked.enters, now, unix) {
+            Ok(Some(reply)) => {
+                life.note(asked, &reply, now);
+                Ok(Some(reply))
+            }
+            Ok(None) => Ok(None),
+            Err(refusal) => Err(refusal),
+        }
+    }
+
+    /// The member number that a call would have given: of a join the facts say it.
+    fn given_to(&self, asked: &Asked) -> u8 {
+        let Some(Command::Join { id, .. }) = &asked.command else {
+            return 0;
+        };
+        u8::try_from(self.known.model().members(*id).saturating_add(1)).unwrap_or(u8::MAX)
+    }
+
+    /// What a call was to store that was cut off.
+    pub fn doubt_of(&self, asked: Asked, now: u64) -> Doubt {
+        if let Some(front) = asked.taken {
+            return Doubt::Frame(front);
+        }
+        let given = self.given_to(&asked);
+        let overdue = self.known.model().first_overdue(self.me, self.unix(now));
+        match (asked.command, overdue) {
+            (Some(command), _) => Doubt::Fact(body_of(command, given)),
+            (None, Some(id)) => Doubt::Fact(cancel(id)),
+            (None, None) => Doubt::Nothing,
+        }
+    }
+
+    /// It has the facts of a front now, all of which it had or were entered by others.
+    pub fn grow(&mut self, history: &History, front: Front, now: u64) -> Result<(), Halt> {
+        self.known.grow(history, front, now)
+    }
+
+    /// It has one fact of its own more, which stands in the history.
+    pub fn grow_by_one(&mut self, history: &History, now: u64) -> Result<(), Halt> {
+        let front = raised(self.front(), self.me, self.known.own().saturating_add(1));
+        self.known.grow(history, front, now)
+    }
+
+    /// Notes whom a reply says to call, once that is whom the facts say.
+    pub fn put_duties(&mut self, duties: Duties, now: u64) -> Result<(), Halt> {
+        let listed = self.see_duties(&duties)?;
+        if let Some(life) = self.life.as_mut() {
+            life.put_duties(duties, listed, now);
+        }
+        Ok(())
+    }
+}
+
+/// How it starts and stops, and opens and closes its journal.
+impl<R: Runs> Node<R> {
+    /// Opens its journal over a copy of its disk, of which calls may fail.
+    pub fn open(&self, copy: usize, fate: Fate, luck: &mut Luck) -> Result<Opening<R>, Halt> {
+        match self.copies.get(copy) {
+            Ok(image) => R::open(self.alloc, image, fate, luck, self.me, self.nodes),
+            Err(halt) => Err(halt),
+        }
+    }
+
+    /// Looks whether a book that was opened over a copy has the facts of that, and settles what was in doubt.
+    pub fn settle(&mut self, history: &mut History, copy: usize, has: Front) -> Result<(), Halt> {
+        self.copies.settle(history, copy, has)
+    }
+
+    /// What is left of a copy of its disk, a call of which failed before its journal was open.
+    pub fn leave(&mut self, copy: usize, files: &Remains, loses_power: bool) -> Result<(), Halt> {
+        self.copies.leave(copy, files, loses_power)
+    }
+
+    /// Its life begins.
+    pub fn begin(&mut self, run: R, now: u64) {
+        let (me, keep, nodes) = (self.me, self.keep, self.nodes);
+        let waits_for_all = self.is_recovering;
+        self.life = Some(Life::new(self.alloc, me, keep, nodes, run, now, waits_for_all));
+    }
+
+    /// It has the facts of an older copy alone, and those beyond that copy are lost.
+    pub fn fall_back(
+        &mut self,
+        history: &History,
+        copy: usize,
+        front: Front,
+        now: u64,
+    ) -> Result<(), Halt> {
+        self.known.fall_back(history, front, now)?;
+        self.copies.drop_beyond(copy);
+        self.is_recovering = true;
+        Ok(())
+    }
+
+    /// Its journal is open again, and nothing is stored until a moment.
+    pub fn reopen(&mut self, run: R, until: u64) {
+        if let Some(life) = self.life.as_mut() {
+            life.reopen(run, until);
+        }
+    }
+
+    fn take_run(&mut self) -> Option<R> {
+        match self.life.as_mut() {
+            Some(life) => life.take_run(),
+            None => None,
+        }
+    }
+
+    /// Keeps what its files hold, as the newest copy.
+    pub fn keep_files(
+        &mut self,
+        files: &Remains,
+        loses_power: bool,
+        doubt: Doubt,
+    ) -> Result<(), Halt> {
+        let front = self.front();
+        self.copies.keep(files, loses_power, front, doubt)
+    }
+
+    /// Closes its journal, if that is open.
+    pub fn shut(&mut self, loses_power: bool, doubt: Doubt) -> Result<(), Halt> {
+        let Some(run) = self.take_run() else {
+            return Ok(());
+        };
+        match run.close() {
+            Ok(files) => self.keep_files(&files, loses_power, doubt),
+            Err(halt) => Err(halt),
+        }
+    }
+
+    /// Ends its run, if one is on, and opens the next, over the same files.
+    pub fn open_next(&mut self) -> Result<Option<Opening<R>>, Halt> {
+        let Some(run) = self.take_run() else {
+            return Ok(None);
+        };
+        match run.next(self.alloc, self.me, self.nodes) {
+            Ok(opening) => Ok(Some(opening)),
+            Err(halt) => Err(halt),
+        }
+    }
+
+    /// The next run is on, whose book has what the last one had.
+    pub fn go_on_with(&mut self, run: R) -> Result<(), Halt> {
+        let (had, has) = (self.front(), run.front());
+        if let Some(life) = self.life.as_mut() {
+            life.put_run(run);
+        }
+        self.see_next_run(had, has)
+    }
+}

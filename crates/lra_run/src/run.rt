@@ -1,0 +1,250 @@
+// A run of a node: its book, and what those who make calls keep of them. It is what a desk of lra_book is, without a lock
+// and without a ledger: a desk can't be kept in a value, since its type has to name the run that it is of.
+ghost use Rattle.std.specs.Prelude.{◌≡◌, ◌≤◌, IfOk, None};
+ghost use Rattle.lra_id.specs.declared.TheConstants.{MAX_NODES};
+
+use lra_book::{Book, Call, Entry, Pass, Receipt, Reply};
+use lra_facts::Refusal;
+use lra_id::{Front, MAX_NODES, NodeId};
+use lra_luck::{Halt, Remains};
+use sqlite::{Alter, Connection};
+use std::alloc::Global;
+
+/// Who makes calls at a node: the thread that enters, and four workers.
+const PASSES: usize = 5;
+
+/// How many receipts are looked at before each call; at a run's end all are.
+const LOOKED: usize = 8;
+
+/// A book whose run is on, and the receipts of those who make calls. They share a pass, which has seen all.
+#[derive(Drop)]
+pub struct Run<S: Alter + Drop> {
+    alloc: Global,
+    book: Book<S>,
+    pass: Pass,
+    kept: Vec<Vec<Receipt>>,
+    /// The files of its journal.
+    files: Remains,
+}
+
+/// What comes of beginning a run over a journal.
+#[derive(Drop)]
+pub(crate) enum Beginning<S: Alter + Drop> {
+    Begun(Run<S>),
+    /// The book isn't opened: why, the connection, and its files.
+    Refused(Refusal, Connection<S>, Remains),
+}
+
+fn no_receipts(alloc: Global) -> Result<Vec<Vec<Receipt>>, Halt> {
+    let mut lists = Vec::new(alloc);
+    for _pass in 0..PASSES {
+        lists.push(Vec::new(alloc))?;
+    }
+    Ok(lists)
+}
+
+/// A book with no run on.
+fn book_of<S: Alter + Drop>(
+    alloc: Global,
+    connection: Connection<S>,
+    me: NodeId,
+    nodes: u8,
+) -> Result<Book<S>, (Refusal, Connection<S>)>
+    requires me { me ≤ nodes }
+    requires nodes { nodes ≤ MAX_NODES }
+    ensures { IfOk result (λ book. book.opening ≡ None) }
+{
+    Book::open(alloc, connection, me, usize::from(nodes))
+}
+
+/// A run of a book that has none.
+fn run_of<S: Alter + Drop>(alloc: Global, mut book: Book<S>, files: Remains) -> Result<Run<S>, Halt>
+    requires { book.opening ≡ None }
+{
+    let Ok(pass) = book.start_run(alloc) else {
+        return Err(Halt::Stuck("no run"));
+    };
+    let kept = no_receipts(alloc)?;
+    Ok(Run {
+        alloc,
+        book,
+        pass,
+        kept,
+        files,
+    })
+}
+
+/// Whether an entry and a receipt say the same.
+fn is_told(alloc: Global, entry: &Entry, receipt: &Receipt) -> Result<bool, Halt> {
+    let one = format!(in alloc; "{:?} {:?}", entry.call, entry.reply)?;
+    let other = format!(in alloc; "{:?} {:?}", receipt.call, receipt.reply)?;
+    Ok(one == other)
+}
+
+/// Whether each receipt is the trail's entry at its place.
+fn are_told(alloc: Global, trail: &[Entry], receipts: &[Receipt]) -> Result<bool, Halt> {
+    for receipt in receipts {
+        let Some(entry) = trail.get(place_of(receipt)) else {
+            return Ok(false);
+        };
+        if !is_told(alloc, entry, receipt)? {
+            return Ok(false);
+        }
+    }
+    Ok(true)
+}
+
+fn place_of(receipt: &Receipt) -> usize {
+    usize::try_from(receipt.index).unwrap_or(usize::MAX)
+}
+
+/// Marks the places of receipts, of which none was marked before. It says whether that is so.
+fn mark(receipts: &[Receipt], marked: &mut [bool]) -> bool {
+    for receipt in receipts {
+        let Some(slot) = marked.get_mut(place_of(receipt)) else {
+            return false;
+        };
+        if *slot {
+            return false;
+        }
+        *slot = true;
+    }
+    true
+}
+
+/// Makes room for one more in the list at a place.
+fn reserve<T>(lists: &mut [Vec<T>], place: usize) -> Result<(), Refusal> {
+    let Some(list) = lists.get_mut(place) else {
+        return Err(Refusal::Stopped);
+    };
+    list.reserve(1)?;
+    Ok(())
+}
+
+/// Puts one more in the list at a place.
+fn keep<T: Drop>(lists: &mut [Vec<T>], place: usize, one: T) -> Result<(), Refusal> {
+    let Some(list) = lists.get_mut(place) else {
+        return Err(Refusal::Stopped);
+    };
+    if list.push(one).is_err() {
+        return Err(Refusal::NoMemory);
+    }
+    Ok(())
+}
+
+/// The last few of a list.
+fn newest<T>(list: &[T]) -> &[T] {
+    &list[list.len().saturating_sub(LOOKED)..]
+}
+
+fn are_all(marked: &[bool]) -> bool {
+    for is_marked in marked {
+        if !*is_marked {
+            return false;
+        }
+    }
+    true
+}
+
+/// A run of the book over a journal that no run is on.
+pub(crate) fn begin<S: Alter + Drop>(
+    alloc: Global,
+    connection: Connection<S>,
+    files: Remains,
+    me: NodeId,
+    nodes: u8,
+) -> Result<Beginning<S>, Halt> {
+    if nodes > MAX_NODES || me.number() > nodes {
+        return Err(Halt::Stuck("no such node"));
+    }
+    match book_of(alloc, connection, me, nodes) {
+        Ok(book) => match run_of(alloc, book, files) {
+            Ok(run) => Ok(Beginning::Begun(run)),
+            Err(halt) => Err(halt),
+        },
+        Err((refusal, connection)) => Ok(Beginning::Refused(refusal, connection, files)),
+    }
+}
+
+/// That receipts and trail differ.
+fn differ(alloc: Global) -> Result<Halt, Halt> {
+    Ok(Halt::Found(format!(in alloc; "receipts and trail differ")?))
+}
+
+impl<S: Alter + Drop> Run<S> {
+    /// The facts that its book has.
+    pub(crate) fn book_front(&self) -> Front {
+        self.book.front()
+    }
+
+    /// Whether the receipts of one who makes calls stand in the trail.
+    fn look(&self, receipts: &[Receipt]) -> Result<(), Refusal> {
+        self.book.look(&self.pass, receipts)
+    }
+
+    fn enter(&mut self, call: Call, now: u64) -> Result<Receipt, Refusal> {
+        if !self.book.in_run() {
+            return Err(Refusal::Stopped);
+        }
+        self.book.call(self.alloc, &mut self.pass, call, now)
+    }
+
+    /// Makes room for the receipt of one who makes calls, and looks whether the newest others stand in the trail.
+    fn make_room(&mut self, caller: usize) -> Result<(), Refusal> {
+        reserve(&mut self.kept, caller)?;
+        match self.kept.get(caller) {
+            Some(receipts) => self.look(newest(receipts)),
+            None => Ok(()),
+        }
+    }
+
+    /// Makes a call at a moment for one who makes calls.
+    pub(crate) fn make(&mut self, caller: usize, call: Call, now: u64) -> Result<Reply, Refusal> {
+        self.make_room(caller)?;
+        let receipt = match self.enter(call, now) {
+            Ok(receipt) => receipt,
+            Err(refusal) => return Err(refusal),
+        };
+        let reply = receipt.reply.clone()?;
+        keep(&mut self.kept, caller, receipt)?;
+        Ok(reply)
+    }
+
+    /// Whether receipts stand in the trail, also where the journal failed.
+    fn stand(&self, receipts: &[Receipt]) -> Result<bool, Halt> {
+        let Err(refusal) = self.look(receipts) else {
+            return Ok(true);
+        };
+        if refusal != Refusal::Stopped {
+            return Ok(false);
+        }
+        are_told(self.alloc, self.book.trail(), receipts)
+    }
+
+    /// Whether the receipts are the trail's entries, each once.
+    fn is_whole(&self) -> Result<bool, Halt> {
+        let mut marked: Vec<bool> = Vec::new(self.alloc);
+        marked.resize(self.book.trail().len(), false)?;
+        for receipts in self.kept.iter() {
+            if !self.stand(receipts)? || !mark(receipts, &mut marked) {
+                return Ok(false);
+            }
+        }
+        Ok(are_all(&marked))
+    }
+
+    /// The connection and its files, once the run is over.
+    pub(crate) fn end(self) -> Result<(Connection<S>, Remains), Halt> {
+        if !self.is_whole()? {
+            return Err(differ(self.alloc)?);
+        }
+        let Run {
+            alloc: _,
+            book,
+            pass: _,
+            kept: _,
+            files,
+        } = self;
+        Ok((book.close(), files))
+    }
+}

@@ -1,0 +1,208 @@
+// What clients and operators ask of nodes.
+
+use crate::play::{Play, nowhere};
+use crate::words;
+use lra_book::Call;
+use lra_callback::Kind;
+use lra_facts::{Command, Links};
+use lra_id::{Act, LraId, Outcome, Verdict};
+use lra_life::HOSTS;
+use lra_luck::{DueCall, Halt, Luck};
+use lra_mailbox::Wanted;
+use lra_run::Runs;
+use std::alloc::Global;
+
+fn member_by(luck: &mut Luck) -> u8 {
+    match luck.below(4) {
+        0 => 1,
+        1 => 2,
+        2 => 3,
+        _ => 4,
+    }
+}
+
+fn outcome_by(luck: &mut Luck) -> Outcome {
+    match luck.below(4) {
+        0 => Outcome::Busy,
+        1 => Outcome::Failed,
+        _ => Outcome::Done,
+    }
+}
+
+fn kind_by(luck: &mut Luck) -> Kind {
+    match luck.below(4) {
+        0 => Kind::Complete,
+        1 => Kind::Compensate,
+        2 => Kind::Forget,
+        _ => Kind::After,
+    }
+}
+
+fn act_by(luck: &mut Luck) -> Act {
+    if luck.is_one_in(2) {
+        Act::Complete
+    } else {
+        Act::Compensate
+    }
+}
+
+/// A link in one of so many cases.
+fn link_by(alloc: Global, luck: &mut Luck, cases: u64) -> Result<Option<String>, Halt> {
+    if !luck.is_one_in(cases) {
+        return Ok(None);
+    }
+    let host = luck.place(HOSTS).saturating_add(1);
+    Ok(Some(format!(in alloc; "http://h{host}/x")?))
+}
+
+/// The text of a link, if there is one.
+fn text_of(link: &Option<String>) -> Option<&str> {
+    match link {
+        Some(text) => Some(text.as_str()),
+        None => None,
+    }
+}
+
+/// Links of a participant, or in few cases of one that listens alone.
+fn links_by(alloc: Global, luck: &mut Luck) -> Result<Links, Halt> {
+    let complete = link_by(alloc, luck, 2)?;
+    let compensate = link_by(alloc, luck, 1)?;
+    let status = link_by(alloc, luck, 3)?;
+    let forget = link_by(alloc, luck, 3)?;
+    let after = link_by(alloc, luck, 3)?;
+    if after.is_some() && luck.is_one_in(4) {
+        return Ok(Links::read(alloc, None, None, None, None, text_of(&after))?);
+    }
+    let (complete, compensate, status) = (
+        text_of(&complete),
+        text_of(&compensate),
+        text_of(&status),
+    );
+    Ok(Links::read(
+        alloc,
+        complete,
+        compensate,
+        status,
+        text_of(&forget),
+        text_of(&after),
+    )?)
+}
+
+/// What a participant would have said.
+fn said_by(luck: &mut Luck, kind: Kind, id: LraId, member: u8) -> Command {
+    let act = match kind {
+        Kind::Forget => return Command::Forgot { id, member },
+        Kind::After => return Command::Told { id, member },
+        Kind::Complete => Act::Complete,
+        Kind::Compensate => Act::Compensate,
+        Kind::Status => act_by(luck),
+    };
+    Command::Report {
+        id,
+        member,
+        act,
+        outcome: outcome_by(luck),
+    }
+}
+
+impl<R: Runs> Play<R> {
+    /// A begin, perhaps in an LRA, by a moment or at no time.
+    fn begin_lra(&mut self, place: usize, id: Option<LraId>) -> Command {
+        let parent = if self.luck.is_one_in(2) { id } else { None };
+        if !self.luck.is_one_in(4) {
+            return Command::Begin {
+                parent,
+                deadline: 0,
+            };
+        }
+        let unix = match self.nodes.get(place) {
+            Some(node) => node.unix(self.now),
+            None => 0,
+        };
+        Command::Begin {
+            parent,
+            deadline: unix.saturating_add(self.luck.below(15_000)),
+        }
+    }
+
+    /// One who is due at a node, by what it has.
+    fn some_due(&mut self, place: usize, id: LraId) -> Result<Option<DueCall>, Halt> {
+        let Some(node) = self.nodes.get(place) else {
+            return Err(nowhere());
+        };
+        let dues = node.known.model().dues(id.home())?;
+        if dues.is_empty() || self.luck.is_one_in(4) {
+            return Ok(None);
+        }
+        Ok(dues.get(self.luck.place(dues.len())).copied())
+    }
+
+    /// Somebody says what a participant would have said: one that is due, or any.
+    fn say(&mut self, place: usize, id: LraId) -> Result<Command, Halt> {
+        if let Some(due) = self.some_due(place, id)? {
+            return Ok(said_by(&mut self.luck, due.kind, due.id, due.member));
+        }
+        let kind = kind_by(&mut self.luck);
+        let member = member_by(&mut self.luck);
+        Ok(said_by(&mut self.luck, kind, id, member))
+    }
+
+    fn command(&mut self, place: usize, id: LraId) -> Result<Command, Halt> {
+        let (member, me) = (member_by(&mut self.luck), self.me(place)?);
+        // Of another home's LRAs a node enters only what was heard.
+        let is_home = id.home() == me || self.luck.is_one_in(4);
+        let sort = if is_home { self.luck.below(20) } else { 19 };
+        match sort {
+            0..=3 => Ok(self.begin_lra(place, Some(id))),
+            4..=9 => Ok(Command::Join {
+                id,
+                links: links_by(self.alloc, &mut self.luck)?,
+            }),
+            10 => Ok(Command::Leave { id, member }),
+            11..=13 => Ok(Command::Decide {
+                id,
+                verdict: Verdict::Close,
+            }),
+            14..=15 => Ok(Command::Decide {
+                id,
+                verdict: Verdict::Cancel,
+            }),
+            16 => Ok(Command::Purge { root: id }),
+            _ => self.say(place, id),
+        }
+    }
+
+    fn some_command(&mut self, place: usize) -> Result<Command, Halt> {
+        match self.some_lra(place)? {
+            Some(id) => self.command(place, id),
+            None => Ok(self.begin_lra(place, None)),
+        }
+    }
+
+    /// Operators want something entered, or shown; or give up what they wanted.
+    pub fn ask_operator(&mut self, place: usize) -> Result<(), Halt> {
+        if self.luck.is_one_in(3) {
+            self.want(place, Call::Survey(None), Wanted::Question);
+            return Ok(());
+        }
+        let command = self.some_command(place)?;
+        self.want(place, Call::Command(command), Wanted::Command);
+        Ok(())
+    }
+
+    fn want(&mut self, place: usize, call: Call, wanted: Wanted) {
+        let now = self.now;
+        if let Some(life) = self.life(place) {
+            life.want(call, wanted, now);
+        }
+    }
+
+    /// A client has a node enter something.
+    pub fn ask_client(&mut self, place: usize) -> Result<(), Halt> {
+        let command = self.some_command(place)?;
+        let (me, said) = (self.me(place)?, words::of_command(self.alloc, &command)?);
+        let caller = self.luck.place(3).saturating_add(1);
+        let reply = self.call(place, caller, Call::Command(command))?;
+        self.tell(words::of_asked(self.alloc, me, &said, &reply)?)
+    }
+}

@@ -1,0 +1,95 @@
+// The calls that threads of a node make, and what comes of each.
+
+use crate::play::{Play, nowhere};
+use lra_book::{Call, Reply};
+use lra_facts::Refusal;
+use lra_id::LraId;
+use lra_life::{Asked, named_in, stored, taken_by};
+use lra_luck::{Doubt, Halt};
+use lra_run::Runs;
+use std::alloc::Global;
+
+fn refused(alloc: Global, refusal: Refusal) -> Result<Halt, Halt> {
+    Ok(Halt::Found(format!(in alloc; "a call is refused: {refusal}")?))
+}
+
+impl<R: Runs> Play<R> {
+    fn make(
+        &mut self,
+        place: usize,
+        caller: usize,
+        call: Call,
+        asked: &Asked,
+    ) -> Result<Option<Reply>, Refusal> {
+        match self.nodes.get_mut(place) {
+            Some(node) => node.make(caller, call, asked, self.now),
+            None => Ok(None),
+        }
+    }
+
+    /// Makes a call of a thread of a node; no reply comes where it isn't up, holds the call back, or stops.
+    pub fn call(&mut self, place: usize, caller: usize, call: Call) -> Result<Option<Reply>, Halt> {
+        let asked = Asked::of(&call)?;
+        match self.make(place, caller, call, &asked) {
+            Ok(Some(reply)) => {
+                self.enter_reply(place, asked, &reply)?;
+                Ok(Some(reply))
+            }
+            Ok(None) => Ok(None),
+            Err(refusal) => {
+                self.refuse(place, asked, refusal)?;
+                Ok(None)
+            }
+        }
+    }
+
+    /// A call was refused: the journal failed, or the run is full. It may be for no other cause.
+    fn refuse(&mut self, place: usize, asked: Asked, refusal: Refusal) -> Result<(), Halt> {
+        if refusal == Refusal::RunFull {
+            return self.next_run(place);
+        }
+        if refusal != Refusal::JournalFailed {
+            return Err(refused(self.alloc, refusal)?);
+        }
+        let doubt = self.doubt_of(place, asked)?;
+        self.fail(place, doubt)
+    }
+
+    /// What a call was to store that was cut off.
+    fn doubt_of(&self, place: usize, asked: Asked) -> Result<Doubt, Halt> {
+        match self.nodes.get(place) {
+            Some(node) => Ok(node.doubt_of(asked, self.now)),
+            None => Err(nowhere()),
+        }
+    }
+
+    /// A call was made, and is answered.
+    fn enter_reply(&mut self, place: usize, asked: Asked, reply: &Reply) -> Result<(), Halt> {
+        if let Some(taken) = taken_by(&asked, reply) {
+            let front = self.front(place)?.join(&taken);
+            return self.grow(place, front);
+        }
+        self.see_entered(place, &asked, reply)?;
+        let named = named_in(&asked);
+        if let Some(body) = stored(asked, reply) {
+            self.add(place, body)?;
+        }
+        self.see_reply(place, named, reply)
+    }
+
+    /// What a call enters may be entered.
+    fn see_entered(&self, place: usize, asked: &Asked, reply: &Reply) -> Result<(), Halt> {
+        let Some(node) = self.nodes.get(place) else {
+            return Err(nowhere());
+        };
+        node.see_expiry(reply, self.now)?;
+        node.see_purge(asked, reply, self.now)
+    }
+
+    fn see_reply(&self, place: usize, named: Option<LraId>, reply: &Reply) -> Result<(), Halt> {
+        match self.nodes.get(place) {
+            Some(node) => node.see_reply(named, reply),
+            None => Err(nowhere()),
+        }
+    }
+}

@@ -1,0 +1,59 @@
+// What is looked at after each step: whether a node shows and holds what its facts say.
+
+use crate::play::{Play, nowhere};
+use lra_book::{Call, Reply};
+use lra_id::LraId;
+use lra_luck::Halt;
+use lra_run::Runs;
+
+impl<R: Runs> Play<R> {
+    /// Looks whether a node shows what its facts say.
+    pub fn look(&mut self, place: usize) -> Result<(), Halt> {
+        let reply = self.call(place, 1, Call::Page(None))?;
+        self.see_listed(place, &reply)?;
+        if reply.is_none() {
+            return Ok(());
+        }
+        match self.some_shown(place) {
+            Some(id) => self.look_at(place, id),
+            None => Ok(()),
+        }
+    }
+
+    fn see_listed(&self, place: usize, reply: &Option<Reply>) -> Result<(), Halt> {
+        match self.nodes.get(place) {
+            Some(node) => node.see_listed(reply),
+            None => Err(nowhere()),
+        }
+    }
+
+    /// How many LRAs a node shows.
+    fn count_of(&self, place: usize) -> usize {
+        match self.nodes.get(place) {
+            Some(node) => node.known.shown().len(),
+            None => 0,
+        }
+    }
+
+    /// One of the LRAs that a node shows, or mostly none.
+    fn some_shown(&mut self, place: usize) -> Option<LraId> {
+        let count = self.count_of(place);
+        if count == 0 || !self.luck.is_one_in(3) {
+            return None;
+        }
+        let chosen = self.luck.place(count);
+        match self.nodes.get(place) {
+            Some(node) => node.known.shown().get(chosen).map(|shown| shown.id),
+            None => None,
+        }
+    }
+
+    /// Looks whether a node holds of an LRA what its facts say.
+    fn look_at(&mut self, place: usize, id: LraId) -> Result<(), Halt> {
+        let reply = self.call(place, 2, Call::Record(id))?;
+        match self.nodes.get(place) {
+            Some(node) => node.see_held(id, &reply),
+            None => Err(nowhere()),
+        }
+    }
+}

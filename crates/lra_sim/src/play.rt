@@ -1,0 +1,212 @@
+// One to eight nodes in one thread, under a clock, a network, disks and participants that a seed decides.
+
+use lra_facts::Body;
+use lra_id::{Front, LraId, MAX_NODES, NodeId};
+use lra_life::{HOSTS, Life, Node};
+use lra_luck::{Halt, History, Luck, Manner, Pull};
+use lra_mailbox::Keep;
+use lra_run::Runs;
+use std::alloc::Global;
+use std::collections::VecDeque;
+
+/// How many events are told of once something is found.
+pub const TOLD: usize = 20;
+
+/// The nodes, and all that is round them.
+#[derive(Drop)]
+pub struct Play<R: Runs> {
+    pub alloc: Global,
+    pub luck: Luck,
+    pub now: u64,
+    pub history: History,
+    pub nodes: Vec<Node<R>>,
+    pub pulls: Vec<Pull>,
+    /// Between which nodes there is no network, by their places.
+    pub cuts: Vec<Cut>,
+    pub hosts: Vec<Manner>,
+    /// Whether nothing fails any more.
+    pub is_quiet: bool,
+    pub steps: u64,
+    told: VecDeque<String>,
+    most: usize,
+}
+
+/// Between these nodes there is no network, the lower place first.
+#[derive(Clone, Copy)]
+pub struct Cut {
+    pub low: usize,
+    pub high: usize,
+}
+
+fn time_by(luck: &mut Luck) -> Option<u64> {
+    match luck.below(4) {
+        0 => None,
+        1 => Some(0),
+        2 => Some(300),
+        _ => Some(5_000),
+    }
+}
+
+/// Hosts that all answer well.
+pub fn good_hosts(alloc: Global) -> Result<Vec<Manner>, Halt> {
+    let mut hosts = Vec::new(alloc);
+    for _host in 0..HOSTS {
+        hosts.push(Manner::Well)?;
+    }
+    Ok(hosts)
+}
+
+/// Hosts that answer as luck has it.
+fn hosts_by(alloc: Global, luck: &mut Luck) -> Result<Vec<Manner>, Halt> {
+    let mut hosts = Vec::new(alloc);
+    for _host in 0..HOSTS {
+        hosts.push(Manner::by(luck))?;
+    }
+    Ok(hosts)
+}
+
+fn new_node<R: Runs>(
+    alloc: Global,
+    luck: &mut Luck,
+    number: u8,
+    nodes: u8,
+) -> Result<Node<R>, Halt> {
+    let ended = time_by(luck);
+    let failed = time_by(luck);
+    let skew = luck.below(20_000);
+    Node::new(alloc, number, nodes, Keep { ended, failed }, skew)
+}
+
+fn new_nodes<R: Runs>(alloc: Global, luck: &mut Luck, nodes: u8) -> Result<Vec<Node<R>>, Halt> {
+    let mut all = Vec::new(alloc);
+    for number in 1..=nodes {
+        all.push(new_node(alloc, luck, number, nodes)?)?;
+    }
+    Ok(all)
+}
+
+fn given_twice(alloc: Global, me: NodeId, number: u64) -> Result<Halt, Halt> {
+    Ok(Halt::Found(format!(in alloc; "{me} gives number {number} twice")?))
+}
+
+/// Why a play is over where a place is no node's.
+pub fn nowhere() -> Halt {
+    Halt::Stuck("no such node")
+}
+
+impl<R: Runs> Play<R> {
+    pub fn new(alloc: Global, seed: u64, nodes: u8, most: usize) -> Result<Play<R>, Halt> {
+        let mut luck = Luck::new(seed);
+        let all = new_nodes(alloc, &mut luck, nodes)?;
+        let hosts = hosts_by(alloc, &mut luck)?;
+        Ok(Play {
+            alloc,
+            luck,
+            now: 1,
+            history: History::new(alloc),
+            nodes: all,
+            pulls: Vec::new(alloc),
+            cuts: Vec::new(alloc),
+            hosts,
+            is_quiet: false,
+            steps: 0,
+            told: VecDeque::new(alloc),
+            most,
+        })
+    }
+
+    /// How many nodes there are.
+    pub fn count(&self) -> u8 {
+        u8::try_from(self.nodes.len()).unwrap_or(MAX_NODES)
+    }
+
+    /// The node at a place.
+    pub fn me(&self, place: usize) -> Result<NodeId, Halt> {
+        match self.nodes.get(place) {
+            Some(node) => Ok(node.me),
+            None => Err(nowhere()),
+        }
+    }
+
+    /// The facts that the node at a place has.
+    pub fn front(&self, place: usize) -> Result<Front, Halt> {
+        match self.nodes.get(place) {
+            Some(node) => Ok(node.front()),
+            None => Err(nowhere()),
+        }
+    }
+
+    /// What is there of the node at a place, while it runs.
+    pub fn life(&mut self, place: usize) -> Option<&mut Life<R>> {
+        match self.nodes.get_mut(place) {
+            Some(node) => node.life.as_mut(),
+            None => None,
+        }
+    }
+
+    /// A node, by its place.
+    pub fn some_place(&mut self) -> usize {
+        self.luck.place(self.nodes.len())
+    }
+
+    /// Notes an event in words.
+    pub fn tell(&mut self, words: String) -> Result<(), Halt> {
+        if self.told.len() >= self.most {
+            let _oldest = self.told.pop_front();
+        }
+        let (steps, now) = (self.steps, self.now);
+        let line = format!(in self.alloc; "{steps}, at {now} ms: {words}")?;
+        self.told.push_back(line)?;
+        Ok(())
+    }
+
+    pub fn told(&self) -> &VecDeque<String> {
+        &self.told
+    }
+
+    pub fn is_cut(&self, one: usize, other: usize) -> bool {
+        let (low, high) = (one.min(other), one.max(other));
+        for cut in self.cuts.iter() {
+            if cut.low == low && cut.high == high {
+                return true;
+            }
+        }
+        false
+    }
+
+    /// A node has the facts of a front now.
+    pub fn grow(&mut self, place: usize, front: Front) -> Result<(), Halt> {
+        let Some(node) = self.nodes.get_mut(place) else {
+            return Err(nowhere());
+        };
+        node.grow(&self.history, front, self.now)
+    }
+
+    /// A node enters a fact.
+    pub fn add(&mut self, place: usize, body: Body) -> Result<(), Halt> {
+        let Some(node) = self.nodes.get_mut(place) else {
+            return Err(nowhere());
+        };
+        let (me, number) = (node.me, node.known.own().saturating_add(1));
+        if self.history.count(me) >= number {
+            return Err(given_twice(self.alloc, me, number)?);
+        }
+        node.see_opening(place, self.now)?;
+        self.history.add(me, number, body)?;
+        node.grow_by_one(&self.history, self.now)
+    }
+
+    /// Which LRAs a node may be asked about.
+    pub fn some_lra(&mut self, place: usize) -> Result<Option<LraId>, Halt> {
+        let home = if self.luck.is_one_in(5) {
+            self.some_place()
+        } else {
+            place
+        };
+        let begun = self.history.begun(self.alloc, self.me(home)?, 6)?;
+        if begun.is_empty() {
+            return Ok(None);
+        }
+        Ok(begun.get(self.luck.place(begun.len())).copied())
+    }
+}

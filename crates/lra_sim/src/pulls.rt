@@ -1,0 +1,196 @@
+// How nodes pull from one another. That a pull waits stands once more in lra_server/src/run/holding.rt.
+
+use crate::play::{Play, nowhere};
+use lra_book::{Call, PullBody, Reply};
+use lra_delta::{Delta, encode};
+use lra_heard::{Telling, ask_for};
+use lra_http::{OverRead, OverWrite};
+use lra_id::{Front, MAX_NODES, NodeId};
+use lra_luck::{Halt, Pull, Stage};
+use lra_peer::{front_of_pull, pull_body};
+use lra_run::Runs;
+use std::alloc::Global;
+
+/// The pass of the worker that serves pulls.
+const SERVES: usize = 4;
+
+/// What the body of a pull says that its asker has.
+fn front_told(count: u8, body: &[u8]) -> Result<Front, Halt> {
+    match front_of_pull(usize::from(count.clamp(1, MAX_NODES)), body) {
+        Ok(front) => Ok(front),
+        Err(_) => Err(Halt::Stuck("a pull has no front")),
+    }
+}
+
+/// The response that carries a frame.
+fn response_of(alloc: Global, delta: &Delta) -> Result<Vec<u8>, Halt> {
+    let frame = encode(alloc, delta)?;
+    let size = frame.len();
+    let mut bytes = format!(in alloc;
+        "HTTP/1.1 200 OK\r\nContent-Length: {size}\r\n\r\n"
+    )?.into_bytes();
+    bytes.extend_from_slice(frame.as_slice())?;
+    Ok(bytes)
+}
+
+/// What another node tells by these bytes, if it is whole.
+fn told_by(alloc: Global, other: NodeId, front: &Front, bytes: &[u8]) -> Option<Telling> {
+    let mut writer = OverWrite::new(Vec::new(alloc));
+    let mut reader = OverRead::new(bytes);
+    match ask_for(alloc, &mut reader, &mut writer, other, "", front) {
+        Ok(telling) => Some(telling),
+        Err(_) => None,
+    }
+}
+
+fn owed_for_ever(alloc: Global, from: NodeId) -> Result<Halt, Halt> {
+    Ok(Halt::Found(format!(in alloc; "a pull of node {from} waits for what was given up")?))
+}
+
+impl<R: Runs> Play<R> {
+    /// The front that a node counts on, once it knows what it has.
+    fn counted(&mut self, place: usize) -> Option<Front> {
+        self.life(place)?.counted()
+    }
+
+    fn is_pulling(&self, asker: usize, teller: usize) -> bool {
+        for pull in self.pulls.iter() {
+            if pull.asker == asker && pull.teller == teller {
+                return true;
+            }
+        }
+        false
+    }
+
+    /// A node begins to pull from another, unless it does already, or doesn't know what it has.
+    pub fn begin_pull(&mut self, asker: usize, teller: usize) -> Result<(), Halt> {
+        if asker == teller || self.is_pulling(asker, teller) {
+            return Ok(());
+        }
+        let Some(front) = self.counted(asker) else {
+            return Ok(());
+        };
+        self.pulls.push(Pull {
+            asker,
+            teller,
+            front,
+            stage: Stage::Asked,
+        })?;
+        Ok(())
+    }
+
+    /// A pull goes on: it is served, or comes back, or is lost.
+    pub fn go_on(&mut self, chosen: usize) -> Result<(), Halt> {
+        if chosen >= self.pulls.len() {
+            return Ok(());
+        }
+        let Pull {
+            asker,
+            teller,
+            front,
+            stage,
+        } = self.pulls.remove(chosen);
+        if self.is_cut(asker, teller) || (!self.is_quiet && self.luck.is_one_in(10)) {
+            return Ok(());
+        }
+        match stage {
+            Stage::Asked => self.serve(asker, teller, front),
+            Stage::Answered(bytes) => self.hear_answer(asker, teller, front, bytes),
+        }
+    }
+
+    /// Whether a node that is asked owes the one that asks facts of its own, which it has heard of and not stored. It owes
+    /// nothing that was given up.
+    fn is_owed(&mut self, asker: usize, teller: usize, front: &Front) -> Result<bool, Halt> {
+        let from = self.me(asker)?;
+        let Some(life) = self.life(teller) else {
+            return Ok(false);
+        };
+        let (is_owed, waits) = (life.is_owed(from, front), life.waits_for(from));
+        if is_owed && !waits {
+            return Err(owed_for_ever(self.alloc, from)?);
+        }
+        Ok(is_owed)
+    }
+
+    /// A worker of the one that is asked serves a pull, unless that is to wait.
+    fn serve(&mut self, asker: usize, teller: usize, front: Front) -> Result<(), Halt> {
+        if self.is_owed(asker, teller, &front)? {
+            self.pulls.push(Pull {
+                asker,
+                teller,
+                front,
+                stage: Stage::Asked,
+            })?;
+            return Ok(());
+        }
+        let body = pull_body(self.alloc, &front)?;
+        let told = front_told(self.count(), body.as_slice())?;
+        let reply = self.call(teller, SERVES, Call::Pull(PullBody::new(body)))?;
+        let Some(Reply::Gave(delta)) = &reply else {
+            return Ok(());
+        };
+        self.see_told(teller, delta)?;
+        self.hear_own(teller, &told)?;
+        self.answer(asker, teller, front, delta)
+    }
+
+    /// A node tells of all that it has.
+    fn see_told(&self, teller: usize, delta: &Delta) -> Result<(), Halt> {
+        match self.nodes.get(teller) {
+            Some(node) => node.see_told(delta),
+            None => Err(nowhere()),
+        }
+    }
+
+    fn hear_own(&mut self, teller: usize, told: &Front) -> Result<(), Halt> {
+        let me = self.me(teller)?;
+        if let Some(life) = self.life(teller) {
+            life.hear_own(me, told);
+        }
+        Ok(())
+    }
+
+    /// The response to a pull is on its way, and may be cut off.
+    fn answer(
+        &mut self,
+        asker: usize,
+        teller: usize,
+        front: Front,
+        delta: &Delta,
+    ) -> Result<(), Halt> {
+        let mut bytes = response_of(self.alloc, delta)?;
+        if !self.is_quiet && self.luck.is_one_in(12) {
+            bytes.truncate(self.luck.place(bytes.len()));
+        }
+        self.pulls.push(Pull {
+            asker,
+            teller,
+            front,
+            stage: Stage::Answered(bytes),
+        })?;
+        Ok(())
+    }
+
+    /// What comes of the bytes that another node told.
+    fn hear_answer(
+        &mut self,
+        asker: usize,
+        teller: usize,
+        front: Front,
+        bytes: Vec<u8>,
+    ) -> Result<(), Halt> {
+        let (other, me) = (self.me(teller)?, self.me(asker)?);
+        let Some(telling) = told_by(self.alloc, other, &front, bytes.as_slice()) else {
+            return Ok(());
+        };
+        let Some(node) = self.nodes.get_mut(asker) else {
+            return Err(nowhere());
+        };
+        let Some(life) = node.life.as_mut() else {
+            return Ok(());
+        };
+        life.hear_telling(me, teller, &front, telling)?;
+        life.put_tellings()
+    }
+}
