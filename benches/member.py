@@ -1,7 +1,7 @@
 #!/usr/bin/env python3
 """Measures members in processes of their own: python3 benches/member.py [PROGRAM]. How soon what one begins is shown by
-another, and how many LRAs go through one home a second with keep=0. PROGRAM is crates/lra_member/out/lra_member. A
-minute; standard library alone."""
+another, how many LRAs go through one home a second with keep=0, and what copies=K costs of three members. PROGRAM is
+crates/lra_member/out/lra_member. Two minutes; standard library alone."""
 import multiprocessing
 import os
 import statistics
@@ -14,7 +14,7 @@ from tools import checks, unproved
 from tools.node import Group
 
 # How many begins are looked for at the other node, how long nothing is stored before each, for how long LRAs go
-# through, and by how many clients. Behind each pull a node pauses for a twentieth of a second.
+# through, and by how many clients.
 BEGINS, QUIET, SECONDS, CLIENTS = 100, 0.3, 10, 8
 
 
@@ -64,6 +64,29 @@ def flow(group: Group, clients: int) -> None:
     print(f"{clients} clients: {what}; {full} begins were E13 and made again")
 
 
+def begin_times(group: Group) -> str:
+    """How long a begin takes whose answer comes at once after another's: the middle, and 99 of 100."""
+    times = []
+    for _ in range(2 * BEGINS):
+        began = time.monotonic()
+        lra = group.begin(1)
+        times.append(1000 * (time.monotonic() - began))
+        group.finish(1, lra)
+    times.sort()
+    return f"{statistics.median(times):.1f} ms, 99 of 100 within {times[len(times) * 99 // 100]:.1f}"
+
+
+def copying(copies: int) -> None:
+    """What it costs that other nodes have what is answered."""
+    with tempfile.TemporaryDirectory() as folder, Group(3, folder, "keep=0", f"copies={copies}") as group:
+        group.start()
+        while group.ask(1, "POST", "/lra", {})[0] != 201:
+            time.sleep(0.1)
+        print(f"copies={copies}: a begin takes {begin_times(group)}")
+        flow(group, CLIENTS)
+        group.end()
+
+
 def main() -> int:
     if len(sys.argv) > 1:
         Group.program = unproved.program_of(sys.argv[1], "lra_member")
@@ -75,6 +98,8 @@ def main() -> int:
         with tempfile.TemporaryDirectory() as folder, Group(2, folder, "keep=0") as group:
             flow(group.start(), clients)
             group.end()
+    for copies in (0, 1, 2):
+        copying(copies)
     return 0
 
 

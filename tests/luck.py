@@ -12,7 +12,6 @@ import glob
 import os
 import random
 import re
-import resource
 import shutil
 import socket
 import subprocess
@@ -24,9 +23,10 @@ from collections.abc import Callable, Iterable
 
 sys.path.insert(0, os.path.dirname(os.path.dirname(os.path.abspath(__file__))))
 from tools import checks, unproved
-from tools.node import SLOW, Group, Json, comes_to, exchange, request
+from tools.node import SLOW, Group, Json, comes_to, exchange, limit_files, request
 from tools.operated import Operated
 from tools.ports import HOST, free_row
+from tools.relays import Relayed
 
 PULL = b"POST /peer/pull HTTP/1.1\r\nHost: p\r\nContent-Length: 9\r\n\r\n\x01" + bytes(8)
 # Holds every write to a disk as long as a file is there.
@@ -41,59 +41,6 @@ int fdatasync(int f) { hold(); return ((int (*)(int))dlsym(RTLD_NEXT, "fdatasync
 """
 
 
-class Relay:
-    """Hands connections on to a port, each after a delay, the first few not at all, and what comes back at so many
-    bytes a second."""
-
-    def __init__(self, port: int, delay: float = 0, lost: int = 0, rate: float = 0) -> None:
-        self.port, self.delay, self.lost, self.rate = port, delay, lost, rate
-        self.listener = socket.create_server((HOST, 0), backlog=64)
-        self.own = self.listener.getsockname()[1]
-        threading.Thread(target=self.take, daemon=True).start()
-
-    def take(self) -> None:
-        with contextlib.suppress(OSError):
-            while True:
-                line = self.listener.accept()[0]
-                if self.lost > 0:
-                    self.lost -= 1
-                    line.close()
-                else:
-                    threading.Thread(target=self.hand_on, args=(line,), daemon=True).start()
-
-    def hand_on(self, line: socket.socket) -> None:
-        time.sleep(self.delay)
-        with contextlib.suppress(OSError), line, socket.create_connection((HOST, self.port), 30) as other:
-            threading.Thread(target=pump, args=(line, other, 0), daemon=True).start()
-            pump(other, line, self.rate)
-
-    def close(self) -> None:
-        self.listener.close()
-
-
-def pump(source: socket.socket, sink: socket.socket, rate: float) -> None:
-    """Hands on what comes, up to its end."""
-    with contextlib.suppress(OSError):
-        while piece := source.recv(1024 if rate else 65536):
-            sink.sendall(piece)
-            time.sleep(len(piece) / rate if rate else 0)
-        sink.shutdown(socket.SHUT_WR)
-
-
-class Relayed(Operated):
-    """Members that reach one another through relays."""
-
-    def __init__(self, count: int, folder: str, *options: str) -> None:
-        super().__init__(count, folder, *options)
-        self.relays = [Relay(port) for port in self.ports]
-        self.addresses = [f"{HOST}:{relay.own}" for relay in self.relays]
-
-    def run(self, number: int, options: Iterable[str] | None = None, word: str | None = None) -> None:
-        given = self.options if options is None else options
-        words = [f"listen={HOST}:{self.ports[number - 1]}", f"operate={HOST}:{self.doors[number - 1]}", *given]
-        Group.run(self, number, words, word)
-
-
 def files_of(folder: str) -> list[str]:
     return glob.glob(f"{folder}/node-*.db*")
 
@@ -105,12 +52,6 @@ def copy(source: str, target: str) -> None:
         os.remove(file)
     for file in files_of(source):
         shutil.copy(file, target)
-
-
-def limit_files(process: subprocess.Popen, size: int) -> None:
-    """Has a process write no further than that into any file; -1 for no bound."""
-    hard = resource.prlimit(process.pid, resource.RLIMIT_FSIZE)[1]
-    resource.prlimit(process.pid, resource.RLIMIT_FSIZE, (hard if size < 0 else size, hard))
 
 
 def hanging_hosts(count: int) -> list[socket.socket]:
@@ -243,13 +184,11 @@ class TestLuck(checks.Checked):
                    first and group.all_come_to(first, "Active", (1, 2)) is not None, first)
         limit_files(group.processes[1], 1)
         second = self.takes(group, 2)
-        # The pause behind a failure doubles up to 1.6 seconds.
-        self.check("the other can't store that", comes_to(20, lambda: self.failures(group, 1) >= 6))
-        before = self.failures(group, 1)
-        comes_to(5, lambda: self.failures(group, 1) > before)
-        time.sleep(0.2)
+        self.check("the other can't store that", comes_to(30, lambda: self.failures(group, 1) >= 3))
         group.kill(2)
         copy(backup, f"{self.folder}/2")
+        before = self.failures(group, 1)
+        self.check("it keeps that, and tries again", comes_to(30, lambda: self.failures(group, 1) >= before + 2))
         group.start(2, options=["anew"])
         time.sleep(0.2)
         seen = group.told(2, "/ready")

@@ -29,7 +29,7 @@ from tools.ports import HOST, free_row, is_open, listening
 from tools.version import build_said
 
 USAGE = b"usage: lra_member I|I-J DIR [listen=IP:PORT] [operate=IP:PORT] [names=NAME,..] [keep=MS] [keep-failed=MS] " \
-        b"[group=NAME] [anew] HOST:PORT.. | --version\n"
+        b"[group=NAME] [copies=K] [patience=MS] [strict] [anew] HOST:PORT.. | --version\n"
 NO_FOLDER = b"node 2: its journal can't be opened: there is no folder, or no right to it, or no file is left\n" \
             b"journal 2\n"
 # LRAs with their statuses.
@@ -89,6 +89,17 @@ OTHER_WORDS: list[list[str]] = [
     ["1", "DIR", f"group={'g' * 65}", "h:1"],
     ["1", "DIR", "group=a", "group=a", "h:1"],
     ["1", "DIR", "group=a", "keep=1", "h:1"],
+    ["1", "DIR", "copies=", "h:1", "h:2"],
+    ["1", "DIR", "copies=2", "h:1", "h:2"],
+    ["1", "DIR", "copies=1", "h:1"],
+    ["1", "DIR", "copies=1", "group=a", "h:1", "h:2"],
+    ["1-2", "DIR", "copies=1", "h:1", "h:2", "h:3"],
+    ["1", "DIR", "patience=1", "h:1", "h:2"],
+    ["1", "DIR", "copies=1", "patience=x", "h:1", "h:2"],
+    ["1", "DIR", "patience=1", "copies=1", "h:1", "h:2"],
+    ["1", "DIR", "strict", "h:1", "h:2"],
+    ["1", "DIR", "strict", "copies=1", "h:1", "h:2"],
+    ["1", "DIR", "copies=1", "anew", "strict", "h:1", "h:2"],
     ["1", "DIR", "anew=", "h:1"],
     ["1", "DIR", "anew", "anew", "h:1"],
     ["1", "DIR", "anew", "group=a", "h:1"],

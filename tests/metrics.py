@@ -135,7 +135,7 @@ class TestUse(unittest.TestCase):
 
     def test_alerts(self) -> None:
         rules = re.split(r"^ *- alert: ", self.text("alerts.yaml"), flags=re.M)[1:]
-        self.assertEqual(len(rules), 5)
+        self.assertEqual(len(rules), 6)
         for rule in rules:
             with self.subTest(rule.split("\n")[0]):
                 for word in ("expr:", "for:", "severity:", "summary:", "description:"):

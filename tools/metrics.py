@@ -136,6 +136,11 @@ METRICS: dict[str, tuple[str, dict[str, str]]] = {
     "lra_callbacks_oldest_seconds": ("gauge", {}),
     "lra_pulls_total": ("counter", {"from": "[1-8]", "came": "new|nothing|failed|refused"}),
     "lra_pulled_seconds": ("gauge", {"from": "[1-8]"}),
+    "lra_pulls_held": ("gauge", {}),
+    "lra_told": ("gauge", {"by": "[1-8]"}),
+    "lra_answers_waiting": ("gauge", {}),
+    "lra_answers_waited_total": ("counter", {"came": "copied|late"}),
+    "lra_copies_short": ("gauge", {}),
     "lra_front": ("gauge", {"of": "[1-8]"}),
     "lra_held": ("gauge", {"status": STATUS}),
     "lra_held_limit": ("gauge", {}),
@@ -177,7 +182,7 @@ def problems(text: str) -> list[str]:
 
 def example(known: dict[str, Samples] | None = None) -> str:
     """A text as a node may answer it, with a sample or more of each metric: the known ones of those that are known."""
-    lines, first = [], {"refusal": "E13", "from": "2", "of": "2", "version": "1.2.3", "kit": "kit"}
+    lines, first = [], {"refusal": "E13", "from": "2", "of": "2", "by": "2", "version": "1.2.3", "kit": "kit"}
     for name, (kind, labels) in METRICS.items():
         row = {"node": "1", **{key: first.get(key, pattern.split("|")[0]) for key, pattern in labels.items()}}
         rows = [{**row, "status": status} for status in STATUS.split("|")] if name == "lra_held" else [row]

@@ -4,6 +4,7 @@ import http.client
 import json
 import os
 import re
+import resource
 import socket
 import subprocess
 import time
@@ -104,6 +105,12 @@ def memory_of(process: subprocess.Popen, what: str = "VmHWM") -> float:
         return int(repo.found(rf"{what}:\s+(\d+)", file.read())[1]) / 1024
 
 
+def limit_files(process: subprocess.Popen, size: int) -> None:
+    """Has a process write no further than that into any file; -1 for no bound."""
+    hard = resource.prlimit(process.pid, resource.RLIMIT_FSIZE)[1]
+    resource.prlimit(process.pid, resource.RLIMIT_FSIZE, (hard if size < 0 else size, hard))
+
+
 def end_input(process: subprocess.Popen) -> None:
     """Ends the input of a process, with which the programs end."""
     if process.stdin:
@@ -134,11 +141,13 @@ class Nodes:
         return is_open(self.ports[node - 1])
 
     def ask(self, node: int, method: str, path: str, body: Json = None) -> tuple[int, Json]:
-        """One request; its status and the JSON of its body. One that meets the end of a run is made again."""
-        text = None if body is None else json.dumps(body)
+        """One request; its status and the JSON of its body. One that meets the end of a run is made again, for as long
+        as a node may take to answer."""
+        text, end = None if body is None else json.dumps(body), time.monotonic() + SLOW
         while True:
             answer = request(self.address(node), method, path, text, inside=self.inside(node))
-            if not (answer.status == 503 and any(word in answer.text for word in self.again)):
+            is_refused = answer.status == 503 and any(word in answer.text for word in self.again)
+            if not is_refused or time.monotonic() > end:
                 return answer.status, answer.json()
 
     def begin(self, node: int, **how: Json) -> str:
