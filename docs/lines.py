@@ -15,9 +15,9 @@ TESTS = ["test_answers", "test_calls", "test_script", "test_server"]
 # The crates of each layer, and last what they are.
 LAYERS = [
     ("lra_node", "lra_member", "lra_play", "the programs"),
-    ("lra_luck", "what the simulator plays nodes under"),
+    ("lra_sim", "lra_life", "lra_run", "lra_luck", "the simulator"),
     ("lra_words", "the words of `lra_member`"),
-    ("lra_gateway", "the gateway for services of Narayana's interface"),
+    ("lra_gateway", "the gateway"),
     ("lra_narayana", "what services of Narayana's interface write and read"),
     ("lra_server", "the server over its journals"),
     ("lra_metrics", "what threads know, as text"),
@@ -25,6 +25,7 @@ LAYERS = [
     ("lra_sockets", "a connection's life"),
     ("lra_noting", "what a call leaves"),
     ("lra_mailbox", "what is done next"),
+    ("lra_copies", "which others have what"),
     ("lra_heard", "what was heard of others"),
     ("lra_turns", "whom to call next"),
     ("lra_work", "a worker"),
@@ -101,8 +102,8 @@ def table() -> str:
     tests = sum(code_and_contracts(f"crates/{crate}/src/**/*.rt")[0] for crate in TESTS)
     units = code_and_contracts("tests/units/**/*.rt.txt")[0]
     names = ", ".join(f"`{crate}`" for crate in TESTS)
-    out += f"| proved tests of all these by their public calls: {names} | {tests:,} | | | | |\n"
-    return out + f"| tests of these without proof: `tests/units` | {units:,} | | | | |\n"
+    out += f"| proved tests by public calls: {names} | {tests:,} | | | | |\n"
+    return out + f"| tests without proof: `tests/units` | {units:,} | | | | |\n"
 
 
 def main() -> int:
