@@ -1,5 +1,5 @@
 -- how many records there are once they are changed
-use Rattle.std.proofs.Common.{◌≡◌, ◌<◌, ◌+◌, ◌==◌, ℕ, List, [], ◌∷◌, refl, ap, subst, ◌∙◌, Bool, true, false, cond, arith, None, find, filter, is_none, length, nat_lt}
+use Rattle.std.proofs.Common.{◌≡◌, ◌<◌, ◌+◌, ◌==◌, ℕ, suc, List, [], ◌∷◌, refl, ap, subst, ◌∙◌, Bool, true, false, cond, arith, None, find, filter, is_none, length, nat_lt}
 use Rattle.std.specs.List.{AllByRecursion}
 use Rattle.std.proofs.lemmas.Bool.Decides.{nat_tests}
 use Rattle.lra_id.specs.Ids.{Id}
@@ -81,3 +81,9 @@ length_changed home removed changed own h g = length_put_all home changed (witho
 -- the same for changes whose home is given as another's
 pub length_after : (home there : ℕ) (removed : List Id) (changed own : List Record) → there ≡ home → AreOf there changed → AreOf home own → length (changed_by removed changed own) ≡ length (without removed own) + length (filter (is_added home (without removed own)) changed)
 length_after home there removed changed own same h g = length_changed home removed changed own (subst (λ n. AreOf n changed) same h) g
+
+-- all stay where none is removed
+pub all_stay : (removed : List Id) (rs : List Record) → length removed ≡ 0 → length (without removed rs) ≡ length rs
+all_stay [] [] none = refl
+all_stay [] (r ∷ rs) none = ap suc (all_stay [] rs refl)
+all_stay (l ∷ removed) rs none = absurd (omega (arith, none))

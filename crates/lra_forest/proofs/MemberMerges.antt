@@ -1,5 +1,5 @@
 -- the members of two records merged, one after the other
-use Rattle.std.proofs.Common.{◌≡◌, ◌+◌, ◌-◌, ◌<◌, ◌==◌, ◌||◌, ℕ, zero, suc, List, [], ◌∷◌, refl, sym, ap, ◌∙◌, Bool, true, false, cond, arith, Option, Some, None, get_or, length, set, slice_get}
+use Rattle.std.proofs.Common.{◌≡◌, ◌+◌, ◌-◌, ◌<◌, ◌==◌, ◌&&◌, ◌||◌, ℕ, zero, suc, List, [], ◌∷◌, refl, sym, ap, ◌∙◌, Bool, true, false, cond, arith, Option, Some, None, get_or, length, nat_le, set, slice_get, is_some}
 use Rattle.std.proofs.lemmas.Bool.Decides.{nat_tests}
 use Rattle.lra_id.specs.declared.outcome.Outcome.{Outcome}
 use Rattle.lra_id.specs.declared.outcome.Outcome.TheVariants.{Busy, Done, Failed}
@@ -7,7 +7,9 @@ use Rattle.lra_id.specs.States.{greater}
 use Rattle.lra_forest.specs.declared.record.Member.{Member}
 use Rattle.lra_forest.specs.declared.record.Member.TheVariants.{Left}
 use Rattle.lra_forest.specs.declared.record.Participant.{Participant as ParticipantRecord}
-use Rattle.lra_forest.specs.RecordMerges.{linked, merged_member, merged_members, merged_participant}
+use Rattle.lra_id.specs.Fronts.{join_fronts}
+use Rattle.lra_forest.specs.declared.record.Record.{Record}
+use Rattle.lra_forest.specs.RecordMerges.{home_stamp, linked, merged_member, merged_members, merged_participant, merged_record}
 use Rattle.lra_forest.specs.MembersByNumber.{numbered}
 
 -- the first i members are merged
@@ -38,12 +40,35 @@ merged_all [] ys = refl
 merged_all (x ∷ xs) [] = ap (λ r. merged_member x None ∷ r) (merged_all xs [])
 merged_all (x ∷ xs) (y ∷ ys) = ap (λ r. merged_member x (Some y) ∷ r) (merged_all xs ys)
 
+-- a participant stays as it is where all that is heard of it does
+pub participant_stays : (p q : ParticipantRecord) → cond (is_some p.links.complete) (greater p.completed q.completed) None ≡ p.completed → cond (is_some p.links.compensate) (greater p.compensated q.compensated) None ≡ p.compensated
+    → (is_some p.links.forget && (p.forgotten || q.forgotten)) ≡ p.forgotten → (is_some p.links.after && (p.told || q.told)) ≡ p.told → merged_participant p q ≡ p
+participant_stays p q completed compensated forgotten told = rw (completed, compensated, forgotten, told) refl
+
+-- the next stays as it is
+pub stays_more : (i : ℕ) (xs ys : List Member) (a : Member) → merged_to i xs ys ≡ xs → i < length xs → a ≡ get_or xs i a → merged_member a (slice_get ys i) ≡ a → merged_to (suc i) xs ys ≡ xs
+stays_more i [] ys a so less is stays = absurd (omega (arith, less))
+stays_more zero (x ∷ xs) [] a so less is stays = ap (λ m. m ∷ xs) (ap (λ m. merged_member m None) (sym is) ∙ stays ∙ is)
+stays_more zero (x ∷ xs) (y ∷ ys) a so less is stays = ap (λ m. m ∷ xs) (ap (λ m. merged_member m (Some y)) (sym is) ∙ stays ∙ is)
+stays_more (suc i) (x ∷ xs) [] a so less is stays =
+    let first : merged_member x None ≡ x = cc in
+    let rest : merged_to i xs [] ≡ xs = cc in
+    ap (λ m. m ∷ merged_to (suc i) xs []) first ∙ ap (λ ms. x ∷ ms) (stays_more i xs [] a rest (omega (arith, less)) is stays)
+stays_more (suc i) (x ∷ xs) (y ∷ ys) a so less is stays =
+    let first : merged_member x (Some y) ≡ x = cc in
+    let rest : merged_to i xs ys ≡ xs = cc in
+    ap (λ m. m ∷ merged_to (suc i) xs ys) first ∙ ap (λ ms. x ∷ ms) (stays_more i xs ys a rest (omega (arith, less)) is stays)
+
 -- the one with the next number
 pub numbered_next : (ys : List Member) (i : ℕ) → numbered ys (i + 1) ≡ slice_get ys i
 numbered_next ys i =
     let some : (i + 1 == 0) ≡ false = grind (arith, nat_tests) in
     let back : i + 1 - 1 ≡ i = omega arith in
     ap (λ b. cond b None (slice_get ys (i + 1 - 1))) some ∙ ap (slice_get ys) back
+
+-- a record stays as it is where the other's stamps are no greater, and its members stay
+pub record_stays : (r t : Record) → nat_le (home_stamp t) (home_stamp r) ≡ true → join_fronts r.stamps t.stamps ≡ r.stamps → merged_members r.members t.members ≡ r.members → merged_record r t ≡ r
+record_stays r t first stamps members = rw (first, stamps, members) refl
 
 -- Members of which it is the same which is merged into the other
 

@@ -1,9 +1,9 @@
 -- only what changes is put and removed, each once
-use Rattle.std.proofs.Common.{◌≡◌, ◌<◌, ◌+◌, ◌==◌, ◌∷◌, ℕ, zero, suc, List, [], inl, inr, filter, map, refl, sym, ap, subst, ◌∙◌, Bool, true, false, cond, arith, Option, Some, None, nat_le, is_some, is_none}
+use Rattle.std.proofs.Common.{◌≡◌, ◌<◌, ◌+◌, ◌==◌, ◌&&◌, ◌∷◌, ℕ, zero, suc, List, [], inl, inr, filter, map, refl, sym, ap, subst, ◌∙◌, Bool, true, false, cond, arith, Option, Some, None, nat_le, is_some, is_none}
 use Rattle.std.specs.List.{AllByRecursion, slice_index}
 use Rattle.std.specs.List.Sorted.{IsStrictlyIncreasing}
 use Rattle.std.proofs.lemmas.Bool.Decides.{nat_tests}
-use Rattle.lra_id.specs.Ids.{Id}
+use Rattle.lra_id.specs.Ids.{Id, is_fact_number}
 use Rattle.lra_facts.specs.Lists.{In}
 use Rattle.lra_forest.specs.declared.record.Record.{Record}
 use Rattle.lra_forest.specs.Forests.{AreOf, IsAscending, id_of}
@@ -65,7 +65,7 @@ ids_alone home test own h =
     }
 
 pub only_changes : (home told mine : ℕ) (held : Option (List ℕ)) (own theirs put : List Record) (removed : List Id) → AreOf home own → AreOf home put
-    → ((num : ℕ) → IsRight home mine own theirs put num)
+    → ((num : ℕ) → IsRight home mine own num (found_at home theirs num) (found_at home put num))
     → removed ≡ ids_lost home told held theirs own → AreOnlyChanges home own removed put
 only_changes home told mine held own theirs put removed h order is gone =
     let alone = subst (λ (ls : List Id). AreOnlyChanges home own ls []) (sym gone) (ids_alone home test own h) in
@@ -89,3 +89,17 @@ only_changes home told mine held own theirs put removed h order is gone =
         not_put (found_at home own num) (found_at home put num) (nat_le num mine)
         (subst (λ (o : Option Record). IsPut (found_at home own num) (brought (nat_le num mine) (found_at home own num) o) (found_at home put num)) e (is num))
     none num (Some x) e t = absurd cc
+
+-- none is lost where it isn't told what is held
+pub none_lost : (home told : ℕ) (theirs rs : List Record) → ids_lost home told None theirs rs ≡ []
+none_lost home told theirs [] = refl
+none_lost home told theirs (r ∷ rs) =
+    ap (λ (b : Bool). map id_of (cond b (r ∷ filter test rs) (filter test rs))) (never (is_none (found_at home theirs r.num)) (is_fact_number r.num && nat_le r.num told)) ∙ none_lost home told theirs rs
+  where
+    test : Record → Bool
+    test = is_lost home told None theirs
+
+    never : (a b : Bool) → (a && (b && false)) ≡ false
+    never true true = refl
+    never true false = refl
+    never false b = refl

@@ -1,5 +1,5 @@
 -- what is taken of another node's records
-use Rattle.std.proofs.Common.{◌≡◌, ◌&&◌, ◌||◌, ◌==◌, ◌∷◌, ℕ, List, [], inl, inr, filter, map, refl, sym, ap, subst, ◌∙◌, Bool, true, false, cond, arith, Option, Some, None, nat_le, is_some, is_none}
+use Rattle.std.proofs.Common.{◌≡◌, ◌≤◌, ◌<◌, ◌&&◌, ◌||◌, ◌==◌, ◌∷◌, ◌++◌, ℕ, List, [], inl, inr, filter, map, refl, sym, ap, subst, ◌∙◌, Bool, true, false, cond, arith, Option, Some, None, nat_le, is_some, is_none}
 use mathlib.Core.Bool.{not}
 use Rattle.std.specs.List.{AllByRecursion, list_any}
 use Rattle.std.specs.Option.{option_or}
@@ -8,11 +8,11 @@ use Rattle.lra_id.specs.Ids.{Id}
 use Rattle.lra_forest.specs.declared.record.Record.{Record}
 use Rattle.lra_forest.specs.Forests.{AreOf, id_of, is_of}
 use Rattle.lra_forest.specs.RecordMerges.{brought, changed_by, home_stamp, is_gone, merged_record, absorbed}
-use Rattle.lra_forest.specs.OnlyChanges.{IsPut}
+use Rattle.lra_forest.specs.OnlyChanges.{IsPut, IsTold}
 use Rattle.lra_forest.specs.Places.{put_record}
 use Rattle.lra_forest.specs.Shape.{found_at}
 use Rattle.lra_forest.proofs.ChangedRecords.{found_changed, found_kept, found_own, keep, none_after, stays}
-use Rattle.lra_forest.proofs.Puts.{put_find}
+use Rattle.lra_forest.proofs.Puts.{put_are_of, put_behind, put_find}
 
 abbrev at : ℕ → ℕ → Id
 at home num = record { home = home; num = num }
@@ -55,28 +55,79 @@ news_found home old next num n b order of is e =
     put_find home next old (at home n) of order
     ∙ ap (λ c. cond c (Some next) (found_at home old n)) (by_number home n next of ∙ ap (λ k. k == n) is ∙ e)
 
--- what is to be put of an LRA of which there may be news
-abbrev pub IsRight : (home mine : ℕ) → (own all records : List Record) → ℕ → Type 0
-IsRight home mine own all records num = IsPut (found_at home own num) (brought (nat_le num mine) (found_at home own num) (found_at home all num)) (found_at home records num)
+-- lesser numbers are up to it
+pub up_to : (n : ℕ) (qs : List Record) → AllByRecursion (λ (q : Record). q.num < n) qs → AllByRecursion (λ (q : Record). q.num ≤ n) qs
+up_to n [] h = tt
+up_to n (q ∷ qs) h = (omega (arith, h.0), up_to n qs h.1)
 
--- Of all that the other has, what is left is still to be brought, and the records are those of what was brought
-pub record IsBringing (home mine : ℕ) (own all rest records : List Record) : Type 0 where
+-- and so they are with it behind them
+pub up_to_it : (n : ℕ) (r : Record) (qs : List Record) → r.num ≡ n → AllByRecursion (λ (q : Record). q.num < n) qs → AllByRecursion (λ (q : Record). q.num ≤ n) (qs ++ r ∷ [])
+up_to_it n r [] is h = (omega (arith, is), tt)
+up_to_it n r (q ∷ qs) is h = (omega (arith, h.0), up_to_it n r qs is h.1)
+
+-- and none of them has it
+pub none_has : (home n : ℕ) (qs : List Record) → AllByRecursion (λ (q : Record). q.num < n) qs → found_at home qs n ≡ None
+none_has home n [] h = refl
+none_has home n (q ∷ qs) h =
+    let other : is_of (at home n) q ≡ false = let less = h.0 in grind (arith, nat_tests, less) in
+    rw other (none_has home n qs h.1)
+
+-- those up to a number are lesser than those behind it
+all_lesser : (n m : ℕ) (qs : List Record) → n < m → AllByRecursion (λ (q : Record). q.num ≤ n) qs → AllByRecursion (λ (q : Record). q.num < m) qs
+all_lesser n m [] less h = tt
+all_lesser n m (q ∷ qs) less h = (omega (arith, less, h.0), all_lesser n m qs less h.1)
+
+all_behind : (n : ℕ) (qs rest : List Record) → AllByRecursion (λ (q : Record). q.num ≤ n) qs → AllByRecursion (λ (t : Record). n < t.num) rest
+    → AllByRecursion (λ (t : Record). AllByRecursion (λ (q : Record). q.num < t.num) qs) rest
+all_behind n qs [] h less = tt
+all_behind n qs (t ∷ rest) h less = (all_lesser n t.num qs less.0 h, all_behind n qs rest h less.1)
+
+-- what is to be put of an LRA of which there may be news
+abbrev pub IsRight : (home mine : ℕ) (own : List Record) → ℕ → Option Record → Option Record → Type 0
+IsRight home mine own num theirs put = IsPut (found_at home own num) (brought (nat_le num mine) (found_at home own num) theirs) put
+
+-- and what is to be told of it
+abbrev pub IsToldTo : (home : ℕ) (own : List Record) → ℕ → Option Record → Option Record → Type 0
+IsToldTo home own num theirs told = IsTold (found_at home own num) theirs told
+
+-- Of all that the other has, what is left is still to be brought, and the records are what was brought, each as it has to be
+pub record IsBringing (Has : ℕ → Option Record → Option Record → Type 0) (home : ℕ) (all rest records : List Record) : Type 0 where
   pub order : AreOf home records
   pub left : AreOf home rest
   pub last : (num : ℕ) → is_some (found_at home rest num) ≡ true → found_at home all num ≡ found_at home rest num
-  pub later : (num : ℕ) → is_some (found_at home rest num) ≡ true → found_at home records num ≡ None
-  pub there : (num : ℕ) → is_some (found_at home rest num) ≡ false → IsRight home mine own all records num
+  pub behind : AllByRecursion (λ (t : Record). AllByRecursion (λ (q : Record). q.num < t.num) records) rest
+  pub there : (num : ℕ) → is_some (found_at home rest num) ≡ false → Has num (found_at home all num) (found_at home records num)
+
+-- one record more behind all others
+pub record IsPushed (home num : ℕ) (r : Record) (qs : List Record) : Type 0 where
+  pub order : AreOf home (qs ++ r ∷ [])
+  pub last : AllByRecursion (λ (q : Record). q.num ≤ num) (qs ++ r ∷ [])
+  pub found : found_at home (qs ++ r ∷ []) num ≡ Some r
+  pub others : (n : ℕ) → (num == n) ≡ false → found_at home (qs ++ r ∷ []) n ≡ found_at home qs n
+
+pub pushed : (home num : ℕ) (r : Record) (qs : List Record) → r.home ≡ home → r.num ≡ num → AreOf home qs → AllByRecursion (λ (q : Record). q.num < num) qs → IsPushed home num r qs
+pushed home num r qs of is order less = record {
+  order = subst (AreOf home) put (put_are_of home r qs of order);
+  last = up_to_it num r qs is less;
+  found = let same : (num == num) ≡ true = grind (arith, nat_tests) in
+      ap (λ (rs : List Record). found_at home rs num) (sym put) ∙ news_found home qs r num num true order of is same;
+  others = λ n other. ap (λ (rs : List Record). found_at home rs n) (sym put) ∙ news_found home qs r num n false order of is other;
+}
+  where
+    put : put_record r qs ≡ qs ++ r ∷ []
+    put = put_behind r qs (subst (λ n. AllByRecursion (λ (q : Record). q.num < n) qs) (sym is) less)
 
 -- one more is brought
-pub bringing_more : (home mine : ℕ) (own all rest records new : List Record) (t : Record) → IsBringing home mine own all (t ∷ rest) records → AreOf home new
-    → IsNews home own (nat_le t.num mine) t (found_at home new t.num)
+pub bringing_more : (Has : ℕ → Option Record → Option Record → Type 0) (home : ℕ) (all rest records new : List Record) (t : Record) → IsBringing Has home all (t ∷ rest) records → AreOf home new
+    → AllByRecursion (λ (q : Record). q.num ≤ t.num) new
+    → Has t.num (Some t) (found_at home new t.num)
     → ((num : ℕ) → (t.num == num) ≡ false → found_at home new num ≡ found_at home records num)
-    → IsBringing home mine own all rest new
-bringing_more home mine own all rest records new t h order put others = record {
+    → IsBringing Has home all rest new
+bringing_more Has home all rest records new t h order last_is put others = record {
   order = order;
   left = record { homes = h.left.homes.1; ascending = h.left.ascending.1 };
   last = λ num e. last num e (t.num == num) refl;
-  later = λ num e. later num e (t.num == num) refl;
+  behind = all_behind t.num new rest last_is h.left.ascending.0;
   there = λ num e. there num e (t.num == num) refl;
 }
   where
@@ -90,20 +141,16 @@ bringing_more home mine own all rest records new t h order put others = record {
     last num e true t = absurd (let none = none_left num t in let no : is_some (found_at home rest num) ≡ false = ap is_some none in cc)
     last num e false t = let same = first num false t in h.last num (ap is_some same ∙ e) ∙ same
 
-    later : (num : ℕ) → is_some (found_at home rest num) ≡ true → (b : Bool) → (t.num == num) ≡ b → found_at home new num ≡ None
-    later num e true t = absurd (let none = none_left num t in let no : is_some (found_at home rest num) ≡ false = ap is_some none in cc)
-    later num e false s = let same = first num false s in others num s ∙ h.later num (ap is_some same ∙ e)
-
-    there : (num : ℕ) → is_some (found_at home rest num) ≡ false → (b : Bool) → (t.num == num) ≡ b → IsRight home mine own all new num
+    there : (num : ℕ) → is_some (found_at home rest num) ≡ false → (b : Bool) → (t.num == num) ≡ b → Has num (found_at home all num) (found_at home new num)
     there num e true s =
         let number : t.num ≡ num = grind (arith, nat_tests, s) in
         let same = first num true s in
         let some : found_at home all num ≡ Some t = h.last num (ap is_some same) ∙ same in
-        subst (λ (o : Option Record). IsPut (found_at home own num) (brought (nat_le num mine) (found_at home own num) o) (found_at home new num)) (sym some)
-        (subst (λ (n : ℕ). IsPut (found_at home own n) (brought (nat_le n mine) (found_at home own n) (Some t)) (found_at home new n)) number put)
+        subst (λ (o : Option Record). Has num o (found_at home new num)) (sym some)
+        (subst (λ (n : ℕ). Has n (Some t) (found_at home new n)) number put)
     there num e false s =
         let same = first num false s in
-        subst (λ (o : Option Record). IsPut (found_at home own num) (brought (nat_le num mine) (found_at home own num) (found_at home all num)) o) (sym (others num s))
+        subst (λ (o : Option Record). Has num (found_at home all num) o) (sym (others num s))
         (h.there num (ap is_some same ∙ e))
 
 -- What is gone

@@ -1,11 +1,11 @@
 -- What is put and removed where another node's records are taken: only what changes, each once.
-use Rattle.std.specs.Prelude.{◌≡◌, ◌⊎◌, ◌&&◌, ℕ, Bool, true, Option, Some, None, List, filter, is_none, is_some, map}
+use Rattle.std.specs.Prelude.{◌≡◌, ◌⊎◌, ◌&&◌, ℕ, Bool, true, false, Option, Some, None, List, filter, is_none, is_some, map}
 use Rattle.std.specs.List.{AllByRecursion}
 use Rattle.std.specs.List.Sorted.{IsStrictlyIncreasing}
 use Rattle.lra_id.specs.Ids.{Id}
 use Rattle.lra_forest.specs.declared.record.Record.{Record}
 use Rattle.lra_forest.specs.Forests.{AreOf, id_of}
-use Rattle.lra_forest.specs.RecordMerges.{is_gone}
+use Rattle.lra_forest.specs.RecordMerges.{brought, is_gone}
 use Rattle.lra_forest.specs.Shape.{found_at}
 
 -- What is put of an LRA of which one record is held and another, or none, is to be kept: the one to be kept, where it isn't the one
@@ -32,3 +32,8 @@ pub record AreOnlyChanges (home : ℕ) (own : List Record) (removed : List Id) (
   pub rising : IsStrictlyIncreasing (map (λ l. l.num) removed)
   pub there : AllByRecursion (λ l. is_some (found_at home own l.num) ≡ true) removed
   pub apart : AllByRecursion (λ l. found_at home put l.num ≡ None) removed
+
+-- What is told of an LRA to a receiver that has this of it, by a node that has that: what that node has, or nothing where it would
+-- change nothing
+abbrev pub IsTold : (own theirs told : Option Record) → Type 0
+IsTold own theirs told = (told ≡ theirs) ⊎ ((told ≡ None) × (brought false own theirs ≡ own))

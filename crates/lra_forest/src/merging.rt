@@ -1,11 +1,13 @@
 // What a home's records become when another node's are taken.
-ghost use Rattle.std.specs.Prelude.{◌≡◌, ◌==◌, ℕ, Some, None, false, IfOk, IsTrue, OnOk, if◌then◌else◌, is_some, nat_le};
+ghost use Rattle.std.specs.Prelude.{◌≡◌, ◌≤◌, ◌<◌, ◌==◌, ℕ, Some, None, false, IfOk, IsTrue, OnOk, if◌then◌else◌, is_some, nat_le};
+ghost use Rattle.std.specs.List.{AllByRecursion};
 ghost use Rattle.std.specs.Option.{option_copied};
 ghost use Rattle.lra_forest.specs.Forests.{AreOf, id_of};
 ghost use Rattle.lra_forest.specs.RecordMerges.{brought, changed_by, held_numbers, home_stamp, is_gone, is_unlisted, linked, merged_member, merged_members, merged_participant, merged_record, absorbed};
 ghost use Rattle.lra_forest.specs.OnlyChanges.{AreOnlyChanges, IsPut, ids_lost, is_lost};
 ghost use Rattle.lra_forest.specs.Shape.{found_at};
 
+use crate::lacking::has_all;
 use crate::{Forest, Member, Members, Participant, Record, Records};
 use lra_facts::Link;
 use lra_id::{LraId, Outcome};
@@ -29,7 +31,7 @@ pub struct Changes {
 }
 
 /// What was heard of an act, where there is a link for it.
-fn where_linked(link: Option<&Link>, heard: Option<Outcome>) -> Option<Outcome>
+pub(crate) fn where_linked(link: Option<&Link>, heard: Option<Outcome>) -> Option<Outcome>
     ensures { result ≡ (if is_some (option_copied link.entry) then heard else None) }
 {
     if link.is_some() { heard } else { None }
@@ -139,7 +141,7 @@ fn merged_own(own: &Members, other: Members) -> Result<Members, AllocError>
     Ok(members)
 }
 
-fn home_stamp(kept: &Record) -> u64
+pub(crate) fn home_stamp(kept: &Record) -> u64
     ensures { result ≡ home_stamp kept.now }
 {
     kept.stamps.count(kept.home)
@@ -194,6 +196,9 @@ impl Told {
     }
 }
 
+/// Those of these LRAs of which the other has no record and that it holds no more. Nothing is looked
+/// up where it doesn't tell what it holds.
+#[tactic(auto, using(crate::proofs::OnlyWhatChanges::none_lost))]
 fn all_gone(
     alloc: Global,
     own: Records<'_>,
@@ -204,6 +209,9 @@ fn all_gone(
         (held_numbers other.now.held) other.now.records.records own.entry) }
 {
     let mut removed = Vec::new(alloc);
+    if other.held.is_none() {
+        return Ok(removed);
+    }
     for record in own {
         if let Some(id) = other.gone(told, record) {
             removed.push(id)?;
@@ -227,20 +235,24 @@ impl Forest {
             IsPut own (brought (nat_le heard.num mine) own (Some heard)) put) }
     {
         match self.numbered(heard.num) {
+            Some(own) if has_all(own, &heard) => Ok(None),
             Some(own) => Ok(unless_there(merge_records(own, heard)?, own)),
             None if heard.num <= mine => Ok(None),
             None => Ok(Some(heard)),
         }
     }
 
+    #[tactic(auto, using(crate::proofs::TakenRecords::up_to, crate::proofs::TakenRecords::none_has))]
     fn bring(&self, mine: u64, heard: Record, records: &mut Forest) -> Result<(), AllocError>
         requires heard { heard.home ≡ self.now.home }
         requires home { records.old.home ≡ self.now.home }
         requires own { AreOf self.now.home self.now.records }
         requires order { AreOf self.now.home records.old.records }
-        requires missing { found_at self.now.home records.old.records heard.num ≡ None }
+        requires last { AllByRecursion (λ q. q.num < heard.num) records.old.records }
         ensures home { OnOk result (records.new.home ≡ self.now.home) }
         ensures order { OnOk result (AreOf self.now.home records.new.records) }
+        ensures last { OnOk result
+            (AllByRecursion (λ q. q.num ≤ heard.num) records.new.records) }
         ensures put { OnOk result (let own = found_at self.now.home self.now.records heard.num
             in IsPut own (brought (nat_le heard.num mine) own (Some heard))
             (found_at self.now.home records.new.records heard.num)) }
@@ -249,8 +261,7 @@ impl Forest {
             ≡ found_at self.now.home records.old.records num) }
     {
         if let Some(next) = self.news(mine, heard)? {
-            records.reserve(1)?;
-            records.put(next);
+            records.push_last(next)?;
         }
         Ok(())
     }

@@ -500,8 +500,9 @@ impl Pages {
         keep_one(&mut self.pages);
     }
 
-    /// Puts a record in its place. There is room for it, or one with its number to be replaced.
-    pub(crate) fn put(&mut self, added: Record)
+    /// Puts a record in its place, and gives back the one that it replaces. There is room for it, or
+    /// one with its number.
+    pub(crate) fn replace(&mut self, added: Record) -> Option<Record>
         requires order { IsAscending self.old.items }
         requires room { with_number added.num
             (slice_get self.old.items (count_below added.num self.old.items)) ≡ None →
@@ -511,12 +512,14 @@ impl Pages {
         ensures replaced { let place = count_below added.num self.old.items
             in is_some (with_number added.num (slice_get self.old.items place)) ≡ true →
             self.new.spare ≡ self.old.spare }
+        ensures was { result ≡ with_number added.num
+            (slice_get self.old.items (count_below added.num self.old.items)) }
     {
-        if numbered_in(&self.pages, added.num).is_some() {
-            let _ = exchange_in(&mut self.pages, added);
-        } else {
+        if numbered_in(&self.pages, added.num).is_none() {
             add_in(&mut self.pages, added);
+            return None;
         }
+        Some(exchange_in(&mut self.pages, added))
     }
 
     /// Puts a record behind all others.

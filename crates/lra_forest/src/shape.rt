@@ -216,11 +216,15 @@ impl Forest {
         true
     }
 
+    /// How many records stay: all, where none is removed.
+    #[tactic(auto, using(crate::proofs::ChangedCounts::all_stay))]
     fn count_kept(&self, removed: &[LraId]) -> usize
         ensures { result ≡ length (without removed.now self.now.records) }
     {
-        // Calling `len` hands the prover how many there are at most.
-        let _ = self.len();
+        let held = self.len();
+        if removed.is_empty() {
+            return held;
+        }
         let mut count = 0;
         for record in self.records() {
             if !is_among(removed, record) {

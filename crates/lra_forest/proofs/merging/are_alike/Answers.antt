@@ -1,5 +1,4 @@
-use Rattle.std.proofs.Common.{◌≡◌, ◌<◌, ◌∙◌, suc, ◌+◌, sym, ap, subst, arith, length, true}
-use Rattle.lra_forest.specs.RecordMerges.{merged_members}
+use Rattle.std.proofs.Common.{◌≡◌, ◌<◌, suc, ◌+◌, sym, subst, arith, length}
 use Rattle.lra_forest.proofs.MemberMerges.{SwapTo, swap_all, swap_more}
 use Rattle.lra_forest.proofs.merging.are_alike.Goals as goal
 

@@ -1,4 +1,4 @@
-use Rattle.std.proofs.Common.{sym, ap, ◌∙◌, IsTrue}
+use Rattle.std.proofs.Common.{sym, ap, ◌∙◌}
 use Rattle.lra_forest.specs.declared.record.Member.TheVariants.{Participant}
 use Rattle.lra_forest.proofs.EqualRecords.{links_same}
 use Rattle.lra_forest.proofs.MemberMerges.{participants_swap}
