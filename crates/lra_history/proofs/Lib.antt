@@ -43,7 +43,7 @@ pub mod MergedRecords  -- the record of an LRA in the union
 pub mod MergedViews  -- the merge of two views stands for the union
 pub mod OneMerge  -- two views have one merge
 pub mod MergeIsAJoin  -- the merge is a join
-pub mod TellingAll  -- to take all that is told of a view is to merge it
+pub mod TellingNews  -- to take what is news of a view is to merge it
 pub mod ViewsHaveShape  -- the views of closed sets have the shape
 -- ---- Statuses only rise; no split verdict
 pub mod Ranks  -- ranks rise as more is heard and wanted

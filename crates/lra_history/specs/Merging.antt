@@ -7,6 +7,7 @@ use Rattle.lra_forest.specs.declared.merging.Told.{Told}
 use Rattle.lra_forest.specs.declared.record.Record.{Record}
 use Rattle.lra_forest.specs.Forests.{AreOf, id_of, is_of}
 use Rattle.lra_forest.specs.RecordMerges.{held_numbers, is_gone, absorbed}
+use Rattle.lra_forest.specs.OnlyChanges.{IsTold}
 use Rattle.lra_forest.specs.Places.{put_record}
 use Rattle.lra_forest.specs.Records.{nodes_to}
 use Rattle.lra_history.specs.Histories.{History, IsClosed, facts}
@@ -88,11 +89,12 @@ pub record IsAbsorbed (a : View) (telling : Telling) (c : View) : Type 0 where
   pub order : (home : ℕ) → 1 ≤ home → home ≤ length c.front → AreOf home (records_at c.records home)
   pub records : (l : Id) → 1 ≤ l.home → l.home ≤ length c.front → record_at c l ≡ absorbed_of a telling l
 
--- All that a view has is told: its front and purges, each home's records, which are in order, and which LRAs it holds
-pub record TellsAll (telling : Telling) (b : View) : Type 0 where
+-- What is news to a is told of b: its front and purges, of each LRA what b has of it, unless that changes nothing in a, and which
+-- LRAs it holds. Its homes' records are in order
+pub record TellsNews (a : View) (telling : Telling) (b : View) : Type 0 where
   pub front : telling.front ≡ b.front
   pub purges : telling.purges ≡ b.purges
-  pub records : (home : ℕ) → 1 ≤ home → home ≤ length b.front → told_records telling home ≡ records_at b.records home
+  pub records : (l : Id) → 1 ≤ l.home → l.home ≤ length b.front → IsTold (record_at a l) (record_at b l) (find (is_of l) (told_records telling l.home))
   pub order : (home : ℕ) → 1 ≤ home → home ≤ length b.front → AreOf home (records_at b.records home)
   pub held : (home : ℕ) → 1 ≤ home → home ≤ length b.front → told_held telling home ≡ Some (map (λ (r : Record). r.num) (records_at b.records home))
 

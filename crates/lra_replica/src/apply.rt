@@ -25,6 +25,16 @@ fn stamps_at(home: &Forest, num: u64) -> Option<Front>
     }
 }
 
+/// The stamps of a record that was replaced.
+fn stamps_of(was: Option<Record>) -> Option<Front>
+    ensures { result ≡ option_map (λ (r : RecordFields). r.stamps) was }
+{
+    match was {
+        Some(record) => Some(record.stamps),
+        None => None,
+    }
+}
+
 /// Puts a record in its place at its home, and answers with the stamps of the one that it replaces.
 /// It is over the homes alone: so the invariant that ties them to the index is one record for its
 /// caller.
@@ -45,9 +55,7 @@ fn put_among(homes: &mut Vec<Forest>, added: Record) -> Option<Front>
         (stamps_in (records_in homes.old.items)) l ≡ stamps_in (records_in homes.new.items) l }
 {
     let place = usize::from(added.home.number()) - 1;
-    let was = stamps_at(&homes[place], added.num);
-    homes[place].put(added);
-    was
+    stamps_of(homes[place].replace(added))
 }
 
 /// Removes the record of an LRA, if its home has one, and answers with its stamps.

@@ -36,6 +36,7 @@ fn add_changes(patch: &mut Patch, changes: Changes) -> Result<(), AllocError>
 {
     let mut removed = changes.removed;
     patch.removed.append(&mut removed)?;
+    patch.records.reserve(changes.records.len())?;
     add_records(&mut patch.records, changes.records.into_records())
 }
 
@@ -176,8 +177,8 @@ impl Replica {
 
     /// Merges another replica of as many nodes into this one, by the rules of `absorb`. E16 at
     /// place 0 where the merged records would break the shape; replicas of one history never do. On
-    /// any refusal nothing changes. It costs a copy of the other, and what `absorb` costs. The
-    /// other is copied so that `absorb` moves new records.
+    /// any refusal nothing changes. It costs a look at each record of the other, a copy of each that
+    /// tells something new, and what `absorb` of these costs.
     pub fn merge(&mut self, alloc: Global, other: &Replica) -> Result<(), Refusal>
         requires { length self.old.front ≡ length other.now.front }
         ensures merged { OnOk result (view_of self.new
@@ -193,7 +194,7 @@ impl Replica {
             MatchResult result (λ _. StandsFor (facts h (join_fronts v w)) (view_of self.new))
             (λ refusal. refusal ≡ NoMemory) }
     {
-        let taken = other.tell_all(alloc)?;
+        let taken = other.tell_news(alloc, self)?;
         let patch = self.absorb(alloc, taken)?;
         self.apply(patch);
         Ok(())

@@ -1,10 +1,11 @@
 // What one node tells another.
 ghost use Rattle.std.specs.Prelude.{◌≡◌, IfOk};
-ghost use Rattle.lra_history.specs.Merging.{IsTelling, TellsAll};
+ghost use Rattle.lra_history.specs.Merging.{IsTelling, TellsNews};
 ghost use Rattle.lra_replica.specs.Replicas.{view_of};
+ghost use Rattle.lra_replica.specs.Tellings.{IsToldBy};
 
 use crate::Replica;
-use lra_forest::Told;
+use lra_forest::{Forest, Told};
 use lra_id::Front;
 use std::alloc::{AllocError, Global};
 use std::marker::Model;
@@ -45,18 +46,32 @@ impl Taken {
 }
 
 impl Replica {
-    /// All that it has, as it is told to another.
-    pub fn tell_all(&self, alloc: Global) -> Result<Taken, AllocError>
-        ensures { IfOk result (λ taken. TellsAll taken (view_of self.now)) }
+    /// What a home tells that is news here. All is, where there is no such home.
+    fn told_by(&self, alloc: Global, home: &Forest) -> Result<Told, AllocError>
+        ensures { IfOk result (λ told. IsToldBy (view_of self.now) home.now told) }
+    {
+        // Calling `records` hands the prover that they are in order.
+        let _ = home.records();
+        let records = match self.home(home.home()) {
+            Some(own) => own.lacking(alloc, home)?,
+            None => home.clone()?,
+        };
+        Ok(Told {
+            held: Some(home.numbers(alloc)?),
+            records,
+        })
+    }
+
+    /// What it has that is news to another: its front and last purges, the numbers of all LRAs that
+    /// it holds, and copies of the records that tell something new. It looks up each of its records
+    /// among the other's by halving.
+    pub fn tell_news(&self, alloc: Global, other: &Replica) -> Result<Taken, AllocError>
+        ensures { IfOk result
+            (λ taken. TellsNews (view_of other.now) taken (view_of self.now)) }
     {
         let mut homes = Vec::new(alloc);
         for home in &self.homes {
-            // Calling `records` hands the prover that they are in order.
-            let _ = home.records();
-            homes.push(Told {
-                held: Some(home.numbers(alloc)?),
-                records: home.clone()?,
-            })?;
+            homes.push(other.told_by(alloc, home)?)?;
         }
         Ok(Taken {
             front: self.front,

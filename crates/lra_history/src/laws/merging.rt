@@ -11,7 +11,7 @@ ghost use Rattle.lra_facts.specs.Sets.{heard, is_held};
 ghost use Rattle.lra_forest.specs.Records.{is_about, stamp};
 ghost use Rattle.lra_history.specs.Histories.{History, IsClosed, IsLawful, facts};
 ghost use Rattle.lra_history.specs.NodeViews.{IsCurrent};
-ghost use Rattle.lra_history.specs.Merging.{IsAbsorbed, IsClosedView, IsMerged, IsPartOf, Telling, TellsAll, merged};
+ghost use Rattle.lra_history.specs.Merging.{IsAbsorbed, IsClosedView, IsMerged, IsPartOf, Telling, TellsNews, merged};
 ghost use Rattle.lra_history.specs.Views.{IsInOrder, StandsFor, View};
 
 /// Two views that count the same nodes, and whose homes' records are in order, have just one merge.
@@ -21,13 +21,13 @@ pub fn two_views_have_a_merge()
     ensures only { (a b c : View) → IsInOrder a → IsInOrder b → IsMerged a b c → c ≡ merged a b }
 {}
 
-/// To take all that another view has is to merge it.
-#[tactic(auto, using(crate::proofs::TellingAll::merged_from, crate::proofs::TellingAll::absorbed_from))]
-pub fn telling_all_is_merging()
+/// To take what is news of another view is to merge it.
+#[tactic(auto, using(crate::proofs::TellingNews::merged_from, crate::proofs::TellingNews::absorbed_from))]
+pub fn telling_news_is_merging()
     ensures merged { (a b c : View) (telling : Telling) →
-        TellsAll telling b → IsAbsorbed a telling c → IsMerged a b c }
+        TellsNews a telling b → IsAbsorbed a telling c → IsMerged a b c }
     ensures absorbed { (a b c : View) (telling : Telling) →
-        TellsAll telling b → IsMerged a b c → IsAbsorbed a telling c }
+        TellsNews a telling b → IsMerged a b c → IsAbsorbed a telling c }
 {}
 
 /// The merge of the views of two closed sets is the view of the sets' union, and that is closed

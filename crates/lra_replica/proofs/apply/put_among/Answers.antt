@@ -9,7 +9,7 @@ use Rattle.lra_forest.proofs.Puts.{put_are_of}
 use Rattle.lra_replica.specs.Replicas.{records_in, spare_at, stamps_in}
 use Rattle.lra_history.specs.Views.{records_at}
 use Rattle.lra_replica.proofs.Indexed.{put_stamps}
-use Rattle.lra_replica.proofs.Rooms.{here_same, home_numbered, ordered_here, ordered_with, records_with, records_of, spare_is, spare_with}
+use Rattle.lra_replica.proofs.Rooms.{home_numbered, ordered_here, ordered_with, records_with, records_of, spare_is, spare_with}
 use Rattle.lra_replica.proofs.apply.put_among.Goals as goal
 
 place_is : (c : goal.After-index_mut) → c.from-place.result - 1 ≡ c.args.added.home - 1
@@ -34,54 +34,51 @@ at_home c = omega (arith, some c, ap (λ (h : HomeRecords). h.home) (is_home c),
 order : (c : goal.After-index_mut) → AreOf c.index_mut.result.now.home c.index_mut.result.now.records
 order c = ordered_here c.args.homes.now.items (c.args.added.home - 1) c.index_mut.result.now (within c) (is_home c) c.requires.ordered
 
-pub put-requires-clause-home : goal.put-requires-clause-home
-put-requires-clause-home c = at_home c
+pub replace-requires-clause-home : goal.replace-requires-clause-home
+replace-requires-clause-home c = at_home c
 
-pub put-requires-clause-room : goal.put-requires-clause-room
-put-requires-clause-room c none =
+pub replace-requires-clause-room : goal.replace-requires-clause-room
+replace-requires-clause-room c none =
     omega (arith, c.requires.room (some c), spare_is c.args.homes.now.items c.args.added.home c.index_mut.result.now (within c), ap (λ (h : HomeRecords). h.spare) (is_home c))
 
 pub returns-clause-ordered : goal.returns-clause-ordered
 returns-clause-ordered c =
-    let at = c.before.before in
+    let at = c.before.before.before in
     let home = c.index_mut.result.now in
-    let kept : AreOf c.put.new.self.home c.put.new.self.records =
-    subst (λ (n : ℕ). AreOf n c.put.new.self.records) (sym c.put.ensures.home)
-    (subst (λ (rs : List Record). AreOf home.home rs) (sym c.put.ensures.records) (put_are_of home.home c.args.added home.records (at_home at) (order at))) in
-    rw (place_is at) (ordered_with c.args.homes.now.items (c.args.added.home - 1) c.put.new.self kept c.requires.ordered)
+    let kept : AreOf c.replace.new.self.home c.replace.new.self.records =
+    subst (λ (n : ℕ). AreOf n c.replace.new.self.records) (sym c.replace.ensures.home)
+    (subst (λ (rs : List Record). AreOf home.home rs) (sym c.replace.ensures.records) (put_are_of home.home c.args.added home.records (at_home at) (order at))) in
+    rw (place_is at) (ordered_with c.args.homes.now.items (c.args.added.home - 1) c.replace.new.self kept c.requires.ordered)
 
 pub returns-clause-records : goal.returns-clause-records
 returns-clause-records c =
-    let at = c.before.before in
+    let at = c.before.before.before in
     rw (place_is at)
-    (records_with c.args.homes.now.items (c.args.added.home - 1) c.put.new.self
-    ∙ ap (λ (rs : List Record). set (records_in c.args.homes.now.items) (c.args.added.home - 1) rs) (c.put.ensures.records ∙ ap (put_record c.args.added) (before at)))
+    (records_with c.args.homes.now.items (c.args.added.home - 1) c.replace.new.self
+    ∙ ap (λ (rs : List Record). set (records_in c.args.homes.now.items) (c.args.added.home - 1) rs) (c.replace.ensures.records ∙ ap (put_record c.args.added) (before at)))
 
 pub returns-clause-room : goal.returns-clause-room
 returns-clause-room c home one =
-    let at = c.before.before in
+    let at = c.before.before.before in
     let number : c.args.added.home - 1 + 1 ≡ c.args.added.home = omega (arith, some at) in
-    let room = spare_with c.args.homes.now.items (c.args.added.home - 1) c.put.new.self c.index_mut.result.now 1 (within at)
-    (omega (arith, c.put.ensures.room, ap (λ (h : HomeRecords). h.spare) (is_home at))) home one in
-    rw (place_is at) (subst (λ (n : ℕ). spare_at c.args.homes.now.items home ≤ spare_at (set c.args.homes.now.items (c.args.added.home - 1) c.put.new.self) home + cond (n == home) 1 0) number room)
+    let room = spare_with c.args.homes.now.items (c.args.added.home - 1) c.replace.new.self c.index_mut.result.now 1 (within at)
+    (omega (arith, c.replace.ensures.room, ap (λ (h : HomeRecords). h.spare) (is_home at))) home one in
+    rw (place_is at) (subst (λ (n : ℕ). spare_at c.args.homes.now.items home ≤ spare_at (set c.args.homes.now.items (c.args.added.home - 1) c.replace.new.self) home + cond (n == home) 1 0) number room)
 
 pub returns-clause-was : goal.returns-clause-was
 returns-clause-was c =
-    let at = c.before.before in
-    let read : c.index.result.now ≡ get_or c.args.homes.now.items (c.args.added.home - 1) c.index.result.now = c.index.ensures ∙ ap (λ (i : ℕ). get_or c.args.homes.now.items i c.index.result.now) (place_is at) in
-    let same : c.index.result.now ≡ c.index_mut.result.now = here_same c.args.homes.now.items (c.args.added.home - 1) c.index.result.now c.index_mut.result.now (within at) read (is_home at) in
-    c.stamps_at-was.ensures
-    ∙ ap (λ (h : HomeRecords). option_map (λ (r : Record). r.stamps) (found_at h.home h.records c.args.added.num)) same
-    ∙ ap (λ (n : ℕ). option_map (λ (r : Record). r.stamps) (found_at n c.index_mut.result.now.records c.args.added.num)) (sym (at_home at))
+    let at = c.before.before.before in
+    c.stamps_of.ensures
+    ∙ ap (option_map (λ (r : Record). r.stamps)) c.replace.ensures.was
     ∙ ap (λ (rs : List Record). option_map (λ (r : Record). r.stamps) (found_at c.args.added.home rs c.args.added.num)) (before at)
 
 pub returns-clause-indexed : goal.returns-clause-indexed
 returns-clause-indexed c l =
-    let at = c.before.before in
+    let at = c.before.before.before in
     let rs = records_in c.args.homes.now.items in
     let size : c.args.added.home - 1 < length rs = omega (arith, within at, length-map c.args.homes.now.items (λ (h : HomeRecords). h.records)) in
     let own : AreOf c.args.added.home c.index_mut.result.now.records = subst (λ (n : ℕ). AreOf n c.index_mut.result.now.records) (sym (at_home at)) (order at) in
     put_stamps rs (c.args.added.home - 1) c.index_mut.result.now.records c.args.added (some at) refl size (sym (before at)) own l
-    ∙ ap (λ (qs : List Record). stamps_in (set rs (c.args.added.home - 1) qs) l) (sym c.put.ensures.records)
-    ∙ ap (λ (xs : List (List Record)). stamps_in xs l) (sym (records_with c.args.homes.now.items (c.args.added.home - 1) c.put.new.self))
-    ∙ ap (λ (i : ℕ). stamps_in (records_in (set c.args.homes.now.items i c.put.new.self)) l) (sym (place_is at))
+    ∙ ap (λ (qs : List Record). stamps_in (set rs (c.args.added.home - 1) qs) l) (sym c.replace.ensures.records)
+    ∙ ap (λ (xs : List (List Record)). stamps_in xs l) (sym (records_with c.args.homes.now.items (c.args.added.home - 1) c.replace.new.self))
+    ∙ ap (λ (i : ℕ). stamps_in (records_in (set c.args.homes.now.items i c.replace.new.self)) l) (sym (place_is at))

@@ -7,7 +7,7 @@ use Rattle.lra_history.specs.Views.{View}
 use Rattle.lra_history.proofs.MergeIsAJoin.{merge_law}
 use Rattle.lra_history.proofs.ViewsHaveShape.{merged_shape}
 use Rattle.lra_history.proofs.OneMerge.{merge_is, merge_only}
-use Rattle.lra_history.proofs.TellingAll.{absorbed_from, merged_from}
+use Rattle.lra_history.proofs.TellingNews.{absorbed_from, merged_from}
 use Rattle.lra_replica.proofs.replica.Replica.merge.Goals.{After-apply, In_err-patch}
 use Rattle.lra_replica.proofs.replica.Replica.merge.Goals as goal
 
