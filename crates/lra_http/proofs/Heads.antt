@@ -1,12 +1,13 @@
 -- Heads at the start of what was read.
-use Rattle.std.proofs.Common.{◌≡◌, ◌≢◌, ℕ, ◌+◌, ◌<◌, ◌≤◌, ◌⊎◌, inl, inr, List, [], ◌∷◌, ◌++◌, length, take, drop, sym, ◌∙◌, ap, refl, append_assoc, arith, Option, Some, length-append, append-nil, IfSome, subst, Bool, true, false, cond, nat_le, IsTrue, IsFalse, not, ◌&&◌, ◌||◌, ◌==◌}
+use Rattle.std.proofs.Common.{◌≡◌, ℕ, ◌+◌, ◌<◌, ◌≤◌, ◌⊎◌, inl, inr, List, [], ◌∷◌, ◌++◌, length, take, drop, sym, ◌∙◌, ap, refl, append_assoc, arith, Option, Some, length-append, append-nil, IfSome, subst, Bool, true, false, cond, nat_le, IsTrue, IsFalse, not, ◌&&◌, ◌||◌, ◌==◌, eqb}
 use Rattle.std.proofs.Math.Seq.{take-append_seam}
 use Rattle.std.proofs.lemmas.List.{take-append-le, take-append-drop, length-take, length-map}
-use Rattle.std.proofs.lemmas.Bool.Decides.{leb_tells}
+use Rattle.std.proofs.lemmas.Bool.Decides.{leb_tells, Decides-eqb}
 use Rattle.std.proofs.lemmas.List.Folds.{list_all-append}
-use Rattle.std.specs.List.{list_all}
-use Rattle.httparse.specs.Ascii.{line_feed, space}
-use Rattle.httparse.specs.Grammar.{LineEnd, crlf, lf, print_end, RequestHead, ResponseHead, print_request, print_response}
+use Rattle.std.proofs.lemmas.Slice.Eq.{ends_is}
+use Rattle.std.specs.List.{list_all, flat_map, ends_with}
+use Rattle.httparse.specs.Ascii.{carriage_return, colon, line_feed, space}
+use Rattle.httparse.specs.Grammar.{LineEnd, crlf, lf, print_end, Field, print_field, print_section, RequestHead, ResponseHead, print_request, print_response}
 use Rattle.httparse.specs.Spans.{IsRequestOf, IsResponseOf, IsRequestWithin, IsResponseWithin}
 use Rattle.httparse.specs.declared.spans.HeaderSpan.{HeaderSpan}
 use Rattle.httparse.specs.declared.spans.RequestSpans.{RequestSpans}
@@ -15,7 +16,7 @@ use Rattle.lra_http.specs.declared.head.HeadKind.{HeadKind}
 use Rattle.lra_http.specs.declared.head.HeadKind.TheVariants.{Request, Response}
 use Rattle.lra_http.specs.declared.head.HeadState.{HeadState}
 use Rattle.lra_http.specs.declared.head.HeadState.TheVariants.{Whole, Long}
-use Rattle.lra_http.specs.Heads.{IsHeadState, IsHead, HasNoHead, HasNoShorterHead, NeverHasHead, MayBecomeHead, Exceeds, Overflows, HasHead, IsHeadWithin, IsHeadTooLong, IsOpen, RefusesHead}
+use Rattle.lra_http.specs.Heads.{IsHeadState, IsHead, HasNoHead, HasNoShorterHead, NeverHasHead, MayBecomeHead, Exceeds, Overflows, HasHead, ends_empty, IsHeadWithin, IsHeadTooLong, IsOpen, RefusesHead}
 use Rattle.lra_http.specs.Faults.{Shows, Stops}
 use Rattle.lra_http.specs.Streams.{FoundEnd, GivenBytes, Gives, GivesWhat}
 use Rattle.lra_http.specs.declared.fault.Fault.{Fault}
@@ -47,34 +48,64 @@ exceeds_more Request room bytes more (prefix, rest, same, h, reads, many) =
 exceeds_more Response room bytes more (prefix, rest, same, h, reads, many) =
     (prefix, rest ++ more, ap (λ (t : List ℕ). t ++ more) same ∙ append_assoc prefix rest more, h, reads, many)
 
--- ---- a head ends in a line feed
+-- ---- a head ends in an empty line
 
-abbrev pub EndsInLine : List ℕ → Type 0
-EndsInLine text = (prefix : List ℕ) × (text ≡ prefix ++ line_feed ∷ [])
+or_true : (a : Bool) → (a || true) ≡ true
+or_true true = refl
+or_true false = refl
 
-ends_append : (a b : List ℕ) → EndsInLine b → EndsInLine (a ++ b)
-ends_append a b (prefix, e) = (a ++ prefix, ap (λ (t : List ℕ). a ++ t) e ∙ sym (append_assoc a prefix (line_feed ∷ [])))
+-- a line's end, and the end of an empty line
+abbrev pub EndsInEmpty : List ℕ → Type 0
+EndsInEmpty text = (prefix : List ℕ) × (end : LineEnd) × (text ≡ prefix ++ line_feed ∷ print_end end)
 
-ends_line : (e : LineEnd) → EndsInLine (print_end e)
-ends_line crlf = (13 ∷ [], refl)
-ends_line lf = ([], refl)
+ends_append : (a b : List ℕ) → EndsInEmpty b → EndsInEmpty (a ++ b)
+ends_append a b (prefix, end, e) =
+    (a ++ prefix, end, ap (λ (t : List ℕ). a ++ t) e ∙ sym (append_assoc a prefix (line_feed ∷ print_end end)))
 
-ends_request : (h : RequestHead) → EndsInLine (print_request h)
+-- what stands before two pieces doesn't count
+ends_behind : (front a b : List ℕ) → EndsInEmpty (a ++ b) → EndsInEmpty ((front ++ a) ++ b)
+ends_behind front a b ends = subst EndsInEmpty (sym (append_assoc front a b)) (ends_append front (a ++ b) ends)
+
+-- the end of a start line, and what follows it
+ends_section : (first : LineEnd) (fields : List Field) (last : LineEnd) → EndsInEmpty (print_end first ++ print_section fields last)
+ends_section crlf [] last = (13 ∷ [], last, refl)
+ends_section lf [] last = ([], last, refl)
+ends_section first (f ∷ fields) last =
+    let next : EndsInEmpty (print_field f ++ print_section fields last) =
+    ends_behind (f.name ++ colon ∷ f.raw) (print_end f.end) (print_section fields last) (ends_section f.end fields last) in
+    let same : print_section (f ∷ fields) last ≡ print_field f ++ print_section fields last =
+    append_assoc (print_field f) (flat_map print_field fields) (print_end last) in
+    ends_append (print_end first) (print_section (f ∷ fields) last) (subst EndsInEmpty (sym same) next)
+
+ends_request : (h : RequestHead) → EndsInEmpty (print_request h)
 unfolding print_request
-ends_request h = search (ends_append, ends_line)
+ends_request h = ends_behind _ (print_end h.line_end) (print_section h.fields h.last) (ends_section h.line_end h.fields h.last)
 
-ends_response : (h : ResponseHead) → EndsInLine (print_response h)
+ends_response : (h : ResponseHead) → EndsInEmpty (print_response h)
 unfolding print_response
-ends_response h = search (ends_append, ends_line)
+ends_response h = ends_behind _ (print_end h.line_end) (print_section h.fields h.last) (ends_section h.line_end h.fields h.last)
 
-pub ends_head : (kind : HeadKind) (text : List ℕ) (lines : ℕ) → IsHead kind text lines → EndsInLine text
-ends_head Request text lines (h, valid, e, count) = subst EndsInLine (sym e) (ends_request h)
-ends_head Response text lines (h, valid, e, count) = subst EndsInLine (sym e) (ends_response h)
+pub ends_head : (kind : HeadKind) (text : List ℕ) (lines : ℕ) → IsHead kind text lines → EndsInEmpty text
+ends_head Request text lines (h, valid, e, count) = subst EndsInEmpty (sym e) (ends_request h)
+ends_head Response text lines (h, valid, e, count) = subst EndsInEmpty (sym e) (ends_response h)
+
+-- so does the test say
+empty_seen : (text : List ℕ) → EndsInEmpty text → ends_empty text ≡ true
+empty_seen text (prefix, lf, e) = rw ((ends_is Decides-eqb text (line_feed ∷ line_feed ∷ []) _ refl).1 prefix e) refl
+empty_seen text (prefix, crlf, e) =
+    rw ((ends_is Decides-eqb text (line_feed ∷ carriage_return ∷ line_feed ∷ []) _ refl).1 prefix e)
+    (or_true (ends_with eqb text (line_feed ∷ line_feed ∷ [])))
+
+-- its last byte
+last_byte : (text : List ℕ) → EndsInEmpty text → (prefix : List ℕ) × (text ≡ prefix ++ line_feed ∷ [])
+last_byte text (prefix, lf, e) = (prefix ++ line_feed ∷ [], e ∙ sym (append_assoc prefix (line_feed ∷ []) (line_feed ∷ [])))
+last_byte text (prefix, crlf, e) =
+    (prefix ++ line_feed ∷ carriage_return ∷ [], e ∙ sym (append_assoc prefix (line_feed ∷ carriage_return ∷ []) (line_feed ∷ [])))
 
 pub some_head : (kind : HeadKind) (text : List ℕ) (lines : ℕ) → IsHead kind text lines → 0 < length text
 some_head kind text lines is =
-    let ends = ends_head kind text lines is in
-    let size : length text ≡ length ends.0 + 1 = ap length ends.1 ∙ length-append ends.0 (line_feed ∷ []) in
+    let last = last_byte text (ends_head kind text lines is) in
+    let size : length text ≡ length last.0 + 1 = ap length last.1 ∙ length-append last.0 (line_feed ∷ []) in
     omega arith
 
 -- ---- one byte more
@@ -114,14 +145,23 @@ none_shorter kind head byte none = λ text rest lines is same.
     let long : length text ≤ length head → ⊥ = λ le. short_head kind head (byte ∷ []) text rest lines none is same le in
     no_element rest (grind (arith, long, sizes))
 
--- a byte that is no line feed ends no head
-pub none_more : (kind : HeadKind) (head items : List ℕ) (byte : ℕ) → items ≡ head ++ byte ∷ [] → HasNoHead kind head → byte ≢ line_feed → HasNoHead kind items
+-- where nothing is a head, nothing stands behind one
+pub none_is_shorter : (kind : HeadKind) (bytes : List ℕ) → HasNoHead kind bytes → HasNoShorterHead kind bytes
+none_is_shorter kind bytes none = λ text rest lines is same. absurd (none_of kind bytes text rest lines none is same)
+
+-- a byte behind which no empty line ends doesn't end a head
+pub none_more : (kind : HeadKind) (head items : List ℕ) (byte : ℕ) → items ≡ head ++ byte ∷ [] → HasNoHead kind head
+    → (byte ≡ line_feed → ends_empty items ≡ false) → HasNoHead kind items
 none_more kind head items byte e none other = none_from kind items (λ text rest lines is same.
     let ends = ends_head kind text lines is in
+    let last = last_byte text ends in
     let whole : head ++ byte ∷ [] ≡ text ++ rest = sym e ∙ same in
-    let exact : head ++ byte ∷ [] ≡ ends.0 ++ line_feed ∷ [] =
-    whole ∙ ap (λ (r : List ℕ). text ++ r) (none_shorter kind head byte none text rest lines is whole) ∙ append-nil text ∙ ends.1 in
-    other (same_last head ends.0 byte line_feed exact))
+    let exact : head ++ byte ∷ [] ≡ text =
+    whole ∙ ap (λ (r : List ℕ). text ++ r) (none_shorter kind head byte none text rest lines is whole) ∙ append-nil text in
+    let seen : ends_empty items ≡ true = ap ends_empty (e ∙ exact) ∙ empty_seen text ends in
+    let missed : ends_empty items ≡ false = other (same_last head last.0 byte line_feed (exact ∙ last.1)) in
+    let clash : true ≡ false = sym seen ∙ missed in
+    absurd (cc))
 
 -- ---- a head has a space
 
@@ -182,9 +222,9 @@ unspaced_more false after head items byte is e others = λ none.
     ∙ ap (λ (b : Bool). b && list_all is_other (byte ∷ [])) (others refl)
     ∙ ap (λ (b : Bool). not b && true) other
 
--- a byte after which the parser isn't asked ends no head
+-- bytes about which the parser isn't asked have no head
 pub none_lacked : (kind : HeadKind) (spaced : Bool) (head items : List ℕ) (byte : ℕ) → items ≡ head ++ byte ∷ [] → HasNoHead kind head
-    → Unspaced spaced items → (IsTrue spaced → byte ≢ line_feed) → HasNoHead kind items
+    → Unspaced spaced items → (IsTrue spaced → byte ≡ line_feed → ends_empty items ≡ false) → HasNoHead kind items
 none_lacked kind true head items byte e none others other = none_more kind head items byte e none (other refl)
 none_lacked kind false head items byte e none others other = none_unspaced kind items (others refl)
 

@@ -1,6 +1,7 @@
 -- Heads of messages of either kind, as texts at the start of some bytes.
-use Rattle.std.specs.Prelude.{◌≡◌, ℕ, ◌+◌, ◌<◌, ◌≤◌, ◌⊎◌, ◌≢◌, IsTrue, Bool, true, false, List, [], ◌++◌, length}
-use Rattle.httparse.specs.Ascii.{line_feed}
+use Rattle.std.specs.Prelude.{◌≡◌, ℕ, ◌+◌, ◌<◌, ◌≤◌, ◌⊎◌, IsTrue, Bool, true, false, ◌||◌, List, [], ◌∷◌, ◌++◌, length, eqb}
+use Rattle.std.specs.List.{ends_with}
+use Rattle.httparse.specs.Ascii.{carriage_return, line_feed}
 use Rattle.httparse.specs.Grammar.{RequestHead, ResponseHead, IsRequestHead, IsResponseHead, print_request, print_response, HasNoRequest, HasNoResponse, NeverHasRequest, NeverHasResponse, MayBecomeRequest, MayBecomeResponse}
 use Rattle.httparse.specs.Spans.{RequestExceeds, RequestOverflows, ResponseExceeds, ResponseOverflows}
 use Rattle.lra_http.specs.declared.fault.Fault.{Fault}
@@ -75,10 +76,16 @@ IsHeadState kind most room bytes Bad = NeverHasHead kind bytes
 IsHeadState kind most room bytes Long =
     ((most < length bytes) × IsOpen kind bytes) ⊎ (Exceeds kind room bytes × Overflows kind room bytes)
 
--- a byte after which the parser isn't asked ends no line of a head that has a space, and is within the limit
-abbrev pub MayLack : Bool → ℕ → ℕ → ℕ → Bool → Type 0
-MayLack spaced byte size most true = Unit {0}
-MayLack spaced byte size most false = (IsTrue spaced → byte ≢ line_feed) × (size ≤ most)
+-- the last line is empty, and another stands before it
+abbrev pub ends_empty : List ℕ → Bool
+ends_empty bytes =
+    ends_with eqb bytes (line_feed ∷ line_feed ∷ []) || ends_with eqb bytes (line_feed ∷ carriage_return ∷ line_feed ∷ [])
+
+-- bytes about which the parser isn't asked don't end in an empty line where they have a space, and are within the limit
+abbrev pub MayLack : Bool → ℕ → List ℕ → ℕ → Bool → Type 0
+MayLack spaced byte bytes most true = Unit {0}
+MayLack spaced byte bytes most false =
+    (IsTrue spaced → byte ≡ line_feed → ends_empty bytes ≡ false) × (length bytes ≤ most)
 
 -- the bytes that were taken are a head within the limits
 pub record IsHeadWithin (kind : HeadKind) (most room : ℕ) (bytes : List ℕ) : Type 0 where

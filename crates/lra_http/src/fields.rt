@@ -168,7 +168,7 @@ pub fn fields_of(alloc: Global, bytes: &[u8], headers: &[HeaderSpan]) -> Result<
         (λ fields. map field_bytes fields ≡ map (header_bytes bytes.now) headers.now) }
     ensures memory { IfErr result (λ fault. fault ≡ NoMemory) }
 {
-    let mut fields = Vec::new(alloc);
+    let mut fields = Vec::with_capacity(alloc, headers.len())?;
     for header in headers {
         let name = Vec::from_slice(alloc, header.name.of(bytes))?;
         let value = Vec::from_slice(alloc, header.value.of(bytes))?;

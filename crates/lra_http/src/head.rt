@@ -3,7 +3,7 @@ ghost use Rattle.std.specs.Prelude.{◌≡◌, ◌≢◌, ◌+◌, ◌<◌, ◌�
 ghost use Rattle.httparse.specs.Ascii.{space};
 ghost use Rattle.lra_http.specs.Streams.{AllWell, Gives, GivesWhat, Reads, too_many_interrupted};
 ghost use Rattle.lra_http.specs.Faults.{Shows, Stops};
-ghost use Rattle.lra_http.specs.Heads.{IsHeadState, HasNoHead, HasNoShorterHead, MayLack, IsHeadWithin, RefusesHead, max_head_bytes};
+ghost use Rattle.lra_http.specs.Heads.{IsHeadState, HasNoHead, HasNoShorterHead, ends_empty, MayLack, IsHeadWithin, RefusesHead, max_head_bytes};
 ghost use Rattle.lra_http.specs.declared.fault.Fault.TheVariants.{NoMemory, ReadFault, WriteFault};
 
 use crate::{Fault, Source, read_byte};
@@ -16,6 +16,12 @@ pub const MAX_HEAD_BYTES: usize = 16_384;
 
 /// The most field lines of a message's head, or of all heads of a response together.
 pub const MAX_HEAD_LINES: usize = 64;
+
+/// Room for so many bytes is made before any comes: most heads have fewer.
+const HEAD_ROOM: usize = 512;
+
+/// Among so many bytes the parser is asked behind each line.
+const SHORT: usize = 64;
 
 /// The two kinds of message.
 #[derive(Clone, Copy, Debug, PartialEq, Eq)]
@@ -82,16 +88,25 @@ fn is_spaced(spaced: bool, byte: u8) -> bool
     spaced || byte == b' '
 }
 
-/// Whether the parser is asked after this byte, the last of so many: at the end of a line once a
-/// space has come, at lengths that double, and past the limit. A head has a space behind the empty
-/// lines before it, so that a peer that sends line ends alone is looked at a few times and not
-/// after each. To ask more rarely changes no clause: only more bytes are taken before `BadHead`.
-/// Who sends garbage without a line's end waits for the next such length, and a target that is no
-/// UTF-8 shows at the space behind it.
-fn is_due(spaced: bool, byte: u8, size: usize, most: usize) -> bool
-    ensures { MayLack spaced byte size most result }
+fn ends_empty(bytes: &[u8]) -> bool
+    ensures { result ≡ ends_empty bytes.now }
 {
-    (spaced && byte == b'\n') || size.is_power_of_two() || size > most
+    bytes.ends_with(b"\n\n") || bytes.ends_with(b"\n\r\n")
+}
+
+/// Whether the parser is asked about these bytes, of which `byte` is the last. To ask more rarely
+/// changes no clause: only more bytes are taken before `BadHead`. So it is asked where a head may
+/// end, and else a few times: a bad first line is refused at its end if it is short, and other
+/// garbage at three lengths. Empty lines before a head have no space, so that a peer that sends
+/// line ends alone isn't looked at behind each.
+fn is_due(spaced: bool, byte: u8, bytes: &[u8], most: usize) -> bool
+    ensures { MayLack spaced byte bytes.now most result }
+{
+    let size = bytes.len();
+    (byte == b'\n' && (size <= SHORT || (spaced && ends_empty(bytes))))
+        // One test for most sizes.
+        || (size.is_multiple_of(16) && matches!(size, 16 | 256 | 4_096))
+        || size > most
 }
 
 /// What is wrong where the input ends behind these bytes, and none of their fronts is a head.
@@ -140,7 +155,7 @@ pub fn read_head<S: Source>(
         ≡ (S.calls source.old).interrupted + interrupted.new }
     ensures below { OnOk result (interrupted.new < too_many_interrupted) }
 {
-    let mut head = Vec::new(alloc);
+    let mut head = Vec::with_capacity(alloc, HEAD_ROOM)?;
     let mut spaced = false;
     loop {
         let Some(byte) = read_byte(source, interrupted)? else {
@@ -148,7 +163,7 @@ pub fn read_head<S: Source>(
         };
         head.push(byte)?;
         spaced = is_spaced(spaced, byte);
-        if is_due(spaced, byte, head.len(), most) {
+        if is_due(spaced, byte, &head, most) {
             match look(kind, &head, headers, most) {
                 HeadState::More => {}
                 HeadState::Whole => return Ok(head),
