@@ -96,12 +96,12 @@ fn link_of<I: Input>(
     if !is_length_for(needed, allowed, len) {
         return Err(Stop::Fault(place));
     }
+    if len == 0 {
+        return Ok(None);
+    }
     let mut buffer = [0u8; MAX_LINK_BYTES];
     let text = &mut buffer[..len as usize];
     input.fill(place, text)?;
-    if text.is_empty() {
-        return Ok(None);
-    }
     match links.link(alloc, text)? {
         Some(link) => Ok(Some(link)),
         None => Err(Stop::Fault(place)),
@@ -283,7 +283,7 @@ fn each_member<I: Input>(
         (λ x. x.items) result (each_at (member_at version stamp) next_nested count num) }
     ensures count { IfOk result (λ x. length x.items ≡ count) }
 {
-    let mut list = Vec::new(alloc);
+    let mut list = Vec::with_capacity(alloc, usize::from(count))?;
     let mut last = num;
     'members: for _ in 0..count {
         let member = member_of(alloc, version, stamp, last, links, input)?;

@@ -9,7 +9,7 @@ use Rattle.lra_delta.proofs.record_fields.each_member.Goals as goal
 pub returns-in_err-member : goal.returns-in_err-member
 returns-in_err-member g c =
     let seen = g.I.Input.seen in
-    let p = err_from_is_err_and c.from_residual.result c.from_residual.ensures.1 in
+    let p = err_from_is_err_and c.from_residual-in_err-member.result c.from_residual-in_err-member.ensures.1 in
     rw (p.1, p.2) (record { count = tt; gives = ends (member_at c.args.version c.args.stamp) next_nested c.args.count c.args.num (seen c.args.input.now) c.members.list.items c.members.counter c.members.last (seen c.members.input) (seen c.member_of.new.input) c.in_err-member.field-0.0 c.members-test.true c.members.invariant c.in_err-member.ensures })
 
 pub members-preserved : goal.members-preserved
