@@ -24,6 +24,7 @@ ghost use Rattle.lra_book.specs.Next.{IsNext};
 ghost use Rattle.lra_book.specs.Trails.{entry, stands, tells};
 
 use crate::preparing::{carry_out, prepare};
+use crate::run_start::RunStart;
 use crate::sameness::{same_call, same_reply};
 use crate::{Call, Entry, Pass, Receipt, Reply};
 use lra_facts::Refusal;
@@ -47,7 +48,7 @@ pub struct Book<S: Alter> {
     me: NodeId,
     replica: Replica,
     journal: Journal<S>,
-    opening: Option<Replica>,
+    opening: Option<RunStart>,
     trail: Vec<Entry>,
     stopped: bool,
 }
@@ -67,7 +68,7 @@ impl<S: Alter> Model for Book<S> {
       me = b.me;
       records = view_of b.replica;
       journal = b.journal;
-      opening = option_map view_of b.opening;
+      opening = option_map (λ s. s.held) b.opening;
       trail = b.trail.items;
       stopped = b.stopped;
     } };
@@ -77,7 +78,7 @@ impl<S: Alter> Model for Book<S> {
           me = b.me;
           records = view_of b.replica;
           journal = b.journal;
-          opening = option_map view_of b.opening;
+          opening = option_map (λ s. s.held) b.opening;
           trail = b.trail.items;
           stopped = b.stopped;
         })
@@ -283,8 +284,9 @@ impl<S: Alter> Book<S> {
         &self.trail
     }
 
-    /// Begins a run: empties the trail, with room for all entries of a run, and takes what the node
-    /// holds as its opening. It gives the run's first pass. E19 where the journal failed.
+    /// Begins a run: empties the trail, with room for all entries of a run. What the node holds is
+    /// its opening, which clauses alone read. It gives the run's first pass. E19 where the journal
+    /// failed.
     pub fn start_run(&mut self, alloc: Global) -> Result<Pass, Refusal>
         requires { self.old.opening ≡ None }
         ensures pass { IfOk result (λ pass. pass ≡ 0) }
@@ -295,9 +297,8 @@ impl<S: Alter> Book<S> {
         if self.stopped {
             return Err(Refusal::Stopped);
         }
-        let opening = self.replica.try_clone()?;
         let trail = Vec::with_capacity(alloc, MAX_ENTRIES)?;
-        self.opening = Some(opening);
+        self.opening = Some(RunStart::of(&self.replica));
         self.trail = trail;
         Ok(Pass::first())
     }

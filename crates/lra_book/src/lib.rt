@@ -13,6 +13,7 @@ pub mod laws;
 mod pass;
 mod preparing;
 mod receipts;
+mod run_start;
 mod sameness;
 
 pub use book::{Book, MAX_ENTRIES, MAX_MOVES};

@@ -19,7 +19,7 @@ use Rattle.lra_book.proofs.book.Book.call.Goals as goal
 
 pub invariant_of-self-in-Err-carry_out : goal.invariant_of-self-in-Err-carry_out
 invariant_of-self-in-Err-carry_out g c =
-    let old : BookState g.row.S.Denot = record { me = c.self.inside.me; records = view_of c.self.inside.replica; journal = c.self.inside.journal; opening = option_map view_of c.self.inside.opening; trail = c.self.inside.trail.items; stopped = c.self.inside.stopped } in
+    let old : BookState g.row.S.Denot = record { me = c.self.inside.me; records = view_of c.self.inside.replica; journal = c.self.inside.journal; opening = option_map (λ s. s.held) c.self.inside.opening; trail = c.self.inside.trail.items; stopped = c.self.inside.stopped } in
     let same = c.in-Err-carry_out.ensures.same ∙ c.in-Ok.ensures.view in
     let before = subst (λ (v : View). Keeps g.S.Store c.self.inside.me c.self.inside.journal v) (sym c.in-Ok.ensures.view) c.self.invariant.0.stored in
     let keeps = c.carry_out.ensures.keeps c.self.inside.me before in
@@ -27,7 +27,7 @@ invariant_of-self-in-Err-carry_out g c =
 
 pub invariant_of-self-2 : goal.invariant_of-self-2
 invariant_of-self-2 g c =
-    let old : BookState g.row.S.Denot = record { me = c.self.inside.me; records = view_of c.self.inside.replica; journal = c.self.inside.journal; opening = option_map view_of c.self.inside.opening; trail = c.self.inside.trail.items; stopped = c.self.inside.stopped } in
+    let old : BookState g.row.S.Denot = record { me = c.self.inside.me; records = view_of c.self.inside.replica; journal = c.self.inside.journal; opening = option_map (λ s. s.held) c.self.inside.opening; trail = c.self.inside.trail.items; stopped = c.self.inside.stopped } in
     let free : refusal_at_once c.args.self.now c.args.pass.now c.args.call ≡ None = search rules in
     let reply = c.in-Ok.ready.copy.reply in
     let is : view_of c.carry_out.new.replica ≡ with_patch c.in-Ok.ready.patch (view_of c.self.inside.replica) = c.in_default-carry_out.ensures.view ∙ ap (with_patch c.in-Ok.ready.patch) c.in-Ok.ensures.view in
@@ -44,7 +44,7 @@ invariant_of-self-2 g c =
 
 pub returns-clause-legal : goal.returns-clause-legal
 returns-clause-legal g c =
-    let old : BookState g.row.S.Denot = record { me = c.self.inside.me; records = view_of c.self.inside.replica; journal = c.self.inside.journal; opening = option_map view_of c.self.inside.opening; trail = c.self.inside.trail.items; stopped = c.self.inside.stopped } in
+    let old : BookState g.row.S.Denot = record { me = c.self.inside.me; records = view_of c.self.inside.replica; journal = c.self.inside.journal; opening = option_map (λ s. s.held) c.self.inside.opening; trail = c.self.inside.trail.items; stopped = c.self.inside.stopped } in
     let free : refusal_at_once c.args.self.now c.args.pass.now c.args.call ≡ None = search rules in
     let reply = c.in-Ok.ready.copy.reply in
     let is : view_of c.carry_out.new.replica ≡ with_patch c.in-Ok.ready.patch (view_of c.self.inside.replica) = c.in_default-carry_out.ensures.view ∙ ap (with_patch c.in-Ok.ready.patch) c.in-Ok.ensures.view in
@@ -82,7 +82,7 @@ returns-in-Err-clause-crash g c =
 
 pub returns-in-Err-carry_out-clause-crash : goal.returns-in-Err-carry_out-clause-crash
 returns-in-Err-carry_out-clause-crash g c =
-    let old : BookState g.row.S.Denot = record { me = c.self.inside.me; records = view_of c.self.inside.replica; journal = c.self.inside.journal; opening = option_map view_of c.self.inside.opening; trail = c.self.inside.trail.items; stopped = c.self.inside.stopped } in
+    let old : BookState g.row.S.Denot = record { me = c.self.inside.me; records = view_of c.self.inside.replica; journal = c.self.inside.journal; opening = option_map (λ s. s.held) c.self.inside.opening; trail = c.self.inside.trail.items; stopped = c.self.inside.stopped } in
     let same = c.in-Ok.ensures.view in
     let first = state g.S.Store c.self.inside.journal.connection in
     let last = state g.S.Store c.carry_out.new.journal.connection in
@@ -99,7 +99,7 @@ returns-in-Err-carry_out-clause-crash g c =
 
 pub returns-clause-crash : goal.returns-clause-crash
 returns-clause-crash g c =
-    let old : BookState g.row.S.Denot = record { me = c.self.inside.me; records = view_of c.self.inside.replica; journal = c.self.inside.journal; opening = option_map view_of c.self.inside.opening; trail = c.self.inside.trail.items; stopped = c.self.inside.stopped } in
+    let old : BookState g.row.S.Denot = record { me = c.self.inside.me; records = view_of c.self.inside.replica; journal = c.self.inside.journal; opening = option_map (λ s. s.held) c.self.inside.opening; trail = c.self.inside.trail.items; stopped = c.self.inside.stopped } in
     let same = c.in-Ok.ensures.view in
     let first = state g.S.Store c.self.inside.journal.connection in
     let last = state g.S.Store c.carry_out.new.journal.connection in
