@@ -11,7 +11,8 @@ use std::time::Duration;
 /// How often it is asked at most how many facts the node has.
 const COUNT_MS: u64 = 50;
 
-/// More tellings than one node can have left: one that is taken, one that waits, and one that waits for room.
+/// More tellings than one node can have left: one that is taken, one that waits, one that waits for
+/// room, and one that is kept, as it couldn't be stored.
 const MANY: u64 = 99;
 
 /// What is untaken of one of which so many tellings are left.

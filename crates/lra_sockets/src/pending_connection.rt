@@ -1,7 +1,7 @@
 // A connection that no worker serves now.
 
 use crate::holder::{Hold, Holder, Stand, hold_of};
-use crate::window::{Extent, WINDOW, extent_of};
+use crate::window::{Extent, GLANCE, WINDOW, extent_of};
 use std::io;
 use std::io::{ErrorKind, Read, Write};
 use std::net::{Shutdown, TcpStream};
@@ -345,12 +345,34 @@ impl PendingConnection {
         Readiness::Pending(self)
     }
 
-    // Looks at what has come of a request, and leaves it.
+    // Looks at what has come of a request, and leaves it. Most requests fit into a glance.
     fn peek<R: Clock, H: Holder>(self, rt: &R, reads_on: bool, holder: &H) -> Readiness {
-        let mut bytes = [0u8; WINDOW];
+        let mut bytes = [0u8; GLANCE];
         match self.stream.peek(&mut bytes) {
+            Ok(GLANCE) => self.peek_far(rt, reads_on, holder),
+            came => self.look_at_peeked(rt, came, &bytes, reads_on, holder),
+        }
+    }
+
+    // The same, of a longer one.
+    fn peek_far<R: Clock, H: Holder>(self, rt: &R, reads_on: bool, holder: &H) -> Readiness {
+        let mut bytes = [0u8; WINDOW];
+        let came = self.stream.peek(&mut bytes);
+        self.look_at_peeked(rt, came, &bytes, reads_on, holder)
+    }
+
+    // What becomes of it by what a look at its socket came to: so many bytes at the start of these.
+    fn look_at_peeked<R: Clock, H: Holder>(
+        self,
+        rt: &R,
+        came: io::Result<usize>,
+        bytes: &[u8],
+        reads_on: bool,
+        holder: &H,
+    ) -> Readiness {
+        match came {
             Ok(0) => Readiness::Closed,
-            Ok(count) => self.look_at(rt, &bytes[..count.min(WINDOW)], reads_on, holder),
+            Ok(count) => self.look_at(rt, &bytes[..count.min(bytes.len())], reads_on, holder),
             Err(error) if error.kind() == ErrorKind::WouldBlock => self.keep(rt),
             Err(error) if error.kind() == ErrorKind::Interrupted => Readiness::Pending(self),
             Err(_) => Readiness::Closed,

@@ -11,6 +11,9 @@ const LONGEST: usize = MAX_HEAD_BYTES;
 /// How many bytes are looked at, so that it shows which is longer.
 pub(crate) const WINDOW: usize = LONGEST + 1;
 
+/// How many are looked at first. Most requests have fewer, and a buffer is cleared before each look.
+pub(crate) const GLANCE: usize = 2_048;
+
 /// How many field lines are looked at. Where there are more, a worker refuses the request.
 const MAX_LINES: usize = 64;
 
