@@ -236,10 +236,10 @@ class TestCopies(checks.Checked):
         are given twice, and how many calls were by a decision that is lost."""
         number = 1 + (turn + 1) % 3
         group, part = self.started(kind, copies), self.participant()
-        clients = Clients(group, number, 6, part.url)
+        # They begin 150 at most, so that its home has places left: nothing is purged.
+        clients, amid = Clients(group, number, 6, part.url, 25), random.randrange(20, 100)
         beside = [Clients(group, other, 1, part.url, 60) for other in (1, 2, 3) if other != number]
-        begun = comes_to(SLOW, lambda: len(clients.noted) > 20)
-        time.sleep(random.uniform(0, 1))
+        begun = comes_to(SLOW, lambda: len(clients.noted) > amid)
         lose(group, number)
         for one in (clients, *beside):
             one.stop()

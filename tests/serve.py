@@ -16,7 +16,7 @@ import time
 
 sys.path.insert(0, os.path.dirname(os.path.dirname(os.path.abspath(__file__))))
 from tools import checks, unproved
-from tools.node import Server, comes_to
+from tools.node import Server, comes_to, exchange
 from tools.participant import Participant
 from tools.ports import HOST, free_row
 from tools.repo import TOP
@@ -243,6 +243,22 @@ class TestServer(checks.Checked):
         ended = server.end()
         going.join()
         self.check("the input ends while requests are under way", ended == (0, ""), ended)
+
+    def test_lengths(self) -> None:
+        """Requests about as long as what a node looks at first (2 KiB), and as a head may be (16 KiB), in one piece and
+        in two."""
+        server = self.server(1).wait_until_up()
+        start, end = b"GET /lra HTTP/1.1\r\nHost: p\r\nX-Padding: ", b"\r\n\r\n"
+        for length in (2_047, 2_048, 2_049, 4_096, 16_383, 16_384, 16_385):
+            request = start + b"a" * (length - len(start) - len(end)) + end
+            wanted = b"HTTP/1.1 200 " if length <= 16_384 else b"HTTP/1.1 431 "
+            for cut in (length, 1, 2_046, 2_048):
+                pieces = [piece for piece in (request[:cut], request[cut:]) if piece]
+                answer = exchange(server.address(1), *pieces, pause=0.02)
+                what = f"{length:,} bytes, cut at {cut:,}: {wanted[9:12].decode()}"
+                self.check(what, answer.startswith(wanted), answer[:80])
+        ended = server.end()
+        self.check("it ends with its input", ended == (0, ""), ended)
 
     def end_of_one(self, nodes: int, folder: str, ports: list[int] | None = None) -> tuple[int, str]:
         """How a server ends that ends by itself."""
