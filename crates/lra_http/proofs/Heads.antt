@@ -1,11 +1,13 @@
 -- Heads at the start of what was read.
-use Rattle.std.proofs.Common.{◌≡◌, ℕ, ◌+◌, ◌<◌, ◌≤◌, ◌⊎◌, inl, inr, List, [], ◌∷◌, ◌++◌, length, take, drop, sym, ◌∙◌, ap, refl, append_assoc, arith, Option, Some, length-append, append-nil, IfSome, subst, Bool, true, false, cond, nat_le, IsTrue, IsFalse, not, ◌&&◌, ◌||◌, ◌==◌, eqb}
-use Rattle.std.proofs.Math.Seq.{take-append_seam}
-use Rattle.std.proofs.lemmas.List.{take-append-le, take-append-drop, length-take, length-map}
+use Rattle.std.proofs.Common.{◌≡◌, ◌≢◌, ℕ, ◌+◌, ◌-◌, ◌<◌, ◌≤◌, ◌⊎◌, inl, inr, All, List, [], ◌∷◌, ◌++◌, get_or, length, take, drop, sym, ◌∙◌, ap, refl, append_assoc, arith, length-append, append-nil, subst, Bool, true, false, cond, nat_le, IsTrue, IsFalse, ◌||◌, eqb}
+use Rattle.std.proofs.Math.Seq.{drop-append_seam, take-append_seam}
+use Rattle.std.proofs.lemmas.List.{take-append-le, take-append-drop, take_all, take_more, length-take, length-map}
 use Rattle.std.proofs.lemmas.Bool.Decides.{leb_tells, Decides-eqb}
-use Rattle.std.proofs.lemmas.List.Folds.{list_all-append}
+use Rattle.std.proofs.lemmas.List.Folds.{list_any-append}
+use Rattle.std.proofs.lemmas.List.Elements.{All-head, All-tail}
 use Rattle.std.proofs.lemmas.Slice.Eq.{ends_is}
-use Rattle.std.specs.List.{list_all, flat_map, ends_with}
+use Rattle.std.specs.List.{list_any, flat_map, ends_with}
+use Rattle.std.specs.Io.{StopsAt}
 use Rattle.httparse.specs.Ascii.{carriage_return, colon, line_feed, space}
 use Rattle.httparse.specs.Grammar.{LineEnd, crlf, lf, print_end, Field, print_field, print_section, RequestHead, ResponseHead, print_request, print_response}
 use Rattle.httparse.specs.Spans.{IsRequestOf, IsResponseOf, IsRequestWithin, IsResponseWithin}
@@ -16,7 +18,7 @@ use Rattle.lra_http.specs.declared.head.HeadKind.{HeadKind}
 use Rattle.lra_http.specs.declared.head.HeadKind.TheVariants.{Request, Response}
 use Rattle.lra_http.specs.declared.head.HeadState.{HeadState}
 use Rattle.lra_http.specs.declared.head.HeadState.TheVariants.{Whole, Long}
-use Rattle.lra_http.specs.Heads.{IsHeadState, IsHead, HasNoHead, HasNoShorterHead, NeverHasHead, MayBecomeHead, Exceeds, Overflows, HasHead, ends_empty, IsHeadWithin, IsHeadTooLong, IsOpen, RefusesHead}
+use Rattle.lra_http.specs.Heads.{IsHeadState, IsHead, HasNoHead, HasNoShorterHead, NeverHasHead, MayBecomeHead, Exceeds, Overflows, HasHead, ends_empty, is_space, IsHeadWithin, IsHeadTooLong, IsOpen, IsPart, RefusesHead, max_head_bytes}
 use Rattle.lra_http.specs.Faults.{Shows, Stops}
 use Rattle.lra_http.specs.Streams.{FoundEnd, GivenBytes, Gives, GivesWhat}
 use Rattle.lra_http.specs.declared.fault.Fault.{Fault}
@@ -165,12 +167,9 @@ none_more kind head items byte e none other = none_from kind items (λ text rest
 
 -- ---- a head has a space
 
-abbrev pub is_other : ℕ → Bool
-is_other b = not (b == space)
-
 -- bytes that have no space
 abbrev pub Unspaced : Bool → List ℕ → Type 0
-Unspaced spaced bytes = IsFalse spaced → list_all is_other bytes ≡ true
+Unspaced spaced bytes = IsFalse spaced → list_any is_space bytes ≡ false
 
 abbrev pub HasSpace : List ℕ → Type 0
 HasSpace text = (a b : List ℕ) × (text ≡ a ++ space ∷ b)
@@ -196,37 +195,74 @@ space_head : (kind : HeadKind) (text : List ℕ) (lines : ℕ) → IsHead kind t
 space_head Request text lines (h, valid, e, count) = subst HasSpace (sym e) (space_request h)
 space_head Response text lines (h, valid, e, count) = subst HasSpace (sym e) (space_response h)
 
-and_false : (a b : Bool) → ((a && false) && b) ≡ false
-and_false true b = refl
-and_false false b = refl
-
 -- bytes without a space have no head
-none_unspaced : (kind : HeadKind) (bytes : List ℕ) → list_all is_other bytes ≡ true → HasNoHead kind bytes
-none_unspaced kind bytes others = none_from kind bytes (λ text rest lines is same.
+none_unspaced : (kind : HeadKind) (bytes : List ℕ) → list_any is_space bytes ≡ false → HasNoHead kind bytes
+none_unspaced kind bytes none = none_from kind bytes (λ text rest lines is same.
     let s = space_head kind text lines is in
-    let none : list_all is_other bytes ≡ false =
-    ap (list_all is_other) (same ∙ ap (λ (t : List ℕ). t ++ rest) s.2)
-    ∙ list_all-append is_other (s.0 ++ space ∷ s.1) rest
-    ∙ ap (λ (b : Bool). b && list_all is_other rest) (list_all-append is_other s.0 (space ∷ s.1))
-    ∙ and_false (list_all is_other s.0) (list_all is_other rest) in
-    let clash : true ≡ false = sym others ∙ none in
+    let some : list_any is_space bytes ≡ true =
+    ap (list_any is_space) (same ∙ ap (λ (t : List ℕ). t ++ rest) s.2)
+    ∙ list_any-append is_space (s.0 ++ space ∷ s.1) rest
+    ∙ ap (λ (b : Bool). b || list_any is_space rest) (list_any-append is_space s.0 (space ∷ s.1))
+    ∙ ap (λ (b : Bool). b || list_any is_space rest) (or_true (list_any is_space s.0)) in
+    let clash : true ≡ false = sym some ∙ none in
     absurd (cc))
 
--- one byte more
-pub unspaced_more : (before after : Bool) (head items : List ℕ) (byte : ℕ) → after ≡ (before || byte == space) → items ≡ head ++ byte ∷ []
+-- a part more
+pub unspaced_more : (before after : Bool) (head part items : List ℕ) → after ≡ (before || list_any is_space part) → items ≡ head ++ part
     → Unspaced before head → Unspaced after items
-unspaced_more true after head items byte is e others = λ none. absurd (let clash : true ≡ false = sym is ∙ none in cc)
-unspaced_more false after head items byte is e others = λ none.
-    let other : (byte == space) ≡ false = sym is ∙ none in
-    ap (list_all is_other) e ∙ list_all-append is_other head (byte ∷ [])
-    ∙ ap (λ (b : Bool). b && list_all is_other (byte ∷ [])) (others refl)
-    ∙ ap (λ (b : Bool). not b && true) other
+unspaced_more true after head part items is e none = λ off. absurd (let clash : true ≡ false = sym is ∙ off in cc)
+unspaced_more false after head part items is e none = λ off.
+    ap (list_any is_space) e ∙ list_any-append is_space head part
+    ∙ ap (λ (b : Bool). b || list_any is_space part) (none refl) ∙ (sym is ∙ off)
+
+-- ---- a part of a line more
+
+-- all bytes but the last of those that are taken so far have no head
+pub record AllButOne (kind : HeadKind) (most : ℕ) (items : List ℕ) : Type 0 where
+  pub front : List ℕ
+  pub byte : ℕ
+  pub is : items ≡ front ++ byte ∷ []
+  pub none : HasNoHead kind front
+  pub short : length front ≤ most
+
+-- what stands behind the bytes of before
+pub rest_of : (n : ℕ) (head part items : List ℕ) → n ≡ length head → items ≡ head ++ part → take (length items - n) (drop n items) ≡ part
+rest_of n head part items is e =
+    let size : length items ≡ length head + length part = ap length e ∙ length-append head part in
+    let rest : drop n items ≡ part = ap (λ k. drop k items) is ∙ ap (drop (length head)) e ∙ drop-append_seam head part in
+    ap (take (length items - n)) rest ∙ take_all (length items - n) part (omega (arith, is, size))
+
+-- where no byte is a line feed no head ends
+none_within : (kind : HeadKind) (head front : List ℕ) → HasNoHead kind head → All (λ b. b ≢ line_feed) front → HasNoHead kind (head ++ front)
+none_within kind head [] none other = subst (HasNoHead kind) (sym (append-nil head)) none
+none_within kind head (b ∷ front) none other =
+    subst (HasNoHead kind) (append_assoc head (b ∷ []) front)
+    (none_within kind (head ++ b ∷ []) front
+    (none_more kind head (head ++ b ∷ []) b refl none (λ is. absurd (All-head (λ x. x ≢ line_feed) b front other is)))
+    (All-tail (λ x. x ≢ line_feed) b front other))
+
+pub all_but_one : (kind : HeadKind) (most : ℕ) (head part items : List ℕ) → items ≡ head ++ part → HasNoHead kind head → StopsAt part line_feed
+    → 0 < length part → length head + length part ≤ most + 1 → AllButOne kind most items
+all_but_one kind most head part items e none line some short =
+    let n = length part - 1 in
+    let front = take n part in
+    let last = get_or part n 0 in
+    let all : n + 1 ≡ length part = omega (arith, some) in
+    let split : part ≡ front ++ last ∷ [] =
+    sym (take_all (n + 1) part (omega (arith, some))) ∙ take_more part n 0 (omega (arith, some)) in
+    record {
+      front = head ++ front;
+      byte = last;
+      is = e ∙ ap (λ (t : List ℕ). head ++ t) split ∙ sym (append_assoc head front (last ∷ []));
+      none = none_within kind head front none line;
+      short = omega (arith, some, short, length-append head front, length-take n part);
+    }
 
 -- bytes about which the parser isn't asked have no head
-pub none_lacked : (kind : HeadKind) (spaced : Bool) (head items : List ℕ) (byte : ℕ) → items ≡ head ++ byte ∷ [] → HasNoHead kind head
-    → Unspaced spaced items → (IsTrue spaced → byte ≡ line_feed → ends_empty items ≡ false) → HasNoHead kind items
-none_lacked kind true head items byte e none others other = none_more kind head items byte e none (other refl)
-none_lacked kind false head items byte e none others other = none_unspaced kind items (others refl)
+pub none_lacked : (kind : HeadKind) (most : ℕ) (spaced : Bool) (items : List ℕ) → AllButOne kind most items → Unspaced spaced items
+    → (IsTrue spaced → ends_empty items ≡ false) → HasNoHead kind items
+none_lacked kind most true items but others other = none_more kind but.front items but.byte but.is but.none (λ _. other refl)
+none_lacked kind most false items but others other = none_unspaced kind items (others refl)
 
 -- ---- the faults
 
@@ -345,15 +381,17 @@ whole_state kind most room bytes state e has =
     whole_by (inl (t, le)) = rw (e, t) (has, le)
     whole_by (inr (f, lt)) = rw (e, f) (inl (lt, inr (has.0, has.1, has.2, has.3, has.4)))
 
--- one more byte was given
-pub takes_byte : (old mid new : GivenBytes) (head items : List ℕ) (found : Option ℕ) (byte : ℕ) → Gives old mid head
-    → IfSome found (λ b. Gives mid new (b ∷ [])) → found ≡ Some byte → items ≡ head ++ byte ∷ [] → Gives old new items
-takes_byte old mid new head items found byte taken next is e =
-    let last : Gives mid new (byte ∷ []) = subst (λ (o : Option ℕ). IfSome o (λ b. Gives mid new (b ∷ []))) is next in
-    rw e (gives_more old mid new head (byte ∷ []) taken last)
+-- a part more was given
+pub takes_part : (most : ℕ) (old mid new : GivenBytes) (head part items : List ℕ) → Gives old mid head → IsPart most mid new part
+    → items ≡ head ++ part → Gives old new items
+takes_part most old mid new head part items taken next e = rw e (gives_more old mid new head part taken next.gives)
 
--- memory ran out for a byte that was given
-pub byte_lost : (kind : HeadKind) (old mid new : GivenBytes) (head : List ℕ) (found : Option ℕ) (byte : ℕ) → Gives old mid head
-    → IfSome found (λ b. Gives mid new (b ∷ [])) → found ≡ Some byte → HasNoHead kind head → GivesWhat old new (HasNoShorterHead kind)
-byte_lost kind old mid new head found byte taken next is none =
-    (head ++ byte ∷ [], takes_byte old mid new head (head ++ byte ∷ []) found byte taken next is refl, none_shorter kind head byte none)
+-- memory ran out for a part that was given
+pub part_lost : (kind : HeadKind) (most : ℕ) (old mid new : GivenBytes) (head part : List ℕ) → Gives old mid head → IsPart most mid new part
+    → HasNoHead kind head → length head + most ≤ max_head_bytes + 1 → GivesWhat old new (HasNoShorterHead kind)
+part_lost kind most old mid new head [] taken next none short =
+    (head ++ [], gives_more old mid new head [] taken next.gives, subst (HasNoShorterHead kind) (sym (append-nil head)) (none_is_shorter kind head none))
+part_lost kind most old mid new head (b ∷ part) taken next none short =
+    let items = head ++ b ∷ part in
+    let but = all_but_one kind max_head_bytes head (b ∷ part) items refl none next.line (omega arith) (omega (arith, short, next.short)) in
+    (items, gives_more old mid new head (b ∷ part) taken next.gives, subst (HasNoShorterHead kind) (sym but.is) (none_shorter kind but.front but.byte but.none))

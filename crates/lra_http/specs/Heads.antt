@@ -1,9 +1,11 @@
 -- Heads of messages of either kind, as texts at the start of some bytes.
-use Rattle.std.specs.Prelude.{◌≡◌, ℕ, ◌+◌, ◌<◌, ◌≤◌, ◌⊎◌, IsTrue, Bool, true, false, ◌||◌, List, [], ◌∷◌, ◌++◌, length, eqb}
+use Rattle.std.specs.Prelude.{◌≡◌, ℕ, ◌+◌, ◌<◌, ◌≤◌, ◌⊎◌, IsTrue, Bool, true, false, ◌||◌, ◌==◌, List, [], ◌∷◌, ◌++◌, length, eqb}
+use Rattle.std.specs.Io.{StopsAt}
 use Rattle.std.specs.List.{ends_with}
-use Rattle.httparse.specs.Ascii.{carriage_return, line_feed}
+use Rattle.httparse.specs.Ascii.{carriage_return, line_feed, space}
 use Rattle.httparse.specs.Grammar.{RequestHead, ResponseHead, IsRequestHead, IsResponseHead, print_request, print_response, HasNoRequest, HasNoResponse, NeverHasRequest, NeverHasResponse, MayBecomeRequest, MayBecomeResponse}
 use Rattle.httparse.specs.Spans.{RequestExceeds, RequestOverflows, ResponseExceeds, ResponseOverflows}
+use Rattle.lra_http.specs.Streams.{GivenBytes, Gives}
 use Rattle.lra_http.specs.declared.fault.Fault.{Fault}
 use Rattle.lra_http.specs.declared.fault.Fault.TheVariants.{Cut, ReadFault, WriteFault, HeadTooLong, BodyTooLong, BadHead, LengthNeeded, NotOffered, NoMemory}
 use Rattle.lra_http.specs.declared.head.HeadKind.{HeadKind}
@@ -81,11 +83,31 @@ abbrev pub ends_empty : List ℕ → Bool
 ends_empty bytes =
     ends_with eqb bytes (line_feed ∷ line_feed ∷ []) || ends_with eqb bytes (line_feed ∷ carriage_return ∷ line_feed ∷ [])
 
+abbrev pub is_space : ℕ → Bool
+is_space byte = byte == space
+
 -- bytes about which the parser isn't asked don't end in an empty line where they have a space, and are within the limit
-abbrev pub MayLack : Bool → ℕ → List ℕ → ℕ → Bool → Type 0
-MayLack spaced byte bytes most true = Unit {0}
-MayLack spaced byte bytes most false =
-    (IsTrue spaced → byte ≡ line_feed → ends_empty bytes ≡ false) × (length bytes ≤ most)
+abbrev pub MayLack : Bool → List ℕ → ℕ → Bool → Type 0
+MayLack spaced bytes most true = Unit {0}
+MayLack spaced bytes most false = (IsTrue spaced → ends_empty bytes ≡ false) × (length bytes ≤ most)
+
+-- at most so many bytes were given, and nothing behind a line feed
+pub record IsPart (most : ℕ) (old new : GivenBytes) (part : List ℕ) : Type 0 where
+  pub gives : Gives old new part
+  pub line : StopsAt part line_feed
+  pub short : length part ≤ most
+
+-- a failed read gave nothing
+abbrev pub FailsAt : Fault → List ℕ → Type 0
+FailsAt ReadFault part = part ≡ []
+FailsAt NoMemory part = Unit {0}
+FailsAt WriteFault part = ⊥
+FailsAt Cut part = ⊥
+FailsAt BadHead part = ⊥
+FailsAt HeadTooLong part = ⊥
+FailsAt BodyTooLong part = ⊥
+FailsAt LengthNeeded part = ⊥
+FailsAt NotOffered part = ⊥
 
 -- the bytes that were taken are a head within the limits
 pub record IsHeadWithin (kind : HeadKind) (most room : ℕ) (bytes : List ℕ) : Type 0 where

@@ -1,5 +1,5 @@
 -- What a source has given and a sink has taken, how their calls came out, and why many of them ended in a fault.
-use Rattle.std.specs.Prelude.{◌≡◌, ℕ, ◌+◌, ◌<◌, ◌≤◌, ◌⊎◌, List, [], ◌++◌, length, take, Option, Result, Ok, Err, MatchResult}
+use Rattle.std.specs.Prelude.{◌≡◌, ℕ, ◌+◌, ◌<◌, ◌≤◌, ◌⊎◌, ◌&&◌, ◌==◌, if◌then◌else◌, nat_lt, List, [], ◌++◌, length, take, Option, Result, Ok, Err, MatchResult}
 use Rattle.std.specs.Io.KnownBytes.{Appends, Consumes, IsAtEnd}
 use Rattle.lra_http.specs.declared.CallError.{CallError}
 use Rattle.lra_http.specs.declared.CallError.TheVariants.{Interrupted, Failed}
@@ -82,6 +82,16 @@ abbrev pub interrupted_calls : {A : Type 0} → Result A CallError → ℕ
 interrupted_calls (Ok n) = 0
 interrupted_calls (Err Interrupted) = 1
 interrupted_calls (Err Failed) = 0
+
+-- the bytes that a call gave
+abbrev pub given_bytes : {E : Type 0} → Result ℕ E → List ℕ → List ℕ
+given_bytes (Ok n) buffer = take n buffer
+given_bytes (Err e) buffer = []
+
+-- 1 for a call that found the end: there was room, and it gave nothing
+abbrev pub ended_calls : {E : Type 0} → Result ℕ E → List ℕ → ℕ
+ended_calls (Ok n) buffer = if (n == 0) && nat_lt 0 (length buffer) then 1 else 0
+ended_calls (Err e) buffer = 0
 
 -- one call more was made, which came out so
 pub record OneMore {A : Type 0} (old new : Calls) (result : Result A CallError) : Type 0 where

@@ -1,6 +1,8 @@
 // Bytes over any source and sink, with the bound on interrupted calls.
-ghost use Rattle.std.specs.Prelude.{◌≡◌, ◌+◌, ◌<◌, [], ◌∷◌, length, IfOk, IfSome, IfNone, OnOk, OnErr};
-ghost use Rattle.lra_http.specs.Streams.{FoundEnd, Gives, IsFlushed, Streams, Takes, TakesPart, too_many_interrupted};
+ghost use Rattle.std.specs.Prelude.{◌≡◌, ◌+◌, ◌<◌, ◌≤◌, [], ◌∷◌, length, take, IfOk, IfSome, IfNone, OnOk, OnErr};
+ghost use Rattle.std.specs.Io.{StopsAt};
+ghost use Rattle.httparse.specs.Ascii.{line_feed};
+ghost use Rattle.lra_http.specs.Streams.{CallGives, FoundEnd, Gives, IsFlushed, Streams, Takes, TakesPart, too_many_interrupted};
 
 use crate::{CallError, Sink, Source};
 
@@ -90,6 +92,33 @@ pub fn read_byte<R: Source>(source: &mut R, interrupted: &mut u16) -> Result<Opt
         match source.read_some(&mut buffer) {
             Ok(0) => return Ok(None),
             Ok(_) => return Ok(Some(buffer[0])),
+            Err(CallError::Interrupted) => *interrupted += 1,
+            Err(CallError::Failed) => return Err(ReadFault),
+        }
+    }
+    Err(ReadFault)
+}
+
+/// Reads some of the next bytes, at most as many as fit and none behind a line feed; none only at
+/// the end or where none fits. `interrupted` counts the interrupted calls of the message that the
+/// bytes belong to. A fault leaves the bytes as they were.
+pub fn read_in_line<R: Source>(
+    source: &mut R,
+    buffer: &mut [u8],
+    interrupted: &mut u16,
+) -> Result<usize, ReadFault>
+    requires { interrupted.old < too_many_interrupted }
+    ensures bound { IfOk result (λ n. n ≤ length buffer.new) }
+    ensures bytes { CallGives (R.stream source.old) (R.stream source.new) result buffer.new }
+    ensures line { IfOk result (λ n. StopsAt (take n buffer.new) line_feed) }
+    ensures streams { Streams 1 interrupted.old (R.calls source.old) (R.calls source.new) result }
+    ensures counted { (R.calls source.new).interrupted + interrupted.old
+        ≡ (R.calls source.old).interrupted + interrupted.new }
+    ensures below { OnOk result (interrupted.new < too_many_interrupted) }
+{
+    while *interrupted < TOO_MANY_INTERRUPTED {
+        match source.read_in_line(buffer) {
+            Ok(n) => return Ok(n),
             Err(CallError::Interrupted) => *interrupted += 1,
             Err(CallError::Failed) => return Err(ReadFault),
         }

@@ -1,12 +1,13 @@
-// The head of a message of either kind, read one byte at a time.
-ghost use Rattle.std.specs.Prelude.{◌≡◌, ◌≢◌, ◌+◌, ◌<◌, ◌≤◌, length, IfOk, IfErr, OnOk, ◌==◌, ◌||◌, if◌then◌else◌};
+// The head of a message of either kind, read line by line, so that nothing behind it is.
+ghost use Rattle.std.specs.Prelude.{◌≡◌, ◌≢◌, ℕ, ◌+◌, ◌<◌, ◌≤◌, List, ◌++◌, length, IfOk, IfErr, OnOk, ◌==◌, ◌||◌, if◌then◌else◌};
+ghost use Rattle.std.specs.List.{list_any};
 ghost use Rattle.httparse.specs.Ascii.{space};
-ghost use Rattle.lra_http.specs.Streams.{AllWell, Gives, GivesWhat, Reads, too_many_interrupted};
+ghost use Rattle.lra_http.specs.Streams.{AllWell, FoundEnd, Gives, GivesWhat, Reads, too_many_interrupted};
 ghost use Rattle.lra_http.specs.Faults.{Shows, Stops};
-ghost use Rattle.lra_http.specs.Heads.{IsHeadState, HasNoHead, HasNoShorterHead, ends_empty, MayLack, IsHeadWithin, RefusesHead, max_head_bytes};
+ghost use Rattle.lra_http.specs.Heads.{FailsAt, IsHeadState, HasNoHead, HasNoShorterHead, ends_empty, IsPart, is_space, MayLack, IsHeadWithin, RefusesHead, max_head_bytes};
 ghost use Rattle.lra_http.specs.declared.fault.Fault.TheVariants.{NoMemory, ReadFault, WriteFault};
 
-use crate::{Fault, Source, read_byte};
+use crate::{Fault, Source, read_in_line};
 use httparse::spans::{HeaderSpan, parse_request, parse_response};
 use httparse::{Error, Status};
 use std::alloc::Global;
@@ -19,6 +20,9 @@ pub const MAX_HEAD_LINES: usize = 64;
 
 /// Room for so many bytes is made before any comes: most heads have fewer.
 const HEAD_ROOM: usize = 512;
+
+/// So many bytes of a line are read at once.
+const PART: usize = 256;
 
 /// Among so many bytes the parser is asked behind each line.
 const SHORT: usize = 64;
@@ -81,11 +85,23 @@ fn look(kind: HeadKind, bytes: &[u8], headers: &mut [HeaderSpan], most: usize) -
     }
 }
 
-/// Whether a space has come, once this byte has.
-fn is_spaced(spaced: bool, byte: u8) -> bool
-    ensures { result ≡ (spaced || byte == space) }
+fn is_space(byte: u8) -> bool
+    ensures { result ≡ is_space byte }
 {
-    spaced || byte == b' '
+    byte == b' '
+}
+
+fn has_space(bytes: &[u8]) -> bool
+    ensures { result ≡ list_any is_space bytes.now }
+{
+    bytes.iter().any(|byte| is_space(*byte))
+}
+
+/// Whether a space has come, once these bytes have.
+fn is_spaced(spaced: bool, part: &[u8]) -> bool
+    ensures { result ≡ (spaced || list_any is_space part.now) }
+{
+    spaced || has_space(part)
 }
 
 fn ends_empty(bytes: &[u8]) -> bool
@@ -94,19 +110,54 @@ fn ends_empty(bytes: &[u8]) -> bool
     bytes.ends_with(b"\n\n") || bytes.ends_with(b"\n\r\n")
 }
 
-/// Whether the parser is asked about these bytes, of which `byte` is the last. To ask more rarely
-/// changes no clause: only more bytes are taken before `BadHead`. So it is asked where a head may
-/// end, and else a few times: a bad first line is refused at its end if it is short, and other
-/// garbage at three lengths. Empty lines before a head have no space, so that a peer that sends
-/// line ends alone isn't looked at behind each.
-fn is_due(spaced: bool, byte: u8, bytes: &[u8], most: usize) -> bool
-    ensures { MayLack spaced byte bytes.now most result }
+/// Whether one of three lengths is reached, at which garbage without a line's end is looked at.
+fn is_at_length(before: usize, size: usize) -> bool {
+    [16, 256, 4_096]
+        .iter()
+        .any(|length| before < *length && *length <= size)
+}
+
+/// Whether the parser is asked about these bytes, of which so many came before the last part. To
+/// ask more rarely changes no clause: only more bytes are taken before `BadHead`. So it is asked
+/// where a head may end, and else a few times: a bad first line is refused at its end if it is
+/// short, and other garbage at three lengths. Empty lines before a head have no space, so that a
+/// peer that sends line ends alone isn't looked at behind each.
+fn is_due(spaced: bool, before: usize, bytes: &[u8], most: usize) -> bool
+    ensures { MayLack spaced bytes.now most result }
 {
     let size = bytes.len();
-    (byte == b'\n' && (size <= SHORT || (spaced && ends_empty(bytes))))
-        // One test for most sizes.
-        || (size.is_multiple_of(16) && matches!(size, 16 | 256 | 4_096))
-        || size > most
+    size > most
+        || (spaced && ends_empty(bytes))
+        || (size <= SHORT && bytes.ends_with(b"\n"))
+        || is_at_length(before, size)
+}
+
+/// Takes some of the next bytes to the end of `head`, at most `most` and nothing behind a line
+/// feed, by way of a buffer. How many: none at the end.
+fn take_part<S: Source>(
+    source: &mut S,
+    head: &mut Vec<u8>,
+    buffer: &mut [u8; PART],
+    most: usize,
+    interrupted: &mut u16,
+) -> Result<usize, Fault>
+    requires below { interrupted.old < too_many_interrupted }
+    requires some { 0 < most }
+    ensures ok { IfOk result (λ n. (part : List ℕ)
+        × (head.new.items ≡ head.old.items ++ part) × (length part ≡ n)
+        × IsPart most (S.stream source.old) (S.stream source.new) part
+        × (n ≡ 0 → FoundEnd (S.stream source.new))) }
+    ensures fault { IfErr result (λ fault. (part : List ℕ)
+        × IsPart most (S.stream source.old) (S.stream source.new) part × FailsAt fault part) }
+    ensures streams { Reads 1 interrupted.old (S.calls source.old) (S.calls source.new) result }
+    ensures counted { (S.calls source.new).interrupted + interrupted.old
+        ≡ (S.calls source.old).interrupted + interrupted.new }
+    ensures below { OnOk result (interrupted.new < too_many_interrupted) }
+{
+    let room = most.min(PART);
+    let count = read_in_line(source, &mut buffer[..room], interrupted)?;
+    head.extend_from_slice(&buffer[..count])?;
+    Ok(count)
 }
 
 /// What is wrong where the input ends behind these bytes, and none of their fronts is a head.
@@ -148,7 +199,7 @@ pub fn read_head<S: Source>(
         → GivesWhat (S.stream source.old) (S.stream source.new) (HasNoShorterHead kind)) }
     ensures streams { Reads
         (most + 1) interrupted.old (S.calls source.old) (S.calls source.new) result }
-    // A call for each byte.
+    // At most a call for each byte.
     ensures each { IfOk result (λ head.
         AllWell (length head.items) interrupted.old (S.calls source.old) (S.calls source.new)) }
     ensures counted { (S.calls source.new).interrupted + interrupted.old
@@ -156,14 +207,22 @@ pub fn read_head<S: Source>(
     ensures below { OnOk result (interrupted.new < too_many_interrupted) }
 {
     let mut head = Vec::with_capacity(alloc, HEAD_ROOM)?;
+    let mut buffer = [0; PART];
     let mut spaced = false;
     loop {
-        let Some(byte) = read_byte(source, interrupted)? else {
+        let before = head.len();
+        let count = take_part(
+            source,
+            &mut head,
+            &mut buffer,
+            most + 1 - before,
+            interrupted,
+        )?;
+        if count == 0 {
             return Err(fault_at_end(kind, &head, headers, most));
-        };
-        head.push(byte)?;
-        spaced = is_spaced(spaced, byte);
-        if is_due(spaced, byte, &head, most) {
+        }
+        spaced = is_spaced(spaced, &head[before..]);
+        if is_due(spaced, before, &head, most) {
             match look(kind, &head, headers, most) {
                 HeadState::More => {}
                 HeadState::Whole => return Ok(head),

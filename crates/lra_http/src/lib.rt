@@ -16,17 +16,21 @@ mod request;
 mod response;
 mod text;
 
-ghost use Rattle.std.specs.Prelude.{◌≡◌, ◌≤◌, [], length, IfOk, OnOk};
+ghost use Rattle.std.specs.Prelude.{◌≡◌, ◌≤◌, [], length, take, IfOk, OnOk};
+ghost use Rattle.std.specs.Io.{StopsAt};
+ghost use Rattle.httparse.specs.Ascii.{line_feed};
 ghost use Rattle.lra_http.specs.Streams.{CallGives, Calls, CallTakes, FoundNoEnd, GivenBytes, IsFlushed, OneMore, TakenBytes, Takes};
 
 pub use body::{MAX_BODY_BYTES, read_piece};
-pub use bytes::{ReadFault, TOO_MANY_INTERRUPTED, WriteFault, flush, read_byte, write_all};
+pub use bytes::{
+    ReadFault, TOO_MANY_INTERRUPTED, WriteFault, flush, read_byte, read_in_line, write_all,
+};
 pub use count::Count;
 pub use fault::Fault;
 pub use head::{MAX_HEAD_BYTES, MAX_HEAD_LINES};
 pub use log::Log;
 pub use message::{Bytes, CallRequest, Field, Fields, Request, Response, Text};
-pub use over::{OverRead, OverWrite};
+pub use over::{OverBuffer, OverRead, OverWrite};
 pub use part::Part;
 pub use request::read_request;
 pub use response::{FinalHead, read_response, read_response_head};
@@ -57,6 +61,19 @@ pub trait Source {
         ensures bytes { CallGives (stream self.old) (stream self.new) result buffer.new }
         ensures no_end { FoundNoEnd (stream self.new) result }
         ensures calls { OneMore (calls self.old) (calls self.new) result };
+
+    /// Reads as `read_some` does, and nothing behind a line feed. Unless a source says otherwise
+    /// that is one byte: over a socket take `OverBuffer`.
+    fn read_in_line(&mut self, buffer: &mut [u8]) -> Result<usize, CallError>
+        ensures bound { IfOk result (λ n. n ≤ length buffer.new) }
+        ensures bytes { CallGives (stream self.old) (stream self.new) result buffer.new }
+        ensures no_end { FoundNoEnd (stream self.new) result }
+        ensures calls { OneMore (calls self.old) (calls self.new) result }
+        ensures line { IfOk result (λ n. StopsAt (take n buffer.new) line_feed) }
+    {
+        let one = buffer.len().min(1);
+        self.read_some(&mut buffer[..one])
+    }
 }
 
 /// What bytes are written to, one call at a time.

@@ -1,12 +1,16 @@
 // Sources and sinks over std's readers and writers.
-ghost use Rattle.std.specs.Prelude.{◌≡◌, ◌+◌, ◌&&◌, ◌==◌, ◌↔◌, Err, Ok, if◌then◌else◌, nat_lt};
+ghost use Rattle.std.specs.Prelude.{◌≡◌, ◌+◌, ◌++◌, ◌≤◌, ◌&&◌, ◌==◌, ◌↔◌, Err, IfOk, IsErr, MatchResult, Ok, if◌then◌else◌, length, nat_lt, take};
+ghost use Rattle.std.specs.Io.{ReadsAtMost, StopsAt};
+ghost use Rattle.std.specs.Io.KnownBytes.{Consumes, Keeps};
+ghost use Rattle.httparse.specs.Ascii.{line_feed};
 ghost use Rattle.lra_http.specs.Counted.{unread, unwritten};
-ghost use Rattle.lra_http.specs.Streams.{failed_calls, interrupted_calls};
+ghost use Rattle.lra_http.specs.Streams.{OneMore, ended_calls, failed_calls, given_bytes, interrupted_calls};
 
 use crate::count::Count;
 use crate::log::Log;
 use crate::{CallError, Sink, Source};
-use std::io::{ErrorKind, Read, Write};
+use std::io;
+use std::io::{BufRead, ErrorKind, Read, Write};
 use std::marker::Model;
 use std::snapshot::Snapshot;
 
@@ -77,6 +81,12 @@ fn taken(count: usize, given: usize) -> Result<usize, CallError>
     }
 }
 
+fn is_line_feed(byte: u8) -> bool
+    ensures { result ≡ (byte == line_feed) }
+{
+    byte == b'\n'
+}
+
 /// A reader of std as a source.
 #[derive(Drop)]
 pub struct OverRead<R> {
@@ -118,13 +128,17 @@ impl<R: Read> OverRead<R> {
     }
 }
 
-impl<R: Read> Source for OverRead<R> {
-    ghost stream = { λ r. record { given = r.given; ended = r.ended; left = R.remaining r.inner } };
-
-    ghost calls = { λ r. r.calls };
-
-    fn read_some(&mut self, buffer: &mut [u8]) -> Result<usize, CallError> {
-        let outcome = match self.reader.read(buffer) {
+impl<R> OverRead<R> {
+    /// Notes what a call of the reader gave, and tells it as a source does.
+    fn note(&mut self, outcome: io::Result<usize>, buffer: &[u8]) -> Result<usize, CallError>
+        requires { ReadsAtMost outcome buffer.now }
+        ensures inner { self.new.inner ≡ self.old.inner }
+        ensures outcome { MatchResult outcome (λ n. result ≡ Ok n) (λ _. IsErr result) }
+        ensures given { self.new.given ≡ self.old.given ++ given_bytes result buffer.now }
+        ensures ended { self.new.ended ≡ ended_calls result buffer.now }
+        ensures calls { OneMore self.old.calls self.new.calls result }
+    {
+        let outcome = match outcome {
             Ok(n) => Ok(n),
             Err(error) => Err(call_error(error.kind())),
         };
@@ -137,6 +151,91 @@ impl<R: Read> Source for OverRead<R> {
         }
         self.calls.count(&outcome);
         outcome
+    }
+}
+
+impl<R: Read> Source for OverRead<R> {
+    ghost stream = { λ r. record { given = r.given; ended = r.ended; left = R.remaining r.inner } };
+
+    ghost calls = { λ r. r.calls };
+
+    fn read_some(&mut self, buffer: &mut [u8]) -> Result<usize, CallError> {
+        let outcome = self.reader.read(buffer);
+        self.note(outcome, buffer)
+    }
+}
+
+/// How many bytes there are up to the first line feed, with it.
+fn length_of_line(bytes: &[u8]) -> usize
+    ensures bound { result ≤ length bytes.now }
+    ensures line { StopsAt (take result bytes.now) line_feed }
+{
+    let end = bytes.iter().position(|byte| is_line_feed(*byte));
+    end.map_or(bytes.len(), |place| place + 1)
+}
+
+/// Takes of what a reader has at hand as much as fits, and nothing behind a line feed. It may be
+/// none though there is more to read.
+fn take_in_line<R: BufRead>(reader: &mut R, buffer: &mut [u8]) -> io::Result<usize>
+    ensures bound { ReadsAtMost result buffer.new }
+    ensures room { length buffer.new ≡ length buffer.old }
+    ensures bytes { MatchResult result
+        (λ n. Consumes (R.remaining reader.old) (R.remaining reader.new) (take n buffer.new))
+        (λ _. Keeps (R.remaining reader.old) (R.remaining reader.new)) }
+    ensures line { IfOk result (λ n. StopsAt (take n buffer.new) line_feed) }
+{
+    let lent = match reader.fill_buf() {
+        Ok(lent) => lent,
+        Err(error) => return Err(error),
+    };
+    let most = lent.len().min(buffer.len());
+    let count = length_of_line(&lent[..most]);
+    buffer[..count].copy_from_slice(&lent[..count]);
+    reader.consume(count);
+    Ok(count)
+}
+
+/// A buffered reader of std as a source. It gives a line at once, where it has one at hand.
+#[derive(Drop)]
+pub struct OverBuffer<R> {
+    over: OverRead<R>,
+}
+
+impl<R> Model for OverBuffer<R> {
+    ghost use Rattle.lra_http.specs.Counted.{Reader};
+
+    ghost Value = { Reader R };
+
+    ghost view = { λ a. a.over };
+}
+
+impl<R: BufRead> OverBuffer<R> {
+    /// Reads from this reader. No call was made so far.
+    pub fn new(reader: R) -> OverBuffer<R>
+        ensures { result ≡ unread reader }
+    {
+        OverBuffer {
+            over: OverRead::new(reader),
+        }
+    }
+}
+
+impl<R: BufRead> Source for OverBuffer<R> {
+    ghost stream = { λ r. record { given = r.given; ended = r.ended; left = R.remaining r.inner } };
+
+    ghost calls = { λ r. r.calls };
+
+    fn read_some(&mut self, buffer: &mut [u8]) -> Result<usize, CallError> {
+        self.over.read_some(buffer)
+    }
+
+    fn read_in_line(&mut self, buffer: &mut [u8]) -> Result<usize, CallError> {
+        let outcome = take_in_line(&mut self.over.reader, buffer);
+        if matches!(outcome, Ok(0)) {
+            let one = buffer.len().min(1);
+            return self.over.read_some(&mut buffer[..one]);
+        }
+        self.over.note(outcome, buffer)
     }
 }
 

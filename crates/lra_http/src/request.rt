@@ -66,8 +66,8 @@ fn text_of(alloc: Global, bytes: &[u8]) -> Result<Text, Fault>
 
 /// Reads the next request (RFC 9112): a head, and the body that its Content-Length states, of at
 /// most `limit` bytes, empty without one. What is behind it is left unread, for which the head is
-/// read one byte a call: over a socket a buffered reader goes below. Errors: each `Fault` but
-/// `WriteFault` and `LengthNeeded`.
+/// read within its lines (`Source::read_in_line`). Errors: each `Fault` but `WriteFault` and
+/// `LengthNeeded`.
 pub fn read_request<S: Source>(
     alloc: Global,
     source: &mut S,

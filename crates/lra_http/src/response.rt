@@ -137,8 +137,8 @@ pub fn read_response_head<S: Source>(
 
 /// Reads the next response (RFC 9112): interim heads, which are skipped, the final head, and the
 /// body that its Content-Length states, of at most `limit` bytes. What is behind it is left unread,
-/// for which heads are read one byte a call: over a socket a buffered reader goes below. Errors:
-/// each `Fault` but `WriteFault`.
+/// for which heads are read within their lines (`Source::read_in_line`). Errors: each `Fault` but
+/// `WriteFault`.
 pub fn read_response<S: Source>(
     alloc: Global,
     source: &mut S,

@@ -5,7 +5,7 @@ use crate::deadline_stream::{Cutoff, DeadlineStream, Limit};
 use crate::promise::Promise;
 use crate::shared_socket::SharedSocket;
 use crate::signal::Signal;
-use lra_http::{OverRead, OverWrite};
+use lra_http::{OverBuffer, OverWrite};
 use std::alloc::Global;
 use std::io;
 use std::io::{BufReader, BufWriter, Error, ErrorKind};
@@ -19,7 +19,7 @@ use std::time::Clock;
 const BUFFER: usize = 8192;
 
 /// A buffered reader over a socket.
-pub type SocketReader<'a, R> = OverRead<BufReader<DeadlineStream<'a, R>>>;
+pub type SocketReader<'a, R> = OverBuffer<BufReader<DeadlineStream<'a, R>>>;
 
 /// A buffered writer over a socket: a message of a head and a body leaves at once.
 pub type SocketWriter<'a, R> = OverWrite<BufWriter<DeadlineStream<'a, R>>>;
@@ -62,7 +62,7 @@ impl<'a, R: Wait + Clock> BufferedSocket<'a, R> {
         let reader = BufReader::with_capacity(alloc, BUFFER, reader)?;
         let writer = BufWriter::with_capacity(alloc, BUFFER, writer)?;
         Ok(BufferedSocket {
-            reader: OverRead::new(reader),
+            reader: OverBuffer::new(reader),
             writer: OverWrite::new(writer),
             socket,
         })
