@@ -1,6 +1,7 @@
 """Has the prover refuse wrong bodies, many in one check: `python3 tests/wrong.py NAME..`, each NAME a crate, or `--all`
-for every crate, as `.ci/run` does behind the gate. Crates are tried side by side, `--jobs N` of them: without it as
-many as there are processors, and 4 GB of memory free for each.
+for every crate. Crates are tried side by side, `--jobs N` of them: without it as many as there are processors, and 4 GB
+of memory free for each. With `--minutes N`, as `.ci/run` has it behind the gate, no check begins later than that. Each
+day begins with another crate, so that all have their turn; how many weren't tried is said, and is no failure.
 
 A wrong body is a file tests/wrong/NAME/WHAT.edit of the form that must-fail/ has: a line 'file: src/x.rt', and pairs of
 lines 'old: TEXT' and 'new: TEXT', each TEXT one line that stands exactly once in the file. A line 'fn: PATH' names the
@@ -15,10 +16,11 @@ alone in a copy. Bodies of one function, or that change the same line, stand in 
 proves those functions and what they call, over the libraries below the crate that stand built in crates/*/out/rlib, as
 `rt ci` leaves them in a clean clone. It builds none itself.
 
-A line a body, and last 'N refused, M not'; it ends with 0 if each is refused. Where crates/NAME/out/incremental has
-what `rt check` kept, a check begins with that; WHOLE=1 has it begin with nothing. SAID=FILE appends what the prover
-said to FILE-NAME."""
+A line a body, and last 'N refused, M not'; it ends with 0 if each that was tried is refused. Where
+crates/NAME/out/incremental has what `rt check` kept, a check begins with that; WHOLE=1 has it begin with nothing.
+SAID=FILE appends what the prover said to FILE-NAME."""
 import concurrent.futures
+import math
 import os
 import re
 import shutil
@@ -26,6 +28,7 @@ import subprocess
 import sys
 import tempfile
 import time
+import typing
 from collections.abc import Iterable, Iterator
 
 sys.path.insert(0, os.path.dirname(os.path.dirname(os.path.abspath(__file__))))
@@ -212,12 +215,13 @@ class Prover:
         found = open_goals(text, self.name)
         return {edit.name: verdict(edit, found) for edit in copy.edits}
 
-    def each_tried(self, edits: list[Edit]) -> Iterator[tuple[Edit, Verdict]]:
-        """Each edit of the crate in turn."""
+    def each_tried(self, edits: list[Edit], deadline: float) -> Iterator[tuple[Edit, Verdict]]:
+        """Each edit of the crate in turn, but those whose check would begin behind the deadline."""
         found: dict[str, Verdict] = {}
         for copy in copies(edits):
-            found.update(self.verdicts(copy))
-        for edit in edits:
+            if time.time() < deadline:
+                found.update(self.verdicts(copy))
+        for edit in (edit for edit in edits if edit.name in found):
             is_refused, why = found[edit.name]
             if not is_refused and len(edits) > 1:
                 # (another function's wrong body may hide its own)
@@ -237,15 +241,23 @@ def verdict(edit: Edit, found: Goals) -> Verdict:
     return False, "no goal of its own is open" if its else f"the prover told nothing of {edit.function}"
 
 
-def of_crate(kit: str, name: str, libraries: Crates, edits: list[Edit]) -> list[str]:
-    """Tries a crate's edits and prints a line of each: the names of those that are not refused."""
-    began, missed = time.time(), []
+class Tried(typing.NamedTuple):
+    """How many edits of a crate were tried, and the names of those that were not refused."""
+
+    count: int
+    missed: list[str]
+
+
+def of_crate(kit: str, name: str, libraries: Crates, edits: list[Edit], deadline: float) -> Tried:
+    """Tries a crate's edits up to the deadline, and prints a line of each."""
+    began, count, missed = time.time(), 0, []
     with tempfile.TemporaryDirectory(prefix="wrong-kept-") as kept:
-        for edit, (is_refused, why) in Prover(kit, name, libraries, kept).each_tried(edits):
+        for edit, (is_refused, why) in Prover(kit, name, libraries, kept).each_tried(edits, deadline):
             print(f"{name}/{edit.name}: {'refused' if is_refused else 'NOT REFUSED'}: {why}", flush=True)
+            count += 1
             missed += [] if is_refused else [f"{name}/{edit.name}"]
-    print(f"{name}: {len(edits)} wrong bodies, {time.time() - began:.0f} seconds", flush=True)
-    return missed
+    print(f"{name}: {count} of {len(edits)} wrong bodies, {time.time() - began:.0f} seconds", flush=True)
+    return Tried(count, missed)
 
 
 def most_jobs() -> int:
@@ -254,25 +266,32 @@ def most_jobs() -> int:
     return max(1, min(os.cpu_count() or 1, int(free) // 4_000_000))
 
 
-def jobs_of(words: list[str]) -> tuple[int, list[str]]:
-    """How many crates are tried side by side, and the other words."""
-    if "--jobs" not in words:
-        return most_jobs(), words
-    at = words.index("--jobs")
+def number_of(flag: str, words: list[str]) -> tuple[int | None, list[str]]:
+    """The number behind a flag, if it is there, and the other words."""
+    if flag not in words:
+        return None, words
+    at = words.index(flag)
     if not words[at + 1 : at + 2] or not words[at + 1].isdigit() or words[at + 1] == "0":
-        sys.exit("--jobs wants a number")
+        sys.exit(f"{flag} wants a number")
     return int(words[at + 1]), words[:at] + words[at + 2 :]
 
 
+def in_turn(names: list[str]) -> list[str]:
+    """The names, beginning each day with another one, far from that of the day before."""
+    first = 11 * int(time.time() // 86_400) % max(len(names), 1)
+    return names[first:] + names[:first]
+
+
 def main() -> int:
-    jobs, words = jobs_of(sys.argv[1:])
+    jobs, words = number_of("--jobs", sys.argv[1:])
+    minutes, words = number_of("--minutes", words)
     libraries = repo.crates()
     flags = {word for word in words if word.startswith("--")}
     names = [word for word in words if word not in flags]
     strange = [*(flags - {"--all", "--must-fail"}), *(set(names) - set(libraries))]
     if strange or not names and "--all" not in flags:
         unknown = f"; not known: {' '.join(strange)}" if strange else ""
-        sys.exit(f"usage: python3 tests/wrong.py [--must-fail] [--jobs N] --all | NAME..{unknown}")
+        sys.exit(f"usage: python3 tests/wrong.py [--must-fail] [--jobs N] [--minutes N] --all | NAME..{unknown}")
     kit, began, spent = repo.kit(), time.time(), sum(os.times()[2:4])
     edits: dict[str, list[Edit]] = {}
     for name in libraries:
@@ -281,14 +300,17 @@ def main() -> int:
             edits[name] = [Edit(path, f"crates/{name}") for path in repo.files(f"{folder}/*.edit")]
         elif name in names:
             print(f"{name}: there are none")
+    deadline = began + 60 * minutes if minutes else math.inf
     # (the highest first: they take longest)
-    with concurrent.futures.ThreadPoolExecutor(jobs) as pool:
-        tried = [pool.submit(of_crate, kit, name, libraries, its) for name, its in reversed(edits.items())]
-        missed = [name for one in tried for name in one.result()]
-    count = sum(map(len, edits.values()))
-    cost = sum(os.times()[2:4]) - spent
+    order = in_turn([*reversed(edits)]) if minutes else [*reversed(edits)]
+    with concurrent.futures.ThreadPoolExecutor(jobs or most_jobs()) as pool:
+        tried = [pool.submit(of_crate, kit, name, libraries, edits[name], deadline) for name in order]
+        results = [one.result() for one in tried]
+    missed, count = [name for its in results for name in its.missed], sum(its.count for its in results)
+    cost, left = sum(os.times()[2:4]) - spent, sum(map(len, edits.values())) - count
     print(f"{time.time() - began:.0f} seconds, {cost / 60:.1f} minutes of a processor")
-    print(f"{count - len(missed)} refused, {len(missed)} not{': ' + ' '.join(missed) if missed else ''}")
+    print(f"{count - len(missed)} refused, {len(missed)} not{': ' + ' '.join(missed) if missed else ''}"
+          f"{f'; {left} not tried, for want of time' if left else ''}")
     return 1 if missed else 0
 
 
