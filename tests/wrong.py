@@ -1,7 +1,7 @@
 """Has the prover refuse wrong bodies, many in one check: `python3 tests/wrong.py NAME..`, each NAME a crate, or `--all`
 for every crate. Crates are tried side by side, `--jobs N` of them: without it as many as there are processors, and 4 GB
-of memory free for each. With `--minutes N`, as `.ci/run` has it behind the gate, no check begins later than that. Each
-day begins with another crate, so that all have their turn; how many weren't tried is said, and is no failure.
+of memory free for each. With `--minutes N`, as `.ci/run` has it behind the gate, no check goes on longer. Each day
+begins with another crate, so that all have their turn; how many weren't tried is said, and is no failure.
 
 A wrong body is a file tests/wrong/NAME/WHAT.edit of the form that must-fail/ has: a line 'file: src/x.rt', and pairs of
 lines 'old: TEXT' and 'new: TEXT', each TEXT one line that stands exactly once in the file. A line 'fn: PATH' names the
@@ -175,8 +175,8 @@ def linked(old: str, new: str) -> None:
 class Prover:
     """Checks copies of a crate over the libraries that stand built, and over what is kept of other copies."""
 
-    def __init__(self, kit: str, name: str, libraries: Crates, kept: str) -> None:
-        self.kit, self.name, self.libraries, self.kept = kit, name, libraries, kept
+    def __init__(self, kit: str, name: str, libraries: Crates, kept: str, deadline: float) -> None:
+        self.kit, self.name, self.libraries, self.kept, self.deadline = kit, name, libraries, kept, deadline
         self.folder = f"{TOP}/crates/{name}"
         self.places = {used: prover.built(used, [TOP]) for used in repo.below(name, libraries)}
         missing = [used for used, place in self.places.items() if not place]
@@ -187,8 +187,11 @@ class Prover:
         if os.path.isdir(own) and "WHOLE" not in os.environ:
             shutil.copytree(own, kept, copy_function=linked, dirs_exist_ok=True)
 
-    def check(self, copy: Copy) -> str:
-        """What the prover says of a copy."""
+    def check(self, copy: Copy) -> str | None:
+        """What the prover says of a copy, or nothing where the deadline comes first."""
+        left = None if self.deadline == math.inf else self.deadline - time.time()
+        if left is not None and left <= 0:
+            return None
         words = prover.words(self.kit, self.name, self.libraries, self.places)
         words += ["--links", f"{self.name}=", "--jobs", "1", "--incremental", self.kept]
         for function in sorted({edit.function for edit in copy.edits}):
@@ -199,34 +202,42 @@ class Prover:
                     shutil.copytree(f"{self.folder}/{part}", f"{room}/{part}")
             for file, text in copy.texts.items():
                 repo.write(f"{room}/{file}", text)
-            ran = subprocess.run([f"{self.kit}/bin/rattle", "check", *words], cwd=room, stdin=subprocess.DEVNULL,
-                                 stdout=subprocess.PIPE, stderr=subprocess.STDOUT, text=True, errors="replace")
+            try:
+                ran = subprocess.run([f"{self.kit}/bin/rattle", "check", *words], cwd=room, stdin=subprocess.DEVNULL,
+                                     stdout=subprocess.PIPE, stderr=subprocess.STDOUT, text=True, errors="replace",
+                                     timeout=left)
+            except subprocess.TimeoutExpired:
+                return None
         if "SAID" in os.environ:
             with open(f"{os.environ['SAID']}-{self.name}", "a", encoding="utf-8") as record:
                 record.write(ran.stdout)
         return ran.stdout
 
     def verdicts(self, copy: Copy) -> dict[str, Verdict]:
-        """Of each edit of a copy, whether it is refused there, and why or why not."""
+        """Of each edit of a copy, whether it is refused there, and why or why not; of none behind the deadline."""
         text = self.check(copy)
+        if text is None:
+            return {}
         if not re.search(r"^only=\d+ proved=\d+", text, re.M):
             first = next((line for line in text.split("\n") if "error" in line), text[:200])
             return {edit.name: (False, f"the check told nothing: {first[:200]}") for edit in copy.edits}
         found = open_goals(text, self.name)
         return {edit.name: verdict(edit, found) for edit in copy.edits}
 
-    def each_tried(self, edits: list[Edit], deadline: float) -> Iterator[tuple[Edit, Verdict]]:
-        """Each edit of the crate in turn, but those whose check would begin behind the deadline."""
+    def each_tried(self, edits: list[Edit]) -> Iterator[tuple[Edit, Verdict]]:
+        """Each edit of the crate in turn, but those that the deadline leaves out."""
         found: dict[str, Verdict] = {}
         for copy in copies(edits):
-            if time.time() < deadline:
-                found.update(self.verdicts(copy))
+            found.update(self.verdicts(copy))
         for edit in (edit for edit in edits if edit.name in found):
             is_refused, why = found[edit.name]
             if not is_refused and len(edits) > 1:
                 # (another function's wrong body may hide its own)
-                is_refused, alone = self.verdicts(Copy(edit))[edit.name]
-                why = f"{alone} (alone in a copy; beside others: {why})" if is_refused else alone
+                alone = self.verdicts(Copy(edit))
+                if not alone:
+                    continue
+                is_refused, again = alone[edit.name]
+                why = f"{again} (alone in a copy; beside others: {why})" if is_refused else again
             yield edit, (is_refused, why)
 
 
@@ -252,7 +263,7 @@ def of_crate(kit: str, name: str, libraries: Crates, edits: list[Edit], deadline
     """Tries a crate's edits up to the deadline, and prints a line of each."""
     began, count, missed = time.time(), 0, []
     with tempfile.TemporaryDirectory(prefix="wrong-kept-") as kept:
-        for edit, (is_refused, why) in Prover(kit, name, libraries, kept).each_tried(edits, deadline):
+        for edit, (is_refused, why) in Prover(kit, name, libraries, kept, deadline).each_tried(edits):
             print(f"{name}/{edit.name}: {'refused' if is_refused else 'NOT REFUSED'}: {why}", flush=True)
             count += 1
             missed += [] if is_refused else [f"{name}/{edit.name}"]
