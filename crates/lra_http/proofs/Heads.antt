@@ -18,11 +18,11 @@ use Rattle.lra_http.specs.declared.head.HeadKind.{HeadKind}
 use Rattle.lra_http.specs.declared.head.HeadKind.TheVariants.{Request, Response}
 use Rattle.lra_http.specs.declared.head.HeadState.{HeadState}
 use Rattle.lra_http.specs.declared.head.HeadState.TheVariants.{Whole, Long}
-use Rattle.lra_http.specs.Heads.{IsHeadState, IsHead, HasNoHead, HasNoShorterHead, NeverHasHead, MayBecomeHead, Exceeds, Overflows, HasHead, ends_empty, is_space, IsHeadWithin, IsHeadTooLong, IsOpen, IsPart, RefusesHead, max_head_bytes}
+use Rattle.lra_http.specs.Heads.{IsHeadState, IsHead, HasNoHead, HasNoShorterHead, MayBecomeHead, Exceeds, Overflows, HasHead, ends_empty, is_space, IsHeadWithin, IsHeadTooLong, IsOpen, IsPart, RefusesHead, max_head_bytes}
 use Rattle.lra_http.specs.Faults.{Shows, Stops}
 use Rattle.lra_http.specs.Streams.{FoundEnd, GivenBytes, Gives, GivesWhat}
 use Rattle.lra_http.specs.declared.fault.Fault.{Fault}
-use Rattle.lra_http.specs.declared.fault.Fault.TheVariants.{Cut, BadHead, HeadTooLong}
+use Rattle.lra_http.specs.declared.fault.Fault.TheVariants.{Cut, HeadTooLong}
 use Rattle.lra_http.proofs.Known.{gives_more}
 
 -- ---- the two kinds as one
@@ -266,13 +266,6 @@ none_lacked kind most false items but others other = none_unspaced kind items (o
 
 -- ---- the faults
 
-pub bad_shown : (kind : HeadKind) (most room : ℕ) (bytes : List ℕ) → NeverHasHead kind bytes → length bytes ≤ most + 1
-    → Shows (most + 1) (RefusesHead kind most room) bytes BadHead
-bad_shown kind most room bytes never short = record {
-  shown = λ more nothing. record { prefix = bytes; rest = more; whole = refl; short = short; never = never };
-  short = short;
-}
-
 -- more field lines than there may be, whatever follows
 crowded : (kind : HeadKind) (most room : ℕ) (bytes more : List ℕ) → Exceeds kind room bytes → Overflows kind room bytes → IsHeadTooLong kind most room (bytes ++ more)
 crowded kind most room bytes more exceeds over = (
@@ -289,11 +282,6 @@ pub at_end : (kind : HeadKind) (most room : ℕ) (bytes : List ℕ) → length b
 at_end kind most room bytes short (inl (long, may)) = absurd (omega (arith, short, long))
 at_end kind most room bytes short (inr (exceeds, over)) =
     record { shown = λ more nothing. crowded kind most room bytes more exceeds over; short = omega (arith, short) }
-
-pub bad_head : (kind : HeadKind) (most room : ℕ) (head items : List ℕ) (byte : ℕ) → items ≡ head ++ byte ∷ []
-    → length head ≤ most → NeverHasHead kind items → Shows (most + 1) (RefusesHead kind most room) items BadHead
-bad_head kind most room head items byte e short never =
-    bad_shown kind most room items never (let size : length items ≡ length head + 1 = ap length e ∙ length-append head (byte ∷ []) in omega (arith, size, short))
 
 -- a head that ends at the last byte, and bytes that may become one
 whole_becomes : (kind : HeadKind) (bytes text : List ℕ) (lines : ℕ) → IsHead kind text lines → bytes ≡ text → MayBecomeHead kind bytes
