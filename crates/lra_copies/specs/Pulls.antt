@@ -1,11 +1,11 @@
 -- How the next pull from another node goes.
-use Rattle.std.specs.Prelude.{◌+◌, ◌*◌, ◌&&◌, ◌||◌, ℕ, Bool, List, [], ◌∷◌, if◌then◌else◌, false, min, nat_lt, not, true}
+use Rattle.std.specs.Prelude.{◌≡◌, ◌+◌, ◌*◌, ◌&&◌, ◌||◌, ℕ, Bool, List, [], ◌∷◌, if◌then◌else◌, false, min, nat_lt, not, true}
 use Rattle.std.specs.declared.time.Duration.{Duration}
 use Rattle.lra_copies.specs.Moments.{is_over}
 use Rattle.lra_copies.specs.Spreads.{last_ticket}
 use Rattle.lra_copies.specs.declared.pulls.NextPull.{NextPull}
 use Rattle.lra_copies.specs.declared.pulls.Pulled.{Pulled}
-use Rattle.lra_copies.specs.declared.pulls.Pulled.TheVariants.{Lost, Misdirected, New, Newer, Nothing, Older, Refused, Untaken}
+use Rattle.lra_copies.specs.declared.pulls.Pulled.TheVariants.{Kept, Lost, Misdirected, New, Newer, Nothing, Older, Refused, Untaken}
 
 -- the first one: it waits for nothing
 abbrev pub first : NextPull
@@ -28,6 +28,7 @@ abbrev pub pause_after : Pulled → (round : ℕ) → ℕ
 pause_after (Refused number) round = round
 pause_after Misdirected round = round
 pause_after Lost round = round
+pause_after Kept round = round
 pause_after _ round = 50
 
 -- whether the next one may wait at the other node: that gives frames, and what it told is taken
@@ -43,10 +44,11 @@ is_at_once New is_held waits = true
 is_at_once Nothing is_held waits = is_held || not waits
 is_at_once _ is_held waits = false
 
--- whether the other node is known to hold pulls: it held this one, or one before it, since it was last heard anew
-abbrev pub holds_after : Pulled → (is_held holds : Bool) → Bool
-holds_after Nothing is_held holds = holds || is_held
-holds_after pulled is_held holds = may_wait pulled && holds
+-- whether the other node is known to hold pulls: it held this one, or one before it, since it was last heard anew; or it asks this node by
+-- pulls that wait
+abbrev pub holds_after : Pulled → (is_held asks_waiting holds : Bool) → Bool
+holds_after Nothing is_held asks_waiting holds = (holds || is_held) || asks_waiting
+holds_after pulled is_held asks_waiting holds = may_wait pulled && holds
 
 -- how many in a row weren't followed at once
 abbrev pub hasty_after : (is_at_once : Bool) → (hasty : ℕ) → ℕ
@@ -70,22 +72,27 @@ next_of pulled is_at_once holds round hasty = record {
   hasty = hasty;
 }
 
--- the one behind a pull that came to so much, and was held or wasn't
-abbrev pub behind : Pulled → (is_held : Bool) → NextPull → NextPull
-behind pulled is_held p =
+-- the one behind a pull that came to so much, and was held or wasn't, of a node that asks by pulls that wait, or doesn't
+abbrev pub behind : Pulled → (is_held asks_waiting : Bool) → NextPull → NextPull
+behind pulled is_held asks_waiting p =
     let at_once = is_at_once pulled is_held p.waits in
-    next_of pulled at_once (holds_after pulled is_held p.holds) (round_after pulled p.round_ms) (hasty_after at_once p.hasty)
+    next_of pulled at_once (holds_after pulled is_held asks_waiting p.holds) (round_after pulled p.round_ms) (hasty_after at_once p.hasty)
 
--- what a pull came to, and whether it was held
+-- what a pull came to, whether it was held, and whether the other node asked by pulls that wait
 pub record Came : Type 0 where
   pub pulled : Pulled
   pub is_held : Bool
+  pub asks_waiting : Bool
+
+-- a node of an older version holds no pull, and asks by none that waits
+abbrev pub HoldsNone : Came → Type 0
+HoldsNone came = (came.is_held ≡ false) × (came.asks_waiting ≡ false)
 
 -- the one behind some pulls, of which the last stands first
 abbrev pub behind_all : List Came → NextPull
 behind_all [] = first
-behind_all (came ∷ earlier) = behind came.pulled came.is_held (behind_all earlier)
+behind_all (came ∷ earlier) = behind came.pulled came.is_held came.asks_waiting (behind_all earlier)
 
--- a pull that came to nothing and wasn't held
+-- a pull of a node of an older version that came to nothing
 abbrev pub nothing_at_once : Came
-nothing_at_once = record { pulled = Nothing; is_held = false }
+nothing_at_once = record { pulled = Nothing; is_held = false; asks_waiting = false }

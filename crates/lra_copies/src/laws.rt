@@ -6,12 +6,12 @@ ghost use Rattle.std.specs.declared.time.Duration.{Duration as TheDuration};
 ghost use Rattle.lra_id.specs.Fronts.{count};
 ghost use Rattle.lra_copies.specs.Outlooks.{Failure, Trouble, after_failures, is_due, none, since_of, with_failure};
 ghost use Rattle.lra_copies.specs.Paces.{Pace, at_rest, given_at, moment_of, verdict_of, with_begin, with_end};
-ghost use Rattle.lra_copies.specs.Pulls.{Came, behind, behind_all, nothing_at_once};
+ghost use Rattle.lra_copies.specs.Pulls.{Came, HoldsNone, behind, behind_all, nothing_at_once, round_after};
 ghost use Rattle.lra_copies.specs.Spreads.{Spread, is_covered, last_ticket, looked, standing_of, target};
 ghost use Rattle.lra_copies.specs.Steps.{Asks, Begins, Ends, Gives, Hears, Looks, Node, Step, WasCopied, after_all, at_start, begins_in, copied_at, drawn_by, ends_in, first_of_three, last_told, second};
 ghost use Rattle.lra_copies.specs.declared.pulls.NextPull.{NextPull as ThePull};
 ghost use Rattle.lra_copies.specs.declared.pulls.Pulled.{Pulled as ThePulled};
-ghost use Rattle.lra_copies.specs.declared.pulls.Pulled.TheVariants.{New, Nothing, Untaken};
+ghost use Rattle.lra_copies.specs.declared.pulls.Pulled.TheVariants.{Kept, New, Nothing, Untaken};
 ghost use Rattle.lra_copies.specs.Waits.{Wait, after_of, fate_of, nobody, with_calls, with_question};
 ghost use Rattle.lra_copies.specs.declared.standing.Fate.TheVariants.{Called, OnHold, Outdated};
 ghost use Rattle.lra_copies.specs.declared.standing.Standing.TheVariants.{Late as IsLate, Waits as DoesWait};
@@ -98,31 +98,44 @@ pub fn what_was_put_off_is_asked()
         fate_of (with_question w).calls now is_strict s (with_question w).asks_again ≢ Called false }
 {}
 
-/// What was told and isn't taken yet is told once more soon: the next pull waits neither at the other node nor for news of it.
+/// What was told and isn't taken yet is asked for once more soon: the next pull waits neither at the other node nor for news of it.
 pub fn what_is_untaken_is_asked_for_soon()
-    ensures pause { (is_held : Bool) (p : ThePull) → (behind Untaken is_held p).pause_ms ≤ 50 }
-    ensures wait { (is_held : Bool) (p : ThePull) → (behind Untaken is_held p).wait_ms ≡ 0 }
-    ensures waits { (is_held : Bool) (p : ThePull) → (behind Untaken is_held p).waits ≡ false }
+    ensures pause { (is_held asks_waiting : Bool) (p : ThePull) → (behind Untaken is_held asks_waiting p).pause_ms ≤ 50 }
+    ensures wait { (is_held asks_waiting : Bool) (p : ThePull) → (behind Untaken is_held asks_waiting p).wait_ms ≡ 0 }
+    ensures waits { (is_held asks_waiting : Bool) (p : ThePull) → (behind Untaken is_held asks_waiting p).waits ≡ false }
 {}
 
-/// One of an older version holds no pull, and isn't asked in a rush: behind 33 pulls in a row that came to nothing at once, where none
-/// before them was held, the next one waits five seconds for news of it.
+/// What the journal can't store isn't sent again and again: the next pull pauses for a round, and each round is twice as long as the one
+/// before, up to five seconds.
+pub fn what_can_not_be_stored_is_asked_for_after_a_round()
+    ensures { (is_held asks_waiting : Bool) (p : ThePull) →
+        ((behind Kept is_held asks_waiting p).pause_ms ≡ round_after Kept p.round_ms)
+        × ((behind Kept is_held asks_waiting p).round_ms ≡ round_after Kept p.round_ms)
+        × ((behind Kept is_held asks_waiting p).waits ≡ false) }
+{}
+
+/// A node of an older version holds no pull, asks by none that waits, and isn't asked in a rush: behind 33 pulls in a row that came to
+/// nothing at once, if none before them was held, the next one waits five seconds for news of it.
 pub fn one_of_an_older_version_is_not_asked_in_a_rush()
-    ensures { (number : ℕ) (earlier : List Came) → 33 ≤ number → All (λ (came : Came). came.is_held ≡ false) earlier →
+    ensures { (number : ℕ) (earlier : List Came) → 33 ≤ number → All HoldsNone earlier →
         (behind_all (replicate number nothing_at_once ++ earlier)).wait_ms ≡ 5_000 }
 {}
 
 /// Each node is asked again: a pause is five seconds at most, and so is the wait for news. One that holds pulls is asked soon: at once
-/// behind a pull that brought something or was held, and after 50 ms at most behind any other that came to nothing.
+/// behind a pull that brought something or was held, and after 50 ms at most behind any other that came to nothing. So is one that asks
+/// by pulls that wait, though it never held any: its answers may wait for what the next pull tells it.
 pub fn each_node_is_asked_again()
-    ensures again { (pulled : ThePulled) (is_held : Bool) (p : ThePull) →
-        ((behind pulled is_held p).pause_ms ≤ 5_000) × ((behind pulled is_held p).wait_ms ≤ 5_000) }
-    ensures brought { (is_held : Bool) (p : ThePull) →
-        ((behind New is_held p).pause_ms ≡ 0) × ((behind New is_held p).wait_ms ≡ 0) }
-    ensures held { (p : ThePull) →
-        ((behind Nothing true p).pause_ms ≡ 0) × ((behind Nothing true p).wait_ms ≡ 0) × ((behind Nothing true p).holds ≡ true) }
-    ensures known { (is_held : Bool) (p : ThePull) → p.holds ≡ true →
-        ((behind Nothing is_held p).pause_ms ≤ 50) × ((behind Nothing is_held p).wait_ms ≡ 0) }
+    ensures again { (pulled : ThePulled) (is_held asks_waiting : Bool) (p : ThePull) →
+        ((behind pulled is_held asks_waiting p).pause_ms ≤ 5_000) × ((behind pulled is_held asks_waiting p).wait_ms ≤ 5_000) }
+    ensures brought { (is_held asks_waiting : Bool) (p : ThePull) →
+        ((behind New is_held asks_waiting p).pause_ms ≡ 0) × ((behind New is_held asks_waiting p).wait_ms ≡ 0) }
+    ensures held { (asks_waiting : Bool) (p : ThePull) →
+        ((behind Nothing true asks_waiting p).pause_ms ≡ 0) × ((behind Nothing true asks_waiting p).wait_ms ≡ 0)
+        × ((behind Nothing true asks_waiting p).holds ≡ true) }
+    ensures known { (is_held asks_waiting : Bool) (p : ThePull) → p.holds ≡ true →
+        ((behind Nothing is_held asks_waiting p).pause_ms ≤ 50) × ((behind Nothing is_held asks_waiting p).wait_ms ≡ 0) }
+    ensures listens { (is_held : Bool) (p : ThePull) →
+        ((behind Nothing is_held true p).pause_ms ≤ 50) × ((behind Nothing is_held true p).wait_ms ≡ 0) × ((behind Nothing is_held true p).holds ≡ true) }
 {}
 
 /// What is wrong with another node is told once nothing can be had of it for five seconds, and then not again however many pulls fail, until

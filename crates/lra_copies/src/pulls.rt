@@ -31,6 +31,8 @@ pub enum Pulled {
     New,
     /// Something new is handed over, and isn't taken yet.
     Untaken,
+    /// Something new couldn't be stored. It is kept in memory, and stored once the journal takes it.
+    Kept,
     /// Nothing is new.
     Nothing,
     /// The other can't be reached.
@@ -64,7 +66,7 @@ fn pause_after(pulled: Pulled, round_ms: u64) -> u64
     ensures { result ≡ pause_after pulled round_ms }
 {
     match pulled {
-        Pulled::Refused(_) | Pulled::Misdirected | Pulled::Lost => round_ms,
+        Pulled::Refused(_) | Pulled::Misdirected | Pulled::Lost | Pulled::Kept => round_ms,
         _ => PAUSE_MS,
     }
 }
@@ -87,12 +89,13 @@ fn is_at_once(pulled: Pulled, is_held: bool, waits: bool) -> bool
     }
 }
 
-/// Whether the other node is known to hold pulls, by whether it was before, and this one was held.
-fn holds_after(pulled: Pulled, is_held: bool, holds: bool) -> bool
-    ensures { result ≡ holds_after pulled is_held holds }
+/// Whether the other node is known to hold pulls: it held one before, or holds this one, or it asks
+/// this node by pulls that wait.
+fn holds_after(pulled: Pulled, is_held: bool, asks_waiting: bool, holds: bool) -> bool
+    ensures { result ≡ holds_after pulled is_held asks_waiting holds }
 {
     match pulled {
-        Pulled::Nothing => holds || is_held,
+        Pulled::Nothing => (holds || is_held) || asks_waiting,
         _ => may_wait(pulled) && holds,
     }
 }
@@ -108,8 +111,8 @@ fn hasty_after(is_at_once: bool, hasty: u64) -> u64
     }
 }
 
-/// Whether the next pull waits for no news. One of an older version never holds any. What isn't taken
-/// is told once more soon, since only so is it owed.
+/// Whether the next pull waits for no news. A node of an older version never holds any. What isn't
+/// taken yet is asked for once more soon: that pull tells the other node that it is stored.
 fn is_soon(pulled: Pulled, holds: bool, hasty: u64) -> bool
     ensures { result ≡ is_soon pulled holds hasty }
 {
@@ -151,16 +154,17 @@ impl NextPull {
         }
     }
 
-    /// The one behind this one, which came to so much, and was held or wasn't. It follows at once where
-    /// this one brought something, was held, or waited for nothing; and after a pause alone where the
-    /// other node is known to hold pulls, or may do so.
-    pub fn behind(self, pulled: Pulled, is_held: bool) -> NextPull
-        ensures { result ≡ behind pulled is_held self }
+    /// The one behind this one, which came to so much, and was held or wasn't. `asks_waiting` says
+    /// whether the other node asks this one by pulls that wait, as those do that hold them. The next
+    /// one follows at once if this one brought something, was held, or waited for nothing; and after
+    /// a short pause if the other node is known to hold pulls, or may do so.
+    pub fn behind(self, pulled: Pulled, is_held: bool, asks_waiting: bool) -> NextPull
+        ensures { result ≡ behind pulled is_held asks_waiting self }
     {
         let is_at_once = is_at_once(pulled, is_held, self.waits);
         let round_ms = round_after(pulled, self.round_ms);
         let pause_ms = pause_after(pulled, round_ms);
-        let holds = holds_after(pulled, is_held, self.holds);
+        let holds = holds_after(pulled, is_held, asks_waiting, self.holds);
         let hasty = hasty_after(is_at_once, self.hasty);
         let is_soon = is_at_once || is_soon(pulled, holds, hasty);
         NextPull {
