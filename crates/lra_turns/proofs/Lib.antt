@@ -1,9 +1,10 @@
 mod Between
 mod Brought
 mod Choices
-mod Counts
+pub mod Counts
 mod Entered
 mod FirstPause
+mod Hanging
 mod Latest
 mod Lists
 mod Named

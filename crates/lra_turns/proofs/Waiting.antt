@@ -10,7 +10,7 @@ use Rattle.lra_turns.specs.Turns.{AtHost, BeginsAt, IsLongest, IsNewestNow, IsNe
 use Rattle.lra_turns.specs.Waiting.{IsWaiting, LeavesOne, WaitsFor, ahead, all_calls, is_ahead}
 use Rattle.lra_turns.specs.declared.host.Busy.{Busy}
 use Rattle.lra_turns.specs.declared.pace.Pace.{Pace}
-use Rattle.lra_turns.specs.declared.pace.Pace.TheVariants.{Quick, Slow, Unknown}
+use Rattle.lra_turns.specs.declared.pace.Pace.TheVariants.{Hanging, Quick, Refusing, Slow, Unknown}
 
 -- a quick host has room
 quick_may : (pace : Pace) (busy : Busy) (calls : ℕ) (due : Bool) → pace ≡ Quick → calls < 2 → due ≡ true
@@ -18,9 +18,11 @@ quick_may : (pace : Pace) (busy : Busy) (calls : ℕ) (due : Bool) → pace ≡ 
 quick_may Quick busy calls due is few waits = grind (arith, few, waits)
 quick_may Unknown busy calls due is few waits = absurd cc
 quick_may Slow busy calls due is few waits = absurd cc
+quick_may Refusing busy calls due is few waits = absurd cc
+quick_may Hanging busy calls due is few waits = absurd cc
 
 -- while a host may be called, one is
-none_waits : (now : Turns) (place : ℕ) → IsNext now None → place < length now.hosts → may_be_called (busy_with now.hosts) (host_at now.hosts place) ≡ true → ⊥
+pub none_waits : (now : Turns) (place : ℕ) → IsNext now None → place < length now.hosts → may_be_called (busy_with now.hosts) (host_at now.hosts place) ≡ true → ⊥
 none_waits now place next within may = search rules
 
 pub quick_may_be_called : (busy : Busy) (host : AtHost) → host.pace ≡ Quick → host.calls < 2 → is_due host ≡ true → may_be_called busy host ≡ true
@@ -39,19 +41,23 @@ begun_few : (pace : Pace) (busy : Busy) (calls : ℕ) (due : Bool)
 begun_few Quick busy calls due may few = omega (arith, few)
 begun_few Unknown busy calls due may few = grind (arith, may)
 begun_few Slow busy calls due may few = grind (arith, may)
+begun_few Refusing busy calls due may few = grind (arith, may)
+begun_few Hanging busy calls due may few = grind (arith, may)
 
 -- a host has as many calls at least as it counts for
 counts_once : (pace : Pace) (calls : ℕ) → one_if (if is_quick pace then false else nat_lt 0 calls) ≤ calls
 counts_once Quick calls = omega arith
 counts_once Unknown calls = grind arith
 counts_once Slow calls = grind arith
+counts_once Refusing calls = grind arith
+counts_once Hanging calls = grind arith
 
 unsure_within : (hosts : List AtHost) → count_by is_called_unsurely hosts ≤ all_calls hosts
 unsure_within [] = omega arith
 unsure_within (host ∷ hosts) =
     omega (arith, sum_by-cons (λ x. cond (is_called_unsurely x) 1 0) host hosts, sum_by-cons (λ (x : AtHost). x.calls) host hosts, counts_once host.pace host.calls, unsure_within hosts)
 
-next_may : (now : Turns) (place : ℕ) → IsNext now (Some place) → may_be_called (busy_with now.hosts) (host_at now.hosts place) ≡ true
+pub next_may : (now : Turns) (place : ℕ) → IsNext now (Some place) → may_be_called (busy_with now.hosts) (host_at now.hosts place) ≡ true
 next_may now place next = search rules
 
 taken_at : (place : ℕ) (duty : Duty) (old new : Turns) → IsNext old (Some place) → BeginsAt place duty old new → LeavesOne old.hosts → LeavesOne new.hosts
@@ -101,6 +107,8 @@ dropped_free : (pace : Pace) (calls : ℕ) (is_listed : Bool) → (if is_listed 
 dropped_free Quick calls is_listed is = refl
 dropped_free Unknown calls is_listed is = grind (arith, is)
 dropped_free Slow calls is_listed is = grind (arith, is)
+dropped_free Refusing calls is_listed is = grind (arith, is)
+dropped_free Hanging calls is_listed is = grind (arith, is)
 
 pub put_leaves : (duty : Duty) (old new : Turns) (is_put : Bool) → IsPut duty old new is_put → unsure_calls new.hosts ≡ unsure_calls old.hosts
 put_leaves duty old new is_put put = passing_put is_called_unsurely duty old new is_put (λ host. refl) (λ host. refl) refl put

@@ -6,7 +6,7 @@ use Rattle.lra_callback.specs.declared.duty.Duty.{Duty}
 use Rattle.lra_turns.specs.Links.{host_of}
 use Rattle.lra_turns.specs.declared.host.Busy.{Busy}
 use Rattle.lra_turns.specs.declared.pace.Pace.{Pace}
-use Rattle.lra_turns.specs.declared.pace.Pace.TheVariants.{Quick, Slow, Unknown}
+use Rattle.lra_turns.specs.declared.pace.Pace.TheVariants.{Hanging, Quick, Refusing, Slow, Unknown}
 
 -- a host: its name, whom a thread is to call there, in order, how many calls go on, how it answered the last, the number of the turn
 -- at which its last call began or at which it came, and whether somebody there was to be called when that was last asked
@@ -31,55 +31,79 @@ nowhere = record { name = []; due = []; calls = 0; pace = Unknown; turn = 0; is_
 abbrev pub host_at : List AtHost → ℕ → AtHost
 host_at hosts place = slice_index_or hosts place nowhere
 
--- how many calls to a host may go on at once: two, where it answered the last one quickly
+-- how many calls to a host may go on at once: two, if its last one was heard quickly
 abbrev pub share : Pace → ℕ
 share Quick = 2
 share Unknown = 1
 share Slow = 1
+share Refusing = 1
+share Hanging = 1
 
 abbrev pub is_slow : Pace → Bool
 is_slow Quick = false
 is_slow Unknown = false
 is_slow Slow = true
+is_slow Refusing = false
+is_slow Hanging = false
+
+abbrev pub is_hanging : Pace → Bool
+is_hanging Quick = false
+is_hanging Unknown = false
+is_hanging Slow = false
+is_hanging Refusing = false
+is_hanging Hanging = true
 
 abbrev pub is_quick : Pace → Bool
 is_quick Quick = true
 is_quick Unknown = false
 is_quick Slow = false
+is_quick Refusing = false
+is_quick Hanging = false
 
 abbrev pub is_unknown : Pace → Bool
 is_unknown Quick = false
 is_unknown Unknown = true
 is_unknown Slow = false
+is_unknown Refusing = false
+is_unknown Hanging = false
 
 -- whether somebody waits there to be called
 abbrev pub is_due : AtHost → Bool
 is_due host = nat_lt 0 (length host.due)
 
--- whether a call to it goes on, and it is slow; or no quick answer of it is known
+-- whether a call to it goes on, and it is slow; or its last call hung; or it isn't quick
 abbrev pub is_called_slowly : AtHost → Bool
 is_called_slowly host = if is_slow host.pace then nat_lt 0 host.calls else false
+
+abbrev pub is_called_as_hanging : AtHost → Bool
+is_called_as_hanging host = if is_hanging host.pace then nat_lt 0 host.calls else false
 
 abbrev pub is_called_unsurely : AtHost → Bool
 is_called_unsurely host = if is_quick host.pace then false else nat_lt 0 host.calls
 
--- how many calls to slow hosts go on, and how many to those of which no quick answer is known: to each of them there is one at most
+-- how many calls go on to slow hosts, to those that hang, and to all that aren't quick: to each of them there is one at most
 abbrev pub slow_calls : List AtHost → ℕ
 slow_calls hosts = length (filter is_called_slowly hosts)
+
+abbrev pub hanging_calls : List AtHost → ℕ
+hanging_calls hosts = length (filter is_called_as_hanging hosts)
 
 abbrev pub unsure_calls : List AtHost → ℕ
 unsure_calls hosts = length (filter is_called_unsurely hosts)
 
 -- how many calls go on to hosts that may hold a thread for long
 abbrev pub busy_with : List AtHost → Busy
-busy_with hosts = record { unsure = unsure_calls hosts; slow = slow_calls hosts }
+busy_with hosts = record { unsure = unsure_calls hosts; slow = slow_calls hosts; hanging = hanging_calls hosts }
 
--- whether beside these a call may begin to a host that answers so: to a quick one always; to another where with it no more than three go
--- on to such as aren't quick, and no more than two to slow ones
+-- whether beside these a call may begin to a host that answered so: to a quick one always; to another if with it three at most go on to
+-- hosts that aren't quick. Beside that, to a slow one if two at most go on to slow ones, and to one that hangs if two at most go on to
+-- such
 abbrev pub has_room : Busy → Pace → Bool
 has_room busy Quick = true
 has_room busy Unknown = nat_lt busy.unsure 3
 has_room busy Slow = if nat_lt busy.slow 2 then nat_lt busy.unsure 3 else false
+has_room busy Refusing = nat_lt busy.unsure 3
+has_room busy Hanging = if nat_lt busy.hanging 2 then nat_lt busy.unsure 3 else false
 
 -- whether a thread may call there, while these calls go on: somebody is to be called, it has less than its share, and there is room
 abbrev pub may_be_called : Busy → AtHost → Bool

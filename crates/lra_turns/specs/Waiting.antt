@@ -1,8 +1,8 @@
 -- How long hosts wait for their turn.
-use Rattle.std.specs.Prelude.{◌≡◌, ◌≤◌, ◌<◌, ℕ, Bool, List, Some, filter, length, nat_le, suc, true, zero, ⊤}
+use Rattle.std.specs.Prelude.{◌≡◌, ◌≤◌, ◌<◌, ◌-◌, ℕ, Bool, List, Option, None, Some, filter, length, nat_le, suc, true, zero, ⊤}
 use Rattle.std.specs.List.{sum_by}
 use Rattle.lra_callback.specs.declared.duty.Duty.{Duty}
-use Rattle.lra_turns.specs.Turns.{AtHost, IsTaken, Turns, busy_with, host_at, may_be_called, next_turn, unsure_calls}
+use Rattle.lra_turns.specs.Turns.{AtHost, IsTaken, Turns, busy_with, host_at, may_be_called, next_turn, place_of, unsure_calls}
 
 -- whether a host's turn isn't behind the one of this number
 abbrev pub is_ahead : ℕ → AtHost → Bool
@@ -16,9 +16,17 @@ ahead turn hosts = length (filter (is_ahead turn) hosts)
 abbrev pub all_calls : List AtHost → ℕ
 all_calls hosts = sum_by (λ (host : AtHost). host.calls) hosts
 
--- One of four callers is left to hosts that answered quickly: three calls at most go on to others.
+-- One of four callers is left to quick hosts: three calls at most go on to others.
 abbrev pub LeavesOne : List AtHost → Type 0
 LeavesOne hosts = unsure_calls hosts ≤ 3
+
+-- how many calls beside one go on to the host at a place, and to that of a duty
+abbrev pub other_calls_at : Option ℕ → List AtHost → ℕ
+other_calls_at None hosts = 0
+other_calls_at (Some place) hosts = (host_at hosts place).calls - 1
+
+abbrev pub other_calls : Duty → List AtHost → ℕ
+other_calls duty hosts = other_calls_at (place_of duty hosts) hosts
 
 -- a host whose turn has this number waits for it: it may be called, and isn't called now
 pub record IsWaiting (turn : ℕ) (now : Turns) : Type 0 where

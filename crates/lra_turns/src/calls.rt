@@ -23,7 +23,7 @@ use crate::slip::{
     Called, Due, Slip, begin_each, count_in_vain, forget_each, longest_in_vain, place_from,
     place_of,
 };
-use lra_callback::{Duties, Duty};
+use lra_callback::Duty;
 use std::alloc::Global;
 use std::marker::Model;
 use std::time::Duration;
@@ -272,21 +272,21 @@ impl Calls {
 
     /// Puts all that are due, in the order of the list, in place of those that no thread has begun with. Who is no longer among them is
     /// forgotten, unless it is called now: that is forgotten once its call came to nothing. It says whether there was memory for all.
-    pub fn put_all(&mut self, duties: Duties, now: Duration) -> bool
-        ensures named { NamesNoOther self.old self.new duties }
-        ensures once { NamesNobodyTwice duties →
+    pub fn put_all(&mut self, duties: Vec<Duty>, now: Duration) -> bool
+        ensures named { NamesNoOther self.old self.new duties.items }
+        ensures once { NamesNobodyTwice duties.items →
             HasEachOnce self.old → HasEachOnce self.new }
         ensures called { (who : TheCalled) → calls_of who self.new.slips ≡ calls_of who self.old.slips }
-        ensures put { IsTrue result → NamesNobodyTwice duties → (who : TheCalled) →
-            0 < duties_for who duties → MayBeCalled now who self.old →
+        ensures put { IsTrue result → NamesNobodyTwice duties.items → (who : TheCalled) →
+            0 < duties_for who duties.items → MayBeCalled now who self.old →
             0 < dues_of who self.new.now.hosts }
-        ensures forgotten { (who : TheCalled) → duties_for who duties ≡ 0 →
+        ensures forgotten { (who : TheCalled) → duties_for who duties.items ≡ 0 →
             calls_of who self.old.slips ≡ 0 → slips_of who self.new.slips ≡ 0 }
-        ensures only { NamesOnly self.new duties }
+        ensures only { NamesOnly self.new duties.items }
         ensures outdated { (who : TheCalled) → current_of who self.new.slips ≡ 0 }
     {
         self.recall();
-        let is_whole = self.put_each(duties.into_vec(), now);
+        let is_whole = self.put_each(duties, now);
         self.forget_others();
         is_whole
     }

@@ -4,7 +4,7 @@ ghost use Rattle.std.specs.List.{after_first};
 ghost use Rattle.std.specs.Str.{bytes_eq};
 ghost use Rattle.lra_turns.specs.Keys.{key_of};
 ghost use Rattle.lra_turns.specs.Links.{host_in, host_of, is_slash};
-ghost use Rattle.lra_turns.specs.Turns.{Begins, has_room, is_before, is_called_slowly, is_called_unsurely, is_due, is_new, is_newer, is_quick, is_slow, is_unknown, listed, may_be_called, newcomer, recalled, share, with_due, with_end, is_kept};
+ghost use Rattle.lra_turns.specs.Turns.{Begins, has_room, is_before, is_called_as_hanging, is_called_slowly, is_called_unsurely, is_due, is_hanging, is_new, is_newer, is_quick, is_slow, is_unknown, listed, may_be_called, newcomer, recalled, share, with_due, with_end, is_kept};
 
 use crate::Pace;
 use lra_callback::Duty;
@@ -15,8 +15,11 @@ use std::marker::Model;
 /// How many calls to slow hosts may go on at once: the other threads are left to those that answer at once.
 const MAX_SLOW: usize = 2;
 
-/// How many calls may go on at once to hosts of which no quick answer is known, slow ones among them. So of four threads one is always
-/// left to those that answered quickly, whoever else never answers.
+/// How many calls to hosts that hang may go on at once: a slow host that is heard waits for none of these.
+const MAX_HANGING: usize = 2;
+
+/// How many calls may go on at once to hosts that aren't quick. So of four threads one is always left to those that were heard quickly,
+/// whoever else never answers.
 const MAX_UNSURE: usize = 3;
 
 /// What stands behind the first slash.
@@ -65,7 +68,7 @@ fn share(pace: Pace) -> usize
 {
     match pace {
         Pace::Quick => 2,
-        Pace::Unknown | Pace::Slow => 1,
+        Pace::Unknown | Pace::Slow | Pace::Refusing | Pace::Hanging => 1,
     }
 }
 
@@ -73,6 +76,12 @@ fn is_slow(pace: Pace) -> bool
     ensures { result ≡ is_slow pace }
 {
     matches!(pace, Pace::Slow)
+}
+
+fn is_hanging(pace: Pace) -> bool
+    ensures { result ≡ is_hanging pace }
+{
+    matches!(pace, Pace::Hanging)
 }
 
 fn is_quick(pace: Pace) -> bool
@@ -90,21 +99,24 @@ fn is_unknown(pace: Pace) -> bool
 /// How many calls go on to hosts that may hold a thread for long.
 #[derive(Clone, Copy)]
 pub(crate) struct Busy {
-    /// To those of which no quick answer is known.
+    /// To those that aren't quick.
     pub(crate) unsure: usize,
     /// To the slow ones among them.
     pub(crate) slow: usize,
+    /// To those among them that hang.
+    pub(crate) hanging: usize,
 }
 
 impl Busy {
-    /// Whether beside these a call may begin to a host that answers so.
+    /// Whether beside these a call may begin to a host that answered so.
     pub(crate) fn has_room(self, pace: Pace) -> bool
         ensures { result ≡ has_room self pace }
     {
         match pace {
             Pace::Quick => true,
-            Pace::Unknown => self.unsure < MAX_UNSURE,
+            Pace::Unknown | Pace::Refusing => self.unsure < MAX_UNSURE,
             Pace::Slow => self.slow < MAX_SLOW && self.unsure < MAX_UNSURE,
+            Pace::Hanging => self.hanging < MAX_HANGING && self.unsure < MAX_UNSURE,
         }
     }
 }
@@ -189,7 +201,14 @@ impl Host {
         is_slow(self.pace) && self.calls > 0
     }
 
-    /// Whether a call to it goes on, and no quick answer of it is known.
+    /// Whether a call to it goes on, and its last one hung.
+    pub(crate) fn is_called_as_hanging(&self) -> bool
+        ensures { result ≡ is_called_as_hanging self.now }
+    {
+        is_hanging(self.pace) && self.calls > 0
+    }
+
+    /// Whether a call to it goes on, and it isn't quick.
     pub(crate) fn is_called_unsurely(&self) -> bool
         ensures { result ≡ is_called_unsurely self.now }
     {

@@ -1,7 +1,7 @@
 // The hosts at which participants are called. They have turns, so that none holds up others.
 ghost use Rattle.std.specs.Prelude.{◌≡◌, ◌<◌, ◌+◌, [], IfNone, IfSome, None, false, filter, length, map, slice_set};
 ghost use Rattle.std.specs.List.{list_any};
-ghost use Rattle.lra_turns.specs.Turns.{Begins, IsFirstOf, IsLongest, IsNewest, IsNewestNow, IsNext, IsPut, IsPutAt, IsTaken, MayTake, busy_with, changed_at, host_at, is_before, is_due, is_kept, is_new, is_newer, is_newest_turn, listed, may_be_called, place_of, recalled, share, slow_calls, unsure_calls, with_end, with_hosts};
+ghost use Rattle.lra_turns.specs.Turns.{Begins, IsFirstOf, IsLongest, IsNewest, IsNewestNow, IsNext, IsPut, IsPutAt, IsTaken, MayTake, busy_with, changed_at, hanging_calls, host_at, is_before, is_due, is_kept, is_new, is_newer, is_newest_turn, listed, may_be_called, place_of, recalled, share, slow_calls, unsure_calls, with_end, with_hosts};
 
 use crate::Pace;
 use crate::host::{Busy, Host, host_of, key_of};
@@ -16,7 +16,17 @@ fn slow_calls(hosts: &[Host]) -> usize
     hosts.iter().filter(|host| host.is_called_slowly()).count()
 }
 
-/// How many calls go on to hosts of which no quick answer is known.
+/// How many calls go on to hosts that hang.
+fn hanging_calls(hosts: &[Host]) -> usize
+    ensures { result ≡ hanging_calls hosts.now }
+{
+    hosts
+        .iter()
+        .filter(|host| host.is_called_as_hanging())
+        .count()
+}
+
+/// How many calls go on to hosts that aren't quick.
 fn unsure_calls(hosts: &[Host]) -> usize
     ensures { result ≡ unsure_calls hosts.now }
 {
@@ -33,6 +43,7 @@ fn busy_with(hosts: &[Host]) -> Busy
     Busy {
         unsure: unsure_calls(hosts),
         slow: slow_calls(hosts),
+        hanging: hanging_calls(hosts),
     }
 }
 

@@ -1,5 +1,5 @@
 // Laws of the definitions: each function does nothing, and its contract is the law.
-ghost use Rattle.std.specs.Prelude.{[], ◌≡◌, ◌+◌, ◌*◌, ◌<◌, ◌≤◌, Bool, List, None, Option, Some, ℕ, false, filter, length, map, true};
+ghost use Rattle.std.specs.Prelude.{[], ◌≡◌, ◌+◌, ◌*◌, ◌<◌, ◌≤◌, Bool, List, None, Option, Some, ℕ, false, filter, length, map, max, nat_lt, true};
 ghost use Rattle.std.specs.List.{All};
 ghost use Rattle.lra_facts.specs.declared.fact.Fact.{Fact};
 ghost use Rattle.lra_forest.specs.Dues.{AreAll};
@@ -17,14 +17,14 @@ ghost use Rattle.lra_turns.specs.Resuming.{ResumesAt};
 ghost use Rattle.lra_turns.specs.Slips.{called_of, place_of, same_called};
 ghost use Rattle.lra_turns.specs.declared.host.Busy.{Busy as TheBusy};
 ghost use Rattle.lra_turns.specs.declared.pace.Pace.{Pace as ThePace};
-ghost use Rattle.lra_turns.specs.declared.pace.Pace.TheVariants.{Quick};
+ghost use Rattle.lra_turns.specs.declared.pace.Pace.TheVariants.{Hanging, Quick, Slow};
 ghost use Rattle.lra_turns.specs.declared.plight.Came.{Came as TheCame};
 ghost use Rattle.lra_turns.specs.declared.plight.Plight.{Plight as ThePlight};
 ghost use Rattle.lra_turns.specs.declared.slip.Called.{Called as TheCalled};
 ghost use Rattle.std.specs.declared.time.Duration.{Duration};
-ghost use Rattle.lra_turns.specs.Turns.{AtHost, BeginsAt, IsLongest, IsNext, IsPut, IsTaken, Turns, busy_with, changed_at, host_at, is_due, is_kept, is_new, is_newest_turn, listed, may_be_called, next_turn, recalled, share, unsure_calls, with_end};
+ghost use Rattle.lra_turns.specs.Turns.{AtHost, BeginsAt, IsLongest, IsNext, IsPut, IsTaken, Turns, busy_with, changed_at, hanging_calls, host_at, is_called_unsurely, is_due, is_kept, is_new, is_newest_turn, is_quick, listed, may_be_called, next_turn, recalled, share, slow_calls, unsure_calls, with_end};
 ghost use Rattle.lra_turns.specs.Turns.{place_of as host_place};
-ghost use Rattle.lra_turns.specs.Waiting.{LeavesOne, WaitsFor, ahead, all_calls};
+ghost use Rattle.lra_turns.specs.Waiting.{LeavesOne, WaitsFor, ahead, all_calls, other_calls};
 
 /// A host that was called has its turn again only behind each other that may be called and isn't called now: its last call began before
 /// that one's last, or before that one came.
@@ -55,8 +55,8 @@ pub fn nobody_waits_for_nothing()
         may_be_called (busy_with now.hosts) (host_at now.hosts other) ≡ true → IsNext now None → ⊥ }
 {}
 
-/// A host that answered quickly waits for no call to another: while somebody waits there, and it has less calls than its share, it may
-/// be called, whatever hosts hang. So one may be.
+/// A quick host waits for no call to another: while somebody waits there, and it has less calls than its share, it may be called,
+/// whatever hosts hang. So one may be.
 pub fn a_quick_host_waits_for_no_call()
     ensures may { (busy : TheBusy) (host : AtHost) → host.pace ≡ Quick →
         host.calls < share Quick → is_due host ≡ true → may_be_called busy host ≡ true }
@@ -65,8 +65,8 @@ pub fn a_quick_host_waits_for_no_call()
         is_due (host_at now.hosts place) ≡ true → IsNext now None → ⊥ }
 {}
 
-/// One of four callers is left to hosts that answered quickly: whatever comes, three calls at most go on to others. Where a quick host
-/// turns out slow while another call to it goes on, that call is one of three that are left.
+/// One of four callers is left to quick hosts: whatever comes, three calls at most go on to others. If a host is quick no more once one
+/// of two calls to it is over, the other call is one of the three.
 pub fn one_caller_is_left_to_quick_hosts()
     ensures none { LeavesOne [] }
     ensures taken { (old new : Turns) (duty : Option Duty) →
@@ -84,9 +84,61 @@ pub fn one_caller_is_left_to_quick_hosts()
         unsure_calls (filter is_kept hosts) ≡ unsure_calls hosts }
 {}
 
+/// Nobody but a quick host takes the caller that is left to quick hosts: a host that refuses at once, or isn't quick for another reason,
+/// may be called only while fewer than three calls go on to hosts that aren't quick. Its own call then is one of the three.
+pub fn who_refuses_at_once_never_takes_the_last_caller()
+    ensures begins { (busy : TheBusy) (host : AtHost) → is_quick host.pace ≡ false →
+        may_be_called busy host ≡ true → busy.unsure < 3 }
+    ensures counts { (host : AtHost) → is_quick host.pace ≡ false →
+        is_called_unsurely host ≡ nat_lt 0 host.calls }
+{}
+
+/// Hosts that hang hold two callers at most: a call to one begins only while fewer than two go on to hosts whose last call hung, and
+/// nothing else makes a third, but for one case. Of two calls that go on to a quick host one hangs. Then the other, which began while the
+/// host was quick, counts too. There is never a fourth, as one caller is left to quick hosts.
+pub fn hosts_that_hang_hold_two_callers()
+    ensures begins { (busy : TheBusy) (host : AtHost) → host.pace ≡ Hanging →
+        may_be_called busy host ≡ true → busy.hanging < 2 }
+    ensures none { hanging_calls [] ≡ 0 }
+    ensures taken { (old new : Turns) (duty : Option Duty) →
+        IsTaken old new duty → hanging_calls new.hosts ≤ max 2 (hanging_calls old.hosts) }
+    ensures ended { (duty : Duty) (pace : ThePace) (hosts : List AtHost) →
+        hanging_calls (changed_at (host_place duty hosts) (with_end pace) hosts)
+        ≤ hanging_calls hosts + other_calls duty hosts }
+    ensures three { (hosts : List AtHost) → LeavesOne hosts → hanging_calls hosts ≤ 3 }
+    ensures put { (duty : Duty) (old new : Turns) (is_put : Bool) →
+        IsPut duty old new is_put → hanging_calls new.hosts ≡ hanging_calls old.hosts }
+    ensures noted { (duty : Duty) (hosts : List AtHost) →
+        hanging_calls (changed_at (host_place duty hosts) listed hosts) ≡ hanging_calls hosts }
+    ensures recalled { (hosts : List AtHost) →
+        hanging_calls (map recalled hosts) ≡ hanging_calls hosts }
+    ensures forgotten { (hosts : List AtHost) →
+        hanging_calls (filter is_kept hosts) ≡ hanging_calls hosts }
+{}
+
+/// A slow host, which is heard, waits for no host that hangs: while somebody waits there and it isn't called, it may be called if fewer
+/// than two calls go on to slow hosts, and fewer than three to all that aren't quick. So however many hosts hang, it may be called while
+/// two calls go on to these, and none to another host that isn't quick.
+pub fn a_slow_host_waits_for_no_host_that_hangs()
+    ensures may { (busy : TheBusy) (host : AtHost) → host.pace ≡ Slow →
+        host.calls < share Slow → is_due host ≡ true → busy.slow < 2 → busy.unsure < 3 →
+        may_be_called busy host ≡ true }
+    ensures beside { (hosts : List AtHost) (host : AtHost) → host.pace ≡ Slow →
+        host.calls < share Slow → is_due host ≡ true →
+        hanging_calls hosts ≤ 2 → unsure_calls hosts ≤ hanging_calls hosts →
+        may_be_called (busy_with hosts) host ≡ true }
+    ensures next { (now : Turns) (place : ℕ) → place < length now.hosts →
+        (host_at now.hosts place).pace ≡ Slow → (host_at now.hosts place).calls < share Slow →
+        is_due (host_at now.hosts place) ≡ true →
+        slow_calls now.hosts < 2 → unsure_calls now.hosts < 3 → IsNext now None → ⊥ }
+{}
+
 /// A host waits for those alone whose turn isn't behind its own. Each turn, but for the newest's, that comes while it may be called and
 /// isn't called makes them one fewer, and nothing makes them more. So while it may be called at most twice as many calls begin, and one,
-/// before it has its turn.
+/// before it has its turn. The law says nothing of a time in which it may not be called. A quick host always may, while somebody waits
+/// there and it has less calls than its share. Another may only while fewer than three calls go on to hosts that aren't quick. Beside
+/// that, one that hangs, as a host that is called in vain for long often does, may only while fewer than two calls to such go on, and a
+/// slow one only while fewer than two to slow ones do.
 pub fn a_host_waits_for_those_before_it()
     ensures by_turn { (now : Turns) (place : ℕ) →
         is_newest_turn now ≡ false → IsNext now (Some place) → IsLongest now.hosts (Some place) }

@@ -76,7 +76,8 @@ impl Called {
         }
     }
 
-    pub(crate) fn is(&self, other: &Called) -> bool
+    /// Whether it is this one.
+    pub fn is(&self, other: &Called) -> bool
         ensures { result ≡ same_called self.now other.now }
     {
         let is_same_end = if self.of_end {
