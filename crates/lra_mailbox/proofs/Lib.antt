@@ -1,5 +1,6 @@
 mod Firsts
 mod Keeping
+mod Listed
 mod Owed
 mod Unheard
 mod Waiting

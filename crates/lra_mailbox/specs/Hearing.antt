@@ -1,5 +1,5 @@
 -- What is put for those who call, and what came of their calls.
-use Rattle.std.specs.Prelude.{◌≡◌, ◌≢◌, ◌≤◌, ◌<◌, ◌⊎◌, ◌++◌, ◌∷◌, ◌==◌, ◌&&◌, [], ℕ, Bool, true, false, List, Option, None, Some, IsTrue, MatchBool, Result, MatchResult, if◌then◌else◌, length, nat_lt, not}
+use Rattle.std.specs.Prelude.{◌≡◌, ◌≢◌, ◌<◌, ◌⊎◌, ◌++◌, ◌∷◌, [], Bool, true, false, List, Option, None, Some, IsTrue, MatchBool, Result, MatchResult, if◌then◌else◌, length, nat_lt}
 use Rattle.std.specs.Duration.{as_nanos}
 use Rattle.std.specs.declared.time.Duration.{Duration}
 use Rattle.lra_id.specs.Fronts.{IsBelow}
@@ -20,10 +20,11 @@ use Rattle.lra_turns.specs.Once.{HasEachOnce, MayBeCalled, NamesNobodyTwice, cal
 use Rattle.lra_turns.specs.Pausing.{IsBusyAt, IsFound, IsMissed}
 use Rattle.lra_turns.specs.Slips.{called_of, place_of}
 use Rattle.lra_turns.specs.declared.pace.Pace.{Pace}
-use Rattle.lra_turns.specs.declared.pace.Pace.TheVariants.{Quick, Slow}
+use Rattle.lra_turns.specs.declared.pace.Pace.TheVariants.{Hanging, Quick, Refusing, Slow}
 use Rattle.lra_turns.specs.declared.plight.Plight.{Plight}
 use Rattle.lra_turns.specs.declared.slip.Called.{Called}
-use Rattle.lra_mailbox.specs.Mail.{Mail, after_news, put_off, with_asking, with_calls, with_letters, with_opening, with_telling}
+use Rattle.lra_mailbox.specs.Mail.{Mail, after_news, put_off, stirred, with_asking, with_calls, with_letters, with_opening, with_since, with_telling}
+use Rattle.lra_mailbox.specs.Since.{IsAnswerNotedIf, PausesEach, asked_now, at_rest, unheard}
 use Rattle.lra_mailbox.specs.Starts.{with_awaited}
 
 -- Those who are to be called are those of a list: nobody else is, and nobody twice; who is called is left alone, and no call that goes on
@@ -37,11 +38,27 @@ pub record Lists (duties : List Duty) (now : Duration) (old new : Calling) (is_w
   pub only : NamesOnly new duties
   pub outdated : (who : Called) → current_of who new.slips ≡ 0
 
--- where memory ran out it is asked again when deadlines are looked at
-pub record IsListed (duties : List Duty) (now : Duration) (old new : Mail) : Type 0 where
+-- Those of a list are put, but for those who were heard since it was asked for. Then those pause who answered meanwhile that they are busy.
+-- If memory ran out it is asked again when deadlines are looked at.
+pub record IsPut (duties : List Duty) (now : Duration) (old new : Mail) : Type 0 where
   pub is_whole : Bool
-  pub lists : Lists duties now old.calls new.calls is_whole
-  pub rest : new ≡ with_calls new.calls (if is_whole then old else with_asking (put_off old.asking) old)
+  pub listed : Calling
+  pub lists : Lists (unheard old.since.heard duties) now old.calls listed is_whole
+  pub pauses : PausesEach now old.since.busy listed new.calls
+  pub rest : new ≡ with_since at_rest (with_calls new.calls (if is_whole then old else with_asking (put_off old.asking) old))
+
+-- a list is let go, and asked for anew at once: for want of memory it isn't known who was heard
+pub record IsLetGo (now : Duration) (old new : Mail) : Type 0 where
+  pub pauses : PausesEach now old.since.busy old.calls new.calls
+  pub rest : new ≡ with_since at_rest (with_calls new.calls (with_asking (stirred old.asking) old))
+
+abbrev pub IsListed : List Duty → Duration → (old new : Mail) → Type 0
+IsListed duties now old new = MatchBool old.since.is_whole (IsPut duties now old new) (IsLetGo now old new)
+
+-- a list is asked for now: what was heard before is in it, and who waited with its pause pauses
+pub record IsAskedNow (now : Duration) (old new : Mail) : Type 0 where
+  pub pauses : PausesEach now old.since.busy old.calls new.calls
+  pub rest : new ≡ with_since asked_now (with_calls new.calls old)
 
 -- the duty that a thread calls for next, as the hosts' turns say; none once the program is to end
 abbrev pub IsDueFrom : Mail → Mail → Option Duty → Type 0
@@ -55,19 +72,20 @@ lost said m = with_asking (put_off m.asking) (with_calls (forgotten (called_of s
 abbrev pub IsPutLast : Said → Mail → Mail → Type 0
 IsPutLast said old new = (new ≡ with_letters (old.letters ++ said ∷ []) old) ⊎ (new ≡ lost said old)
 
--- how a host answers whose call took so long: slowly from a second on
-abbrev pub pace_of : Duration → Pace
-pace_of time = if nat_lt (as_nanos time) 1_000_000_000 then Quick else Slow
+-- how a host answered whose call took so long, and was heard or came to nothing: soon, if within a second
+abbrev pub pace_of : Duration → Bool → Pace
+pace_of time true = if nat_lt (as_nanos time) 1_000_000_000 then Quick else Slow
+pace_of time false = if nat_lt (as_nanos time) 1_000_000_000 then Refusing else Hanging
 
 -- nothing was heard that counts: the call is over, and the participant pauses
 pub record IsUnheard (time now : Duration) (unheard : Unheard) (old new : Mail) (plight : Option Plight) : Type 0 where
-  pub missed : IsMissed (place_of (called_of unheard.due) old.calls.slips) unheard.due unheard.came now (ended unheard.due (pace_of time) old.calls) new.calls plight
+  pub missed : IsMissed (place_of (called_of unheard.due) old.calls.slips) unheard.due unheard.came now (ended unheard.due (pace_of time false) old.calls) new.calls plight
   pub rest : new ≡ with_calls new.calls old
 
 -- something was heard: the call is over, and what was heard is put last
 pub record IsHeard (time now : Duration) (said : Said) (old new : Mail) (plight : Option Plight) : Type 0 where
   pub calls : Calling
-  pub found : IsFound (place_of (called_of said.duty) old.calls.slips) said.duty now (ended said.duty (pace_of time) old.calls) calls plight
+  pub found : IsFound (place_of (called_of said.duty) old.calls.slips) said.duty now (ended said.duty (pace_of time true) old.calls) calls plight
   pub put : IsPutLast said (with_calls calls old) new
 
 abbrev pub HearsOf : Duration → Duration → Result Said Unheard → Mail → Mail → Option Plight → Type 0
@@ -89,10 +107,12 @@ is_harmless After act = true
 is_harmless Forget act = false
 is_harmless _ act = is_complete act
 
--- what was heard is entered
+-- what was heard is entered; while a list is out, one who is busy pauses only once that is put, and counts as called until then
 pub record IsNoted (said : Said) (now : Duration) (old new : Mail) : Type 0 where
-  pub answered : IsAnswered said.heard (called_of said.duty) now old.calls new.calls
-  pub rest : new ≡ after_news (is_harmless said.duty.kind said.duty.act) (with_calls new.calls old)
+  pub waits : Bool
+  pub noted : IsAnswerNotedIf said.heard (called_of said.duty) old.since new.since waits
+  pub answered : MatchBool waits (new.calls ≡ old.calls) (IsAnswered said.heard (called_of said.duty) now old.calls new.calls)
+  pub rest : new ≡ after_news (is_harmless said.duty.kind said.duty.act) (with_calls new.calls (with_since new.since old))
 
 -- what another node told waits to be taken, unless something waits already
 abbrev pub IsHandedOver : Frame → Mail → Mail → Bool → Type 0

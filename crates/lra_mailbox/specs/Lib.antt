@@ -1,3 +1,4 @@
+pub mod Asks
 pub mod Hearing
 pub mod Kept
 pub mod Looks
@@ -5,6 +6,7 @@ pub mod Mail
 pub mod Moments
 pub mod Noted
 pub mod Resting
+pub mod Since
 pub mod Starts
 pub mod Sweeps
 pub mod Tasks

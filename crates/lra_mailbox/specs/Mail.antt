@@ -9,6 +9,7 @@ use Rattle.lra_heard.specs.Letters.{Said}
 use Rattle.lra_turns.specs.Calling.{Calling}
 use Rattle.lra_turns.specs.Slips.{at_once}
 use Rattle.lra_turns.specs.Turns.{is_due}
+use Rattle.lra_mailbox.specs.Since.{Since}
 use Rattle.lra_mailbox.specs.Sweeps.{Sweeps}
 use Rattle.lra_mailbox.specs.declared.asking.Asking.{Asking}
 use Rattle.lra_mailbox.specs.declared.known.Known.{Known}
@@ -20,7 +21,8 @@ use Rattle.lra_mailbox.specs.declared.turn.Turn.{Turn}
 -- Whom to call; what was heard and isn't entered, first that which came first; a frame that waits to be taken; what is known of how
 -- many facts there are; whether commands are entered yet; when deadlines are looked at, and when it is asked who is to be called; until
 -- when nothing is entered, as the journal failed; which kind of task was looked for last; whether the thread that enters is to look
--- whether the run is over; whether the program is to end; what operators want; and what has ended and is to be purged
+-- whether the run is over; whether the program is to end; what operators want; what has ended and is to be purged; and who was heard since a list was asked
+-- for that isn't put yet
 pub record Mail : Type 0 where
   pub calls : Calling
   pub letters : List Said
@@ -34,43 +36,47 @@ pub record Mail : Type 0 where
   pub has_ended : Bool
   pub wanted : Wanted
   pub sweeps : Sweeps
+  pub since : Since
 
 -- with one of these in place of its own
 abbrev pub with_calls : Calling → Mail → Mail
-with_calls calls m = record { calls = calls; letters = m.letters; telling = m.telling; known = m.known; opening = m.opening; asking = m.asking; held_until = m.held_until; last = m.last; is_hurried = m.is_hurried; has_ended = m.has_ended; wanted = m.wanted; sweeps = m.sweeps }
+with_calls calls m = record m { calls = calls }
 
 abbrev pub with_letters : List Said → Mail → Mail
-with_letters letters m = record { calls = m.calls; letters = letters; telling = m.telling; known = m.known; opening = m.opening; asking = m.asking; held_until = m.held_until; last = m.last; is_hurried = m.is_hurried; has_ended = m.has_ended; wanted = m.wanted; sweeps = m.sweeps }
+with_letters letters m = record m { letters = letters }
 
 abbrev pub with_telling : Option Frame → Mail → Mail
-with_telling telling m = record { calls = m.calls; letters = m.letters; telling = telling; known = m.known; opening = m.opening; asking = m.asking; held_until = m.held_until; last = m.last; is_hurried = m.is_hurried; has_ended = m.has_ended; wanted = m.wanted; sweeps = m.sweeps }
+with_telling telling m = record m { telling = telling }
 
 abbrev pub with_known : Known → Mail → Mail
-with_known known m = record { calls = m.calls; letters = m.letters; telling = m.telling; known = known; opening = m.opening; asking = m.asking; held_until = m.held_until; last = m.last; is_hurried = m.is_hurried; has_ended = m.has_ended; wanted = m.wanted; sweeps = m.sweeps }
+with_known known m = record m { known = known }
 
 abbrev pub with_opening : Opening → Mail → Mail
-with_opening opening m = record { calls = m.calls; letters = m.letters; telling = m.telling; known = m.known; opening = opening; asking = m.asking; held_until = m.held_until; last = m.last; is_hurried = m.is_hurried; has_ended = m.has_ended; wanted = m.wanted; sweeps = m.sweeps }
+with_opening opening m = record m { opening = opening }
 
 abbrev pub with_asking : Asking → Mail → Mail
-with_asking asking m = record { calls = m.calls; letters = m.letters; telling = m.telling; known = m.known; opening = m.opening; asking = asking; held_until = m.held_until; last = m.last; is_hurried = m.is_hurried; has_ended = m.has_ended; wanted = m.wanted; sweeps = m.sweeps }
+with_asking asking m = record m { asking = asking }
 
 abbrev pub with_hold : Duration → Mail → Mail
-with_hold until m = record { calls = m.calls; letters = m.letters; telling = m.telling; known = m.known; opening = m.opening; asking = m.asking; held_until = until; last = m.last; is_hurried = m.is_hurried; has_ended = m.has_ended; wanted = m.wanted; sweeps = m.sweeps }
+with_hold until m = record m { held_until = until }
 
 abbrev pub with_last : Turn → Mail → Mail
-with_last last m = record { calls = m.calls; letters = m.letters; telling = m.telling; known = m.known; opening = m.opening; asking = m.asking; held_until = m.held_until; last = last; is_hurried = m.is_hurried; has_ended = m.has_ended; wanted = m.wanted; sweeps = m.sweeps }
+with_last last m = record m { last = last }
 
 abbrev pub with_hurry : Bool → Mail → Mail
-with_hurry is_hurried m = record { calls = m.calls; letters = m.letters; telling = m.telling; known = m.known; opening = m.opening; asking = m.asking; held_until = m.held_until; last = m.last; is_hurried = is_hurried; has_ended = m.has_ended; wanted = m.wanted; sweeps = m.sweeps }
+with_hurry is_hurried m = record m { is_hurried = is_hurried }
 
 abbrev pub with_end : Mail → Mail
-with_end m = record { calls = m.calls; letters = m.letters; telling = m.telling; known = m.known; opening = m.opening; asking = m.asking; held_until = m.held_until; last = m.last; is_hurried = m.is_hurried; has_ended = true; wanted = m.wanted; sweeps = m.sweeps }
+with_end m = record m { has_ended = true }
 
 abbrev pub with_wanted : Wanted → Mail → Mail
-with_wanted wanted m = record { calls = m.calls; letters = m.letters; telling = m.telling; known = m.known; opening = m.opening; asking = m.asking; held_until = m.held_until; last = m.last; is_hurried = m.is_hurried; has_ended = m.has_ended; wanted = wanted; sweeps = m.sweeps }
+with_wanted wanted m = record m { wanted = wanted }
 
 abbrev pub with_sweeps : Sweeps → Mail → Mail
-with_sweeps sweeps m = record { calls = m.calls; letters = m.letters; telling = m.telling; known = m.known; opening = m.opening; asking = m.asking; held_until = m.held_until; last = m.last; is_hurried = m.is_hurried; has_ended = m.has_ended; wanted = m.wanted; sweeps = sweeps }
+with_sweeps sweeps m = record m { sweeps = sweeps }
+
+abbrev pub with_since : Since → Mail → Mail
+with_since since m = record m { since = since }
 
 -- whether a call that operators want is to be made now, where commands are entered or aren't; and whether one is wanted
 abbrev pub is_wanted : Bool → Wanted → Bool

@@ -2,7 +2,8 @@
 use Rattle.std.specs.Prelude.{◌≡◌, Bool, Option, None, Some, MatchBool, false, true}
 use Rattle.lra_id.specs.Ids.{Id}
 use Rattle.lra_mailbox.specs.Looks.{with_begun, with_purged, with_stir}
-use Rattle.lra_mailbox.specs.Mail.{Mail, after_news, with_sweeps}
+use Rattle.lra_mailbox.specs.Mail.{Mail, after_news, with_since, with_sweeps}
+use Rattle.lra_mailbox.specs.Since.{IsMentioned}
 use Rattle.lra_mailbox.specs.Sweeps.{AreLeft, Sweeps, with_ended, with_looking}
 use Rattle.lra_mailbox.specs.declared.noted.Became.{Became}
 use Rattle.lra_mailbox.specs.declared.noted.Became.TheVariants.{Begun, Ended, Full, Nothing, Removed}
@@ -36,4 +37,5 @@ IsFreedBy took freed old new =
 -- all that a call leaves is noted
 pub record Notes (noted : Noted) (old new : Mail) : Type 0 where
   pub freed : IsFreedBy noted.took noted.freed (with_became noted.became old.sweeps) new.sweeps
-  pub rest : new ≡ with_sweeps new.sweeps (with_news noted.news old)
+  pub heard : IsMentioned noted.heard old.since new.since
+  pub rest : new ≡ with_since new.since (with_sweeps new.sweeps (with_news noted.news old))

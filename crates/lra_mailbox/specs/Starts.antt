@@ -1,6 +1,6 @@
 -- Whether a node enters anything of its own yet: at a start it hears the others first.
 use Rattle.std.specs.Prelude.{◌≡◌, ◌⊎◌, ◌↔◌, ◌-◌, ◌&&◌, ◌||◌, ◌==◌, ℕ, Bool, false, List, Option, None, Some, IsTrue, MatchBool, if◌then◌else◌, length, max, nat_le, not, slice_set, true}
-use Rattle.std.specs.List.{list_any}
+use Rattle.std.specs.List.{list_all, list_any}
 use Rattle.std.specs.Duration.{as_nanos}
 use Rattle.std.specs.declared.time.Duration.{Duration}
 use Rattle.lra_id.specs.Fronts.{IsBelow, count, join_fronts}
@@ -18,20 +18,34 @@ heard_with node heard = if nat_le node (length heard) then slice_set heard (node
 abbrev pub are_heard : List ℕ → Bool
 are_heard heard = not (list_any is_silent heard)
 
--- whether one that has these facts may open before all others were heard: it isn't said that it waits for all, and nobody is known to
--- have more of its own facts
-abbrev pub may_open_unheard : List ℕ → Opening → Bool
-may_open_unheard front o = not o.waits_for_all && nat_le (count o.awaited o.me) (count front o.me)
+-- whether one with so many facts of its own has as many as is claimed; and as many as each claims
+abbrev pub is_met : (own claim : ℕ) → Bool
+is_met own claim = nat_le claim own
+
+abbrev pub are_met : (own : ℕ) → List ℕ → Bool
+are_met own claims = list_all (is_met own) claims
+
+-- whether one that has these facts has all of its own that another told, or claims to have: what a node claims counts until it has
+-- answered twice since
+abbrev pub has_own : List ℕ → Opening → Bool
+has_own front o = nat_le (count o.awaited o.me) (count front o.me) && (are_met (count front o.me) o.claimed && are_met (count front o.me) o.doubtful)
 
 -- when it opens at the latest: a second after the first look
 abbrev pub IsOpenedBy : Duration → Option Duration → Duration → Type 0
 IsOpenedBy now (Some until) by = by ≡ until
 IsOpenedBy now None by = IsAfter 1_000 now by
 
--- it opens at a look where the time is over and it may open before all were heard; or each was heard, and what they told is taken
+-- Before the time is over it opens at a look if each was heard, and what they told is taken. Later it needs no facts of others, nor to hear
+-- all, unless it is said that it waits for all.
+abbrev pub IsReady : Bool → List ℕ → Opening → Type 0
+IsReady is_over front o =
+    MatchBool is_over
+    (IsTrue (not o.waits_for_all) ⊎ IsTrue (are_heard o.heard))
+    (IsTrue (are_heard o.heard) × IsBelow o.awaited front)
+
+-- it opens at a look if it has its own facts, and is ready
 abbrev pub IsLookedAt : Bool → List ℕ → Opening → Bool → Type 0
-IsLookedAt is_over front o opens =
-    IsTrue opens ↔ (IsTrue (is_over && may_open_unheard front o) ⊎ (IsTrue (are_heard o.heard) × IsBelow o.awaited front))
+IsLookedAt is_over front o opens = IsTrue opens ↔ (IsTrue (has_own front o) × IsReady is_over front o)
 
 -- when it is looked at again: a second later, once the time is over and it wasn't opened
 abbrev pub IsNextLook : Bool → (now until next : Duration) → Type 0
@@ -52,6 +66,8 @@ pub record IsOpenedAt (now : Duration) (front : List ℕ) (old new : Opening) : 
     is_late = old.is_late || (nat_le (as_nanos until) (as_nanos now) && not new.is_open);
     heard = old.heard;
     awaited = old.awaited;
+    claimed = old.claimed;
+    doubtful = old.doubtful;
   }
 
 -- one that is open stays so at a look, and that it is opened is said once
@@ -61,22 +77,38 @@ IsOpened now front old new result =
 
 -- commands wait for these facts too
 abbrev pub with_awaited : List ℕ → Opening → Opening
-with_awaited told o = record { me = o.me; waits_for_all = o.waits_for_all; is_open = o.is_open; opens_at = o.opens_at; is_late = o.is_late; heard = o.heard; awaited = join_fronts o.awaited told }
+with_awaited told o = record o { awaited = join_fronts o.awaited told }
 
--- another node answered and told this, to one that has these facts: more of this node's own close it
+-- with another number at a node's place, if there is one
+abbrev pub count_at : (node count : ℕ) → List ℕ → List ℕ
+count_at node count counts = if nat_le node (length counts) then slice_set counts (node - 1) count else counts
+
+-- another node answered and told this, to one that has these facts: more of this node's own close it. What it claimed before is in doubt
+-- from then on, and what was in doubt already counts no more.
 abbrev pub heard_now : ℕ → (told known : List ℕ) → Opening → Opening
-heard_now other told known o = record { me = o.me; waits_for_all = o.waits_for_all; is_open = o.is_open && nat_le (count told o.me) (count known o.me); opens_at = o.opens_at; is_late = o.is_late; heard = heard_with other o.heard; awaited = join_fronts o.awaited told }
+heard_now other told known o = record o {
+  is_open = o.is_open && nat_le (count told o.me) (count known o.me);
+  heard = heard_with other o.heard;
+  awaited = join_fronts o.awaited told;
+  claimed = count_at other 0 o.claimed;
+  doubtful = count_at other (count o.claimed other) o.doubtful;
+}
 
 abbrev pub heard_by : ℕ → (told known : List ℕ) → Opening → Opening
 heard_by other told known o = if length told == length o.awaited then heard_now other told known o else o
 
 -- a start waits for all others, however long that takes
 abbrev pub patient : Opening → Opening
-patient o = record { me = o.me; waits_for_all = true; is_open = o.is_open; opens_at = o.opens_at; is_late = o.is_late; heard = o.heard; awaited = o.awaited }
+patient o = record o { waits_for_all = true }
 
--- one that asks counts so many facts of this node: a start waits for them
-abbrev pub with_count : ℕ → Opening → Opening
-with_count more o = record { me = o.me; waits_for_all = o.waits_for_all; is_open = o.is_open; opens_at = o.opens_at; is_late = o.is_late; heard = o.heard; awaited = slice_set o.awaited (o.me - 1) (max (count o.awaited o.me) more) }
+-- another node, which asks, claims to have so many facts of this one: a start waits for them
+abbrev pub claimed_by : (other more : ℕ) → Opening → Opening
+claimed_by other more o = if o.is_open then o else record o { claimed = count_at other (max (count o.claimed other) more) o.claimed }
 
-abbrev pub told_by : ℕ → Opening → Opening
-told_by more o = if o.is_open || not (nat_le o.me (length o.awaited)) then o else with_count more o
+-- nothing is entered before it has so many facts of its own
+abbrev pub own_awaited : ℕ → Opening → Opening
+own_awaited more o = record o { is_open = false; awaited = count_at o.me (max (count o.awaited o.me) more) o.awaited }
+
+-- how many facts of this node another claims to have
+abbrev pub claim_of : (other : ℕ) → Opening → ℕ
+claim_of other o = max (count o.claimed other) (count o.doubtful other)

@@ -5,8 +5,17 @@ ghost use Rattle.std.specs.declared.time.Duration.{Duration as TheDuration};
 ghost use Rattle.lra_id.specs.Fronts.{count};
 ghost use Rattle.lra_id.specs.Ids.{Id};
 ghost use Rattle.lra_id.specs.declared.status.LraStatus.{LraStatus as TheStatus};
+ghost use Rattle.lra_callback.specs.declared.duty.Duty.{Duty};
+ghost use Rattle.lra_heard.specs.Letters.{Said};
+ghost use Rattle.lra_turns.specs.Named.{AllNamed};
+ghost use Rattle.lra_turns.specs.Slips.{called_of};
+ghost use Rattle.lra_turns.specs.declared.slip.Called.{Called as TheCalled};
+ghost use Rattle.lra_mailbox.specs.Hearing.{IsListed, IsNoted};
 ghost use Rattle.lra_mailbox.specs.Kept.{Kept};
 ghost use Rattle.lra_mailbox.specs.Mail.{Mail, is_counted_by, is_owed, settled, told_by_it};
+ghost use Rattle.lra_mailbox.specs.Noted.{Notes};
+ghost use Rattle.lra_mailbox.specs.Since.{IsHeardIn, is_unheard};
+ghost use Rattle.lra_mailbox.specs.declared.noted.Noted.{Noted as TheNoted};
 ghost use Rattle.lra_mailbox.specs.Resting.{has_task, is_occupied, rests_until};
 ghost use Rattle.lra_mailbox.specs.Sweeps.{AreLeft, AreSince, IsLeftBy, IsNextChore, IsSeen, IsTurned, Root, Sight, Sweeps, WasKept, is_chore, last_seen, sights_after, time_of};
 ghost use Rattle.lra_mailbox.specs.declared.known.Known.{Known as TheKnown};
@@ -81,4 +90,22 @@ pub fn who_is_answered_lacks_nothing_that_it_told()
     ensures left { (from other : ℕ) (asks : List ℕ) (known : TheKnown) → 1 ≤ from → 1 ≤ other →
         (from ≡ other → 2 ≤ count known.tellings from) →
         is_owed from asks known ≡ true → is_owed from asks (settled other known) ≡ true }
+{}
+
+/// Nobody is called by a list for what was heard behind the asking. While a list is out, each participant whose answer is entered, and each
+/// of whom it is said what became of it, is noted as heard, and stays so. Of the list those alone are put who weren't heard; or, if memory
+/// ran out for noting one, nothing of it, and it is asked for anew.
+pub fn nobody_is_called_for_what_was_heard_behind_the_asking()
+    ensures answered { (said : Said) (now : TheDuration) (old new : Mail) → old.since.is_out ≡ true →
+        IsNoted said now old new → IsHeardIn (called_of said.duty) new.since }
+    ensures said { (noted : TheNoted) (who : TheCalled) (old new : Mail) → old.since.is_out ≡ true → noted.heard ≡ Some who →
+        Notes noted old new → IsHeardIn who new.since }
+    ensures answered_stays { (one : TheCalled) (said : Said) (now : TheDuration) (old new : Mail) →
+        IsNoted said now old new → IsHeardIn one old.since → IsHeardIn one new.since }
+    ensures said_stays { (noted : TheNoted) (one : TheCalled) (old new : Mail) →
+        Notes noted old new → IsHeardIn one old.since → IsHeardIn one new.since }
+    ensures put { (duties : List Duty) (now : TheDuration) (old new : Mail) → old.since.is_whole ≡ true →
+        IsListed duties now old new → AllNamed (is_unheard old.since.heard) new.calls }
+    ensures let_go { (test : Duty → Bool) (duties : List Duty) (now : TheDuration) (old new : Mail) → old.since.is_whole ≡ false →
+        IsListed duties now old new → AllNamed test old.calls → AllNamed test new.calls × (new.asking.is_stirred ≡ true) }
 {}

@@ -3,6 +3,8 @@
 #![tactic(auto)]
 
 mod asking;
+mod asks;
+mod heard_since;
 mod known;
 pub mod laws;
 mod looking;
@@ -15,6 +17,7 @@ mod sweeping;
 mod task;
 mod turn;
 
+pub use asks::Asks;
 pub use looking::MANY;
 pub use noted::{Became, News, Noted};
 pub use opening::OPENING_MS;

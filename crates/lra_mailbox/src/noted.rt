@@ -1,6 +1,7 @@
 // What a call at the desk leaves for the threads to go on with.
 
 use lra_id::LraId;
+use lra_turns::Called;
 
 /// Whether other participants may be due after a call.
 #[derive(Clone, Copy, Debug, PartialEq, Eq)]
@@ -35,6 +36,9 @@ pub struct Noted {
     pub became: Became,
     /// The LRA of which a participant was told what it was to be told, or is said to have been.
     pub freed: Option<LraId>,
+    /// Who said what became of it, or of whom that was said: a list of calls that was asked for before
+    /// doesn't call it.
+    pub heard: Option<Called>,
     /// Whether a frame was taken: a participant of any LRA may have been told.
     pub took: bool,
 }

@@ -1,10 +1,10 @@
 // Whether commands are entered yet. At a start they wait for what other nodes tell.
 ghost use Rattle.lra_id.specs.declared.TheConstants.{MAX_NODES};
-ghost use Rattle.std.specs.Prelude.{◌≡◌, ◌≤◌, ◌&&◌, None, false, length, nat_le, not, replicate};
+ghost use Rattle.std.specs.Prelude.{◌≡◌, ◌≤◌, ◌&&◌, ◌↔◌, IsTrue, None, false, length, nat_le, not, replicate};
 ghost use Rattle.std.specs.Duration.{as_nanos};
 ghost use Rattle.lra_id.specs.Fronts.{count, join_fronts};
 ghost use Rattle.std.specs.List.{list_any};
-ghost use Rattle.lra_mailbox.specs.Starts.{IsLookedAt, IsNextLook, IsOpened, IsOpenedBy, are_heard, heard_by, heard_with, is_silent, may_open_unheard, told_by, with_awaited, patient};
+ghost use Rattle.lra_mailbox.specs.Starts.{IsLookedAt, IsNextLook, IsOpened, IsOpenedBy, IsReady, are_heard, are_met, claim_of, claimed_by, count_at, has_own, heard_by, heard_with, is_met, is_silent, own_awaited, patient, with_awaited};
 
 use lra_id::{Front, NodeId};
 use std::time::Duration;
@@ -38,6 +38,30 @@ fn next_look(is_late: bool, now: Duration, until: Duration) -> Duration
     }
 }
 
+/// Whether one with so many facts of its own has as many as is claimed.
+fn is_met(own: u64, claim: u64) -> bool
+    ensures { result ≡ is_met own claim }
+{
+    claim <= own
+}
+
+/// Whether it has as many as each claims.
+fn are_met(own: u64, claims: &[u64]) -> bool
+    ensures { result ≡ are_met own claims.now }
+{
+    claims.iter().all(|claim| is_met(own, *claim))
+}
+
+/// These with another number at a node's place, if there is one.
+pub(crate) fn count_at(node: NodeId, count: u64, mut counts: Front) -> Front
+    ensures { result ≡ count_at node count counts }
+{
+    if usize::from(node.number()) <= counts.nodes() {
+        counts.set(node, count);
+    }
+    counts
+}
+
 /// The same once a node was heard too.
 fn heard_with(node: NodeId, mut heard: Front) -> Front
     ensures { result ≡ heard_with node heard }
@@ -63,6 +87,10 @@ pub(crate) struct Opening {
     pub(crate) heard: Front,
     /// How many facts of each node the others told of.
     pub(crate) awaited: Front,
+    /// How many facts of this node each other claimed to have when it asked, since it last answered; and
+    /// what it had claimed before that. Anybody who can connect may claim something.
+    pub(crate) claimed: Front,
+    pub(crate) doubtful: Front,
 }
 
 impl Opening {
@@ -78,6 +106,8 @@ impl Opening {
           is_late = false;
           heard = heard_with me (replicate nodes 0);
           awaited = replicate nodes 0;
+          claimed = replicate nodes 0;
+          doubtful = replicate nodes 0;
         } }
     {
         Opening {
@@ -88,6 +118,8 @@ impl Opening {
             is_late: false,
             heard: heard_with(me, Front::zero(usize::from(nodes))),
             awaited: Front::zero(usize::from(nodes)),
+            claimed: Front::zero(usize::from(nodes)),
+            doubtful: Front::zero(usize::from(nodes)),
         }
     }
 
@@ -108,20 +140,21 @@ impl Opening {
         !is_any_silent(self.heard.as_slice())
     }
 
-    /// Whether one that has these facts may open before all others were heard: it doesn't wait for
-    /// all, and nobody is known to have more of its own facts.
-    fn may_open_unheard(&self, front: &Front) -> bool
-        ensures { result ≡ may_open_unheard front.now self.now }
+    /// Whether one that has these facts has all of its own that another told, or claims to have.
+    fn has_own(&self, front: &Front) -> bool
+        ensures { result ≡ has_own front.now self.now }
     {
-        !self.waits_for_all && self.awaited.count(self.me) <= front.count(self.me)
+        let own = front.count(self.me);
+        self.awaited.count(self.me) <= own
+            && (are_met(own, self.claimed.as_slice()) && are_met(own, self.doubtful.as_slice()))
     }
 
-    /// Whether it is opened at a look by one that has these facts.
-    fn is_opened(&self, is_over: bool, front: &Front) -> bool
-        ensures { IsLookedAt is_over front.now self.now result }
+    /// Whether one that has these facts needs to hear no more of others.
+    fn is_ready(&self, is_over: bool, front: &Front) -> bool
+        ensures { IsTrue result ↔ IsReady is_over front.now self.now }
     {
-        if is_over && self.may_open_unheard(front) {
-            return true;
+        if is_over {
+            return !self.waits_for_all || self.are_heard();
         }
         if !self.are_heard() {
             return false;
@@ -129,9 +162,19 @@ impl Opening {
         self.awaited.below(front)
     }
 
-    /// Has commands entered from here on, if all others were heard and what they told is taken by
-    /// one that has these facts, or the time for that is over and nobody is known to have more facts
-    /// of this node. It says whether that begins now.
+    /// Whether it is opened at a look by one that has these facts.
+    fn is_opened(&self, is_over: bool, front: &Front) -> bool
+        ensures { IsLookedAt is_over front.now self.now result }
+    {
+        if !self.has_own(front) {
+            return false;
+        }
+        self.is_ready(is_over, front)
+    }
+
+    /// Has commands entered from here on, if it has all facts of its own of which others told, and
+    /// all others were heard and what they told is taken; later, once a second is over, if all were
+    /// heard or it doesn't wait for all. It says whether that begins now.
     pub(crate) fn open_if_due(&mut self, now: Duration, front: &Front) -> bool
         ensures { IsOpened now front.now self.old self.new result }
     {
@@ -158,18 +201,38 @@ impl Opening {
         }
         self.heard = heard_with(other, self.heard);
         self.awaited = self.awaited.join(told);
+        self.doubtful = count_at(other, self.claimed.count(other), self.doubtful);
+        self.claimed = count_at(other, 0, self.claimed);
         self.is_open = self.is_open && told.count(self.me) <= known.count(self.me);
     }
 
-    /// Notes that one that asks counts so many facts of this node. A start waits for them.
-    pub(crate) fn hear_count(&mut self, count: u64)
-        ensures { self.new ≡ told_by count self.old }
+    /// Notes that another node, which asks, claims to have so many facts of this one. A start waits
+    /// for them, until that node has answered twice since: the second answer was asked for behind
+    /// the claim, and so has what was claimed, unless that is gone there or was never so.
+    pub(crate) fn hear_claim(&mut self, other: NodeId, count: u64)
+        ensures { self.new ≡ claimed_by other count self.old }
     {
-        if self.is_open || usize::from(self.me.number()) > self.awaited.nodes() {
+        if self.is_open {
             return;
         }
+        let more = self.claimed.count(other).max(count);
+        self.claimed = count_at(other, more, self.claimed);
+    }
+
+    /// Has nothing entered before it has so many facts of its own.
+    pub(crate) fn wait_for_own(&mut self, count: u64)
+        ensures { self.new ≡ own_awaited count self.old }
+    {
         let more = self.awaited.count(self.me).max(count);
-        self.awaited.set(self.me, more);
+        self.awaited = count_at(self.me, more, self.awaited);
+        self.is_open = false;
+    }
+
+    /// How many facts of this node another claims to have.
+    pub(crate) fn claim_of(&self, other: NodeId) -> u64
+        ensures { result ≡ claim_of other self.now }
+    {
+        self.claimed.count(other).max(self.doubtful.count(other))
     }
 
     /// Has a start wait for all others, however long that takes.

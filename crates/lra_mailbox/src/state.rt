@@ -4,20 +4,22 @@ ghost use Rattle.lra_turns.specs.Calling.{nothing};
 ghost use Rattle.lra_turns.specs.Resuming.{ResumesAt};
 ghost use Rattle.lra_turns.specs.Slips.{at_once};
 ghost use Rattle.lra_turns.specs.Turns.{MayTake};
-ghost use Rattle.lra_mailbox.specs.Hearing.{HearsOf, IsAnswered, IsAwaited, IsDueFrom, IsHandedOver, IsListed, IsNoted, IsPutLast, is_harmless, pace_of};
+ghost use Rattle.lra_mailbox.specs.Hearing.{HearsOf, IsAnswered, IsAskedNow, IsAwaited, IsDueFrom, IsHandedOver, IsLetGo, IsListed, IsNoted, IsPut, IsPutLast, is_harmless, pace_of};
+ghost use Rattle.lra_mailbox.specs.Since.{PausesEach, at_rest};
 ghost use Rattle.lra_mailbox.specs.Moments.{earlier_of};
 ghost use Rattle.lra_mailbox.specs.Mail.{after_news, counted, ended_by, hastened, is_any, is_anyone, is_owed, learnt, settled, to_count, told_by_it, with_asking, with_calls, with_end, with_hold, with_hurry, with_known, with_opening, with_sweeps, with_wanted};
 ghost use Rattle.lra_mailbox.specs.Noted.{Notes, with_news};
 ghost use Rattle.lra_mailbox.specs.Sweeps.{IsLeftBy, IsSeen, IsTurned, with_ended, with_looking};
 ghost use Rattle.lra_id.specs.Fronts.{count};
 ghost use Rattle.lra_id.specs.declared.TheConstants.{MAX_NODES};
-ghost use Rattle.lra_mailbox.specs.Starts.{IsOpened, heard_by, heard_with, patient, told_by};
+ghost use Rattle.lra_mailbox.specs.Starts.{IsOpened, claim_of, claimed_by, heard_by, heard_with, own_awaited, patient};
 ghost use Rattle.lra_mailbox.specs.Resting.{IsIdleFor, has_task, is_occupied, looks_at, next_at, rests_until};
 ghost use Rattle.lra_mailbox.specs.Tasks.{Does, IsNextKind, IsNextTask, has, is_spared, may_enter};
 ghost use Rattle.lra_mailbox.specs.declared.task.Wanted.TheVariants.{Nothing};
 ghost use Rattle.lra_mailbox.specs.declared.turn.Turn.TheVariants.{OfDuties as TheDuties};
 
 use crate::asking::Asking;
+use crate::heard_since::{HeardSince, pause_each};
 use crate::known::Known;
 use crate::noted::{News, Noted};
 use crate::opening::Opening;
@@ -34,7 +36,7 @@ use std::collections::VecDeque;
 use std::marker::Model;
 use std::time::Duration;
 
-/// From how long a call on its host is slow, in nanoseconds.
+/// From how long on a call counts as late, in nanoseconds.
 const SLOW_NANOS: u128 = 1_000_000_000;
 
 /// Whether finishing this duty makes no other duty due: it is a completion, or told of an end.
@@ -48,14 +50,15 @@ fn makes_none_due(duty: &Duty) -> bool
     }
 }
 
-/// How a host answers whose call took so long.
-fn pace_of(time: Duration) -> Pace
-    ensures { result ≡ pace_of time }
+/// How a host answered whose call took so long, and was heard or came to nothing.
+fn pace_of(time: Duration, is_heard: bool) -> Pace
+    ensures { result ≡ pace_of time is_heard }
 {
-    if time.as_nanos() < SLOW_NANOS {
-        Pace::Quick
-    } else {
-        Pace::Slow
+    match (is_heard, time.as_nanos() < SLOW_NANOS) {
+        (true, true) => Pace::Quick,
+        (true, false) => Pace::Slow,
+        (false, true) => Pace::Refusing,
+        (false, false) => Pace::Hanging,
     }
 }
 
@@ -90,6 +93,8 @@ pub struct MailboxState {
     wanted: Wanted,
     /// What has ended, and is to be purged.
     sweeping: Sweeping,
+    /// Who was heard since a list of those who are to be called was asked for that isn't put yet.
+    since: HeardSince,
 }
 
 impl Model for MailboxState {
@@ -110,6 +115,7 @@ impl Model for MailboxState {
       has_ended = m.has_ended;
       wanted = m.wanted;
       sweeps = m.sweeping;
+      since = m.since;
     } };
 }
 
@@ -131,7 +137,7 @@ impl MailboxState {
           letters = [];
           telling = None;
           known = record { front = replicate nodes 0; is_counted = false; is_to_count = are_apart; counts_at = at_once; untaken = replicate nodes 0; tellings = replicate nodes 0 };
-          opening = record { me = me; waits_for_all = waits_for_all; is_open = not are_apart; opens_at = None; is_late = false; heard = heard_with me (replicate nodes 0); awaited = replicate nodes 0 };
+          opening = record { me = me; waits_for_all = waits_for_all; is_open = not are_apart; opens_at = None; is_late = false; heard = heard_with me (replicate nodes 0); awaited = replicate nodes 0; claimed = replicate nodes 0; doubtful = replicate nodes 0 };
           asking = record { is_stirred = true; is_put_off = false; asked_at = at_once; ticks_at = at_once };
           held_until = at_once;
           last = TheDuties;
@@ -139,6 +145,7 @@ impl MailboxState {
           has_ended = false;
           wanted = Nothing;
           sweeps = sweeping;
+          since = at_rest;
         } }
     {
         MailboxState {
@@ -154,6 +161,7 @@ impl MailboxState {
             has_ended: false,
             wanted: Wanted::Nothing,
             sweeping,
+            since: HeardSince::new(alloc),
         }
     }
 
@@ -192,6 +200,7 @@ impl MailboxState {
         ensures { Notes noted.now self.old self.new }
     {
         self.hear_news(noted.news);
+        self.since.mention(noted.heard);
         self.sweeping.note_call(noted.became);
         if noted.took {
             self.sweeping.hasten(now);
@@ -363,11 +372,26 @@ impl MailboxState {
         self.known.end(other, front, is_taken);
     }
 
-    /// Notes that one that asks counts so many facts of this node.
-    pub fn hear_count(&mut self, count: u64)
-        ensures { self.new ≡ with_opening (told_by count self.old.opening) self.old }
+    /// Notes that another node, which asks this one, counts so many facts of it. A start waits for
+    /// them, until that node has answered this one twice since.
+    pub fn hear_claim(&mut self, other: NodeId, count: u64)
+        ensures { self.new ≡ with_opening (claimed_by other count self.old.opening) self.old }
     {
-        self.opening.hear_count(count);
+        self.opening.hear_claim(other, count);
+    }
+
+    /// Has nothing entered before this node has so many facts of its own.
+    pub fn wait_for_own(&mut self, count: u64)
+        ensures { self.new ≡ with_opening (own_awaited count self.old.opening) self.old }
+    {
+        self.opening.wait_for_own(count);
+    }
+
+    /// How many facts of this node another claims to have, for which a start waits.
+    pub fn claim_of(&self, other: NodeId) -> u64
+        ensures { result ≡ claim_of other self.now.opening }
+    {
+        self.opening.claim_of(other)
     }
 
     /// Whether one that asks is owed facts of its own: it told of more of them than it counts, and they
@@ -582,14 +606,55 @@ impl MailboxState {
         }
     }
 
-    /// Puts those who are to be called. One for whom there is no memory is asked for when deadlines
-    /// are looked at.
+    /// Has those pause whose pause waits until a list is put.
+    fn pause_busy(&mut self, now: Duration)
+        ensures pauses { PausesEach now self.old.since.busy self.old.calls self.new.calls }
+        ensures rest { self.new ≡ with_calls self.new.calls self.old }
+    {
+        pause_each(&mut self.calls, self.since.busy(), now);
+    }
+
+    /// Notes that it is asked now who is to be called. The list that comes of it is out until it is
+    /// put (`put_duties`), which may be later: who is heard meanwhile isn't called by it.
+    pub fn begin_list(&mut self, now: Duration)
+        ensures { IsAskedNow now self.old self.new }
+    {
+        self.pause_busy(now);
+        self.since.begin();
+    }
+
+    /// Puts those of a list who weren't heard since it was asked for.
+    fn put_unheard(&mut self, duties: Duties, now: Duration)
+        ensures { IsPut duties now self.old self.new }
+    {
+        let left = self.since.unheard(duties);
+        let is_whole = self.calls.put_all(left, now);
+        pause_each(&mut self.calls, self.since.busy(), now);
+        self.since.end();
+        if !is_whole {
+            self.asking.put_off();
+        }
+    }
+
+    /// Lets a list go, and has it asked for anew at once.
+    fn let_go(&mut self, now: Duration)
+        ensures { IsLetGo now self.old self.new }
+    {
+        self.pause_busy(now);
+        self.since.end();
+        self.asking.stir();
+    }
+
+    /// Puts those who are to be called, but for those who were heard since that was asked. If memory
+    /// runs out for one of them it is asked again when deadlines are looked at. If it ran out for
+    /// noting one who was heard, the list is let go, and asked for anew.
     pub fn put_duties(&mut self, duties: Duties, now: Duration)
         ensures { IsListed duties now self.old self.new }
     {
-        let is_whole = self.calls.put_all(duties, now);
-        if !is_whole {
-            self.asking.put_off();
+        if self.since.is_whole() {
+            self.put_unheard(duties, now);
+        } else {
+            self.let_go(now);
         }
     }
 
@@ -631,14 +696,13 @@ impl MailboxState {
     ) -> Option<Plight>
         ensures { HearsOf time now came self.old self.new result }
     {
-        let pace = pace_of(time);
         match came {
             Err(Unheard { due, came }) => {
-                self.calls.end(due.duty(), pace);
+                self.calls.end(due.duty(), pace_of(time, false));
                 self.calls.vain(due, came, now)
             }
             Ok(letter) => {
-                self.calls.end(letter.duty(), pace);
+                self.calls.end(letter.duty(), pace_of(time, true));
                 let plight = self.calls.heard(letter.duty(), now);
                 self.put_letter(letter);
                 plight
@@ -658,11 +722,15 @@ impl MailboxState {
     }
 
     /// Notes that what was heard is entered. A participant that is busy is called again after a
-    /// pause.
+    /// pause; if a list is out, that begins once the list is put.
     pub fn note_entered(&mut self, letter: &Letter, now: Duration)
         ensures { IsNoted letter.now now self.old self.new }
     {
-        self.answer(Called::of(letter.duty()), letter.heard(), now);
+        let (who, heard) = (Called::of(letter.duty()), letter.heard());
+        let waits = self.since.note_answer(&who, heard);
+        if !waits {
+            self.answer(who, heard, now);
+        }
         self.stir(makes_none_due(letter.duty()));
     }
 

@@ -1,0 +1,64 @@
+// How many facts of its own each other node counted when it asked this one.
+ghost use Rattle.std.specs.Prelude.{◌≡◌, ◌≤◌};
+ghost use Rattle.lra_id.specs.declared.TheConstants.{MAX_NODES};
+ghost use Rattle.lra_mailbox.specs.Asks.{asked_by, is_of_before, times_anew, unasked};
+
+use crate::opening::count_at;
+use lra_id::{Front, MAX_NODES, NodeId};
+use std::marker::Model;
+
+/// How many facts of its own each other node counted when it asked this one. One that counts fewer than
+/// before has begun anew, over a lost or an older journal: what it told before, and comes only now, is
+/// not to be taken, since the node may give these numbers to other facts.
+#[derive(Drop)]
+pub struct Asks {
+    own: Front,
+    anew: Front,
+}
+
+impl Model for Asks {
+    ghost use Rattle.lra_mailbox.specs.Asks.{Asks};
+
+    ghost Value = { Asks };
+
+    ghost view = { λ a. record { own = a.own; anew = a.anew } };
+}
+
+impl Asks {
+    /// None of so many nodes, 1 to 8, has asked yet.
+    pub fn new(nodes: u8) -> Asks
+        requires { (1 ≤ nodes) × (nodes ≤ MAX_NODES) }
+        ensures { result ≡ unasked nodes }
+    {
+        Asks {
+            own: Front::zero(usize::from(nodes)),
+            anew: Front::zero(usize::from(nodes)),
+        }
+    }
+
+    /// Notes that a node asks, and counts so many facts of its own.
+    pub fn hear(&mut self, other: NodeId, own: u64)
+        ensures { self.new ≡ asked_by other own self.old }
+    {
+        if own < self.own.count(other) {
+            let times = self.anew.count(other).saturating_add(1);
+            self.anew = count_at(other, times, self.anew);
+        }
+        self.own = count_at(other, own, self.own);
+    }
+
+    /// How often a node began anew, as far as it asked since.
+    pub fn times_anew(&self, other: NodeId) -> u64
+        ensures { result ≡ times_anew other self.now }
+    {
+        self.anew.count(other)
+    }
+
+    /// Whether what a node told comes from before it began anew: it told of so many facts of its own,
+    /// and had begun anew so often when it was asked for that.
+    pub fn is_of_before(&self, other: NodeId, seen: u64, told: u64) -> bool
+        ensures { result ≡ is_of_before other seen told self.now }
+    {
+        self.anew.count(other) != seen && self.own.count(other) < told
+    }
+}

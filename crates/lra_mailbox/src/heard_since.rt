@@ -1,0 +1,170 @@
+// Who was heard while a list of those who are to be called is out.
+ghost use Rattle.std.specs.Prelude.{◌≡◌};
+ghost use Rattle.lra_callback.specs.declared.answer.Heard.TheVariants.{Outcome as AnOutcome};
+ghost use Rattle.lra_id.specs.declared.outcome.Outcome.TheVariants.{Busy as IsBusy};
+ghost use Rattle.lra_mailbox.specs.Since.{IsAlsoHeard, IsAnswerNotedIf, IsMentioned, PausesEach, WaitsWithPause, asked_now, at_rest, is_unheard, unheard, was_heard};
+
+use lra_callback::{Duties, Duty, Heard};
+use lra_id::Outcome;
+use lra_turns::{Called, Calls};
+use std::alloc::Global;
+use std::marker::Model;
+use std::time::Duration;
+
+/// Whether one is among those who were heard.
+fn was_heard(heard: &[Called], who: &Called) -> bool
+    ensures { result ≡ was_heard heard.now who.now }
+{
+    heard.iter().any(|other| who.is(other))
+}
+
+/// Whether a duty's participant isn't among those who were heard.
+fn is_unheard(heard: &[Called], duty: &Duty) -> bool
+    ensures { result ≡ is_unheard heard.now duty.now }
+{
+    !was_heard(heard, &Called::of(duty))
+}
+
+/// Leaves those out who were heard.
+fn leave_out(duties: &mut Vec<Duty>, heard: &[Called])
+    ensures { duties.new.items ≡ unheard heard.now duties.old.items }
+{
+    duties.retain(|duty| is_unheard(heard, duty));
+}
+
+/// Has each of these pause, one after another.
+pub(crate) fn pause_each(calls: &mut Calls, busy: &[Called], now: Duration)
+    ensures { PausesEach now busy.now calls.old calls.new }
+{
+    for who in busy {
+        calls.pause(*who, now);
+    }
+}
+
+/// Who was heard while a list of those who are to be called is out: since it was asked for, and
+/// until it is put. It calls nobody of these.
+#[derive(Drop)]
+pub(crate) struct HeardSince {
+    is_out: bool,
+    /// Whether all who were heard are noted: one isn't if memory ran out.
+    is_whole: bool,
+    heard: Vec<Called>,
+    /// Whose pause begins once the list is put: they answered that they are busy.
+    busy: Vec<Called>,
+}
+
+impl Model for HeardSince {
+    ghost use Rattle.lra_mailbox.specs.Since.{Since};
+
+    ghost Value = { Since };
+
+    ghost view = { λ s. record {
+      is_out = s.is_out;
+      is_whole = s.is_whole;
+      heard = s.heard.items;
+      busy = s.busy.items;
+    } };
+}
+
+impl HeardSince {
+    /// No list is out.
+    pub(crate) fn new(alloc: Global) -> HeardSince
+        ensures { result ≡ at_rest }
+    {
+        HeardSince {
+            is_out: false,
+            is_whole: true,
+            heard: Vec::new(alloc),
+            busy: Vec::new(alloc),
+        }
+    }
+
+    /// Notes that a list is asked for now.
+    pub(crate) fn begin(&mut self)
+        ensures { self.new ≡ asked_now }
+    {
+        self.is_out = true;
+        self.is_whole = true;
+        self.heard.clear();
+        self.busy.clear();
+    }
+
+    /// Notes that no list is out any more.
+    pub(crate) fn end(&mut self)
+        ensures { self.new ≡ at_rest }
+    {
+        self.begin();
+        self.is_out = false;
+    }
+
+    /// Whether all who were heard are noted.
+    pub(crate) fn is_whole(&self) -> bool
+        ensures { result ≡ self.now.is_whole }
+    {
+        self.is_whole
+    }
+
+    /// Whose pause begins once the list is put.
+    pub(crate) fn busy(&self) -> &[Called]
+        ensures { result.now ≡ self.now.busy }
+    {
+        &self.busy
+    }
+
+    fn note(&mut self, who: &Called)
+        ensures { IsAlsoHeard who.now self.old self.new }
+    {
+        if was_heard(&self.heard, who) {
+            return;
+        }
+        if self.heard.push(*who).is_err() {
+            self.is_whole = false;
+        }
+    }
+
+    /// Notes that somebody was heard, if a list is out.
+    pub(crate) fn mention(&mut self, who: Option<Called>)
+        ensures { IsMentioned who self.old self.new }
+    {
+        if let Some(who) = who {
+            if self.is_out {
+                self.note(&who);
+            }
+        }
+    }
+
+    /// Has one who is busy wait with its pause. It says whether there was memory for that.
+    fn put_off_pause(&mut self, who: &Called) -> bool
+        ensures { WaitsWithPause (AnOutcome IsBusy) who.now self.old self.new result }
+    {
+        let is_put = self.busy.push(*who).is_ok();
+        if !is_put {
+            self.is_whole = false;
+        }
+        is_put
+    }
+
+    /// Notes the answer of a participant, if a list is out. It says whether its pause waits until
+    /// that is put.
+    pub(crate) fn note_answer(&mut self, who: &Called, heard: Heard) -> bool
+        ensures { IsAnswerNotedIf heard who.now self.old self.new result }
+    {
+        if !self.is_out {
+            return false;
+        }
+        self.note(who);
+        match heard {
+            Heard::Outcome(Outcome::Busy) => self.put_off_pause(who),
+            _ => false,
+        }
+    }
+
+    /// The duties of a list, but of those who were heard.
+    pub(crate) fn unheard(&self, duties: Duties) -> Vec<Duty>
+        ensures { result.items ≡ unheard self.now.heard duties }
+    {
+        let mut left = duties.into_vec();
+        leave_out(&mut left, &self.heard);
+        left
+    }
+}
