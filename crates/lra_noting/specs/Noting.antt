@@ -13,6 +13,7 @@ use Rattle.lra_book.specs.declared.calls.Call.{Call}
 use Rattle.lra_book.specs.declared.calls.Call.TheVariants as call
 use Rattle.lra_book.specs.declared.calls.Reply.{Reply}
 use Rattle.lra_book.specs.declared.calls.Reply.TheVariants.{Command as OfCommand, Expired, Took}
+use Rattle.lra_turns.specs.declared.slip.Called.{Called}
 use Rattle.lra_mailbox.specs.declared.noted.Became.{Became}
 use Rattle.lra_mailbox.specs.declared.noted.Became.TheVariants.{Begun, Ended, Full, Nothing, Removed}
 use Rattle.lra_mailbox.specs.declared.noted.News.{News}
@@ -103,10 +104,36 @@ abbrev pub freed_by : Call → Option Id
 freed_by (call.Command it) = told_by it
 freed_by _ = None
 
--- what a call leaves that reported a completion or didn't, and said that a participant of an LRA was told, or didn't
-abbrev pub noted_by : (completes : Bool) (freed : Option Id) → Reply → Noted
-noted_by completes freed reply = record { news = news_of completes reply; became = became_of reply; freed = freed; took = is_taken reply }
+-- of whom a call says what became of it: that it did what it was asked for, or was told of the end
+abbrev pub said_by : Command → Option Called
+said_by (command.Report id member of outcome) = Some (record { id = id; member = member; of_end = false })
+said_by (command.Forgot id member) = Some (record { id = id; member = member; of_end = false })
+said_by (command.Told id member) = Some (record { id = id; member = member; of_end = true })
+said_by _ = None
+
+abbrev pub heard_by : Call → Option Called
+heard_by (call.Command it) = said_by it
+heard_by _ = None
+
+-- that counts if it was entered
+abbrev pub is_entered_so : CommandReply → Bool
+is_entered_so reply.Reported = true
+is_entered_so reply.Forgotten = true
+is_entered_so reply.Told = true
+is_entered_so _ = false
+
+abbrev pub is_said : Reply → Bool
+is_said (OfCommand done) = is_entered_so done
+is_said _ = false
+
+abbrev pub heard_if : Option Called → Reply → Option Called
+heard_if heard reply = if is_said reply then heard else None
+
+-- what a call leaves that reported a completion or didn't, said that a participant of an LRA was told, or didn't, and said of somebody what
+-- became of it, or didn't
+abbrev pub noted_by : (completes : Bool) (freed : Option Id) (heard : Option Called) → Reply → Noted
+noted_by completes freed heard reply = record { news = news_of completes reply; became = became_of reply; freed = freed; heard = heard_if heard reply; took = is_taken reply }
 
 -- of a call that leaves nothing
 abbrev pub nothing : Noted
-nothing = record { news = Nobody; became = Nothing; freed = None; took = false }
+nothing = record { news = Nobody; became = Nothing; freed = None; heard = None; took = false }

@@ -8,6 +8,6 @@ mod purging;
 
 pub use counting::body_of_all;
 pub use noting::{
-    enters, freed_by, is_any, is_completion, is_own_fact, is_stored, is_taken, noted_by,
+    enters, freed_by, heard_by, is_any, is_completion, is_own_fact, is_stored, is_taken, noted_by,
 };
 pub use purging::purged_by;

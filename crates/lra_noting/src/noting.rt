@@ -1,11 +1,12 @@
 // What a call at the desk leaves for the threads to go on with.
 ghost use Rattle.std.specs.Prelude.{◌≡◌, MatchBool};
-ghost use Rattle.lra_noting.specs.Noting.{became_by, became_of, enters, freed_by, is_completion, is_own, is_stored, is_taken, news_by, news_of, noted_by, nothing, told_by};
+ghost use Rattle.lra_noting.specs.Noting.{became_by, became_of, enters, freed_by, heard_by, heard_if, is_completion, is_own, is_said, is_stored, is_taken, news_by, news_of, noted_by, nothing, said_by, told_by};
 
 use lra_book::{Call, Reply};
 use lra_facts::{Command, CommandReply, Refusal};
 use lra_id::{Act, LraId};
 use lra_mailbox::{Became, News, Noted};
+use lra_turns::Called;
 
 /// Whether a call enters something of the node's own.
 pub fn enters(call: &Call) -> bool
@@ -46,6 +47,46 @@ pub fn freed_by(call: &Call) -> Option<LraId>
         Call::Command(command) => told_by(command),
         _ => None,
     }
+}
+
+/// Of whom a command says what became of it: that it did what it was asked for, or was told.
+fn said_by(command: &Command) -> Option<Called>
+    ensures { result ≡ said_by command.now }
+{
+    let (id, member, of_end) = match command {
+        Command::Report { id, member, .. } => (*id, *member, false),
+        Command::Forgot { id, member } => (*id, *member, false),
+        Command::Told { id, member } => (*id, *member, true),
+        _ => return None,
+    };
+    Some(Called { id, member, of_end })
+}
+
+/// Of whom a call says so.
+pub fn heard_by(call: &Call) -> Option<Called>
+    ensures { result ≡ heard_by call.now }
+{
+    match call {
+        Call::Command(command) => said_by(command),
+        _ => None,
+    }
+}
+
+/// Whether what was said of a participant was entered.
+fn is_said(reply: &Reply) -> bool
+    ensures { result ≡ is_said reply.now }
+{
+    matches!(
+        reply,
+        Reply::Command(CommandReply::Reported | CommandReply::Forgotten | CommandReply::Told)
+    )
+}
+
+/// Of whom it was said, if it was entered.
+fn heard_if(heard: &Option<Called>, reply: &Reply) -> Option<Called>
+    ensures { result ≡ heard_if heard.now reply.now }
+{
+    if is_said(reply) { *heard } else { None }
 }
 
 fn news_by(completes: bool, reply: &CommandReply) -> News
@@ -112,15 +153,21 @@ pub fn is_taken(reply: &Reply) -> bool
     matches!(reply, Reply::Took)
 }
 
-/// What a call leaves that reported a completion or didn't, said that a participant was told, or
-/// didn't, and was replied so.
-pub fn noted_by(completes: bool, freed: &Option<LraId>, reply: &Reply) -> Noted
-    ensures { result ≡ noted_by completes freed.now reply.now }
+/// What a call leaves that reported a completion or didn't, said that a participant of an LRA was told
+/// or of somebody what became of it, or didn't, and was replied so.
+pub fn noted_by(
+    completes: bool,
+    freed: &Option<LraId>,
+    heard: &Option<Called>,
+    reply: &Reply,
+) -> Noted
+    ensures { result ≡ noted_by completes freed.now heard.now reply.now }
 {
     Noted {
         news: news_of(completes, reply),
         became: became_of(reply),
         freed: *freed,
+        heard: heard_if(heard, reply),
         took: is_taken(reply),
     }
 }
@@ -132,6 +179,7 @@ pub fn is_any(noted: &Noted) -> bool
     noted.news != News::Nobody
         || noted.became != Became::Nothing
         || noted.freed.is_some()
+        || noted.heard.is_some()
         || noted.took
 }
 
