@@ -1,5 +1,5 @@
 -- At which nodes a pull is misdirected.
-use Rattle.std.specs.Prelude.{IfSome, nat_le, nat_lt, not}
+use Rattle.std.specs.Prelude.{IfSome, is_some, nat_le, nat_lt, not}
 use Rattle.std.proofs.Common.{◌≡◌, ◌≢◌, ◌⊎◌, ◌∙◌, ℕ, ◌+◌, ◌≤◌, Bool, true, false, ◌&&◌, ◌||◌, ◌==◌, List, [], ◌∷◌, ◌++◌, length, codes, Option, Some, None, IsTrue, ap, arith, inl, inr, refl, sym}
 use Rattle.std.specs.Fmt.{decimal}
 use Rattle.std.specs.Str.{bytes_eq}
@@ -10,7 +10,7 @@ use Rattle.lra_id.specs.Ids.{IsNodeNumber}
 use Rattle.lra_http.specs.declared.message.Request.{Request}
 use Rattle.lra_peer.specs.Texts.{pull_target}
 use Rattle.lra_api.specs.Paths as paths
-use Rattle.lra_work.specs.Addressees.{are_other, asks_other, group_in, is_misdirected, is_number, is_other, is_other_group, is_other_number, names_other, number_in, past_asker, query_by}
+use Rattle.lra_work.specs.Addressees.{are_other, asks_other, group_in, is_misdirected, is_number, is_other_group, is_other_number, is_pull, names_other, number_in, past_asker, query_by}
 use Rattle.lra_work.specs.Groups.{is_group_name}
 use Rattle.lra_work.specs.declared.addressee.NodeName.{NodeName}
 
@@ -58,7 +58,7 @@ numbered n some few = let is = is_a_number n some few in rw is refl
 grouped : (name : List ℕ) → IsTrue (is_group_name name) → group_in (codes "group=" ++ name) ≡ Some name
 grouped name is = rw is refl
 
-alone : (node : NodeName) (n : ℕ) → names_other node (codes "to=" ++ digit n ∷ []) ≡ is_other node (number_in (codes "to=" ++ digit n ∷ []))
+alone : (node : NodeName) (n : ℕ) → names_other node (codes "to=" ++ digit n ∷ []) ≡ are_other node (number_in (codes "to=" ++ digit n ∷ [])) None
 alone node n = let no_amp = no_ampersand n in rw no_amp refl
 
 both : (node : NodeName) (n : ℕ) (name : List ℕ)
@@ -69,14 +69,6 @@ both node n name =
     let long : nat_lt 4 size ≡ true = lt-ltb 4 size (omega arith) in
     rw (no_amp, long) refl
 
-or_false : (b : Bool) → b ≡ (b || false)
-or_false true = refl
-or_false false = refl
-
-no_group : (own : Option (List ℕ)) → is_other_group own None ≡ false
-no_group (Some own) = refl
-no_group None = refl
-
 -- which query names another node
 asks_alone : (node : NodeName) (to : ℕ) → node.me ≤ 8 → 1 ≤ to → to ≤ 8 → names_other node (codes "to=" ++ decimal to) ≡ (not (to == node.me) || is_other_group node.group None)
 asks_alone node to me some few =
@@ -84,11 +76,9 @@ asks_alone node to me some few =
     let text : decimal to ≡ digit to ∷ [] = decimal_digit to (omega (arith, few)) in
     ap (λ (t : List ℕ). names_other node (codes "to=" ++ t)) text
     ∙ alone node to
-    ∙ ap (is_other node) (numbered to some few)
-    ∙ ap (λ (t : List ℕ). not (bytes_eq (digit to ∷ []) t)) own
-    ∙ ap not (same_digit to node.me)
-    ∙ or_false (not (to == node.me))
-    ∙ ap (λ (b : Bool). not (to == node.me) || b) (sym (no_group node.group))
+    ∙ ap (λ (o : Option (List ℕ)). are_other node o None) (numbered to some few)
+    ∙ ap (λ (t : List ℕ). not (bytes_eq (digit to ∷ []) t) || is_other_group node.group None) own
+    ∙ ap (λ (b : Bool). not b || is_other_group node.group None) (same_digit to node.me)
 
 asks_both : (node : NodeName) (to : ℕ) (name : List ℕ) → node.me ≤ 8 → 1 ≤ to → to ≤ 8 → IsTrue (is_group_name name)
     → names_other node (codes "to=" ++ (decimal to ++ (codes "&group=" ++ name))) ≡ (not (to == node.me) || is_other_group node.group (Some name))
@@ -165,3 +155,12 @@ misdirected node waits from to group request me asker number names method target
     ∙ ap (λ (t : List ℕ). is_misdirected node (pull_with t request)) target
     ∙ pulls node waits from to group request
     ∙ asks waits node from to group me asker number names
+
+-- a pull that says nothing of whom it means
+pub unnamed : (node : NodeName) (request : Request) → is_pull request ≡ true → paths.query_of request.target ≡ None → is_misdirected node request ≡ is_some node.group
+unnamed node request pull none = found (is_pull request) (paths.query_of request.target) pull none
+  where
+    found : (is_pull : Bool) (query : Option (List ℕ)) → is_pull ≡ true → query ≡ None → (is_pull && asks_other node query) ≡ is_some node.group
+    found true None e f = refl
+    found true (Some query) e f = absurd cc
+    found false query e f = absurd cc

@@ -1,5 +1,5 @@
 -- Which pulls are meant for another node than the one that reads them.
-use Rattle.std.specs.Prelude.{◌&&◌, ◌||◌, ◌==◌, ◌++◌, ℕ, Bool, true, false, List, [], ◌∷◌, codes, drop, length, not, nat_le, nat_lt, take, Option, Some, None, if◌then◌else◌}
+use Rattle.std.specs.Prelude.{◌&&◌, ◌||◌, ◌==◌, ◌++◌, ℕ, Bool, true, false, List, [], ◌∷◌, codes, drop, is_some, length, not, nat_le, nat_lt, take, Option, Some, None, if◌then◌else◌}
 use Rattle.std.specs.Fmt.{decimal}
 use Rattle.std.specs.Char.{is_ascii_digit}
 use Rattle.std.specs.List.{after_first, before_first, list_all, position_or_len}
@@ -38,20 +38,17 @@ group_in text = if bytes_eq (take 6 text) (codes "group=") then if_group (drop 6
 abbrev pub is_other_number : ℕ → List ℕ → Bool
 is_other_number me number = not (bytes_eq number (decimal me))
 
--- where one of both has no group, it can't be another
+-- a group with a name is another than each with another name, and than each without one
 abbrev pub is_other_group : (own group : Option (List ℕ)) → Bool
 is_other_group (Some own) (Some group) = not (bytes_eq own group)
-is_other_group (Some own) None = false
-is_other_group None group = false
+is_other_group (Some own) None = true
+is_other_group None (Some group) = true
+is_other_group None None = false
 
-abbrev pub is_other : NodeName → Option (List ℕ) → Bool
-is_other node (Some number) = is_other_number node.me number
-is_other node None = false
-
+-- a node whose group has a name is meant only by who gives that too
 abbrev pub are_other : NodeName → (number group : Option (List ℕ)) → Bool
-are_other node (Some number) (Some group) = is_other_number node.me number || is_other_group node.group (Some group)
-are_other node (Some number) None = false
-are_other node None group = false
+are_other node (Some number) group = is_other_number node.me number || is_other_group node.group group
+are_other node None group = is_some node.group
 
 abbrev pub is_ampersand : ℕ → Bool
 is_ampersand b = b == 38
@@ -61,7 +58,7 @@ abbrev pub names_other : NodeName → (query : List ℕ) → Bool
 names_other node query =
     if nat_lt (position_or_len is_ampersand query) (length query)
     then are_other node (number_in (before_first is_ampersand query)) (group_in (after_first is_ampersand query))
-    else is_other node (number_in query)
+    else are_other node (number_in query) None
 
 -- behind who asks, or waits, where a query begins with that; what comes behind the first `&`
 abbrev pub behind_first : (query : List ℕ) → List ℕ
@@ -72,7 +69,7 @@ past_asker query = if bytes_eq (take 5 query) (codes "from=") || bytes_eq (take 
 
 abbrev pub asks_other : NodeName → (query : Option (List ℕ)) → Bool
 asks_other node (Some query) = names_other node (past_asker query)
-asks_other node None = false
+asks_other node None = is_some node.group
 
 -- whether a pull with a query is meant for who is asked so
 abbrev pub is_meant : Addressee → (query : List ℕ) → Bool
@@ -84,7 +81,7 @@ is_meant (Node node) query = not (asks_other node (Some query))
 abbrev pub is_pull : Request → Bool
 is_pull request = bytes_eq request.method (codes "POST") && bytes_eq (path_of request.target) (codes "/peer/pull")
 
--- a pull that names another node, or another group where the node has one
+-- a pull that names another node or group, or names no group where the node's has a name
 abbrev pub is_misdirected : NodeName → Request → Bool
 is_misdirected node request = is_pull request && asks_other node (query_of request.target)
 

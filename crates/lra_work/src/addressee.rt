@@ -43,7 +43,8 @@ impl Addressee {
         }
     }
 
-    /// Refuses pulls that name another node; and another group, where this node has one.
+    /// Refuses pulls that name another node or another group. If this node's group has a name, it also
+    /// refuses pulls that name none.
     pub fn of(me: NodeId, group: Option<GroupName>) -> Addressee
         ensures { result ≡ OneNode (record { me = me; group = group }) }
     {

@@ -1,15 +1,17 @@
 // A law of workers: the function does nothing, and its contract is the law.
-ghost use Rattle.std.specs.Prelude.{◌≡◌, ◌||◌, ◌==◌, ℕ, Bool, List, Option, IfSome, IsTrue, codes, not};
+ghost use Rattle.std.specs.Prelude.{◌≡◌, ◌||◌, ◌==◌, ℕ, Bool, List, None, Option, IfSome, IsTrue, codes, is_some, not, true};
 ghost use Rattle.lra_id.specs.Ids.{IsNodeNumber};
 ghost use Rattle.lra_http.specs.declared.message.Request.{Request as TheRequest};
 ghost use Rattle.lra_peer.specs.Texts.{IsQuery, pull_target};
-ghost use Rattle.lra_work.specs.Addressees.{is_misdirected, is_other_group, query_by};
+ghost use Rattle.lra_work.specs.Addressees.{is_misdirected, is_other_group, is_pull, query_by};
+ghost use Rattle.lra_api.specs.Paths.{query_of};
 ghost use Rattle.lra_work.specs.Groups.{is_group_name};
 ghost use Rattle.lra_work.specs.declared.addressee.NodeName.{NodeName as TheName};
 
 /// A pull by a node that is meant for another, and for a group or none, is misdirected exactly at the nodes
-/// with other numbers and, where both have a group, at those of other groups, whether it waits or
-/// not. Its query may stand in a pull.
+/// with other numbers and at those of other groups, whether it waits or not: a group with a name is
+/// another than one without. Its query may stand in a pull. A pull that says nothing of whom it means
+/// is misdirected at each node whose group has a name.
 pub fn a_pull_to_another_node_is_misdirected()
     ensures exact { (node : TheName) (waits : Bool) (from to : ℕ) (group : Option (List ℕ)) (request : TheRequest) →
         IsNodeNumber node.me → IsNodeNumber from → IsNodeNumber to → IfSome group (λ name. IsTrue (is_group_name name)) →
@@ -17,4 +19,6 @@ pub fn a_pull_to_another_node_is_misdirected()
         is_misdirected node request ≡ (not (to == node.me) || is_other_group node.group group) }
     ensures query { (waits : Bool) (from to : ℕ) (group : Option (List ℕ)) → IsNodeNumber from → IsNodeNumber to →
         IfSome group (λ name. IsTrue (is_group_name name)) → IsQuery (query_by waits from to group) }
+    ensures unnamed { (node : TheName) (request : TheRequest) → is_pull request ≡ true → query_of request.target ≡ None →
+        is_misdirected node request ≡ is_some node.group }
 {}

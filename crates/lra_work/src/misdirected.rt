@@ -3,7 +3,7 @@ ghost use Rattle.std.specs.Prelude.{◌≡◌, Some};
 ghost use Rattle.std.specs.Char.{is_ascii_digit};
 ghost use Rattle.std.specs.List.{list_all};
 ghost use Rattle.std.specs.Option.{option_copied};
-ghost use Rattle.lra_work.specs.Addressees.{are_other, asks_other, behind_first, group_in, is_misdirected, is_number, is_other, is_other_group, is_other_number, is_pull, names_other, number_in, past_asker};
+ghost use Rattle.lra_work.specs.Addressees.{are_other, asks_other, behind_first, group_in, is_misdirected, is_number, is_other_group, is_other_number, is_pull, names_other, number_in, past_asker};
 
 use crate::{GroupName, NodeName, is_group_name};
 use lra_api::{path_of, query_of};
@@ -67,43 +67,42 @@ fn is_other_number(me: NodeId, number: &str) -> bool
     number.as_bytes() != own.as_slice()
 }
 
-fn is_other(node: &NodeName, number: Option<&str>) -> bool
-    ensures { result ≡ is_other node.now (option_copied number.entry) }
-{
-    match number {
-        Some(number) => is_other_number(node.me, number),
-        None => false,
-    }
-}
-
-/// Whether this is another group, where the node has one.
-fn is_other_group(own: &Option<GroupName>, group: &str) -> bool
+/// Whether this is another group than the node's: each that has a name is, unless it is the node's.
+fn is_another(own: &Option<GroupName>, group: &str) -> bool
     ensures { result ≡ is_other_group own.now (Some group.now) }
 {
     match own {
         Some(own) => own.as_str() != group,
-        None => false,
+        None => true,
+    }
+}
+
+/// Whether who names this group, or none, means another than the node's.
+fn is_other_group(own: &Option<GroupName>, group: Option<&str>) -> bool
+    ensures { result ≡ is_other_group own.now (option_copied group.entry) }
+{
+    match group {
+        Some(group) => is_another(own, group),
+        None => own.is_some(),
     }
 }
 
 fn are_other(node: &NodeName, number: Option<&str>, group: Option<&str>) -> bool
     ensures { result ≡ are_other node.now (option_copied number.entry) (option_copied group.entry) }
 {
-    match (number, group) {
-        (Some(number), Some(group)) => {
-            is_other_number(node.me, number) || is_other_group(&node.group, group)
-        }
-        _ => false,
+    match number {
+        Some(number) => is_other_number(node.me, number) || is_other_group(&node.group, group),
+        None => node.group.is_some(),
     }
 }
 
-/// Whether a query names another node, or another group.
+/// Whether a query names another node or group, or names no group though the node's has a name.
 fn names_other(node: &NodeName, query: &str) -> bool
     ensures { result ≡ names_other node.now query.now }
 {
     match query.split_once('&') {
         Some((first, second)) => are_other(node, number_in(first), group_in(second)),
-        None => is_other(node, number_in(query)),
+        None => are_other(node, number_in(query), None),
     }
 }
 
@@ -128,13 +127,14 @@ fn past_asker(query: &str) -> &str
     }
 }
 
-/// Whether a query, if there is one, names another node, or another group.
+/// Whether a query, if there is one, means another node: it names another node or group, or names no
+/// group though the node's has a name.
 pub(crate) fn asks_other(node: &NodeName, query: Option<&str>) -> bool
     ensures { result ≡ asks_other node.now (option_copied query.entry) }
 {
     match query {
         Some(query) => names_other(node, past_asker(query)),
-        None => false,
+        None => node.group.is_some(),
     }
 }
 

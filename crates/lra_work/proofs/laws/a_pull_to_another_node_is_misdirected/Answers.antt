@@ -1,4 +1,4 @@
-use Rattle.lra_work.proofs.Directed.{misdirected}
+use Rattle.lra_work.proofs.Directed.{misdirected, unnamed}
 use Rattle.lra_work.proofs.Queries.{query_fits}
 use Rattle.lra_work.proofs.laws.a_pull_to_another_node_is_misdirected.Goals as goal
 
@@ -7,3 +7,6 @@ returns-clause-exact c = misdirected
 
 pub returns-clause-query : goal.returns-clause-query
 returns-clause-query c = query_fits
+
+pub returns-clause-unnamed : goal.returns-clause-unnamed
+returns-clause-unnamed c = unnamed
