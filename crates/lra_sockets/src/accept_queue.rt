@@ -3,6 +3,7 @@ ghost use Rattle.std.specs.Prelude.{◌≡◌, ◌⊎◌, ◌++◌, ◌∷◌, [
 
 use crate::holder::NoHolder;
 use crate::pending_connection::{PendingConnection, Readiness};
+use crate::room::{Room, Share};
 use crate::shared_socket::SharedSocket;
 use std::alloc::Global;
 use std::collections::VecDeque;
@@ -26,10 +27,6 @@ const MAX_UNSEEN: usize = 1_024;
 /// How many workers read a long request as it comes at most.
 const MAX_READING: u64 = 2;
 
-/// How many bytes of answers wait at most to be sent on: two frames of full homes with the longest
-/// links, or a dozen of common ones.
-const MAX_KEPT: usize = 64 << 20;
-
 // What lies under the lock.
 #[derive(Drop)]
 struct Waiting {
@@ -40,8 +37,8 @@ struct Waiting {
     promised: VecDeque<PendingConnection>,
     /// At how many of those that wait for a worker nobody has looked yet.
     unseen: usize,
-    /// How many bytes of answers all have still to take.
-    kept: usize,
+    /// How much of the room their answers take.
+    room: Room,
     /// Whether a worker looks, and doesn't sleep.
     watched: bool,
     /// How many workers sleep.
@@ -57,8 +54,9 @@ pub struct AcceptQueue {
     came: Condvar,
     /// How many wait, for who looks without the lock; `u64::MAX` once the run is over.
     count: AtomicU64,
-    /// How many bytes of answers wait, for who asks without the lock.
-    kept: AtomicU64,
+    /// How many bytes of short and of long answers wait, for who asks without the lock.
+    short: AtomicU64,
+    long: AtomicU64,
     /// How many pulls are held, likewise, and how often they were freed.
     holding: AtomicU64,
     freed: AtomicU64,
@@ -76,15 +74,18 @@ impl Waiting {
         ensures { (self.new.pending.items ≡ self.old.pending.items ++ pending ∷ [])
             ⊎ (self.new.pending.items ≡ self.old.pending.items) }
     {
-        let (unseen, kept) = (usize::from(pending.is_unseen()), pending.kept());
+        let (unseen, share) = (usize::from(pending.is_unseen()), pending.share());
         if self.pending.push_back(pending).is_ok() {
             self.unseen = self.unseen.saturating_add(unseen);
-            self.kept = self.kept.saturating_add(kept);
+            self.room = self.room.with(share);
         }
     }
 
     /// Holds no pull of this node any longer: it has sent another.
     fn release(&mut self, asker: Option<u8>) {
+        if asker.is_none() {
+            return;
+        }
         let count = self.held.len();
         for _pull in 0..count {
             let Some(mut pending) = self.held.pop_front() else {
@@ -112,9 +113,9 @@ impl Waiting {
 
     /// Keeps an answer that waits. One for which there is no memory is never sent.
     fn keep(&mut self, pending: PendingConnection) {
-        let kept = pending.kept();
+        let share = pending.share();
         if self.promised.push_back(pending).is_ok() {
-            self.kept = self.kept.saturating_add(kept);
+            self.room = self.room.with(share);
         }
     }
 
@@ -130,7 +131,7 @@ impl Waiting {
                 let _ = self.promised.push_back(pending);
                 continue;
             }
-            self.kept = self.kept.saturating_sub(pending.kept());
+            self.room = self.room.without(pending.share());
             self.push(pending);
             put = put.saturating_add(1);
         }
@@ -144,7 +145,7 @@ impl Waiting {
             return true;
         }
         if let Some(pending) = self.promised.pop_front() {
-            self.kept = self.kept.saturating_sub(pending.kept());
+            self.room = self.room.without(pending.share());
             return true;
         }
         self.held.pop_front().is_some()
@@ -158,7 +159,7 @@ impl Waiting {
         let pending = self.pending.pop_front()?;
         let unseen = usize::from(pending.is_unseen());
         self.unseen = self.unseen.saturating_sub(unseen);
-        self.kept = self.kept.saturating_sub(pending.kept());
+        self.room = self.room.without(pending.share());
         Some(pending)
     }
 }
@@ -166,11 +167,12 @@ impl Waiting {
 // A connection that was served, as it waits for its end: to be sent the rest of its answer, or to be
 // read on.
 fn to_close<R: Clock>(rt: &R, socket: SharedSocket) -> io::Result<PendingConnection> {
+    let size = socket.size();
     let (stream, kept) = socket.into_parts();
     if kept.is_empty() {
         PendingConnection::closing(rt, stream)
     } else {
-        PendingConnection::sending(rt, stream, kept)
+        PendingConnection::sending(rt, stream, kept, size)
     }
 }
 
@@ -182,14 +184,15 @@ impl AcceptQueue {
                 held: VecDeque::new(alloc),
                 promised: VecDeque::new(alloc),
                 unseen: 0,
-                kept: 0,
+                room: Room { short: 0, long: 0 },
                 watched: false,
                 asleep: 0,
                 ended: false,
             }),
             came: Condvar::new(),
             count: AtomicU64::new(0),
-            kept: AtomicU64::new(0),
+            short: AtomicU64::new(0),
+            long: AtomicU64::new(0),
             holding: AtomicU64::new(0),
             freed: AtomicU64::new(0),
             promises: AtomicU64::new(0),
@@ -198,7 +201,7 @@ impl AcceptQueue {
         }
     }
 
-    // Tells who looks how many wait, and who keeps an answer how much.
+    // Tells who looks how many wait, and who keeps an answer how much room is taken.
     fn tell(&self, waiting: &Waiting) -> usize {
         let count = waiting.pending.len();
         let told = if waiting.ended {
@@ -207,7 +210,9 @@ impl AcceptQueue {
             count as u64
         };
         self.count.store(told, Ordering::SeqCst);
-        self.kept.store(waiting.kept as u64, Ordering::SeqCst);
+        self.short
+            .store(waiting.room.short as u64, Ordering::SeqCst);
+        self.long.store(waiting.room.long as u64, Ordering::SeqCst);
         self.holding
             .store(waiting.held.len() as u64, Ordering::SeqCst);
         self.promises
@@ -230,10 +235,17 @@ impl AcceptQueue {
         self.reading.fetch_sub(1, Ordering::SeqCst);
     }
 
-    /// Whether so many bytes of an answer may wait here besides those that do.
-    pub(crate) fn may_keep(&self, bytes: usize) -> bool {
-        let kept = self.kept.load(Ordering::SeqCst);
-        kept.saturating_add(bytes as u64) <= MAX_KEPT as u64
+    // How much of the room is taken.
+    fn room(&self) -> Room {
+        Room {
+            short: self.short.load(Ordering::SeqCst) as usize,
+            long: self.long.load(Ordering::SeqCst) as usize,
+        }
+    }
+
+    /// Whether so much of an answer may wait here besides those that do.
+    pub(crate) fn may_keep(&self, share: Share) -> bool {
+        self.room().may_keep(share)
     }
 
     // Puts a connection last. It says how many wait, and whether the worker that looks takes this
@@ -436,13 +448,16 @@ impl AcceptQueue {
         first
     }
 
-    /// Closes the connection that has waited longest, since no file is left.
-    pub fn close_first<R: Wait>(&self, rt: &R) {
+    /// Closes the connection that has waited longest, since no file is left. It says whether there was
+    /// one.
+    pub fn close_first<R: Wait>(&self, rt: &R) -> bool {
         let mut waiting = self.waiting.lock(rt);
-        if waiting.drop_first() {
+        let is_closed = waiting.drop_first();
+        if is_closed {
             self.closed.fetch_add(1, Ordering::SeqCst);
         }
         let _left = self.tell(&waiting);
+        is_closed
     }
 
     /// How many connections were closed for want of files since this was last asked.

@@ -3,6 +3,7 @@ ghost use Rattle.std.specs.Prelude.{◌≤◌, IfOk, length};
 
 use crate::accept_queue::AcceptQueue;
 use crate::promise::Promise;
+use crate::room::Share;
 use crate::shared_socket::SharedSocket;
 use crate::signal::Signal;
 use std::io;
@@ -33,6 +34,8 @@ const MAX_TURNS: u32 = 10_000;
 pub struct Limit {
     pub silence: Duration,
     pub whole: Duration,
+    /// Whether all of it has come. Then a read waits for nothing, and what is there ends the message.
+    pub has_come: bool,
 }
 
 impl Limit {
@@ -42,6 +45,17 @@ impl Limit {
         Limit {
             silence: whole,
             whole,
+            has_come: false,
+        }
+    }
+
+    /// So many milliseconds for a message of which all has come.
+    pub fn of_whole(whole: u64) -> Limit {
+        let whole = Duration::from_millis(whole);
+        Limit {
+            silence: whole,
+            whole,
+            has_come: true,
         }
     }
 
@@ -50,6 +64,7 @@ impl Limit {
         Limit {
             silence: Duration::from_millis(silence),
             whole: Duration::from_millis(whole),
+            has_come: false,
         }
     }
 }
@@ -82,6 +97,8 @@ pub struct DeadlineStream<'a, R: Wait + Clock> {
     /// Whether something did since that was last looked at.
     has_moved: bool,
     hurried: bool,
+    /// Whether something was read.
+    has_read: bool,
     /// Whether something was written.
     wrote: bool,
     /// Whether a write waits for a slice at most.
@@ -113,6 +130,7 @@ impl<'a, R: Wait + Clock> DeadlineStream<'a, R> {
             silent_until: Duration::ZERO,
             has_moved: true,
             hurried: false,
+            has_read: false,
             wrote: false,
             sliced: false,
             stalled: 0,
@@ -134,8 +152,9 @@ impl<'a, R: Wait + Clock> DeadlineStream<'a, R> {
 
     // Whether so many bytes of the answer may be kept for later, besides what is kept of it.
     fn may_keep(&self, count: usize) -> bool {
+        let kept = self.socket.kept().saturating_add(count);
         match self.queue {
-            Some(queue) => queue.may_keep(self.socket.kept().saturating_add(count)),
+            Some(queue) => queue.may_keep(Share::of(self.socket.size(), kept)),
             None => false,
         }
     }
@@ -153,6 +172,7 @@ impl<'a, R: Wait + Clock> DeadlineStream<'a, R> {
             return Err(Error::from(ErrorKind::TimedOut));
         }
         if self.socket.keep(bytes) {
+            self.socket.note_taken(bytes.len());
             Ok(bytes.len())
         } else {
             Err(Error::from(ErrorKind::OutOfMemory))
@@ -170,6 +190,40 @@ impl<'a, R: Wait + Clock> DeadlineStream<'a, R> {
     fn note_move(&mut self) {
         self.has_moved = true;
         self.stalled = 0;
+    }
+
+    // Notes what a write came to.
+    fn note_outcome(&mut self, outcome: &io::Result<usize>) {
+        self.note_move();
+        if let Ok(count) = outcome {
+            self.socket.note_taken(*count);
+        }
+    }
+
+    // Notes what a read with so much room came to.
+    fn note_read(&mut self, count: usize, room: usize) {
+        self.has_read = true;
+        self.socket.note_read(count, room);
+        self.note_move();
+    }
+
+    // Reads what is there, and waits for nothing. Where nothing is left, that is the end.
+    fn read_there(&mut self, buf: &mut [u8]) -> io::Result<usize>
+        ensures { IfOk result (λ count. count ≤ length buf.new) }
+    {
+        self.check_deadline()?;
+        let mut stream = self.socket.stream();
+        stream.set_nonblocking(true)?;
+        let came = stream.read(buf);
+        stream.set_nonblocking(false)?;
+        match came {
+            Ok(count) => {
+                self.note_read(count, buf.len());
+                Ok(count)
+            }
+            Err(error) if error.kind() == ErrorKind::WouldBlock => Ok(0),
+            Err(error) => Err(error),
+        }
     }
 
     // When the whole message has to be over, looked at now. Its time is cut short once.
@@ -214,13 +268,15 @@ impl<'a, R: Wait + Clock> DeadlineStream<'a, R> {
 
 impl<'a, R: Wait + Clock> Read for DeadlineStream<'a, R> {
     fn read(&mut self, buf: &mut [u8]) -> io::Result<usize> {
+        if self.limit.has_come && self.has_read {
+            return self.read_there(buf);
+        }
         for _turn in 0..MAX_TURNS {
             self.check_deadline()?;
             let mut stream = self.socket.stream();
             match stream.read(buf) {
                 Ok(count) => {
-                    self.socket.note_read(count, buf.len());
-                    self.note_move();
+                    self.note_read(count, buf.len());
                     return Ok(count);
                 }
                 Err(error) if error.kind() == ErrorKind::WouldBlock => {
@@ -260,7 +316,7 @@ impl<'a, R: Wait + Clock> Write for DeadlineStream<'a, R> {
                     }
                 }
                 outcome => {
-                    self.note_move();
+                    self.note_outcome(&outcome);
                     return outcome;
                 }
             }

@@ -1,4 +1,4 @@
-// Pulls that wait though they are whole.
+// Requests that wait though they are whole: pulls, and commands at a start.
 
 use crate::window::body_of;
 use std::time::Duration;
@@ -11,14 +11,23 @@ const ASKS: &[u8] = b"from=";
 
 const WAITS: &[u8] = b"wait=";
 
-/// What becomes of a pull that is whole.
+/// How commands begin, up to the path. A pull begins so too.
+const COMMANDS: [&[u8]; 3] = [b"POST /", b"PUT /", b"DELETE /"];
+
+/// How a pull begins, whatever it says behind that.
+const ANY_PULL: &[u8] = b"POST /peer/";
+
+/// In place of the number of a node that asks, where it is a command that is held.
+const NOBODY: u8 = 0;
+
+/// What becomes of a request that is whole.
 #[derive(Clone, Copy, PartialEq, Eq, Debug)]
 pub enum Hold {
     /// It is served now.
     Serve,
     /// It is, in some milliseconds.
     Soon,
-    /// It waits until its holder has something for it, or for some seconds.
+    /// It waits until its holder has something for it or it may be made, or for some seconds.
     Later,
 }
 
@@ -44,13 +53,16 @@ pub struct Asked {
     pub since: Option<Duration>,
 }
 
-/// Who keeps pulls and answers waiting.
+/// Who keeps pulls, commands and answers waiting.
 pub trait Holder {
     /// What becomes of an answer that waits for a ticket since a moment.
     fn stand(&self, ticket: u64, since: Duration) -> Stand;
 
     /// What becomes of a pull with this query and this body.
     fn hold(&self, asked: &Asked, query: &[u8], body: &[u8]) -> Hold;
+
+    /// What becomes of a command, which is held since a moment, if it is.
+    fn hold_command(&self, since: Option<Duration>) -> Hold;
 }
 
 /// Keeps nobody waiting.
@@ -63,6 +75,10 @@ impl Holder for NoHolder {
     }
 
     fn hold(&self, _asked: &Asked, _query: &[u8], _body: &[u8]) -> Hold {
+        Hold::Serve
+    }
+
+    fn hold_command(&self, _since: Option<Duration>) -> Hold {
         Hold::Serve
     }
 }
@@ -98,14 +114,24 @@ fn asked_in(query: &[u8], since: Option<Duration>) -> Option<Asked> {
     Some(Asked { from, waits, since })
 }
 
-/// Who asks by a whole request, and what becomes of it, where it is a pull that says so.
+/// Whether a request is a command.
+fn is_command(bytes: &[u8]) -> bool {
+    let is_any = COMMANDS.iter().any(|start| bytes.starts_with(start));
+    is_any && !bytes.starts_with(ANY_PULL)
+}
+
+/// Who asks by a whole request, and what becomes of it, if it is a pull that says so and isn't refused,
+/// or a command, which nobody asks.
 pub(crate) fn hold_of<H: Holder>(
     bytes: &[u8],
     since: Option<Duration>,
     holder: &H,
 ) -> Option<(u8, Hold)> {
+    if is_command(bytes) {
+        return Some((NOBODY, holder.hold_command(since)));
+    }
     let query = query_in(bytes);
     let asked = asked_in(query, since)?;
-    let hold = holder.hold(&asked, query, body_of(bytes));
+    let hold = holder.hold(&asked, query, body_of(bytes)?);
     Some((asked.from, hold))
 }

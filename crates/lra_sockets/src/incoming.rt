@@ -36,20 +36,42 @@ pub fn wait_for_room<R: Wait + Clock>(rt: &R, signal: &Signal, queue: &AcceptQue
     }
 }
 
+/// Puts a connection on a queue that comes now.
+fn put<R: Wait + Clock>(rt: &R, queue: &AcceptQueue, stream: TcpStream) {
+    if let Ok(pending) = PendingConnection::new(rt, stream) {
+        queue.put(rt, pending);
+    }
+}
+
 /// Puts a connection on a queue, where one came. Where no file is left for it, the one that has
 /// waited longest there is closed.
 pub fn take_in<R: Wait + Clock>(rt: &R, queue: &AcceptQueue, came: io::Result<TcpStream>) {
     match came {
-        Ok(stream) => {
-            if let Ok(pending) = PendingConnection::new(rt, stream) {
-                queue.put(rt, pending);
-            }
-        }
+        Ok(stream) => put(rt, queue, stream),
         Err(error) => {
             if wants_files(&error) {
-                queue.close_first(rt);
+                let _closed = queue.close_first(rt);
             }
             thread::sleep(rt, Duration::from_millis(PAUSE_MS));
+        }
+    }
+}
+
+/// Puts a connection on a queue that goes before others. Where no file is left for it, one of the
+/// others is closed, and one of its own only where none of them waits; then the next may come at once.
+pub fn take_in_first<R: Wait + Clock>(
+    rt: &R,
+    queue: &AcceptQueue,
+    others: &AcceptQueue,
+    came: io::Result<TcpStream>,
+) {
+    match came {
+        Ok(stream) => put(rt, queue, stream),
+        Err(error) => {
+            let is_freed = wants_files(&error) && (others.close_first(rt) || queue.close_first(rt));
+            if !is_freed {
+                thread::sleep(rt, Duration::from_millis(PAUSE_MS));
+            }
         }
     }
 }

@@ -1,7 +1,8 @@
 // A connection that no worker serves now.
 
-use crate::holder::{Hold, Holder, Stand, hold_of};
-use crate::window::{Extent, GLANCE, WINDOW, extent_of};
+use crate::holder::{Hold, Holder, NoHolder, Stand, hold_of};
+use crate::room::Share;
+use crate::window::{Extent, GLANCE, Sight, WINDOW, sight_of};
 use std::io;
 use std::io::{ErrorKind, Read, Write};
 use std::net::{Shutdown, TcpStream};
@@ -28,6 +29,9 @@ const IDLE_MS: u64 = 10_000;
 /// How long it may take for that in all.
 const SENDING_MS: u64 = 300_000;
 
+/// The interim answer for which a client waits that asks for it before it sends the body.
+const CONTINUE: &[u8] = b"HTTP/1.1 100 Continue\r\n\r\n";
+
 /// The rest of an answer: these bytes from a place on, which are sent until a moment.
 #[derive(Drop)]
 struct Rest {
@@ -36,6 +40,8 @@ struct Rest {
     ends: Duration,
     /// Whether nothing is left of the request that its client could still send.
     is_done: bool,
+    /// What it takes of the room until all is sent.
+    share: Share,
 }
 
 /// An answer that waits for a ticket since a moment.
@@ -47,6 +53,17 @@ struct Promised {
     since: Duration,
 }
 
+/// What becomes of a request that is long.
+#[derive(Clone, Copy, PartialEq, Eq)]
+enum LongOnes {
+    /// A worker reads it as it comes.
+    Read,
+    /// It waits until one may.
+    Wait,
+    /// It is refused, and nothing of it read.
+    Refuse,
+}
+
 /// What a write of the rest of an answer comes to.
 #[derive(Clone, Copy, PartialEq, Eq)]
 enum Sent {
@@ -56,6 +73,13 @@ enum Sent {
     Nothing,
     /// It is gone.
     Failed,
+}
+
+impl Promised {
+    /// What it takes of the room: nothing of it is sent yet.
+    fn share(&self) -> Share {
+        Share::of(self.bytes.len(), self.bytes.len())
+    }
 }
 
 impl Rest {
@@ -94,7 +118,7 @@ enum Stage {
     Awaiting,
     /// The rest of its request.
     Reading,
-    /// It is a pull of the node of this number, which is held since this moment.
+    /// It is a pull of the node of this number, or a command (0), which is held since this moment.
     Held(u8, Duration),
     /// It is one that isn't held any longer, as that node has sent another.
     Released,
@@ -112,6 +136,8 @@ pub struct PendingConnection {
     stream: TcpStream,
     stage: Stage,
     until: Duration,
+    /// Whether its client was sent the interim answer 100.
+    had_continue: bool,
 }
 
 /// What a look at a connection finds.
@@ -130,18 +156,26 @@ pub enum Readiness {
     Closed,
 }
 
+/// Whether a connection takes these few bytes at once.
+fn is_sent(mut stream: &TcpStream, bytes: &[u8]) -> bool {
+    match stream.write(bytes) {
+        Ok(count) => count == bytes.len(),
+        Err(_) => false,
+    }
+}
+
 impl Stage {
     /// Whether a look at the connection waits for something to come.
     fn is_unseen(&self) -> bool {
         matches!(self, Stage::Accepted)
     }
 
-    /// How many bytes of an answer it keeps.
-    fn kept(&self) -> usize {
+    /// What its answer takes of the room, if it has one.
+    fn share(&self) -> Share {
         match self {
-            Stage::Sending(rest) => rest.bytes.len(),
-            Stage::Promised(promised) => promised.bytes.len(),
-            _ => 0,
+            Stage::Sending(rest) => rest.share,
+            Stage::Promised(promised) => promised.share(),
+            _ => Share::of(0, 0),
         }
     }
 
@@ -153,10 +187,10 @@ impl Stage {
         }
     }
 
-    /// The number of the node whose pull is held.
+    /// The number of the node whose pull is held, if one is.
     fn asker(&self) -> Option<u8> {
         match self {
-            Stage::Held(from, _since) => Some(*from),
+            Stage::Held(from, _since) if *from > 0 => Some(*from),
             _ => None,
         }
     }
@@ -180,6 +214,7 @@ impl PendingConnection {
             stream,
             stage: Stage::Accepted,
             until,
+            had_continue: false,
         })
     }
 
@@ -188,9 +223,9 @@ impl PendingConnection {
         self.stage.is_unseen()
     }
 
-    /// How many bytes of its answer wait here.
-    pub(crate) fn kept(&self) -> usize {
-        self.stage.kept()
+    /// What its answer takes of the room.
+    pub(crate) fn share(&self) -> Share {
+        self.stage.share()
     }
 
     /// The number of the node whose pull is held, if one is.
@@ -215,18 +250,21 @@ impl PendingConnection {
             stream,
             stage: Stage::Closing,
             until,
+            had_continue: true,
         })
     }
 
-    /// A connection of whose answer these bytes are still to be sent, as long as its client takes
-    /// some of them.
-    pub fn sending<R: Clock>(
+    /// A connection of whose answer, which has so many bytes in all, these are still to be sent, as
+    /// long as its client takes some of them.
+    pub(crate) fn sending<R: Clock>(
         rt: &R,
         stream: TcpStream,
         bytes: Vec<u8>,
+        size: usize,
     ) -> io::Result<PendingConnection> {
         stream.set_nonblocking(true)?;
-        PendingConnection::with_rest(rt, stream, bytes, false)
+        let share = Share::of(size, bytes.len());
+        PendingConnection::with_rest(rt, stream, bytes, false, share)
     }
 
     // One of whose answer these bytes are still to be sent, where no look waits.
@@ -235,6 +273,7 @@ impl PendingConnection {
         stream: TcpStream,
         bytes: Vec<u8>,
         is_done: bool,
+        share: Share,
     ) -> io::Result<PendingConnection> {
         let now = rt.monotonic()?;
         let rest = Rest {
@@ -242,11 +281,13 @@ impl PendingConnection {
             from: 0,
             ends: now.saturating_add(Duration::from_millis(SENDING_MS)),
             is_done,
+            share,
         };
         Ok(PendingConnection {
             stream,
             until: rest.until(now),
             stage: Stage::Sending(rest),
+            had_continue: true,
         })
     }
 
@@ -271,6 +312,7 @@ impl PendingConnection {
             stream,
             until: since,
             stage: Stage::Promised(promised),
+            had_continue: true,
         })
     }
 
@@ -303,7 +345,7 @@ impl PendingConnection {
 
     // Holds the pull of a node. From here on no look waits.
     fn hold<R: Clock>(mut self, rt: &R, from: u8) -> Readiness {
-        if self.stage.asker().is_some() {
+        if self.stage.since().is_some() {
             return self.keep_or_drop(rt);
         }
         let Ok(now) = rt.monotonic() else {
@@ -346,19 +388,19 @@ impl PendingConnection {
     }
 
     // Looks at what has come of a request, and leaves it. Most requests fit into a glance.
-    fn peek<R: Clock, H: Holder>(self, rt: &R, reads_on: bool, holder: &H) -> Readiness {
+    fn peek<R: Clock, H: Holder>(self, rt: &R, long: LongOnes, holder: &H) -> Readiness {
         let mut bytes = [0u8; GLANCE];
         match self.stream.peek(&mut bytes) {
-            Ok(GLANCE) => self.peek_far(rt, reads_on, holder),
-            came => self.look_at_peeked(rt, came, &bytes, reads_on, holder),
+            Ok(GLANCE) => self.peek_far(rt, long, holder),
+            came => self.look_at_peeked(rt, came, &bytes, long, holder),
         }
     }
 
     // The same, of a longer one.
-    fn peek_far<R: Clock, H: Holder>(self, rt: &R, reads_on: bool, holder: &H) -> Readiness {
+    fn peek_far<R: Clock, H: Holder>(self, rt: &R, long: LongOnes, holder: &H) -> Readiness {
         let mut bytes = [0u8; WINDOW];
         let came = self.stream.peek(&mut bytes);
-        self.look_at_peeked(rt, came, &bytes, reads_on, holder)
+        self.look_at_peeked(rt, came, &bytes, long, holder)
     }
 
     // What becomes of it by what a look at its socket came to: so many bytes at the start of these.
@@ -367,12 +409,12 @@ impl PendingConnection {
         rt: &R,
         came: io::Result<usize>,
         bytes: &[u8],
-        reads_on: bool,
+        long: LongOnes,
         holder: &H,
     ) -> Readiness {
         match came {
             Ok(0) => Readiness::Closed,
-            Ok(count) => self.look_at(rt, &bytes[..count.min(bytes.len())], reads_on, holder),
+            Ok(count) => self.look_at(rt, &bytes[..count.min(bytes.len())], long, holder),
             Err(error) if error.kind() == ErrorKind::WouldBlock => self.keep(rt),
             Err(error) if error.kind() == ErrorKind::Interrupted => Readiness::Pending(self),
             Err(_) => Readiness::Closed,
@@ -393,22 +435,40 @@ impl PendingConnection {
         self,
         rt: &R,
         bytes: &[u8],
-        reads_on: bool,
+        long: LongOnes,
         holder: &H,
     ) -> Readiness {
-        let extent = extent_of(bytes);
-        match self.judged(bytes, extent, holder) {
+        let sight = sight_of(bytes);
+        match self.judged(bytes, sight.extent, holder) {
             Some((from, Hold::Later)) => self.hold_on(rt, from),
             Some((from, Hold::Soon)) => self.hold(rt, from),
-            _ => self.hand_over(rt, extent, reads_on),
+            _ => self.go_by(rt, sight, long),
         }
     }
 
-    // Hands the connection over if so much of its request is enough. A long one waits until a
-    // worker may read on.
-    fn hand_over<R: Clock>(self, rt: &R, extent: Extent, reads_on: bool) -> Readiness {
+    // Sends its client the interim answer 100, once. It says whether that went well.
+    fn send_continue(&mut self) -> bool {
+        if self.had_continue {
+            return true;
+        }
+        self.had_continue = true;
+        is_sent(&self.stream, CONTINUE)
+    }
+
+    // Goes on by what a look at its request shows. A client that waits for the interim answer gets it,
+    // unless its request is refused.
+    fn go_by<R: Clock>(mut self, rt: &R, sight: Sight, long: LongOnes) -> Readiness {
+        let is_refused = sight.extent == Extent::Long && long == LongOnes::Refuse;
+        if sight.awaits_continue && !is_refused && !self.send_continue() {
+            return Readiness::Closed;
+        }
+        self.hand_over(rt, sight.extent, long)
+    }
+
+    // Hands the connection over if so much of its request is enough. A long one may have to wait.
+    fn hand_over<R: Clock>(self, rt: &R, extent: Extent, long: LongOnes) -> Readiness {
         let is_long = extent == Extent::Long;
-        if extent == Extent::Part || (is_long && !reads_on) {
+        if extent == Extent::Part || (is_long && long == LongOnes::Wait) {
             return self.await_rest(rt);
         }
         match self.into_blocking() {
@@ -424,6 +484,7 @@ impl PendingConnection {
             stream,
             stage,
             until: _,
+            had_continue: _,
         } = self;
         if !stage.is_unseen() && stream.set_nonblocking(false).is_err() {
             return None;
@@ -441,13 +502,14 @@ impl PendingConnection {
 
     // Sends an answer that has waited.
     fn fulfil<R: Clock>(rt: &R, stream: TcpStream, promised: Promised) -> Readiness {
+        let share = promised.share();
         let Promised {
             bytes,
             is_done,
             ticket: _,
             since: _,
         } = promised;
-        match PendingConnection::with_rest(rt, stream, bytes, is_done) {
+        match PendingConnection::with_rest(rt, stream, bytes, is_done, share) {
             Ok(pending) => pending.send_rest(rt),
             Err(_) => Readiness::Closed,
         }
@@ -468,6 +530,7 @@ impl PendingConnection {
             stream,
             stage,
             until: _,
+            had_continue: _,
         } = self;
         match stage {
             Stage::Promised(promised) => PendingConnection::fulfil(rt, stream, promised),
@@ -496,6 +559,7 @@ impl PendingConnection {
             stream,
             stage: _,
             until: _,
+            had_continue: _,
         } = self;
         match PendingConnection::closing(rt, stream) {
             Ok(pending) => Readiness::Pending(pending),
@@ -516,11 +580,24 @@ impl PendingConnection {
     }
 
     // The first look. It says how long a read waits, here and later.
-    fn first_look<R: Clock, H: Holder>(self, rt: &R, reads_on: bool, holder: &H) -> Readiness {
+    fn first_look<R: Clock, H: Holder>(self, rt: &R, long: LongOnes, holder: &H) -> Readiness {
         let wait = Duration::from_millis(FIRST_LOOK_MS);
         match self.stream.set_read_timeout(Some(wait)) {
-            Ok(()) => self.peek(rt, reads_on, holder),
+            Ok(()) => self.peek(rt, long, holder),
             Err(_) => Readiness::Closed,
+        }
+    }
+
+    // Looks at what has come, or sends on.
+    fn look_by<R: Clock, H: Holder>(self, rt: &R, long: LongOnes, holder: &H) -> Readiness {
+        match self.stage {
+            Stage::Accepted => self.first_look(rt, long, holder),
+            Stage::Awaiting | Stage::Reading | Stage::Held(_, _) | Stage::Released => {
+                self.peek(rt, long, holder)
+            }
+            Stage::Promised(_) => self.stand(rt, holder),
+            Stage::Sending(_) => self.send_rest(rt),
+            Stage::Closing => self.drain(rt),
         }
     }
 
@@ -528,14 +605,23 @@ impl PendingConnection {
     /// for nothing. A long request is there for a worker where one may read on, and a pull once its
     /// holder keeps it waiting no longer. An answer that waits is sent then too.
     pub fn look<R: Clock, H: Holder>(self, rt: &R, reads_on: bool, holder: &H) -> Readiness {
-        match self.stage {
-            Stage::Accepted => self.first_look(rt, reads_on, holder),
-            Stage::Awaiting | Stage::Reading | Stage::Held(_, _) | Stage::Released => {
-                self.peek(rt, reads_on, holder)
+        let long = if reads_on {
+            LongOnes::Read
+        } else {
+            LongOnes::Wait
+        };
+        self.look_by(rt, long, holder)
+    }
+
+    /// Looks as `look` does, for a thread that serves all connections by itself: no look waits, no pull
+    /// is held, and a long request is there to be refused.
+    pub fn look_at_once<R: Clock>(mut self, rt: &R) -> Readiness {
+        if self.stage.is_unseen() {
+            if !self.stop_waiting() {
+                return Readiness::Closed;
             }
-            Stage::Promised(_) => self.stand(rt, holder),
-            Stage::Sending(_) => self.send_rest(rt),
-            Stage::Closing => self.drain(rt),
+            self.stage = Stage::Awaiting;
         }
+        self.look_by(rt, LongOnes::Refuse, &NoHolder)
     }
 }

@@ -13,6 +13,10 @@ pub struct SharedSocket {
     is_dry: Cell<bool>,
     /// Whether what is written is the answer to a request that was read to its end.
     is_heard: Cell<bool>,
+    /// How many bytes of the answer were taken, by the client or to be sent later.
+    taken: Cell<usize>,
+    /// How many it has at the least: those, and what was to be written last.
+    size: Cell<usize>,
     /// What is left of an answer that its client doesn't take: it is sent later.
     kept: RefCell<Vec<u8>>,
 }
@@ -24,6 +28,8 @@ impl SharedSocket {
             stream,
             is_dry: Cell::new(false),
             is_heard: Cell::new(false),
+            taken: Cell::new(0),
+            size: Cell::new(0),
             kept: RefCell::new(Vec::new(alloc)),
         }
     }
@@ -38,6 +44,8 @@ impl SharedSocket {
             stream,
             is_dry: _,
             is_heard: _,
+            taken: _,
+            size: _,
             kept,
         } = self;
         (stream, kept.into_inner())
@@ -64,12 +72,23 @@ impl SharedSocket {
         self.is_dry.set(count < room);
     }
 
-    /// Notes what is written. An answer of the codes 200 to 299 is one to a request that was read
-    /// to its end.
+    /// Notes what is to be written. An answer of the codes 200 to 299 is one to a request that was
+    /// read to its end.
     pub(crate) fn note_written(&self, bytes: &[u8]) {
+        self.size.set(self.taken.get().saturating_add(bytes.len()));
         if bytes.starts_with(b"HTTP/1.1 2") {
             self.is_heard.set(true);
         }
+    }
+
+    /// Notes that so many bytes of it were taken.
+    pub(crate) fn note_taken(&self, count: usize) {
+        self.taken.set(self.taken.get().saturating_add(count));
+    }
+
+    /// How many bytes the answer has, as far as it is known.
+    pub(crate) fn size(&self) -> usize {
+        self.size.get()
     }
 
     /// Whether nothing is left of the request that its client could still send. Then the system

@@ -1,0 +1,100 @@
+// How much room the answers take that wait to be sent.
+ghost use Rattle.std.specs.Prelude.{◌≡◌};
+ghost use Rattle.lra_sockets.specs.Rooms.{has_room, is_long, share_of, with_share, without_share};
+
+use lra_http::{MAX_BODY_BYTES, MAX_HEAD_BYTES};
+
+/// The most bytes of a short answer. Only a frame, which goes to another node, has a longer body.
+const SHORT_MOST: usize = MAX_BODY_BYTES + MAX_HEAD_BYTES;
+
+/// The most bytes that wait of all long answers: two frames of full homes with the longest links, or
+/// a dozen of common ones.
+const LONG_ROOM: usize = 64 << 20;
+
+/// The most bytes that wait of all short answers: 800 of the longest. A process has some 1,000 files
+/// where nobody says otherwise, so it runs out of connections before.
+const SHORT_ROOM: usize = 64 << 20;
+
+/// What an answer takes of the room.
+#[derive(Clone, Copy, PartialEq, Eq, Debug)]
+pub struct Share {
+    /// How many of its bytes wait.
+    pub bytes: usize,
+    /// Whether all of it, with what was sent, is long. So the rest of a frame never counts as a short
+    /// answer.
+    pub is_long: bool,
+}
+
+/// How many bytes of answers wait to be sent. Long ones have a room of their own, so that a peer that
+/// doesn't read its frame takes no room from other clients' answers.
+#[derive(Clone, Copy, PartialEq, Eq, Debug)]
+pub struct Room {
+    pub short: usize,
+    pub long: usize,
+}
+
+/// Whether an answer of this size is a long one.
+pub fn is_long(size: usize) -> bool
+    ensures { result ≡ is_long size }
+{
+    size > SHORT_MOST
+}
+
+impl Share {
+    /// That of an answer of this size, of which so many bytes wait.
+    pub fn of(size: usize, kept: usize) -> Share
+        ensures { result ≡ share_of size kept }
+    {
+        Share {
+            bytes: kept,
+            is_long: is_long(size),
+        }
+    }
+}
+
+impl Room {
+    /// The room where this waits too.
+    pub fn with(self, share: Share) -> Room
+        ensures { result ≡ with_share share self }
+    {
+        if share.is_long {
+            Room {
+                short: self.short,
+                long: self.long.saturating_add(share.bytes),
+            }
+        } else {
+            Room {
+                short: self.short.saturating_add(share.bytes),
+                long: self.long,
+            }
+        }
+    }
+
+    /// The room where this waits no longer.
+    pub fn without(self, share: Share) -> Room
+        ensures { result ≡ without_share share self }
+    {
+        if share.is_long {
+            Room {
+                short: self.short,
+                long: self.long.saturating_sub(share.bytes),
+            }
+        } else {
+            Room {
+                short: self.short.saturating_sub(share.bytes),
+                long: self.long,
+            }
+        }
+    }
+
+    /// Whether this may wait too.
+    pub fn may_keep(self, share: Share) -> bool
+        ensures { result ≡ has_room share self }
+    {
+        if share.is_long {
+            self.long.saturating_add(share.bytes) <= LONG_ROOM
+        } else {
+            self.short.saturating_add(share.bytes) <= SHORT_ROOM
+        }
+    }
+}
