@@ -4,7 +4,8 @@ use lra_book::{Call, Reply};
 use lra_facts::{Body, Command, CommandReply, Fact};
 use lra_id::{Front, LraId, MAX_NODES, NodeId, Verdict};
 use lra_luck::Halt;
-use lra_noting::{body_of_all, enters, freed_by, is_completion};
+use lra_noting::{body_of_all, enters, freed_by, heard_by, is_completion};
+use lra_turns::Called;
 use std::alloc::{AllocError, Global};
 
 /// What is to be known of a call once it is made.
@@ -17,6 +18,7 @@ pub struct Asked {
     pub enters: bool,
     pub completes: bool,
     pub freed: Option<LraId>,
+    pub heard: Option<Called>,
 }
 
 fn command_in(call: &Call) -> Result<Option<Command>, AllocError> {
@@ -47,6 +49,7 @@ impl Asked {
             enters: enters(call),
             completes: is_completion(call),
             freed: freed_by(call),
+            heard: heard_by(call),
         })
     }
 }

@@ -48,6 +48,17 @@ struct Awaited {
     front: Front,
 }
 
+/// How many facts of a node another claimed to have when it asked, and how often it answered since.
+#[derive(Clone, Copy)]
+struct Claim {
+    other: NodeId,
+    count: u64,
+    answers: u64,
+}
+
+/// How often one answers until nothing is waited for any more that it claimed before.
+const ANSWERS: u64 = 2;
+
 /// How a life began, and whom it has heard since.
 #[derive(Drop)]
 struct Start {
@@ -57,6 +68,8 @@ struct Start {
     heard: Vec<usize>,
     /// How many facts of this node others told of.
     told_own: u64,
+    /// What others claim to have beside that.
+    claims: Vec<Claim>,
 }
 
 /// What is there of a node from a start to the next stop.
@@ -89,14 +102,40 @@ impl Start {
             waits_for_all,
             heard: Vec::new(alloc),
             told_own: 0,
+            claims: Vec::new(alloc),
         }
     }
 
-    /// Notes that a node told how many facts of this one it has.
-    fn hear(&mut self, place: usize, told_own: u64) -> Result<(), Halt> {
+    /// Notes that a node answered, and told how many facts of this one it has.
+    fn hear(&mut self, place: usize, other: NodeId, told_own: u64) -> Result<(), Halt> {
         self.told_own = self.told_own.max(told_own);
         self.heard.push(place)?;
+        for claim in self.claims.iter_mut() {
+            if claim.other == other {
+                claim.answers = claim.answers.saturating_add(1);
+            }
+        }
         Ok(())
+    }
+
+    /// Notes that a node asked as one that has so many facts of this one.
+    fn claim(&mut self, other: NodeId, count: u64) -> Result<(), Halt> {
+        self.claims.push(Claim {
+            other,
+            count,
+            answers: 0,
+        })?;
+        Ok(())
+    }
+
+    /// Whether one with so many facts of its own has all that is claimed.
+    fn is_met(&self, own: u64) -> bool {
+        for claim in self.claims.iter() {
+            if claim.answers < ANSWERS && claim.count > own {
+                return false;
+            }
+        }
+        true
     }
 
     /// Whether all of so many nodes were heard but the one at this place.
@@ -157,7 +196,7 @@ impl<R: Runs> Life<R> {
     pub fn may_enter(&self, own: u64, place: usize, count: usize, now: u64) -> bool {
         let start = &self.start;
         let is_late = now >= start.at.saturating_add(LATE_MS) && !start.waits_for_all;
-        start.told_own <= own && (is_late || start.has_heard_all(place, count))
+        start.told_own <= own && start.is_met(own) && (is_late || start.has_heard_all(place, count))
     }
 
     /// The run of its journal, which is closed then.
@@ -209,7 +248,7 @@ impl<R: Runs> Life<R> {
 
     /// Notes what a call leaves for the threads to go on with.
     pub fn note(&mut self, asked: &Asked, reply: &Reply, now: u64) {
-        let noted = noted_by(asked.completes, &asked.freed, reply);
+        let noted = noted_by(asked.completes, &asked.freed, &asked.heard, reply);
         if is_any(&noted) {
             self.state.note(&noted, at(now));
         }
@@ -285,6 +324,11 @@ impl<R: Runs> Life<R> {
     /// How many facts there are is to be asked for once more.
     pub fn want_count(&mut self) {
         self.state.want_count();
+    }
+
+    /// Whom to call is asked for now.
+    pub fn begin_list(&mut self, now: u64) {
+        self.state.begin_list(at(now));
     }
 
     /// Whom to call is to be asked for once more.
@@ -372,13 +416,14 @@ impl<R: Runs> Life<R> {
         self.is_awaited(from) || self.is_left(from)
     }
 
-    /// Hears by a pull how many facts of this node another has.
-    pub fn hear_own(&mut self, me: NodeId, told: &Front) {
+    /// Hears by a pull how many facts of this node another claims to have.
+    pub fn hear_claim(&mut self, me: NodeId, other: NodeId, told: &Front) -> Result<(), Halt> {
         let (theirs, ours) = (told.count(me), self.state.front().count(me));
         if theirs > ours && theirs < LAST_NUMBER {
-            self.state.hear_count(theirs);
-            self.start.told_own = self.start.told_own.max(theirs);
+            self.state.hear_claim(other, theirs);
+            self.start.claim(other, theirs)?;
         }
+        Ok(())
     }
 
     /// Hears what the node at a place told, where it was said that this node has a front.
@@ -391,7 +436,7 @@ impl<R: Runs> Life<R> {
     ) -> Result<(), Halt> {
         let told = telling.front();
         self.state.note_heard(telling.from(), &telling);
-        self.start.hear(teller, told.count(me))?;
+        self.start.hear(teller, telling.from(), told.count(me))?;
         if told.below(asked) {
             self.state.drop_telling(telling.from());
             return Ok(());

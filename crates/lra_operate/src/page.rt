@@ -27,7 +27,7 @@ const HEADS=[\"Called in vain, the longest first\",\"Failed\",\"Somebody is stil
 const LOOKS={Active:0,Closing:1,Completing:1,Closed:2,Completed:2,Cancelling:4,Compensating:4,Cancelled:5,Compensated:5};\n\
 const KINDS=[\"active\",\"closing\",\"closed\",\"failed\",\"cancelling\",\"cancelled\"];\n\
 const TASKS={status:\"be asked for its status\",after:\"be told of the end\"};\n\
-const CAUSES={journal:\"its journal fails, so it stores nothing. Is the disk full?\",behind:\"it hasn't heard from the other nodes yet.\",ending:\"it is ending.\"};\n\
+const CAUSES={journal:\"its journal fails, so it stores nothing. Is the disk full?\",behind:\"it hasn't heard from the other nodes yet.\",ending:\"it is ending.\",disk:\"a call has waited for its disk for seconds. Does the disk hang?\",copies:\"too few other nodes have what it stored, or another process gives its numbers.\"};\n\
 const PURGES={due:\"due\",E8:\"not before it has ended\",E9:\"with its root\",E10:\"a participant is still to forget\",E24:\"a listener is still to be told\"};\n\
 let node={},ready={ready:true},lras=new Map(),calls=new Map(),fault=\"\",opened=null,status=\"\",held=false,at=0,wake=()=>{};\n\
 let pulled=new Map(),most=256,counted=0,unfolded=false;\n\
@@ -296,7 +296,7 @@ const p=make(\"p\"),[of]=info.purge.split(\" \"),isHere=home(it.lra)===node.node
 if(info.parent)p.append(\"Nested in \",link(info.parent),\". \");\n\
 p.append(info.decision?\"Told to \"+info.decision+\". \":it.status===\"Active\"?\"Neither closed nor cancelled yet. \":\"It goes with what it is nested in. \");\n\
 if(info.deadline)p.append(\"Deadline: \"+new Date(info.deadline).toLocaleString()+\". \");\n\
-p.append(\"Purge: \"+(PURGES[of]||info.purge)+(of===\"E10\"||of===\"E24\"?\" (\"+info.purge+\")\":\"\")+(of===\"due\"&&!isHere?\", at node \"+home(it.lra):\"\")+\". \");\n\
+p.append(\"Purge: \"+(of===\"E4\"?\"at node \"+home(it.lra):PURGES[of]||info.purge)+(of===\"E10\"||of===\"E24\"?\" (\"+info.purge+\")\":\"\")+(of===\"due\"&&!isHere?\", at node \"+home(it.lra):\"\")+\". \");\n\
 if(it.status===\"Active\")p.append(isHere?button(\"Cancel\",\"\",()=>ask(\"Cancel \"+name(it.lra)+\"?\",\"All who joined it, and what is nested in it, are called to compensate. Who still works with it is refused. This can't be undone.\",\"Cancel the LRA\",\"PUT\",\"/lra/\"+it.lra+\"/cancel\"),\"Cancel \"+name(it.lra)):\"It can be cancelled at the page of node \"+home(it.lra)+\". \");\n\
 if(of===\"due\"&&isHere)p.append(button(\"Purge\",\"\",()=>ask(\"Purge \"+name(it.lra)+\"?\",\"It deletes this LRA and all that is nested in it, at every node. Who asks for it later is answered E3 NotHeld.\",\"Purge\",\"DELETE\",\"/lra/\"+it.lra),\"Purge \"+name(it.lra)));\n\
 return p;\n\

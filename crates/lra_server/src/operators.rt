@@ -9,18 +9,21 @@ use crate::operators::errands::Errands;
 use crate::operators::known::Known;
 use crate::operators::operator_clerk::OperatorClerk;
 use log::Log;
-use lra_api::Paths;
+use lra_api::{Paths, serve_fault};
+use lra_http::Fault;
 use lra_operate::serve_operator;
 use lra_sockets::{
-    BufferedSocket, Cutoff, Limit, NoHolder, Readiness, SLICE_MS, Times, unix_millis,
+    BufferedSocket, Cutoff, Limit, Readiness, SLICE_MS, SharedSocket, SocketReader, SocketWriter,
+    Times, unix_millis,
 };
 use lra_threads::Node;
 use std::alloc::Global;
 use std::net::TcpStream;
+use std::rc::Rc;
 use std::sync::Wait;
 use std::time::{Clock, Duration};
 
-/// How long a request may take once it is there, or has begun and is a long one.
+/// How long it may take to read a request of which all is there.
 const REQUEST_MS: u64 = 1_000;
 
 /// How long it may take to write its answer. What the operator doesn't take at once is sent on
@@ -29,6 +32,47 @@ const ANSWER_MS: u64 = 5_000;
 
 /// How long it rests where nothing comes of all that wait.
 const REST_MS: u64 = 2;
+
+/// A reader and a writer over an operator's connection, and the socket that they share.
+type Buffered<'a, R> = (SocketReader<'a, R>, SocketWriter<'a, R>, Rc<SharedSocket>);
+
+/// A reader and a writer over an operator's connection. A read waits for nothing.
+fn buffered<'a, R: Wait + Clock>(
+    rt: &'a R,
+    alloc: Global,
+    node: &'a Node,
+    stream: TcpStream,
+) -> Option<Buffered<'a, R>> {
+    stream
+        .set_read_timeout(Some(Duration::from_millis(SLICE_MS)))
+        .ok()?;
+    let times = Times {
+        reading: Limit::of_whole(REQUEST_MS),
+        writing: Limit::of_millis(ANSWER_MS),
+    };
+    let (signal, queue, cutoff) = (&node.signal, Some(&node.operators), Cutoff::ProgramEnd);
+    let buffered = BufferedSocket::new(rt, alloc, signal, cutoff, queue, None, stream, times);
+    let (reader, writer, socket) = buffered.ok()?.into_parts();
+    Some((reader, writer, socket))
+}
+
+/// Refuses a long request, and reads nothing of it: one thread serves all operators, and no call of
+/// theirs is that long.
+fn refuse_long<'a, R: Wait + Clock>(
+    rt: &'a R,
+    alloc: Global,
+    node: &'a Node,
+    stream: TcpStream,
+) -> Option<()> {
+    let Some((reader, mut writer, socket)) = buffered(rt, alloc, node, stream) else {
+        return None;
+    };
+    let _served = serve_fault(alloc, &mut writer, Fault::BodyTooLong);
+    drop(reader);
+    drop(writer);
+    node.operators.close(rt, socket);
+    Some(())
+}
 
 /// Serves one operator, if there is memory for it.
 fn serve_one<'a, R: Wait + Clock, L: Log>(
@@ -40,16 +84,9 @@ fn serve_one<'a, R: Wait + Clock, L: Log>(
     errands: &'a Errands,
     stream: TcpStream,
 ) -> Option<()> {
-    stream
-        .set_read_timeout(Some(Duration::from_millis(SLICE_MS)))
-        .ok()?;
-    let times = Times {
-        reading: Limit::of_millis(REQUEST_MS),
-        writing: Limit::of_millis(ANSWER_MS),
+    let Some((mut reader, mut writer, socket)) = buffered(rt, alloc, node, stream) else {
+        return None;
     };
-    let (signal, queue, cutoff) = (&node.signal, Some(&node.operators), Cutoff::ProgramEnd);
-    let buffered = BufferedSocket::new(rt, alloc, signal, cutoff, queue, None, stream, times);
-    let (mut reader, mut writer, socket) = buffered.ok()?.into_parts();
     let mut clerk = OperatorClerk::new(rt, log, alloc, node, errands);
     let cause = node.unready(rt);
     let known = Known { rt, node, cause };
@@ -83,7 +120,7 @@ pub fn operate<R: Wait + Clock, L: Log>(
         let Some(pending) = node.operators.take(rt) else {
             return;
         };
-        match pending.look(rt, true, &NoHolder) {
+        match pending.look_at_once(rt) {
             Readiness::Pending(pending) | Readiness::Held(pending) => {
                 silent = silent.saturating_add(1);
                 if silent >= node.operators.put_back(rt, pending) {
@@ -92,7 +129,10 @@ pub fn operate<R: Wait + Clock, L: Log>(
                 }
             }
             Readiness::Closed => {}
-            Readiness::Whole(stream) | Readiness::Long(stream) => {
+            Readiness::Long(stream) => {
+                let _refused = refuse_long(rt, alloc, node, stream);
+            }
+            Readiness::Whole(stream) => {
                 let _served = serve_one(rt, log, alloc, node, paths, errands, stream);
             }
         }

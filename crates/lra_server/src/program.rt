@@ -9,7 +9,7 @@ use crate::node::begun::{Begun, Shut, begun_by};
 use crate::node::reopening::open_book;
 use crate::node::{Failure, NodeRuntime, run_node, runtime_of};
 use crate::{Stores, Unopened};
-use log::{Log, info};
+use log::{Log, info, warn};
 use lra_book::{Book, MAX_ENTRIES, MAX_MOVES};
 use lra_http::Bytes;
 use lra_id::NodeId;
@@ -69,12 +69,21 @@ fn tell<R: Eprint>(rt: &R, trouble: Trouble) {
     };
 }
 
-/// Tells where each node listens.
-fn tell_of_all<L: Log>(log: &L, nodes: &[Node]) {
+/// Whether other machines may reach the port of a node that has nodes elsewhere, and so another group's
+/// nodes may.
+fn is_in_reach(node: &Node) -> bool {
+    node.nodes > 1 && node.site.is_apart() && !node.site.listen.ip().is_loopback()
+}
+
+/// Tells where each node listens, and warns if nodes of another group may be taken for its own.
+fn tell_of_all<L: Log>(log: &L, nodes: &[Node], group: Option<&GroupName>) {
     for node in nodes {
         info!(log; "node {}: listens on {}", node.number(), node.site.listen);
         if let Some(address) = node.site.operate {
             info!(log; "node {}: listens for operators on {}", node.number(), address);
+        }
+        if group.is_none() && is_in_reach(node) {
+            warn!(log; "node {}: its group has no name: nodes of another group at the addresses of its own would be taken for them, so give all the same group=NAME", node.number());
         }
     }
 }
@@ -479,7 +488,7 @@ where
 {
     let runtimes = begin(rt, alloc, nodes, stores, group)?;
     let shutdown = watch(rt, alloc, host, first, input)?;
-    tell_of_all(log, nodes);
+    tell_of_all(log, nodes, group);
     run_all(rt, log, alloc, nodes, stores, runtimes, &shutdown);
     Ok(shutdown.end(rt))
 }

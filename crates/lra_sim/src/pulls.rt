@@ -131,7 +131,7 @@ impl<R: Runs> Play<R> {
             return Ok(());
         };
         self.see_told(teller, delta)?;
-        self.hear_own(teller, &told)?;
+        self.hear_claim(teller, asker, &told)?;
         self.answer(asker, teller, front, delta)
     }
 
@@ -143,12 +143,12 @@ impl<R: Runs> Play<R> {
         }
     }
 
-    fn hear_own(&mut self, teller: usize, told: &Front) -> Result<(), Halt> {
-        let me = self.me(teller)?;
-        if let Some(life) = self.life(teller) {
-            life.hear_own(me, told);
+    fn hear_claim(&mut self, teller: usize, asker: usize, told: &Front) -> Result<(), Halt> {
+        let (me, other) = (self.me(teller)?, self.me(asker)?);
+        match self.life(teller) {
+            Some(life) => life.hear_claim(me, other, told),
+            None => Ok(()),
         }
-        Ok(())
     }
 
     /// The response to a pull is on its way, and may be cut off.

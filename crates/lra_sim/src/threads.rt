@@ -189,6 +189,10 @@ impl<R: Runs> Play<R> {
 
     /// Asks whom to call, and looks whether the model says the same.
     fn ask(&mut self, place: usize) -> Result<(), Halt> {
+        let now = self.now;
+        if let Some(life) = self.life(place) {
+            life.begin_list(now);
+        }
         match self.call(place, ENTERS, Call::Duties)? {
             Some(Reply::Due(duties)) => self.put_duties(place, duties),
             _ => {

@@ -2,7 +2,7 @@
 // one run follows another.
 
 use crate::node::Node;
-use lra_sockets::{take_in, wait_for_room};
+use lra_sockets::{take_in, take_in_first, wait_for_room};
 use std::net::TcpListener;
 use std::sync::Wait;
 use std::time::Clock;
@@ -21,10 +21,11 @@ pub fn accept<R: Wait + Clock>(rt: &R, node: &Node, listener: &TcpListener) {
     }
 }
 
-/// The same of those that come to the operators' port.
+/// The same of those that come to the operators' port. They go before clients' connections where no
+/// file is left.
 pub fn accept_operators<R: Wait + Clock>(rt: &R, node: &Node, listener: &TcpListener) {
     for came in listener.incoming() {
-        take_in(rt, &node.operators, came);
+        take_in_first(rt, &node.operators, &node.queue, came);
         wait_for_room(rt, &node.signal, &node.operators);
         if node.signal.has_ended(rt) {
             return;

@@ -9,6 +9,9 @@ const PLACES: usize = 8;
 /// From how long a call waits the disk counts as one that hangs.
 pub(crate) const HANGS_MS: u64 = 5_000;
 
+/// From how long a call waits operators wait for no call behind it.
+const STALLS_MS: u64 = 1_000;
+
 /// Since when each thread with a pass waits for its call.
 #[derive(Drop)]
 pub struct DeskWatch {
@@ -50,9 +53,8 @@ impl DeskWatch {
         self.note(place, 0);
     }
 
-    /// For how long the call waits that has waited longest, where that is so long that the disk
-    /// hangs.
-    pub(crate) fn hangs(&self, now: Duration) -> Option<Duration> {
+    // For how many milliseconds the call waits that has waited longest; 0 where none waits.
+    fn longest_ms(&self, now: Duration) -> u64 {
         let millis = u64::try_from(now.as_millis()).unwrap_or(0);
         let mut longest = 0u64;
         for since in self.since_ms.iter() {
@@ -61,9 +63,21 @@ impl DeskWatch {
                 longest = longest.max(millis.saturating_sub(since));
             }
         }
+        longest
+    }
+
+    /// For how long the call waits that has waited longest, where that is so long that the disk
+    /// hangs.
+    pub(crate) fn hangs(&self, now: Duration) -> Option<Duration> {
+        let longest = self.longest_ms(now);
         if longest < HANGS_MS {
             return None;
         }
         Some(Duration::from_millis(longest))
+    }
+
+    /// Whether a call has waited so long that operators wait for no call behind it.
+    pub fn stalls(&self, now: Duration) -> bool {
+        self.longest_ms(now) >= STALLS_MS
     }
 }

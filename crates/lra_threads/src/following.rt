@@ -31,17 +31,21 @@ fn handed<R: Wait + Clock>(rt: &R, node: &Node, other: NodeId, seen: u64, told: 
     let time = Duration::from_millis(TAKING_MS);
     if node.mailbox.wait_until_taken(rt, other, seen, told, time) {
         Pulled::New
+    } else if node.mailbox.keeps(rt, other) {
+        Pulled::Kept
     } else {
         Pulled::Untaken
     }
 }
 
-/// What comes of what another node told, beyond the front from which it was asked.
+/// What comes of what another node told, beyond the front from which it was asked. It had begun anew so
+/// often then.
 fn take_over<R: Wait + Clock>(
     rt: &R,
     node: &Node,
     other: NodeId,
     front: &Front,
+    anew: u64,
     telling: Telling,
 ) -> Pulled {
     let told = telling.front();
@@ -52,7 +56,9 @@ fn take_over<R: Wait + Clock>(
         return Pulled::Lost;
     }
     let was_open = !node.mailbox.is_behind(rt);
-    node.mailbox.note_heard(rt, other, &telling);
+    if !node.mailbox.note_heard(rt, other, anew, &telling) {
+        return Pulled::Untaken;
+    }
     let is_older = told.count(other) < front.count(other);
     // What this node gave until now it knows of.
     let is_newer = told.count(node.me) > node.mailbox.front(rt).count(node.me);
@@ -79,7 +85,7 @@ fn take_over<R: Wait + Clock>(
 /// What a pull is counted as.
 fn counted(pulled: Pulled) -> Pull {
     match pulled {
-        Pulled::New | Pulled::Untaken => Pull::New,
+        Pulled::New | Pulled::Untaken | Pulled::Kept => Pull::New,
         Pulled::Nothing | Pulled::Older | Pulled::Newer | Pulled::Lost => Pull::Nothing,
         Pulled::Unreached | Pulled::Unanswered | Pulled::Misdirected => Pull::Failed,
         Pulled::Refused(_) => Pull::Refused,
@@ -94,12 +100,12 @@ fn pull_once<R: Wait + Clock + Sockets>(
     other: NodeId,
     waits: bool,
 ) -> Pulled {
-    let front = node.mailbox.front(rt);
+    let (front, anew) = (node.mailbox.front(rt), node.mailbox.times_anew(rt, other));
     let Ok(stream) = node.site.reach(rt, alloc, &node.signal, other.number()) else {
         return Pulled::Unreached;
     };
     match pull_over(rt, alloc, node, other, &front, waits, stream) {
-        Ok(telling) => take_over(rt, node, other, &front, telling),
+        Ok(telling) => take_over(rt, node, other, &front, anew, telling),
         Err(PullError::Misdirected) => Pulled::Misdirected,
         Err(_) => Pulled::Unanswered,
     }
@@ -219,7 +225,7 @@ pub fn follow<R: Wait + Clock + Sockets, L: Log>(
         let pulled = came_to(node, other, pulled);
         warn_of(rt, log, node, other, began, pulled, &mut outlook);
         node.note_silent(other, fault_of(pulled).is_some());
-        next = next.behind(pulled, is_held);
+        next = next.behind(pulled, is_held, node.asks_waiting(other));
         let Some(told) = rest_before(rt, node, other, next, seen) else {
             return;
         };

@@ -8,10 +8,11 @@ use crate::plaints::{Plaint, Sought, drop_sought, forget_found, note_sought, pla
 use lra_callback::Duties;
 use lra_heard::{Letter, Telling, Unheard};
 use lra_id::{Front, LraId, LraStatus, MAX_NODES, NodeId};
-use lra_mailbox::{Fill, MailboxState, Noted, OPENING_MS, Purged, Sweeping, Task, Wanted};
+use lra_mailbox::{Asks, Fill, MailboxState, Noted, Purged, Sweeping, Task, Wanted};
 use lra_sockets::now;
 use lra_turns::{Called, Due, Plight};
 use std::alloc::{AllocError, Global};
+use std::sync::atomic::{AtomicBool, Ordering};
 use std::sync::{Condvar, CondvarTimeouts, Mutex, Wait};
 use std::time::{Clock, Duration};
 
@@ -39,6 +40,8 @@ fn is_beyond(kept: &Option<Telling>, front: &Front) -> bool {
 struct Held {
     alloc: Global,
     state: MailboxState,
+    /// How many facts of its own each other node counted when it asked.
+    asks: Asks,
     /// Whose last call was in vain, where it was called.
     sought: Vec<Sought>,
     /// Of each node how many of its tellings were taken, or weren't.
@@ -184,9 +187,11 @@ pub struct Mailbox {
     came: Condvar,
     /// Wakes those who call.
     due: Condvar,
-    /// Wakes who waits for what was told to be taken, for the node to be counted or open, or for
-    /// the program's end.
+    /// Wakes who waits for what was told to be taken, for the node to be counted, or for the
+    /// program's end.
     changed: Condvar,
+    /// Whether commands are entered since that was last asked, which they weren't before.
+    has_opened: AtomicBool,
 }
 
 impl Mailbox {
@@ -206,6 +211,7 @@ impl Mailbox {
         let held = Held {
             alloc,
             state: MailboxState::new(alloc, me, nodes, are_apart, waits_for_all, sweeping),
+            asks: Asks::new(nodes),
             sought: Vec::new(alloc),
             ended: [0; NODES],
             kept: [None, None, None, None, None, None, None, None],
@@ -218,6 +224,7 @@ impl Mailbox {
             came: Condvar::new(),
             due: Condvar::new(),
             changed: Condvar::new(),
+            has_opened: AtomicBool::new(false),
         }
     }
 
@@ -292,7 +299,7 @@ impl Mailbox {
     }
 
     /// Whether the other nodes aren't heard yet, so that nothing is to be entered.
-    pub(crate) fn is_behind<R: Wait>(&self, rt: &R) -> bool {
+    pub fn is_behind<R: Wait>(&self, rt: &R) -> bool {
         !self.held.lock(rt).state.is_open()
     }
 
@@ -321,16 +328,53 @@ impl Mailbox {
         self.held.lock(rt).plaints(alloc, moment)
     }
 
-    /// Tells that another node answered, and what it told.
-    pub(crate) fn note_heard<R: Wait>(&self, rt: &R, other: NodeId, telling: &Telling) {
-        let mut held = self.held.lock(rt);
-        held.state.note_heard(other, telling);
-        self.came.notify_all();
+    /// Tells that another node asks, which counts so many facts of its own.
+    pub(crate) fn hear_asked<R: Wait>(&self, rt: &R, other: NodeId, own: u64) {
+        self.held.lock(rt).asks.hear(other, own);
     }
 
-    /// Tells that one that asks counts so many facts of this node.
-    pub(crate) fn hear_count<R: Wait>(&self, rt: &R, count: u64) {
-        self.held.lock(rt).state.hear_count(count);
+    /// How often another node began anew, as far as it asked since.
+    pub(crate) fn times_anew<R: Wait>(&self, rt: &R, other: NodeId) -> u64 {
+        self.held.lock(rt).asks.times_anew(other)
+    }
+
+    /// Tells that another node answered, and what it told; it had begun anew so often when it was asked
+    /// for that. It says whether that counts: what comes from before the node began anew doesn't.
+    pub(crate) fn note_heard<R: Wait>(
+        &self,
+        rt: &R,
+        other: NodeId,
+        seen: u64,
+        telling: &Telling,
+    ) -> bool {
+        let told = telling.front().count(other);
+        let mut held = self.held.lock(rt);
+        if held.asks.is_of_before(other, seen, told) {
+            return false;
+        }
+        held.state.note_heard(other, telling);
+        self.came.notify_all();
+        true
+    }
+
+    /// Tells that another node, which asks, claims to have so many facts of this one.
+    pub(crate) fn hear_claim<R: Wait>(&self, rt: &R, other: NodeId, count: u64) {
+        self.held.lock(rt).state.hear_claim(other, count);
+    }
+
+    /// How many facts of this node another claims to have, while a start waits for them; else none.
+    pub(crate) fn claim_of<R: Wait>(&self, rt: &R, other: NodeId) -> Option<u64> {
+        let held = self.held.lock(rt);
+        let claim = held.state.claim_of(other);
+        if held.state.is_open() || claim == 0 {
+            return None;
+        }
+        Some(claim)
+    }
+
+    /// Has nothing entered before the node has so many facts of its own.
+    pub(crate) fn wait_for_own<R: Wait>(&self, rt: &R, count: u64) {
+        self.held.lock(rt).state.wait_for_own(count);
     }
 
     /// Tells that what another node told isn't handed over.
@@ -358,6 +402,12 @@ impl Mailbox {
         // (the other one, which may be long, is dropped once others may have the lock again)
         let _other = self.held.lock(rt).keep(telling);
         self.changed.notify_all();
+    }
+
+    /// Whether something that another node told is kept, since the journal couldn't take it.
+    pub(crate) fn keeps<R: Wait>(&self, rt: &R, other: NodeId) -> bool {
+        let place = usize::from(other.number().saturating_sub(1));
+        self.held.lock(rt).is_kept(place)
     }
 
     /// How many tellings of another node were taken, or weren't.
@@ -389,17 +439,15 @@ impl Mailbox {
         self.held.lock(rt).state.is_owed(from, asks)
     }
 
-    /// Waits until commands are entered, or until the program is to end: for a second at most, and
-    /// not where the start has waited for that already. It says whether they are entered.
-    pub fn wait_to_enter<R: Wait + Clock>(&self, rt: &R) -> bool {
-        let time = Duration::from_millis(OPENING_MS);
-        let (held, _) = self.changed.wait_timeout_while(
-            rt,
-            self.held.lock(rt),
-            time,
-            |held| !held.state.is_open() && !held.state.is_late() && !held.state.has_ended(),
-        );
-        held.state.is_open()
+    /// Whether a command waits for the others to be heard: a start does, and hasn't for a second yet.
+    pub fn is_opening<R: Wait>(&self, rt: &R) -> bool {
+        let held = self.held.lock(rt);
+        !held.state.is_open() && !held.state.is_late() && !held.state.has_ended()
+    }
+
+    /// Whether commands are entered since this was last asked, which they weren't before.
+    pub fn take_opened(&self) -> bool {
+        self.has_opened.swap(false, Ordering::SeqCst)
     }
 
     /// How many facts of each node this one has at least.
@@ -411,8 +459,8 @@ impl Mailbox {
     pub fn next<R: Wait + Clock>(&self, rt: &R) -> Task {
         let moment = now(rt);
         let mut held = self.held.lock(rt);
-        if held.state.open_if_due(moment) || held.state.is_late() {
-            self.changed.notify_all();
+        if held.state.open_if_due(moment) {
+            self.has_opened.store(true, Ordering::SeqCst);
         }
         if held.state.resume_calls(moment) {
             self.due.notify_all();
@@ -476,6 +524,13 @@ impl Mailbox {
         self.held.lock(rt).state.fill()
     }
 
+    /// Tells that it is asked now who is to be called: who is heard from here on isn't called by the
+    /// list that comes of it.
+    pub fn begin_list<R: Wait + Clock>(&self, rt: &R) {
+        let moment = now(rt);
+        self.held.lock(rt).state.begin_list(moment);
+    }
+
     /// Hands those who are to be called to the threads that call.
     pub fn put_duties<R: Wait + Clock>(&self, rt: &R, duties: Duties) {
         let moment = now(rt);
@@ -492,7 +547,11 @@ impl Mailbox {
         let mut held = self.due.wait_while(rt, self.held.lock(rt), |held| {
             !held.state.may_call() && !held.state.has_ended()
         });
-        held.state.take_due()
+        let due = held.state.take_due();
+        if held.state.may_call() {
+            self.due.notify_one();
+        }
+        due
     }
 
     /// Tells what came of a call that began at this moment: what was heard, or why the participant

@@ -120,6 +120,8 @@ pub struct Node {
     refused: [AtomicU64; MAX_NODES as usize],
     /// Of each node 1 where the last pull from it failed, else 0.
     silent: [AtomicU64; MAX_NODES as usize],
+    /// Of each node 1 if it was heard to ask by pulls that wait, and no pull from it failed since; else 0.
+    waiting: [AtomicU64; MAX_NODES as usize],
     manners: Manners,
     /// When it started: milliseconds by the monotonic clock, and seconds since 1970.
     started_ms: AtomicU64,
@@ -172,6 +174,7 @@ impl Node {
             late: AtomicU64::new(0),
             refused: no_numbers(),
             silent: no_numbers(),
+            waiting: no_numbers(),
             manners,
             started_ms: AtomicU64::new(0),
             start_seconds: AtomicU64::new(0),
@@ -224,12 +227,31 @@ impl Node {
         if let Some(silent) = self.silent.get(place) {
             silent.store(u64::from(is_silent), Ordering::SeqCst);
         }
+        if let Some(waiting) = self.waiting.get(place) {
+            if is_silent {
+                waiting.store(0, Ordering::SeqCst);
+            }
+        }
     }
 
-    /// Notes that another node asks, and so lives: where the last pull from it failed, it is asked again
-    /// at once.
-    pub fn note_asked<R: Wait>(&self, rt: &R, other: NodeId) {
+    /// Whether another node was heard to ask by pulls that wait: one that does holds pulls too.
+    pub(crate) fn asks_waiting(&self, other: NodeId) -> bool {
         let place = usize::from(other.number().saturating_sub(1));
+        match self.waiting.get(place) {
+            Some(waiting) => waiting.load(Ordering::SeqCst) > 0,
+            None => false,
+        }
+    }
+
+    /// Notes that another node asks, by a pull that waits or doesn't, and so lives: if the last pull
+    /// from it failed, it is asked again at once.
+    pub fn note_asked<R: Wait>(&self, rt: &R, other: NodeId, waits: bool) {
+        let place = usize::from(other.number().saturating_sub(1));
+        if let Some(waiting) = self.waiting.get(place) {
+            if waits {
+                waiting.store(1, Ordering::SeqCst);
+            }
+        }
         let was_silent = match self.silent.get(place) {
             Some(silent) => silent.swap(0, Ordering::SeqCst) > 0,
             None => false,
@@ -410,7 +432,18 @@ impl Node {
     pub(crate) fn doubt<R: Wait>(&self, rt: &R) {
         if self.followers.wants().any() && self.has_entered.load(Ordering::SeqCst) {
             self.followers.doubt(rt);
-            self.mailbox.hear_count(rt, LAST_NUMBER);
+            self.mailbox.wait_for_own(rt, LAST_NUMBER);
+        }
+    }
+
+    /// Notes that a frame was taken which has facts of this node that its journal lacked. Others may lack
+    /// the last of them, so answers that show them wait as if they had been entered now.
+    pub fn note_taken_back<R: Wait>(&self, rt: &R, front: &Front) {
+        self.followers.note_count(rt, front);
+        if self.followers.wants().any() {
+            self.followers.begin(rt);
+            let _ticket = self.followers.end(rt, true);
+            self.has_news.store(true, Ordering::SeqCst);
         }
     }
 
@@ -434,10 +467,11 @@ impl Node {
             return;
         };
         let Released { duties, asks_again } = released;
+        let is_lost = duties.is_none();
         if let Some(duties) = duties {
             self.mailbox.put_duties(rt, duties);
         }
-        if asks_again {
+        if asks_again || is_lost {
             self.mailbox.stir(rt, false);
         }
     }
@@ -455,9 +489,8 @@ impl Node {
         self.followers.judge(rt, other, front, &known, since)
     }
 
-    /// Hears how many facts of each node one has that asks this one. Where that is more of another
-    /// node's than this one has, that node is asked. So who asks tells thereby that it has
-    /// something new. Where it is more of this node's own, a start waits for them.
+    /// Hears how many facts of each node one has that asks this one. If it has more of another node's
+    /// than this one has, that node is asked: so who asks tells thereby that it has something new.
     pub fn hear_front<R: Wait>(&self, rt: &R, front: &Front) {
         let known = self.mailbox.front(rt);
         let mut number = 0u8;
@@ -467,14 +500,16 @@ impl Node {
                 self.news.tell(rt, number);
             }
         }
-        self.hear_own_count(rt, front.count(self.me), known.count(self.me));
     }
 
-    // Hears how many facts of this node's own one has that asks it, where it has so many itself. One
-    // that asks as if it had all that there can be tells nothing thereby.
-    fn hear_own_count<R: Wait>(&self, rt: &R, theirs: u64, ours: u64) {
-        if theirs > ours && theirs < LAST_NUMBER {
-            self.mailbox.hear_count(rt, theirs);
+    /// Hears how many facts of its own another node has, which asks this one, and how many of this node
+    /// it claims to have. If those are more than there are here, a start waits for them. One that asks
+    /// as if it had all that there can be claims nothing.
+    pub fn hear_asker<R: Wait>(&self, rt: &R, other: NodeId, front: &Front) {
+        self.mailbox.hear_asked(rt, other, front.count(other));
+        let theirs = front.count(self.me);
+        if theirs > self.mailbox.front(rt).count(self.me) && theirs < LAST_NUMBER {
+            self.mailbox.hear_claim(rt, other, theirs);
         }
     }
 

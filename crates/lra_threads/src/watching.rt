@@ -4,6 +4,7 @@
 use crate::node::Node;
 use log::{Log, warn};
 use lra_forest::MAX_HELD;
+use lra_id::NodeId;
 use lra_mailbox::Fill;
 use lra_sockets::now;
 use std::sync::Wait;
@@ -198,11 +199,16 @@ fn warn_of_copies<R: Wait, L: Log>(
     let is_short = node.followers.is_short(rt);
     let is_strange = node.followers.has_strange(rt);
     let is_doubted = node.followers.is_doubted(rt);
+    let others = if copies == 1 {
+        "other node"
+    } else {
+        "other nodes"
+    };
     if let Some(count) = late.add(node.followers.take_late(rt), now) {
-        warn!(log; "node {number}: {count} answers or lists of calls went on before {copies} other nodes had what they show");
+        warn!(log; "node {number}: {count} answers or lists of calls went on before {copies} {others} had what they show");
     }
     if lag.was_short && !is_short {
-        warn!(log; "node {number}: {copies} other nodes have its facts again");
+        warn!(log; "node {number}: its facts are copied to {copies} {others} again");
     }
     if is_strange && !lag.was_strange {
         warn!(log; "node {number}: another asks as if it had facts of this node that it never gave");
@@ -217,15 +223,47 @@ fn warn_of_copies<R: Wait, L: Log>(
     }
 }
 
+/// From how many seconds on it warns that a start waits for what another node claims.
+const CLAIM_LOOKS: u64 = 5;
+
+/// Who claims to have more facts of a node than it has, and how many, if a start waits for that.
+fn claim_of<R: Wait>(rt: &R, node: &Node) -> Option<(u8, u64)> {
+    let own = node.mailbox.front(rt).count(node.me);
+    for number in 1..=node.nodes {
+        if let Ok(other) = NodeId::new(number) {
+            if let Some(claim) = node.mailbox.claim_of(rt, other) {
+                if claim > own {
+                    return Some((number, claim));
+                }
+            }
+        }
+    }
+    None
+}
+
+/// Warns, once, that a start has waited for seconds for what another node claims. It gives for how
+/// many looks it has.
+fn warn_of_claim<R: Wait, L: Log>(rt: &R, log: &L, node: &Node, looks: u64) -> u64 {
+    let Some((other, claim)) = claim_of(rt, node) else {
+        return 0;
+    };
+    if looks == CLAIM_LOOKS {
+        let number = node.number();
+        warn!(log; "node {number}: node {other} says that it has {claim} facts of this node, which are more than the journal here has: nothing is entered until it answers");
+    }
+    looks.saturating_add(1)
+}
+
 /// Warns when three quarters and nine tenths of the home's places are taken, and when an LRA
 /// couldn't be begun, until the program is to end. It tells each once, and again once there was
 /// room and a minute is over. It warns of LRAs that failed, and of connections that were closed
 /// since no file was left, each once a minute at most, of calls of operators that were made after
-/// they were answered E18, of a disk that hangs, and of answers that didn't wait for copies.
+/// they were answered E18, of a disk that hangs, of answers that didn't wait for copies, and of a
+/// start that waits for what another node claims.
 pub fn watch<R: Wait + Clock, L: Log>(rt: &R, log: &L, node: &Node) {
     let (mut warned, mut closed) = (Warned::new(), Dropped::new());
     let (mut failures, mut hung) = (Failures::new(), None);
-    let mut late = Dropped::new();
+    let (mut late, mut claims) = (Dropped::new(), 0u64);
     let mut lag = Lag {
         was_short: false,
         was_strange: false,
@@ -248,6 +286,7 @@ pub fn watch<R: Wait + Clock, L: Log>(rt: &R, log: &L, node: &Node) {
         if node.followers.wants().any() {
             lag = warn_of_copies(rt, log, node, &mut late, lag, now);
         }
+        claims = warn_of_claim(rt, log, node, claims);
         if node.take_late() > 0 {
             warn!(log; "node {}: a call at the operator's port was made after it was answered E18", node.number());
         }

@@ -6,6 +6,7 @@ use lra_book::{Call, Reply};
 use lra_facts::Refusal;
 use lra_mailbox::Wanted;
 use lra_noting::enters;
+use lra_sockets::now;
 use lra_threads::Node;
 use std::sync::{Condvar, CondvarTimeouts, Mutex, Wait};
 use std::time::{Clock, Duration};
@@ -122,15 +123,15 @@ impl Errands {
         counter.take()
     }
 
-    /// What came of the call that was wanted last. Where it isn't made in time, the node's journal is
-    /// closed meanwhile, or the program is to end, it is taken back (E19); or, where that is too late,
-    /// nobody knows whether it is made (E18).
+    /// What came of the call that was wanted last. Where it isn't made in time, a call waits too long at
+    /// the desk, the node's journal is closed meanwhile, or the program is to end, it is taken back
+    /// (E19); or, where that is too late, nobody knows whether it is made (E18).
     pub(crate) fn wait<R: Wait + Clock>(&self, rt: &R, node: &Node) -> Result<Reply, Refusal> {
         for _slice in 0..SLICES {
             if let Some(outcome) = self.wait_a_slice(rt) {
                 return outcome;
             }
-            if node.is_shut() || node.signal.has_ended(rt) {
+            if node.is_shut() || node.desk.stalls(now(rt)) || node.signal.has_ended(rt) {
                 break;
             }
         }

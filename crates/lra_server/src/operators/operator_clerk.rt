@@ -23,9 +23,9 @@ const COPIES_MS: u64 = 1_000;
 
 const LOOK_MS: u64 = 2;
 
-/// Has calls made by the thread that enters. Where the journal is closed it refuses them at once
-/// (E19), and commands while it is spared, or others are to have more first. What it answers waits
-/// until they have it.
+/// Has calls made by the thread that enters. It refuses them at once (E19) where the journal is closed,
+/// or a call has waited for a second at the desk; and commands while the journal is spared, the others
+/// aren't heard, or are to have more first. What it answers waits until they have it.
 #[derive(Drop)]
 pub struct OperatorClerk<'n, R, L> {
     rt: &'n R,
@@ -52,18 +52,26 @@ impl<'n, R: Wait + Clock, L: Log> OperatorClerk<'n, R, L> {
         }
     }
 
-    // Whether nothing is to be entered: the program is about to end, the journal is spared, or too few
-    // others have what is stored.
+    // Whether nothing is to be entered: the program is about to end, the journal is spared, the other
+    // nodes aren't heard or have more of this one's facts, or too few have what is stored.
     fn is_held_back(&self) -> bool {
         self.node.is_ending()
             || self.node.mailbox.is_spared(self.rt)
+            || self.node.mailbox.is_behind(self.rt)
             || self.node.followers.refuses(self.rt)
+    }
+
+    // Whether nothing is asked of the thread that enters: it has no journal, is to answer nothing, or
+    // would have to wait behind a call that has waited too long.
+    fn is_closed(&self) -> bool {
+        self.node.is_shut()
+            || self.node.answers_nothing(self.rt)
+            || self.node.desk.stalls(now(self.rt))
     }
 
     // Has a call made.
     fn make(&self, call: Call, now: u64) -> Result<Reply, Refusal> {
-        let is_closed = self.node.is_shut() || self.node.answers_nothing(self.rt);
-        if is_closed || (enters(&call) && self.is_held_back()) {
+        if self.is_closed() || (enters(&call) && self.is_held_back()) {
             return Err(Refusal::Stopped);
         }
         let wanted = wanted_by(&call);

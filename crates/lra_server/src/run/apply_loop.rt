@@ -108,12 +108,15 @@ fn take<R: Wait + Clock, C: Clerk>(
     ensures { IsMade C.Clerk clerk.old clerk.new (TakeDelta telling) result }
 {
     let (front, from) = (telling.front(), telling.from());
-    let spare = spare_of(node, &telling);
+    let (spare, known) = (spare_of(node, &telling), node.mailbox.front(rt));
     let taken = clerk.call(alloc, Call::Take(telling.into_delta()), unix_millis(rt));
     match &taken {
         Ok(()) => {
             let is_taken = note_told(node, from, clerk.reply());
             node.mailbox.end_telling(rt, from, &front, is_taken);
+            if is_taken && front.count(node.me) > known.count(node.me) {
+                node.note_taken_back(rt, &front);
+            }
         }
         Err(refusal) => keep(rt, node, from, &front, spare, *refusal),
     }
@@ -146,6 +149,7 @@ fn ask<R: Wait + Clock, C: Clerk>(
 ) -> Result<(), Refusal>
     ensures { IsMadeInMemory C.Clerk clerk.old clerk.new AskDuties result }
 {
+    node.mailbox.begin_list(rt);
     clerk.call(alloc, Call::Duties, unix_millis(rt))?;
     if let Some(duties) = duties_of(clerk.reply())? {
         node.put_duties(rt, duties);
@@ -322,6 +326,9 @@ pub fn enter_all<R: Wait + Clock + Sockets, C: Clerk + Drop>(
         looked = look_again(rt, node, looked);
         node.put_held(rt);
         let task = node.mailbox.next(rt);
+        if node.mailbox.take_opened() {
+            node.queue.free(rt);
+        }
         if matches!(&task, Task::Ask) && node.followers.are_calls_held(rt) {
             continue;
         }

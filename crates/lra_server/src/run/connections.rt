@@ -15,9 +15,6 @@ use std::sync::Wait;
 use std::time::{Clock, Duration};
 use std::{io, thread};
 
-/// How long is waited for more of a request of which all is there: nothing more is to come.
-const WHOLE_REQUEST_MS: u64 = 50;
-
 /// How long a worker may take to write its answer. What its client doesn't take at once is sent on
 /// without it.
 const ANSWER_MS: u64 = 10_000;
@@ -144,11 +141,11 @@ impl<'a, R: Wait + Clock> Connections<'a, R> {
         }
     }
 
-    // A reader and a writer over a socket, on which a request may be silent for so long. It is kept,
+    // A reader and a writer over a socket, on which a request is read within this limit. It is kept,
     // to be closed when it is served.
-    fn buffer(&mut self, stream: TcpStream, silence_ms: u64) -> io::Result<Buffered<'a, R>> {
+    fn buffer(&mut self, stream: TcpStream, reading: Limit) -> io::Result<Buffered<'a, R>> {
         let times = Times {
-            reading: Limit::of_silence(silence_ms, REQUEST_MS),
+            reading,
             writing: Limit::of_millis(ANSWER_MS),
         };
         let (signal, queue) = (&self.node.signal, Some(&self.node.queue));
@@ -215,12 +212,12 @@ impl<'a, R: Wait + Clock> Connections<'a, R> {
 
     // A reader and a writer over a socket whose request has come whole, or has begun.
     fn serve(&mut self, stream: TcpStream, is_long: bool) -> Option<Buffered<'a, R>> {
-        let silence_ms = if is_long {
-            REQUEST_MS
+        let reading = if is_long {
+            Limit::of_millis(REQUEST_MS)
         } else {
-            WHOLE_REQUEST_MS
+            Limit::of_whole(REQUEST_MS)
         };
-        let Ok(connection) = self.buffer(stream, silence_ms) else {
+        let Ok(connection) = self.buffer(stream, reading) else {
             return None;
         };
         if is_long {

@@ -9,9 +9,12 @@ use lra_delta::Delta;
 use lra_facts::Refusal;
 use lra_id::{Front, LraId};
 use lra_mailbox::Noted;
-use lra_noting::{enters, freed_by, is_any, is_completion, is_own_fact, is_stored, noted_by};
+use lra_noting::{
+    enters, freed_by, heard_by, is_any, is_completion, is_own_fact, is_stored, noted_by,
+};
 use lra_sockets::{Promise, now as moment};
 use lra_threads::{Asked, Node};
+use lra_turns::Called;
 use std::alloc::Global;
 use std::sync::Wait;
 use std::time::Clock;
@@ -141,12 +144,12 @@ fn front_of(node: &Node, call: &Call) -> Option<Front> {
     }
 }
 
-/// Whether nothing of the node's own is entered now: the journal is spared, or the other nodes
-/// aren't heard or have more of its facts, for which it waits a little; or too few have what is
-/// stored.
+/// Whether nothing of the node's own is entered now: the journal is spared, the other nodes aren't
+/// heard or have more of its facts, or too few have what is stored. At a start a command has waited
+/// for the others in the queue (`Holding`).
 fn is_held_back<R: Wait + Clock>(rt: &R, node: &Node) -> bool {
     node.mailbox.is_spared(rt)
-        || (node.site.is_apart() && !node.mailbox.wait_to_enter(rt))
+        || (node.site.is_apart() && node.mailbox.is_behind(rt))
         || node.followers.refuses(rt)
 }
 
@@ -159,6 +162,27 @@ fn is_refused<R: Wait + Clock>(rt: &R, node: &Node, call: &Call) -> bool {
     enters(call) && (node.is_ending() || is_held_back(rt, node))
 }
 
+/// What a call says of participants.
+#[derive(Clone, Copy)]
+struct Said {
+    /// Whether it reports a completion.
+    completes: bool,
+    /// The LRA of which it says that a participant was told what it was to be told.
+    freed: Option<LraId>,
+    /// Of whom it says what became of it.
+    heard: Option<Called>,
+}
+
+impl Said {
+    fn by(call: &Call) -> Said {
+        Said {
+            completes: is_completion(call),
+            freed: freed_by(call),
+            heard: heard_by(call),
+        }
+    }
+}
+
 /// Notes what the other threads are to go on with.
 fn note<R: Wait + Clock>(rt: &R, node: &Node, noted: &Noted) {
     if is_any(noted) {
@@ -167,17 +191,15 @@ fn note<R: Wait + Clock>(rt: &R, node: &Node, noted: &Noted) {
 }
 
 /// Notes what the other threads and nodes are to go on with after a reply (`Node::pass_on`).
-fn tell<R: Wait + Clock>(
-    rt: &R,
-    node: &Node,
-    reply: &Reply,
-    completes: bool,
-    freed: &Option<LraId>,
-) {
+fn tell<R: Wait + Clock>(rt: &R, node: &Node, reply: &Reply, said: &Said) {
     if let Reply::Gave(delta) = reply {
         node.mailbox.count(rt, &delta.front());
     }
-    note(rt, node, &noted_by(completes, freed, reply));
+    note(
+        rt,
+        node,
+        &noted_by(said.completes, &said.freed, &said.heard, reply),
+    );
     if is_own_fact(reply) {
         node.note_fact();
     }
@@ -258,9 +280,9 @@ impl<'n, R: Wait + Clock, C: Clerk + Drop> Clerk for CountingClerk<'n, R, C> {
         ⊎ ((new.clerk ≡ old.clerk) × (outcome ≡ Err Stopped)) };
 
     fn call(&mut self, alloc: Global, call: Call, now: u64) -> Result<(), Refusal> {
-        let (is_move, completes, asked) = (call.is_move(), is_completion(&call), asked_by(&call));
+        let (is_move, said, asked) = (call.is_move(), Said::by(&call), asked_by(&call));
         let weight = weight_of_call(&call);
-        let (front, freed) = (front_of(self.node, &call), freed_by(&call));
+        let front = front_of(self.node, &call);
         if self.holds && is_refused(self.rt, self.node, &call) {
             self.held = true;
             tell_refused(self.rt, self.node, asked, &Refusal::Stopped);
@@ -280,7 +302,7 @@ impl<'n, R: Wait + Clock, C: Clerk + Drop> Clerk for CountingClerk<'n, R, C> {
                 }
                 let calls = weight.saturating_add(weight_of_reply(reply));
                 self.node.tally.count(calls, is_move, is_stored(reply));
-                tell(self.rt, self.node, reply, completes, &freed);
+                tell(self.rt, self.node, reply, &said);
                 self.node.counts.call(self.rt, asked, refused_by(reply));
                 if let Some(front) = front {
                     self.node.hear_front(self.rt, &front);

@@ -1,9 +1,10 @@
-// Which pulls wait though they are whole.
+// Which requests wait though they are whole.
 
 use lra_copies::{Standing, Verdict};
 use lra_id::{Front, MAX_NODES, NodeId};
+use lra_mailbox::OPENING_MS;
 use lra_peer::front_of_pull;
-use lra_sockets::{Asked, Hold, Holder, Stand};
+use lra_sockets::{Asked, Hold, Holder, Stand, now};
 use lra_threads::Node;
 use lra_work::Addressee;
 use std::str;
@@ -15,7 +16,8 @@ const CROWD: u64 = 512;
 
 /// Holds pulls of other nodes: of one that waits, until this node has something new for it; and of one that
 /// told of more of its facts than it counts now, until these are stored, since who starts over an older
-/// journal is to hear of each number that it gave. Answers wait until other nodes have what they show.
+/// journal is to hear of each number that it gave. Holds commands while a start waits for other nodes, a
+/// second at most. Answers wait until other nodes have what they show.
 #[derive(Drop)]
 pub struct Holding<'n, R> {
     pub rt: &'n R,
@@ -69,6 +71,20 @@ impl<'n, R: Wait + Clock> Holder for Holding<'n, R> {
         }
     }
 
+    fn hold_command(&self, since: Option<Duration>) -> Hold {
+        let node = self.node;
+        if !node.site.is_apart() || !node.mailbox.is_opening(self.rt) {
+            return Hold::Serve;
+        }
+        let moment = now(self.rt);
+        let waited = moment.saturating_sub(since.unwrap_or(moment));
+        if waited >= Duration::from_millis(OPENING_MS) {
+            Hold::Serve
+        } else {
+            Hold::Later
+        }
+    }
+
     fn hold(&self, asked: &Asked, query: &[u8], body: &[u8]) -> Hold {
         let (Ok(from), Some(front)) = (NodeId::new(asked.from), front_in(self.node, body)) else {
             return Hold::Serve;
@@ -77,8 +93,9 @@ impl<'n, R: Wait + Clock> Holder for Holding<'n, R> {
             return Hold::Serve;
         }
         if asked.since.is_none() {
-            self.node.note_asked(self.rt, from);
+            self.node.note_asked(self.rt, from, asked.waits);
             self.node.hear_copies(self.rt, from, &front);
+            self.node.hear_asker(self.rt, from, &front);
         }
         let hold = self.judge(from, asked, &front);
         if hold == Hold::Later && asked.since.is_none() {
