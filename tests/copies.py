@@ -2,11 +2,12 @@
 """Tests members that answer only what others have stored, and whose machine is lost for good, disk and all:
 python3 tests/copies.py [PROGRAM] [--rounds N] [--patience MS] [--copies K] [TEST..].
 
-PROGRAM is crates/lra_member/out/lra_member, or --unproved (tools/unproved.py). A TEST is one of lost, decided, parted,
-slow, full, old, behind, restarted, forged, late, strict, anew, twice and alone; without one it does all, some five
-minutes. In lost one of three nodes is killed with kill -9 amid a load, its folder is emptied, and a member of its
-number starts anew: N times (3 by default), each node in turn, with copies=0, 1 and 2, or with K alone. With copies=0 it
-only counts what is lost. Each check prints a line; the status is 1 where one fails. Standard library alone."""
+PROGRAM is crates/lra_member/out/lra_member, or --unproved (tools/unproved.py). A TEST is one of lost, decided, heard,
+back, crowded, parted, slow, full, old, behind, restarted, forged, stranger, late, strict, anew, twice and alone;
+without one it does all, some ten minutes. In lost one of three nodes is killed with kill -9 amid a load, its folder is
+emptied, and a member of its number starts anew: N times (3 by default), each node in turn, with copies=0, 1 and 2, or
+with K alone. With copies=0 it only counts what is lost. Each check prints a line; the status is 1 where one fails.
+Standard library alone."""
 import contextlib
 import itertools
 import os
@@ -14,18 +15,20 @@ import random
 import shutil
 import signal
 import statistics
+import subprocess
 import sys
 import threading
 import time
 import typing
 from collections.abc import Callable
+from email.message import Message
 
 sys.path.insert(0, os.path.dirname(os.path.dirname(os.path.abspath(__file__))))
 from tools import checks, unproved
 from tools.load import GONE, SHOWS
 from tools.node import SLOW, Group, Json, comes_to, exchange, home_of, limit_files, request
 from tools.operated import Operated
-from tools.participant import Participant
+from tools.participant import Participant, Reply
 from tools.relays import Paired
 
 # How long nobody stores anything before a machine is lost in which a participant is called, in seconds.
@@ -44,6 +47,33 @@ class Kept:
 
     def facts(self) -> int:
         return 1 + len(self.members) + self.is_decided
+
+
+class Late(Participant):
+    """Answers a call to complete once it may go on: with 202, and is still at it when it is asked, or with 200."""
+
+    def __init__(self, code: int) -> None:
+        self.code, self.is_called, self.goes_on = code, threading.Event(), threading.Event()
+        super().__init__()
+
+    def answer(self, path: str, lra: str, fields: Message, body: bytes) -> Reply:
+        if path.endswith("/complete") and not self.goes_on.is_set():
+            self.is_called.set()
+            self.goes_on.wait(SLOW)
+            return self.code
+        return (200, b"Completing") if path.endswith("/status") else 200
+
+
+class Halting(Participant):
+    """Stops a process when it is called, and then answers 200."""
+
+    def __init__(self, process: subprocess.Popen) -> None:
+        self.process = process
+        super().__init__()
+
+    def answer(self, path: str, lra: str, fields: Message, body: bytes) -> Reply:
+        self.process.send_signal(signal.SIGSTOP)
+        return 200
 
 
 class AtOnce:
@@ -296,6 +326,137 @@ class TestCopies(checks.Checked):
             comes_to(SLOW, lambda: begins(group, 2))
             return group.status(2, lra)
 
+    def test_heard(self) -> None:
+        """Who was heard isn't called again, though a list of calls that was asked for before waits for copies."""
+        for code in (202, 200):
+            self.held_once(code)
+        for copies in self.counts(1, 2):
+            self.loaded_once(copies)
+
+    def held_once(self, code: int) -> None:
+        """A participant answers while a list that names it waits for a machine that hangs."""
+        folder = self.folder_in(f"held{code}")
+        group = Operated(2, folder, "copies=1", f"patience={20 * self.patience}")
+        self.addCleanup(group.__exit__)
+        group.start()
+        comes_to(SLOW, lambda: all(begins(group, node) for node in (1, 2)))
+        first, second = Late(code), Halting(group.processes[2])
+        self.addCleanup(first.close)
+        self.addCleanup(second.close)
+        lra = group.begin(1)
+        for part in (first, second):
+            links = {"compensate": f"{part.url}/compensate", "complete": f"{part.url}/complete"}
+            group.join(1, lra, status=f"{part.url}/status", **links)
+        group.finish(1, lra)
+        first.is_called.wait(SLOW)
+        comes_to(SLOW, lambda: second.calls)
+        # A call has ten seconds, so less than that passes until it is answered.
+        time.sleep(3)
+        first.goes_on.set()
+        time.sleep(3)
+        group.processes[2].send_signal(signal.SIGCONT)
+        comes_to(SLOW, lambda: (202 == code and "/status" in first.paths()) or group.status(1, lra) == "Closed")
+        time.sleep(self.patience / 1000)
+        told = [path for path in first.paths() if path == "/complete"]
+        self.same(f"one that answered {code} while a list waited is told to complete once", 1, len(told))
+
+    def loaded_once(self, copies: int) -> None:
+        """Sixteen clients close LRAs of four participants each, at one node, without any fault."""
+        group, part = self.started(Group, copies), self.participant()
+
+        def client() -> None:
+            for _ in range(8):
+                lra = group.begin(1)
+                for place in range(4):
+                    path = f"{part.url}/{lra}/{place}"
+                    group.join(1, lra, compensate=path, complete=path)
+                group.finish(1, lra)
+
+        threads = [threading.Thread(target=client) for _ in range(16)]
+        for thread in threads:
+            thread.start()
+        for thread in threads:
+            thread.join()
+        comes_to(SLOW, lambda: len(set(part.paths())) == 512)
+        time.sleep(2)
+        again = len(part.paths()) - len(set(part.paths()))
+        self.check(f"copies={copies}: of 512 participants that answered 200 none is called again",
+                   len(set(part.paths())) == 512 and not again, (len(set(part.paths())), again))
+
+    def test_back(self) -> None:
+        """What a member over an empty folder took back waits for copies as what is new does."""
+        group = self.group(3, *self.words(2, "strict")).start()
+        comes_to(SLOW, lambda: all(begins(group, node) for node in (1, 2, 3)))
+        part = self.participant(status=503)
+        lra = group.begin(1)
+        group.join(1, lra, compensate=part.url, complete=part.url)
+        group.kill(3)
+
+        def asked(method: str, path: str) -> int | None:
+            with contextlib.suppress(*GONE):
+                return request(group.address(1), method, path).status
+            return None
+
+        self.same("a close that one of two others has isn't acknowledged", None, asked("PUT", f"/lra/{lra}/close"))
+        lose(group, 1)
+        group.start(1, options=[*self.words(2, "strict"), "anew"])
+        time.sleep(2 * self.patience / 1000)
+        seen = [asked("GET", f"/lra/{lra}") for _ in range(3)]
+        self.check("nor is it shown once it was taken back", 200 not in seen, seen)
+        group.start(3)
+        shows = comes_to(SLOW, lambda: group.status(1, lra) == "Closing")
+        self.check("until the third has it too", shows, group.log(1))
+
+    def test_crowded(self) -> None:
+        """Clients of a full home begin and ask, while its node is killed and started again: the others acknowledge."""
+        group = self.group(3, *self.words(1, "strict"), kind=Operated).start()
+        comes_to(SLOW, lambda: all(begins(group, node) for node in (1, 2, 3)))
+        ended = threading.Event()
+        while group.ask(1, "POST", "/lra")[0] == 201:
+            pass
+
+        def client(method: str) -> None:
+            while not ended.is_set():
+                with contextlib.suppress(*GONE):
+                    request(group.address(1), method, "/lra")
+
+        threads = [threading.Thread(target=client, args=(method,)) for method in ("POST", "GET") * 4]
+        for thread in threads:
+            thread.start()
+        time.sleep(1)
+        group.kill(1)
+        group.start(1)
+        comes_to(SLOW, lambda: group.at(1, "/ready").status == 200)
+        looks = []
+        for _ in range(10):
+            time.sleep(1)
+            looks.append(int(group.samples(1)[SHORT]))
+        ended.set()
+        for thread in threads:
+            thread.join()
+        self.check(f"it is short at {sum(looks)} of 10 looks", sum(looks) <= 1, looks)
+
+    def test_stranger(self) -> None:
+        """In a group with a name nobody acknowledges who doesn't say it, and nobody gets a frame."""
+        group = self.group(3, "group=shop", *self.words(1, "strict")).start()
+        comes_to(SLOW, lambda: all(begins(group, node) for node in (1, 2, 3)))
+        for number in (2, 3):
+            group.processes[number].send_signal(signal.SIGSTOP)
+        answers: list[bytes] = []
+        begin = b"POST /lra HTTP/1.1\r\nHost: p\r\nContent-Length: 0\r\n\r\n"
+        thread = threading.Thread(target=lambda: answers.append(exchange(group.address(1), begin)))
+        thread.start()
+        body = b"\x03" + b"".join(count.to_bytes(8, "big") for count in (3, 0, 0))
+        for query in (b"", b"?from=2&to=1", b"?from=2&to=1&group=other"):
+            pull = b"POST /peer/pull%b HTTP/1.1\r\nHost: p\r\nContent-Length: %d\r\n\r\n%b" % (query, len(body), body)
+            answer = exchange(group.address(1), pull)
+            told = f"a pull with {query.decode() or 'no query'} is refused"
+            self.check(told, answer.startswith(b"HTTP/1.1 421"), answer)
+        thread.join(SLOW)
+        self.same("and acknowledges nothing", [b""], answers)
+        for number in (2, 3):
+            group.processes[number].send_signal(signal.SIGCONT)
+
     def test_parted(self) -> None:
         """A node is cut from both others amid a load. It answers late and refuses nothing; with the word strict it
         acknowledges nothing, and they go on."""
@@ -474,13 +635,13 @@ class TestCopies(checks.Checked):
         then = timed(lambda: group.begin(1))
         self.check(f"then none waits ({1000 * then:.0f} ms)", then < limit / 3, then)
         self.check("it tells so", group.samples(1)[SHORT] == 1)
-        warns = comes_to(5, lambda: "before 1 other nodes had what they show" in group.log(1))
+        warns = comes_to(5, lambda: "before 1 other node had what they show" in group.log(1))
         self.check("and warns", warns, group.log(1))
         for number in (2, 3):
             group.processes[number].send_signal(signal.SIGCONT)
         back = comes_to(SLOW, lambda: begins(group, 1) and group.samples(1)[SHORT] == 0)
         self.check("with the others back it waits again", back)
-        self.check("and tells so", comes_to(5, lambda: "have its facts again" in group.log(1)), group.log(1))
+        self.check("and tells so", comes_to(5, lambda: "copied to 1 other node again" in group.log(1)), group.log(1))
 
     def all_wait(self, group: Operated, known: str, limit: float) -> None:
         """Whether answers of node 1 wait for the patience from the first one on, an operator's for a second, and no

@@ -12,6 +12,7 @@ import glob
 import os
 import random
 import re
+import selectors
 import shutil
 import socket
 import subprocess
@@ -25,6 +26,7 @@ sys.path.insert(0, os.path.dirname(os.path.dirname(os.path.abspath(__file__))))
 from tools import checks, unproved
 from tools.node import SLOW, Group, Json, comes_to, exchange, limit_files, request
 from tools.operated import Operated
+from tools.participant import Participant
 from tools.ports import HOST, free_row
 from tools.relays import Relayed
 
@@ -166,6 +168,74 @@ class TestLuck(checks.Checked):
         self.check("all show the same", comes_to(30, group.are_alike))
         self.check("and it is ready", comes_to(10, lambda: group.at(2, "/ready").status == 200))
 
+    def test_together(self) -> None:
+        """Three members start together under clients that retry, one over an older copy of its journal."""
+        group = self.members(3)
+        group.start()
+        twice = []
+        for turn in range(min(self.rounds, 5)):
+            backup = f"{self.folder}/backup"
+            for number in (1, 2, 3):
+                self.takes(group, number)
+            group.end(1)
+            copy(f"{self.folder}/1", backup)
+            group.start(1)
+            known = [self.takes(group, 1) for _ in range(5)]
+            self.check(f"round {turn}: what node 1 begins is shown by all",
+                       all(lra and group.all_come_to(lra, "Active") is not None for lra in known), known)
+            group.kill(1, 2, 3)
+            copy(backup, f"{self.folder}/1")
+            clients = Retrying(group, 8)
+            for number in (1, 2, 3):
+                group.run(number)
+            comes_to(SLOW, lambda: all(clients.begun[number] for number in (1, 2, 3)))
+            clients.stop()
+            again = set(known) & set(clients.begun[1])
+            if again:
+                twice.append((turn, again))
+            self.check(f"round {turn}: it begins {len(clients.begun[1])} LRAs and shows what it had begun",
+                       comes_to(SLOW, lambda: all(group.status(1, lra or "") == "Active" for lra in known)), known)
+            for number in (1, 2, 3):
+                for lra in clients.begun[number] + (known if number == 1 else []):
+                    group.finish(number, lra or "")
+                    group.purge(number, lra or "")
+        self.check("no number is given twice", not twice, twice)
+
+    def test_starved(self) -> None:
+        """Sixteen commands wait for others that aren't there, while questions are asked."""
+        group = self.members(3)
+        group.run(1)
+        comes_to(SLOW, lambda: is_up(group.ports[0]))
+        commands = [threading.Thread(target=self.takes_once, args=(group,)) for _ in range(16)]
+        for command in commands:
+            command.start()
+        slowest = slowest_of(lambda: request(group.address(1), "GET", "/lra"), 0.7)
+        for command in commands:
+            command.join()
+        self.check(f"a question takes {slowest:.2f} s at most", slowest < 0.5)
+
+    def takes_once(self, group: Group) -> None:
+        with contextlib.suppress(OSError, ValueError):
+            request(group.address(1), "POST", "/lra")
+
+    def test_claimed(self) -> None:
+        """Somebody asks, while a member starts, as a node that has more facts of it than there ever were."""
+        group = self.members(3)
+        group.run(1)
+        comes_to(SLOW, lambda: is_up(group.ports[0]))
+        body = b"\x03" + b"".join(count.to_bytes(8, "big") for count in (1 << 40, 0, 0))
+        for query in (b"", b"?from=2&to=1"):
+            pull = b"POST /peer/pull%b HTTP/1.1\r\nHost: p\r\nContent-Length: %d\r\n\r\n%b" % (query, len(body), body)
+            exchange(group.address(1), pull)
+        time.sleep(1.5)
+        seen = group.told(1, "/ready")
+        self.check("it waits for them", seen == (503, {"ready": False, "cause": "behind"}), seen)
+        line = f"node 1: node 2 says that it has {1 << 40} facts of this node, which are more than the journal here has"
+        told = comes_to(15, lambda: any(one.startswith(line) for one in group.lines(1)))
+        self.check("it says for whom", told, group.log(1))
+        group.start(2)
+        self.check("and enters once that node has answered", self.takes(group, 1) is not None, group.log(1))
+
     def failures(self, group: Operated, node: int) -> int:
         """How often the journal of a node has failed."""
         return int(group.samples(node)[("lra_journal_failures_total",)])
@@ -259,13 +329,36 @@ class TestLuck(checks.Checked):
         seen = (503, {"ready": False, "cause": "disk"})
         self.check("it says that its disk hangs", comes_to(9, lambda: group.told(1, "/ready") == seen),
                    group.told(1, "/ready"))
-        self.check("it lives", group.at(1, "/health").status == 200)
+        took = self.slowest_health(group)
+        self.check(f"beside questions that wait for it it says after {took:.1f} s at most that it is well", took < 3)
         hangs = re.compile(r"node 1: a call has waited for its journal for \d+ s: the disk hangs, or is slow")
         self.check("it tells it", comes_to(5, lambda: any(map(hangs.fullmatch, group.lines(1)))), group.log(1))
         os.remove(flag)
         self.check("it goes on", comes_to(10, lambda: group.at(1, "/ready").status == 200))
         again = re.compile(r"node 1: its journal answers again, after \d+ s")
         self.check("and tells that", comes_to(5, lambda: any(map(again.fullmatch, group.lines(1)))), group.log(1))
+
+    def slowest_health(self, group: Operated) -> float:
+        """How long it takes at most, while four operators ask a question each again and again, until it is told that
+        the node is well."""
+        ended, times = threading.Event(), []
+
+        def question() -> None:
+            while not ended.is_set():
+                with contextlib.suppress(OSError):
+                    group.at(1, "/lras")
+
+        threads = [threading.Thread(target=question, daemon=True) for _ in range(4)]
+        for thread in threads:
+            thread.start()
+        for _ in range(6):
+            time.sleep(0.3)
+            began = time.monotonic()
+            times.append(time.monotonic() - began if group.at(1, "/health").status == 200 else SLOW)
+            if times[-1] > 5:
+                break
+        ended.set()
+        return max(times)
 
     # ---- whoever is slow
 
@@ -360,6 +453,52 @@ class TestLuck(checks.Checked):
             line.sendall(b"GET /metrics HTTP/1.1\r\nHost: localhost\r\n\r\n")
         slowest = slowest_of(lambda: group.at(1, "/metrics"), 2)
         self.check(f"beside 24 that don't read it takes {slowest:.2f} s", slowest < 0.5)
+
+    def test_turned(self) -> None:
+        """Ninety-six hosts refuse at once and then hang; and one that answers slowly stands beside ten that hang."""
+        group, part = self.members(1), self.participant()
+        group.start()
+        refusing = Turning(96)
+        self.addCleanup(refusing.close)
+        first = group.begin(1)
+        group.join(1, first, compensate=part.url, complete=part.url)
+        group.finish(1, first)
+        comes_to(SLOW, lambda: part.made(first))
+        for at in range(0, 96, 32):
+            lra = group.begin(1)
+            for port in refusing.ports[at : at + 32]:
+                link = f"http://{HOST}:{port}/c"
+                group.join(1, lra, compensate=link, complete=link)
+            group.finish(1, lra)
+        comes_to(SLOW, lambda: refusing.calls >= 96)
+        refusing.hangs = True
+        time.sleep(2)
+        self.check_calls(group, part, "96 hosts that refused at once and now hang", 6, 15)
+
+    def test_slow_one(self) -> None:
+        """Ten hosts hang, and another answers each call after 1.2 seconds."""
+        group, part = self.members(1), self.participant(pause=1.2)
+        group.start()
+        hosts = hanging_hosts(10)
+        lra = group.begin(1)
+        for host in hosts:
+            link = f"http://{HOST}:{host.getsockname()[1]}/c"
+            group.join(1, lra, compensate=link, complete=link)
+        group.finish(1, lra)
+        time.sleep(12)
+        self.check_calls(group, part, "ten hosts that hang", 4, 40)
+
+    def check_calls(self, group: Group, part: Participant, what: str, count: int, limit: float) -> None:
+        """Whether so many participants of one host are called in time beside others."""
+        lra = group.begin(1)
+        for place in range(count):
+            group.join(1, lra, compensate=part.url, complete=f"{part.url}/{place}")
+        began = time.monotonic()
+        group.finish(1, lra)
+        called = comes_to(2 * limit, lambda: len(part.made(lra)) == count)
+        took = time.monotonic() - began
+        self.check(f"beside {what} {count} participants of another are called in {took:.1f} s",
+                   called and took < limit, part.made(lra))
 
     # ---- lines and names
 
@@ -539,12 +678,91 @@ class TestLuck(checks.Checked):
         plain = self.group_in("plain", 3)
         plain.addresses = [group.addresses[0], plain.addresses[1], plain.addresses[2]]
         plain.start(2)
-        self.check("one that tells no group is taken", plain.comes_to(2, lra, "Active") is not None, plain.log(2))
+        heard = comes_to(15, lambda: line in plain.lines(2))
+        self.check("one of a group without a name is told too", heard, plain.log(2))
+        self.check("and gets nothing", plain.shown(2) == {}, plain.shown(2))
+        unnamed, named = self.group_in("unnamed", 3), self.group_in("named", 3, "group=food")
+        unnamed.start(1)
+        named.addresses = [unnamed.addresses[0], named.addresses[1], named.addresses[2]]
+        named.start(2)
+        unnamed.begin(1)
+        self.check("one of a named group is told of a node without a name",
+                   comes_to(15, lambda: line in named.lines(2)), named.log(2))
+        self.check("and takes nothing of it", named.shown(2) == {}, named.shown(2))
+
+    def test_nameless(self) -> None:
+        """A member that other machines reach warns at its start unless its group has a name."""
+        for number, words in enumerate(([], ["group=shop"])):
+            group = self.group_in(f"nameless{number}", 2, f"listen=0.0.0.0:{free_row(1)[0]}", *words)
+            group.ports = [int(group.options[0].rpartition(":")[2]), group.ports[1]]
+            group.start(1)
+            warns = comes_to(5, lambda: any("its group has no name" in one for one in group.lines(1)))
+            self.same(f"with {' '.join(words) or 'no name'}", not words, warns)
 
     def group_in(self, name: str, count: int, *options: str) -> Group:
         made = Group(count, self.folder_in(name), *options)
         self.addCleanup(made.__exit__)
         return made
+
+
+class Retrying:
+    """Clients that begin LRAs at each of three nodes, so many at a node, again and again while that is refused."""
+
+    def __init__(self, group: Group, count: int) -> None:
+        self.group, self.is_over = group, False
+        self.begun: dict[int, list[str]] = {1: [], 2: [], 3: []}
+        numbers = [number for number in self.begun for _ in range(count)]
+        self.threads = [threading.Thread(target=self.play, args=(number,)) for number in numbers]
+        for thread in self.threads:
+            thread.start()
+
+    def play(self, number: int) -> None:
+        while not self.is_over and len(self.begun[number]) < 40:
+            with contextlib.suppress(OSError, ValueError):
+                answer = request(self.group.address(number), "POST", "/lra")
+                if answer.status == 201:
+                    self.begun[number].append(answer.json()["lra"])
+                    continue
+            time.sleep(0.001)
+
+    def stop(self) -> None:
+        self.is_over = True
+        for thread in self.threads:
+            thread.join()
+
+
+class Turning:
+    """Hosts that answer 503 at once, until they hang."""
+
+    def __init__(self, count: int) -> None:
+        self.hangs, self.calls, self.is_over = False, 0, False
+        self.servers = [socket.create_server((HOST, 0), backlog=16) for _ in range(count)]
+        self.ports = [server.getsockname()[1] for server in self.servers]
+        self.lines: list[socket.socket] = []
+        threading.Thread(target=self.serve, daemon=True).start()
+
+    def serve(self) -> None:
+        with selectors.DefaultSelector() as selector:
+            for server in self.servers:
+                selector.register(server, selectors.EVENT_READ)
+            while not self.is_over:
+                for key, _ in selector.select(0.1):
+                    self.take(typing.cast(socket.socket, key.fileobj))
+
+    def take(self, server: socket.socket) -> None:
+        line = server.accept()[0]
+        self.calls += 1
+        if self.hangs:
+            self.lines.append(line)
+            return
+        with contextlib.suppress(OSError), line:
+            line.recv(4096)
+            line.sendall(b"HTTP/1.1 503 Down\r\nContent-Length: 0\r\nConnection: close\r\n\r\n")
+
+    def close(self) -> None:
+        self.is_over = True
+        for one in (*self.servers, *self.lines):
+            one.close()
 
 
 class Misled(Operated):

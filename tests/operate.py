@@ -2,8 +2,8 @@
 """Tests the operator's port, as who is on call meets it: python3 tests/operate.py [PROGRAM] [TEST..].
 
 PROGRAM is crates/lra_member/out/lra_member, or --unproved (tools/unproved.py). A TEST is one of paths, records, stuck,
-dead, page, metrics, states, ready, early, disk, slow and cost; without one it does all, some four minutes. Each check
-prints a line; the status is 1 where one fails. Standard library alone."""
+dead, page, metrics, states, ready, early, disk, slow, long, silent, files and cost; without one it does all, some four
+minutes. Each check prints a line; the status is 1 where one fails. Standard library alone."""
 import json
 import os
 import re
@@ -18,7 +18,7 @@ sys.path.insert(0, os.path.dirname(os.path.dirname(os.path.abspath(__file__))))
 from tools import checks, metrics, repo, unproved
 from tools.node import SLOW, Group, Json, comes_to
 from tools.operated import Operated
-from tools.ports import HOST, free_row
+from tools.ports import HOST, free_row, is_open
 from tools.version import build_said
 
 LAST = "00000000-0000-8008-8000-ffffffffffff"
@@ -347,29 +347,25 @@ class TestOperators(checks.Checked):
         group.end(1)
 
     def test_early(self) -> None:
-        """A command at the operator's port waits until the others are heard, as elsewhere; a question doesn't."""
+        """A command at the operator's port is refused at once until the others are heard; a question is answered."""
         group = self.operated(2)
         group.start(1, 2)
         group.kill(1, 2)
-        group.run(1)
-        seen: list[Json] = []
-
-        def is_told() -> bool:
-            try:
-                seen.append(group.told(1, "/ready")[1])
-            except OSError:
-                return False
-            return True
-
-        self.check("it listens", comes_to(SLOW, is_told))
+        group.start(1, options=["anew"])
+        behind = (503, {"ready": False, "cause": "behind"})
+        self.check("it waits for the other", comes_to(SLOW, lambda: group.told(1, "/ready") == behind))
         began = time.monotonic()
         listed = group.at(1, "/lras").status
         self.check("a question is answered", listed == 200 and time.monotonic() - began < 0.7, listed)
-        status, _ = group.told(1, "/lra", "POST")
-        self.check("a command is entered", status == 201, status)
-        behind = seen[0].get("cause") == "behind"
-        self.check("but not before the others are heard", not behind or group.told(1, "/ready")[0] == 200, seen)
-        group.end(1)
+        began = time.monotonic()
+        seen = {group.refused(1, "/lra", "POST") for _ in range(4)}
+        took = time.monotonic() - began
+        wanted = {(503, "{\"refused\":\"E19 Stopped\"}")}
+        self.check(f"four commands are refused in {took:.1f} s", seen == wanted and took < 4, seen)
+        group.start(2)
+        self.check("one is entered once the other is heard",
+                   comes_to(SLOW, lambda: group.told(1, "/lra", "POST")[0] == 201))
+        group.end()
 
     def test_disk(self) -> None:
         """A node whose journal can't grow says so from a refused write until one is stored, and goes on by itself."""
@@ -417,6 +413,110 @@ class TestOperators(checks.Checked):
         parts.settimeout(SLOW)
         self.check("a request in parts", parts.recv(4096).startswith(b"HTTP/1.1 200"), "")
         parts.close()
+        self.check("it ends", group.end() == [0])
+
+    def health_in(self, group: Operated, count: int) -> float:
+        """How long it takes at most until it is told that the node is well: probes wait for five seconds."""
+        times = []
+        for _ in range(count):
+            began = time.monotonic()
+            times.append(time.monotonic() - began if group.at(1, "/health").status == 200 else SLOW)
+        return max(times)
+
+    def opened(self) -> Operated:
+        """A node whose port for operators takes connections."""
+        group = self.operated(1).start()
+        self.check("it listens", comes_to(SLOW, lambda: is_open(group.doors[0])))
+        return group
+
+    def begun_doors(self, group: Operated, text: bytes, count: int = 24) -> list[socket.socket]:
+        """So many connections to the operator's port on which this was sent."""
+        lines = [socket.create_connection((HOST, group.doors[0])) for _ in range(count)]
+        for line in lines:
+            line.sendall(text)
+        return lines
+
+    def test_long(self) -> None:
+        """Operators that state a long body, or send a bad head without an end, and then nothing."""
+        group = self.opened()
+        host = b"POST /lra HTTP/1.1\r\nHost: localhost\r\n"
+        for what, code, name, text in (
+            ("a long body", 413, "BodyTooLong", b"Content-Length: 20000\r\n\r\n"),
+            ("a long body, for a word to send it", 413, "BodyTooLong",
+             b"Content-Length: 65536\r\nExpect: 100-continue\r\n\r\n"),
+            ("a bad head without an end", 400, "BadHead", b"X-Padding: " + b"a" * 60 + b"\r\nBad Name: x\r\n"),
+            ("a head that is too long", 431, "HeadTooLong", b"X-Padding: " + b"a" * 17_000),
+        ):
+            lines = self.begun_doors(group, host + text)
+            took = self.health_in(group, 1)
+            self.check(f"{what}: beside 24 of them it says after {took:.1f} s that it is well", took < 3, took)
+            heard = set()
+            for line in lines:
+                line.settimeout(SLOW)
+                answer = line.recv(4096)
+                heard.add((answer[:12], answer.rpartition(b"\r\n\r\n")[2]))
+                line.close()
+            wanted = {(f"HTTP/1.1 {code}".encode(), f"{{\"refused\":\"{name}\"}}".encode())}
+            self.same(f"{what}: each is refused", wanted, heard)
+        self.check("it ends", group.end() == [0])
+
+    def test_silent(self) -> None:
+        """New connections that say nothing come to the operator's port without an end."""
+        soft, most = resource.getrlimit(resource.RLIMIT_NOFILE)
+        resource.setrlimit(resource.RLIMIT_NOFILE, (most, most))
+        self.addCleanup(resource.setrlimit, resource.RLIMIT_NOFILE, (soft, most))
+        group = self.opened()
+        ended, made = threading.Event(), [0]
+
+        def come() -> None:
+            lines: list[socket.socket] = []
+            while not ended.wait(0.002):
+                line = socket.socket()
+                line.setblocking(False)
+                line.connect_ex((HOST, group.doors[0]))
+                lines.append(line)
+                made[0] += 1
+                if len(lines) > 1_500:
+                    lines.pop(0).close()
+
+        threads = [threading.Thread(target=come) for _ in range(2)]
+        for thread in threads:
+            thread.start()
+        time.sleep(4)
+        began, before = time.monotonic(), made[0]
+        took = self.health_in(group, 8)
+        rate = (made[0] - before) / (time.monotonic() - began)
+        ended.set()
+        for thread in threads:
+            thread.join()
+        self.check(f"amid {rate:.0f} a second it says after {took:.1f} s at most that it is well", took < 1.5, took)
+        self.check("it ends", group.end() == [0])
+
+    def test_files(self) -> None:
+        """Clients' silent connections take the last file: each operator is answered."""
+        group, most = self.opened(), 64
+        process = group.processes[1]
+        resource.prlimit(process.pid, resource.RLIMIT_NOFILE, (most, most))
+
+        def files() -> int:
+            return len(os.listdir(f"/proc/{process.pid}/fd"))
+
+        lines = []
+        for _ in range(100):
+            lines.append(socket.create_connection((HOST, group.ports[0])))
+            time.sleep(0.02)
+        self.check("no file is left", files() >= most - 2, files())
+        heard = []
+        for _ in range(20):
+            try:
+                heard.append(group.at(1, "/health").status)
+            except OSError as error:
+                heard.append(type(error).__name__)
+            time.sleep(0.1)
+        self.same("20 of 20 are told that it is well", [200] * 20, heard)
+        for line in lines:
+            line.close()
+        self.check("clients are answered again", comes_to(SLOW, lambda: group.ask(1, "GET", "/lra")[0] == 200))
         self.check("it ends", group.end() == [0])
 
     def test_cost(self) -> None:

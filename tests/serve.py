@@ -25,6 +25,31 @@ JOURNALS = f"{TOP}/tests/data/journal-1"
 # What a node tells whose journal can't be opened.
 NOT_OPENED = "node 1: its journal can't be opened: "
 NO_FOLDER = f"{NOT_OPENED}there is no folder, or no right to it, or no file is left\njournal 1\n"
+CONTINUE = b"HTTP/1.1 100 Continue\r\n\r\n"
+# Fields that are refused, whatever body comes: the code, the version, and the lines.
+REFUSED_FIELDS = (
+    (400, "1.1", "Host: p", "Content-Length: +1"), (400, "1.1", "Host: p", "Content-Length: 0x9"),
+    (400, "1.1", "Host: p", "Content-Length: 9, 9"), (400, "1.1", "Host: p", "Content-Length: 9 9"),
+    (400, "1.1", "Host: p", "Content-Length: 9", "content-length: 9"),
+    (400, "1.1", "Content-Length: 9"), (400, "1.1", "Host: p", "HOST: p", "Content-Length: 9"),
+    (400, "1.0", "Host: p", "Host: q", "Content-Length: 9"),
+    (501, "1.1", "Host: p", "Transfer-Encoding: chunked", "Content-Length: 9"),
+    (501, "1.1", "Transfer-Encoding:", "Content-Length: +1"),
+    (413, "1.1", "Host: p", "Content-Length: 65537"), (413, "1.1", "Host: p", "Content-Length: 18446744073709551625"),
+)
+
+
+def next_of(line: socket.socket, seconds: float) -> bytes:
+    """What comes next on a connection within so many seconds: nothing where it is closed, or nothing comes."""
+    line.settimeout(seconds)
+    try:
+        return line.recv(4096)
+    except OSError:
+        return b""
+
+
+def head_with(version: str, *lines: str) -> bytes:
+    return "\r\n".join((f"POST /lra HTTP/{version}", *lines, "", "")).encode()
 
 
 class TestServer(checks.Checked):
@@ -259,6 +284,106 @@ class TestServer(checks.Checked):
                 self.check(what, answer.startswith(wanted), answer[:80])
         ended = server.end()
         self.check("it ends with its input", ended == (0, ""), ended)
+
+    def is_told_soon(self, server: Server, what: str, wanted: bytes, *pieces: bytes, ends: bool = False) -> None:
+        """Whether a client that sends these pieces, and then nothing, is answered so at once. It may shut its side."""
+        with socket.create_connection(server.address(1)) as line:
+            for number, piece in enumerate(pieces):
+                time.sleep(0.05 if number else 0)
+                line.sendall(piece)
+            if ends:
+                line.shutdown(socket.SHUT_WR)
+            began = time.monotonic()
+            answer = next_of(line, 9)
+            took = time.monotonic() - began
+        self.check(f"{what}: {wanted[9:12].decode()}", answer.startswith(wanted) and took < 3, (answer[:80], took))
+
+    def test_refused_heads(self) -> None:
+        """Heads that are refused whatever comes behind them are answered at once: where the body that they state never
+        comes, and where they have no end."""
+        server = self.server(1).wait_until_up()
+        for code, version, *lines in REFUSED_FIELDS:
+            head, wanted = head_with(version, *lines), f"HTTP/1.1 {code} ".encode()
+            what = f"version {version}, {'; '.join(lines)}"
+            self.is_told_soon(server, what, wanted, head)
+            self.is_told_soon(server, f"{what}; in two pieces", wanted, head[:-7], head[-7:])
+            self.is_told_soon(server, f"{what}; told to go on", wanted, head[:-2] + b"Expect: 100-continue\r\n\r\n")
+        bad = head_with("1.1", "Host: p", "X-Padding: " + "a" * 60, "Bad Name: x")[:-2]
+        many = head_with("1.1", "Host: p", *["X: a"] * 64)[:-2]
+        for what, wanted, text in (("a bad line", b"HTTP/1.1 400 ", bad), ("65 lines", b"HTTP/1.1 431 ", many)):
+            for ends in (False, True):
+                where = "at the end of what comes" if ends else "and nothing more comes"
+                self.is_told_soon(server, f"{what}, {where}", wanted, text, ends=ends)
+        for version, *lines in (("1.0", "Content-Length: 2"), ("1.1", "Host: p", "Content-Length: 002")):
+            answer = exchange(server.address(1), head_with(version, *lines), b"{}", pause=0.2)
+            self.check(f"version {version}, {'; '.join(lines)}: the body is waited for",
+                       answer.startswith(b"HTTP/1.1 201 "), answer[:80])
+        self.same("it ends with its input", (0, ""), server.end())
+
+    def test_slow_garbage(self) -> None:
+        """Twelve clients send bad heads without an end, and then a byte now and then: they hold nobody up."""
+        server = self.server(1).wait_until_up()
+        bad = head_with("1.1", "X-Padding: " + "a" * 60, "Bad Name: x")[:-2]
+        ended = threading.Event()
+
+        def trickle_garbage() -> None:
+            lines: list[socket.socket] = []
+            while not ended.wait(0.02):
+                while len(lines) < 12:
+                    lines.append(socket.create_connection(server.address(1)))
+                    lines[-1].sendall(bad)
+                for line in list(lines):
+                    try:
+                        line.send(b"x")
+                    except OSError:
+                        lines.remove(line)
+
+        sender = threading.Thread(target=trickle_garbage)
+        sender.start()
+        time.sleep(0.5)
+        times = []
+        for _ in range(20):
+            began = time.monotonic()
+            server.ask(1, "GET", "/lra")
+            times.append(time.monotonic() - began)
+        ended.set()
+        sender.join()
+        self.check(f"a question takes {max(times):.2f} s at most", max(times) < 1, times)
+        self.same("it ends with its input", (0, ""), server.end())
+
+    def test_expected(self) -> None:
+        """Clients that send a body only once they are told to."""
+        server = self.server(1).wait_until_up()
+        long_body = b'{"x":"' + b"a" * 20_000 + b'"}'
+        for body in (b"{}", long_body):
+            for word in ("Expect: 100-continue", "expect: 100-CONTINUE"):
+                head = head_with("1.1", "Host: p", word, f"Content-Length: {len(body)}")
+                for cut in (len(head), head.index(b"100-")):
+                    self.is_led(server, f"{len(body):,} bytes, {word}, cut at {cut}", head, cut, body)
+        for what, version, word in (("version 1.0", "1.0", "Expect: 100-continue"),
+                                    ("another word", "1.1", "Expect: x")):
+            with socket.create_connection(server.address(1)) as line:
+                line.sendall(head_with(version, "Host: p", word, "Content-Length: 2"))
+                seen = next_of(line, 0.5)
+                self.same(f"{what}: nothing comes before the body", b"", seen)
+                line.sendall(b"{}")
+                self.check(f"{what}: then the answer", next_of(line, 9).startswith(b"HTTP/1.1 201 "))
+        whole = head_with("1.1", "Host: p", "Expect: 100-continue", "Content-Length: 2") + b"{}"
+        answer = exchange(server.address(1), whole)
+        self.check("a body that comes with its head: the answer alone", answer.startswith(b"HTTP/1.1 201 "), answer)
+        self.same("it ends with its input", (0, ""), server.end())
+
+    def is_led(self, server: Server, what: str, head: bytes, cut: int, body: bytes) -> None:
+        """Whether a client that waits for a word hears it once, and then the answer."""
+        with socket.create_connection(server.address(1)) as line:
+            for piece in (head[:cut], head[cut:]):
+                line.sendall(piece)
+                time.sleep(0.05)
+            seen = next_of(line, 3), next_of(line, 0.3)
+            line.sendall(body)
+            answer = b"".join(iter(lambda: next_of(line, 9), b""))
+        is_so = seen == (CONTINUE, b"") and answer.startswith(b"HTTP/1.1 201 ") and b" 100 " not in answer
+        self.check(f"{what}: told to go on, once, and then answered", is_so, (seen, answer[:80]))
 
     def end_of_one(self, nodes: int, folder: str, ports: list[int] | None = None) -> tuple[int, str]:
         """How a server ends that ends by itself."""

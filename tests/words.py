@@ -164,17 +164,22 @@ class TestWords(checks.Checked):
             self.check(f"{page}: ./coordinator {line}", wrong is None or wrong[1].endswith("is in use"), wrong)
 
     def test_count(self) -> None:
-        """Words of another count, or in another order, are told the usage."""
+        """Words of another count, or in another order, are told which, and the usage."""
         right = ("3", "8070", self.folder)
-        others = [right[:2], (*right, "more"), ("--proved", *right), (right[0], "--unproved", *right[1:])]
-        others += [("--keep",), ("--keep", *right), ("--keep", "1", "--keep", "1", *right)]
-        others += [(*right, "--keep-failed", "1")]
-        others += [("--operate",), ("--operate", *right), ("--operate", "8170", "--operate", "8170", *right)]
-        others += [(*right, "--operate", "8170")]
-        for given in others:
+        others: list[tuple[tuple[str, ...], str]] = [
+            (right[:2], "N, PORT and DIR are three words, not 2"), ((*right, "more"), "'more' is a word too many"),
+            (("--proved", *right), "'--proved' is no option"),
+            ((right[0], "--unproved", *right[1:]), "--unproved has to stand before N"),
+            (("--unproved", "--unproved", *right), "--unproved stands twice")]
+        for option in ("--keep", "--keep-failed", "--operate"):
+            others += [((option,), f"{option} lacks its word"),
+                       ((option, *right), "N, PORT and DIR are three words, not 2"),
+                       ((option, "1", option, "1", *right), f"{option} stands twice"),
+                       ((*right, option, "1"), f"{option} has to stand before N")]
+        for given, why in others:
             with contextlib.redirect_stderr(io.StringIO()) as errors:
                 seen = start.main(list(given)), errors.getvalue()
-            self.check(f"{len(given)} words are told the usage", seen == (2, f"{start.USAGE}\n"))
+            self.same(f"./coordinator {' '.join(given)}", (2, f"coordinator: {why}\n{start.USAGE}\n"), seen)
 
     def test_progress(self) -> None:
         """What is said while the program is proved, and what where it isn't built."""

@@ -154,6 +154,8 @@ class World:
     def purge(self, one: Json) -> str:
         """What a purge would be answered."""
         name = f"{home_of(one['lra'])}.{int(one['lra'][24:], 16)}"
+        if home_of(one["lra"]) != 1:
+            return f"E4 NotHome {home_of(one['lra'])}"
         if one["parent"]:
             return "E9 NotRoot"
         if one["status"] not in ENDED:
@@ -218,10 +220,9 @@ class World:
 
     def purged(self, one: Json) -> tuple[int, Json | None]:
         """The answer to a purge, which may be done."""
-        if home_of(one["lra"]) != 1:
-            return 421, {"refused": f"E4 NotHome {home_of(one['lra'])}"}
-        if self.purge(one) != "due":
-            return 409, {"refused": self.purge(one)}
+        answer = self.purge(one)
+        if answer != "due":
+            return 421 if answer.startswith("E4") else 409, {"refused": answer}
         del self.lras[one["lra"]]
         return 204, None
 

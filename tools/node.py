@@ -221,9 +221,9 @@ class Server(Nodes):
         return self.process.poll() is None
 
     def is_up(self) -> bool:
-        """Whether all nodes take connections within a minute; not where the program has ended."""
-        comes_to(60, lambda: not self.is_running() or all(map(is_open, self.ports)))
-        return self.is_running()
+        """Whether all nodes take connections within a minute; not if the program has ended."""
+        is_over = comes_to(60, lambda: not self.is_running() or all(map(is_open, self.ports)))
+        return is_over and self.is_running()
 
     def wait_until_up(self) -> typing.Self:
         if not self.is_up():
