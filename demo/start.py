@@ -10,7 +10,7 @@ import signal
 import subprocess
 import sys
 import time
-from collections.abc import Sequence
+from collections.abc import Collection, Sequence
 
 sys.path.insert(0, os.path.dirname(os.path.dirname(os.path.abspath(__file__))))
 from tools import unproved
@@ -85,6 +85,22 @@ def options_of(words: list[str]) -> tuple[dict[str, str], list[str]]:
     return options, words
 
 
+def wrong_count(options: Collection[str], words: list[str]) -> str | None:
+    """A line on why the words behind these options aren't three, or nothing if there is none at all."""
+    if not words:
+        return None
+    first, late = words[0], [word for word in words if word in OPTIONS]
+    if first in options:
+        return f"{first} stands twice"
+    if late:
+        return f"{late[0]} lacks its word" if late[0] == first else f"{late[0]} has to stand before N"
+    if first.startswith("--"):
+        return f"{first!r} is no option"
+    if len(words) > 3:
+        return f"{words[3]!r} is a word too many"
+    return f"N, PORT and DIR are three words, not {len(words)}"
+
+
 def program_for(nodes: str, port: str, folder: str, times: Times, operate: str | None) -> tuple[str, list[str]]:
     """The program that runs such nodes, and its words: lra_node, or where roots are to be purged or operators to be
     heard lra_member, with all in one process."""
@@ -128,15 +144,16 @@ def main(words: list[str]) -> int:
         return 0
     options, words = options_of(words)
     if len(words) != 3:
-        print(USAGE, file=sys.stderr)
+        wrong = wrong_count(options, words)
+        print(*([f"coordinator: {wrong}"] if wrong else []), USAGE, sep="\n", file=sys.stderr)
         return 2
     nodes, port, folder = words
     times = [(option, options[option]) for option in TIMES if option in options]
     operate = options.get("--operate")
-    wrong = wrong_with(nodes, port, folder, times, operate)
-    if wrong:
-        say(wrong[1])
-        return wrong[0]
+    refused = wrong_with(nodes, port, folder, times, operate)
+    if refused:
+        say(refused[1])
+        return refused[0]
     name, given = program_for(nodes, port, folder, times, operate)
     if "--unproved" in options:
         need_rt()
