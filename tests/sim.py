@@ -1,11 +1,11 @@
 """Plays nodes in one thread, under a clock, a network, disks and participants that a seed decides.
 
-`python3 tests/sim.py` has the proved program `lra_sim` play for about a minute. `python3 tests/sim.py SEED SEEDS EVENTS
-[NODES [TOLD]]` plays from a seed on so many, each with so many events; `--unproved` in front has `rt try` play the
-sources, far slower, under an address sanitizer. `--night [SEEDS EVENTS [FIRST]]` plays 5,000 seeds with 20,000 events,
-one a processor at a time, and tells how many steps that were. `--faults [NAME..]` has it find what tests/sim/faults
-plants in the code, one after another, each in a copy and unproved: files of the form of tests/wrong's, with a line
-'crate: NAME' first.
+`python3 tests/sim.py` has the proved program `lra_sim` play for about a minute, and looks whether the code has the text
+of each fault that is planted by hand. `python3 tests/sim.py SEED SEEDS EVENTS [NODES [TOLD]]` plays from a seed on so
+many, each with so many events; `--unproved` in front has `rt try` play the sources, far slower, under an address
+sanitizer. `--night [SEEDS EVENTS [FIRST]]` plays 5,000 seeds with 20,000 events, one a processor at a time, and tells
+how many steps that were. `--faults [NAME..]` has it find what tests/sim/faults plants in the code, one after another,
+each in a copy and unproved: files of the form of tests/wrong's, with a line 'crate: NAME' first.
 
 The program is crates/lra_sim, over lra_luck, lra_run and lra_life. The same seed gives the same play everywhere.
 
@@ -46,9 +46,17 @@ NODES = [3, 2, 3, 1, 4, 2, 5, 8]
 # How long `rt try` may play, in seconds.
 SECONDS = 900
 
+# Files with their texts.
+Texts = dict[str, str]
 
-def plant(folder: str, fault: str) -> None:
-    """Plants a fault in a copy."""
+
+def names_of_faults() -> list[str]:
+    return [os.path.basename(path).removesuffix(".edit") for path in repo.files(f"{FAULTS}/*.edit")]
+
+
+def plant(folder: str, fault: str) -> Texts:
+    """The files that a fault changes in a folder, each with its text behind that."""
+    made: Texts = {}
     crate = file = old = ""
     for line in repo.read(f"{FAULTS}/{fault}.edit").splitlines():
         word, _, text = line.partition(": ")
@@ -59,18 +67,19 @@ def plant(folder: str, fault: str) -> None:
         elif word == "old":
             old = text
         elif word == "new":
-            whole = repo.read(file)
+            whole = made.get(file) or repo.read(file)
             if whole.count(old) != 1:
                 raise SystemExit(f"{fault}: its text doesn't stand there once: {old}")
-            repo.write(file, whole.replace(old, text))
+            made[file] = whole.replace(old, text)
+    return made
 
 
 def try_out(words: list[str], fault: str = "") -> tuple[int, str]:
     """Plays with these words by `rt try`, over a fault if there is one. The status, and what was printed."""
     with tempfile.TemporaryDirectory(prefix="sim-") as folder:
         repo.copy_crates(folder)
-        if fault:
-            plant(folder, fault)
+        for file, text in plant(folder, fault).items() if fault else ():
+            repo.write(file, text)
         command = ["rt", "try", "--seconds", str(SECONDS), "--", *words]
         ran = subprocess.run(command, cwd=f"{folder}/crates/{NAME}", stdin=subprocess.DEVNULL, stdout=subprocess.PIPE,
                              stderr=subprocess.STDOUT, text=True, errors="replace")
@@ -120,8 +129,7 @@ def is_found(fault: str) -> bool:
 def main() -> int:
     words = sys.argv[1:]
     if words[:1] == ["--faults"]:
-        names = [os.path.basename(path).removesuffix(".edit") for path in repo.files(f"{FAULTS}/*.edit")]
-        found = [is_found(fault) for fault in words[1:] or names]
+        found = [is_found(fault) for fault in words[1:] or names_of_faults()]
         print(f"{sum(found)} of {len(found)} found")
         return 0 if all(found) else 1
     if words[:1] == ["--night"]:
@@ -130,6 +138,8 @@ def main() -> int:
     if words[:1] == ["--unproved"]:
         status, out = try_out(words[1:] or LONG)
     elif not words:
+        for fault in names_of_faults():
+            plant(repo.TOP, fault)
         return spread(int(SHORT[0]), int(SHORT[1]), SHORT[2:])
     else:
         status, out = play(words)

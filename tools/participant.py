@@ -43,8 +43,8 @@ class QuietServer(http.server.ThreadingHTTPServer):
 
 
 class Participant:
-    """Listens, answers a call with what `answers` has for its path, else with a status, and remembers it. In chunks it
-    answers as many servers do: a body comes in two, and the connection stays open."""
+    """Listens, answers a call with what `answers` has for its path, else with a status, and remembers the call once its
+    answer is known. In chunks it answers as many servers do: a body comes in two, and the connection stays open."""
 
     def __init__(self, port: int = 0, status: int = 200, pause: float = 0, in_chunks: bool = False) -> None:
         self.status, self.pause, self.in_chunks = status, pause, in_chunks
