@@ -14,7 +14,7 @@ PAGE = "docs/THEOREMS.md"
 TESTS = ["test_answers", "test_calls", "test_script", "test_server"]
 # The crates of each layer, and last what they are.
 LAYERS = [
-    ("lra_node", "lra_member", "lra_play", "the programs"),
+    ("lra_node", "lra_member", "the programs"),
     ("lra_sim", "lra_life", "lra_run", "lra_luck", "the simulator"),
     ("lra_words", "the words of `lra_member`"),
     ("lra_gateway", "the gateway"),
