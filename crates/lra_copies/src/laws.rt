@@ -7,7 +7,8 @@ ghost use Rattle.lra_id.specs.Fronts.{count};
 ghost use Rattle.lra_copies.specs.Outlooks.{Failure, Trouble, after_failures, is_due, none, since_of, with_failure};
 ghost use Rattle.lra_copies.specs.Paces.{Pace, at_rest, given_at, moment_of, verdict_of, with_begin, with_end};
 ghost use Rattle.lra_copies.specs.Pulls.{Came, HoldsNone, behind, behind_all, nothing_at_once, round_after};
-ghost use Rattle.lra_copies.specs.Spreads.{Spread, is_covered, last_ticket, looked, standing_of, target};
+ghost use Rattle.lra_copies.specs.Spreads.{Spread, is_covered, last_ticket, looked, put, standing_of, target};
+ghost use Rattle.lra_copies.specs.declared.mark.Mark.{Mark as TheMark};
 ghost use Rattle.lra_copies.specs.Steps.{Asks, Begins, Ends, Gives, Hears, Looks, Node, Step, WasCopied, after_all, at_start, begins_in, copied_at, drawn_by, ends_in, first_of_three, last_told, second};
 ghost use Rattle.lra_copies.specs.declared.pulls.NextPull.{NextPull as ThePull};
 ghost use Rattle.lra_copies.specs.declared.pulls.Pulled.{Pulled as ThePulled};
@@ -45,6 +46,11 @@ pub fn what_came_later_is_not_covered()
         (after_all (later ++ (Ends true ∷ (between ++ (Asks ∷ earlier)))) (at_start node)).covered ≡ drawn_by Asks (after_all earlier (at_start node)) →
         is_covered (drawn_by (Ends true) (after_all (between ++ (Asks ∷ earlier)) (at_start node)))
         (after_all (later ++ (Ends true ∷ (between ++ (Asks ∷ earlier)))) (at_start node)) ≡ false }
+{}
+
+/// Sixty-four frames that were given are remembered. Only a further one takes the place of the last.
+pub fn sixty_four_frames_are_remembered()
+    ensures { (mark : TheMark) (marks : List TheMark) → length marks < 64 → put mark marks ≡ marks ++ mark ∷ [] }
 {}
 
 /// Who looks waits for each fact that was stored before, unless that is covered; and while more calls have begun than are over, a new ticket

@@ -15,9 +15,9 @@ use lra_peer::{PullError, pull};
 use std::alloc::{AllocError, Global};
 use std::marker::Model;
 
-/// What another node told in a pull: a whole frame. Only `ask_for` makes one, and `copy` one of
-/// another, for where it couldn't be taken. So no frame is taken that didn't come. Contracts speak
-/// of the frame alone: that it keeps the number of the node that was asked stands in no clause.
+/// What another node told in a pull: a whole frame, and which node was asked. Only `ask_for` makes
+/// one, and `copy` makes one of another, in case that can't be taken. So no frame is taken that
+/// didn't come.
 #[derive(Drop)]
 pub struct Telling {
     from: NodeId,
@@ -25,27 +25,29 @@ pub struct Telling {
 }
 
 impl Model for Telling {
-    ghost use Rattle.lra_delta.specs.Frames.{Frame};
+    ghost use Rattle.lra_heard.specs.Tellings.{Told};
 
-    ghost Value = { Frame };
+    ghost Value = { Told };
 
-    ghost view = { λ t. t.delta };
+    ghost view = { λ t. record { from = t.from; frame = t.delta } };
 }
 
 impl Telling {
-    /// The node that was asked. No clause tells which it is.
-    pub fn from(&self) -> NodeId {
+    /// The node that was asked.
+    pub fn from(&self) -> NodeId
+        ensures { result ≡ self.now.from }
+    {
         self.from
     }
 
     /// How many facts of each node the other has.
     pub fn front(&self) -> Front
-        ensures { result ≡ self.now.front }
+        ensures { result ≡ self.now.frame.front }
     {
         self.delta.front()
     }
 
-    /// One more, to be kept where a journal fails: what it tells is taken later then.
+    /// One more, to be kept if a journal fails: what it tells is taken later then.
     pub fn copy(&self) -> Result<Telling, AllocError>
         ensures { IfOk result (λ copy. copy ≡ self.now) }
     {
@@ -57,7 +59,7 @@ impl Telling {
 
     /// The frame, to be taken.
     pub fn into_delta(self) -> Delta
-        ensures { result ≡ self }
+        ensures { result ≡ self.frame }
     {
         self.delta
     }
@@ -79,7 +81,8 @@ pub fn ask_for<R: Source, W: Sink>(
     ensures message { IfOk result (λ telling. IsSent (W.stream writer.old)
         (W.stream writer.new) (W.calls writer.old) (W.calls writer.new) (pull_text query.now front.now)
         × TellsDelta (R.stream reader.old)
-        (R.stream reader.new) (R.calls reader.old) (R.calls reader.new) telling) }
+        (R.stream reader.new) (R.calls reader.old) (R.calls reader.new) telling.frame) }
+    ensures from { IfOk result (λ telling. telling.from ≡ from) }
     ensures error { IfErr result (λ error. IsUnsentBy (W.stream writer.old)
         (W.stream writer.new) (W.calls writer.old) (W.calls writer.new) (pull_text query.now front.now)
         (reader.new ≡ reader.old) ((writer.new ≡ writer.old) × (reader.new ≡ reader.old)) error
@@ -89,7 +92,7 @@ pub fn ask_for<R: Source, W: Sink>(
     ensures found { IfSome (R.stream reader.old).left
         (λ input. (bytes rest : List ℕ) (version : Version) (frame : Frame) → input ≡ bytes ++ rest →
         IsDeltaAs version frame → IsAnswer bytes 200 (encoding_as version frame) →
-        MatchResult result (λ telling. telling ≡ frame) IsOfStreams) }
+        MatchResult result (λ telling. telling.frame ≡ frame) IsOfStreams) }
 {
     match pull(alloc, reader, writer, query, front) {
         Ok(delta) => Ok(Telling { from, delta }),
