@@ -12,6 +12,7 @@ use Rattle.lra_facts.specs.Refusals.{first, unknown, unless}
 use Rattle.lra_facts.specs.Sets.{is_held, shows_now}
 use Rattle.lra_forest.specs.declared.record.Record.{Record}
 use Rattle.lra_forest.specs.Records.{record_of}
+use Rattle.lra_forest.specs.Trees.{tree_shows}
 use Rattle.lra_forest.proofs.Bools.{and_right}
 use Rattle.lra_facts.specs.declared.command.Command.TheVariants.{Purge}
 use Rattle.lra_facts.specs.declared.command.CommandReply.{CommandReply}
@@ -30,6 +31,8 @@ use Rattle.lra_book.specs.declared.calls.Reply.TheVariants.{Held}
 use Rattle.lra_book.specs.Holdings.{holding_of, shown_in, statuses_of, summaries_of, summary_of}
 use Rattle.lra_book.specs.Next.{held_reply, record_reply}
 use Rattle.lra_book.specs.OfSets.{record_reply_of}
+use Rattle.lra_book.specs.Trees.{tree_on}
+use Rattle.lra_book.proofs.TreesOfSets.{tree_alike}
 
 -- the record of an LRA that the set holds is the set's
 found : (S : List Fact) (a : View) (l : Id) → StandsFor S a → is_held S l ≡ true → record_at a l ≡ Some (record_of (length a.front) S l)
@@ -68,11 +71,13 @@ record_of_set S a me l settled stands some there = ap (record_reply a me l) (sho
         held_of l status (member_shown_on a l) (member_shown S a.front l) (reply_on a me (Purge l)) (reply_of S a.front me (Purge l)) (record_at a l) (record_of (length a.front) S l)
         (λ m. member_settled S a l m settled stands) (view_law S a me (Purge l) some there settled stands).0 (found S a l stands (shows_held S a.front l status e))
 
--- each row tells what the set's record says
-pub rows_of_set : (S : List Fact) (a : View) (after : Option Id) (rows : List Row) → StandsFor S a → AllByRecursion (IsRow (by_view a) after) rows
-    → summaries_of (record_at a) rows ≡ summaries_of (λ l. Some (record_of (length a.front) S l)) rows
-rows_of_set S a after [] stands all = refl
-rows_of_set S a after (row ∷ rows) stands all =
+-- each row tells what its tree shows by the set, and what the set's record says
+pub rows_of_set : (S : List Fact) (a : View) (after : Option Id) (rows : List Row) → IsSettled S → StandsFor S a → AllByRecursion (IsRow (by_view a) after) rows
+    → summaries_of (tree_on a) (record_at a) rows ≡ summaries_of (tree_shows S) (λ l. Some (record_of (length a.front) S l)) rows
+rows_of_set S a after [] settled stands all = refl
+rows_of_set S a after (row ∷ rows) settled stands all =
     let held : is_held S row.id ≡ true = sym (has_record S a row.id stands) ∙ and_right (is_fact_number row.id.num) (is_some (record_at a row.id)) all.0.held in
-    ap (λ (o : Option Record). summary_of row o ∷ summaries_of (record_at a) rows) (found S a row.id stands held)
-    ∙ ap (λ (xs : List Summary). summary_of row (Some (record_of (length a.front) S row.id)) ∷ xs) (rows_of_set S a after rows stands all.1)
+    let record_is : Option Record = Some (record_of (length a.front) S row.id) in
+    ap (λ (o : Option Record). summary_of row (tree_on a row.id) o ∷ summaries_of (tree_on a) (record_at a) rows) (found S a row.id stands held)
+    ∙ ap (λ (s : LraStatus). summary_of row s record_is ∷ summaries_of (tree_on a) (record_at a) rows) (tree_alike S a row.id settled stands held)
+    ∙ ap (λ (xs : List Summary). summary_of row (tree_shows S row.id) record_is ∷ xs) (rows_of_set S a after rows settled stands all.1)

@@ -1,5 +1,6 @@
 mod Clerked
 mod EachOnce
+mod FailuresInATree
 mod FittingPatches
 mod FoundBehind
 mod Frames
@@ -19,3 +20,4 @@ mod Stands
 mod Stops
 mod Strange
 mod Trails
+mod TreesOfSets

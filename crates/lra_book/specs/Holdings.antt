@@ -37,15 +37,15 @@ pub record SurveyRows : Type 0 where
   pub rows : List Summary
   pub more : Bool
 
--- a row with what the record of its LRA says
-abbrev pub summary_of : Row → Option Record → Summary
-summary_of row None = record { id = row.id; status = row.status; parent = None; members = 0; deadline = 0 }
-summary_of row (Some r) =
-    record { id = row.id; status = row.status; parent = option_map (λ (p : Place). p.number) r.parent; members = length r.members; deadline = r.deadline }
+-- a row with what the tree of its LRA shows, and what the record says
+abbrev pub summary_of : Row → LraStatus → Option Record → Summary
+summary_of row tree None = record { id = row.id; status = row.status; tree = tree; parent = None; members = 0; deadline = 0 }
+summary_of row tree (Some r) =
+    record { id = row.id; status = row.status; tree = tree; parent = option_map (λ (p : Place). p.number) r.parent; members = length r.members; deadline = r.deadline }
 
--- each row with what the record of its LRA says
-abbrev pub summaries_of : (Id → Option Record) → List Row → List Summary
-summaries_of record_of rows = map (λ row. summary_of row (record_of row.id)) rows
+-- each row with what its tree shows, and what its record says
+abbrev pub summaries_of : (tree_of : Id → LraStatus) → (record_of : Id → Option Record) → List Row → List Summary
+summaries_of tree_of record_of rows = map (λ row. summary_of row (tree_of row.id) (record_of row.id)) rows
 
-abbrev pub survey_of : (Id → Option Record) → PageRows → SurveyRows
-survey_of record_of page = record { rows = summaries_of record_of page.rows; more = page.more }
+abbrev pub survey_of : (tree_of : Id → LraStatus) → (record_of : Id → Option Record) → PageRows → SurveyRows
+survey_of tree_of record_of page = record { rows = summaries_of tree_of record_of page.rows; more = page.more }

@@ -7,3 +7,4 @@ pub mod Next
 pub mod OfSets
 pub mod Sameness
 pub mod Trails
+pub mod Trees

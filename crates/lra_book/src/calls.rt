@@ -72,7 +72,7 @@ pub enum Call {
     Duties,
     /// Cancel an LRA of this node whose deadline has passed.
     Expire,
-    /// Purge the tree of a root, if the root still shows this; else say what it shows.
+    /// Purge the tree of a root, if the tree still shows this; else say what the root shows.
     Sweep { root: LraId, seen: LraStatus },
 }
 

@@ -7,9 +7,11 @@ ghost use Rattle.lra_history.specs.Views.{record_at};
 ghost use Rattle.lra_replica.specs.Replicas.{view_of};
 ghost use Rattle.lra_book.specs.Holdings.{shown_in, statuses_of, summaries_of, summary_of};
 ghost use Rattle.lra_book.specs.Next.{IsSurvey, held_reply, record_reply};
+ghost use Rattle.lra_book.specs.Trees.{tree_on};
 
 use crate::Reply;
 use crate::preparing::act;
+use crate::trees::tree_of;
 use lra_facts::{Command, CommandReply, Refusal};
 use lra_forest::{Members, Record};
 use lra_id::{LraId, LraStatus, MemberStatus, NodeId};
@@ -59,6 +61,8 @@ pub struct Holding {
 pub struct Summary {
     pub id: LraId,
     pub status: LraStatus,
+    /// What its tree shows: the LRA with all that is nested in it.
+    pub tree: LraStatus,
     /// The number of its parent at the same home; none where it is a root.
     pub parent: Option<u64>,
     /// How many member numbers were given.
@@ -217,8 +221,8 @@ pub fn hold(alloc: Global, replica: &mut Replica, me: NodeId, id: LraId) -> Resu
     holding_of(alloc, replica, id, status, act.reply)
 }
 
-fn in_short(row: &Row, record: Option<&Record>) -> Summary
-    ensures { result ≡ summary_of row.now (option_copied record.entry) }
+fn in_short(row: &Row, tree: LraStatus, record: Option<&Record>) -> Summary
+    ensures { result ≡ summary_of row.now tree (option_copied record.entry) }
 {
     let (parent, members, deadline) = match record {
         Some(record) => (record.parent, record.members.len(), record.deadline),
@@ -227,6 +231,7 @@ fn in_short(row: &Row, record: Option<&Record>) -> Summary
     Summary {
         id: row.id,
         status: row.status,
+        tree,
         parent: parent.map(|place| place.number),
         members,
         deadline,
@@ -234,11 +239,13 @@ fn in_short(row: &Row, record: Option<&Record>) -> Summary
 }
 
 fn all_in_short(alloc: Global, replica: &Replica, rows: &[Row]) -> Result<Vec<Summary>, AllocError>
-    ensures { IfOk result (λ list. list.items ≡ summaries_of (record_at (view_of replica.now)) rows.now) }
+    ensures { let a = view_of replica.now in IfOk result
+        (λ list. list.items ≡ summaries_of (tree_on a) (record_at a) rows.now) }
 {
     let mut list = Vec::new(alloc);
     for row in rows {
-        list.push(in_short(row, record_of(replica, row.id)))?;
+        let tree = tree_of(replica, row.id);
+        list.push(in_short(row, tree, record_of(replica, row.id)))?;
     }
     Ok(list)
 }

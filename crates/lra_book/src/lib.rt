@@ -15,6 +15,7 @@ mod preparing;
 mod receipts;
 mod run_start;
 mod sameness;
+mod trees;
 
 pub use book::{Book, MAX_ENTRIES, MAX_MOVES};
 pub use calls::{Call, Entry, PullBody, Receipt, Reply};

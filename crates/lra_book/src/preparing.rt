@@ -16,8 +16,10 @@ ghost use Rattle.sqlite.specs.State.{HasCleanDisk, Survives};
 ghost use Rattle.lra_book.specs.declared.calls.Reply.TheVariants.{Due};
 ghost use Rattle.lra_book.specs.Books.{IsStoreFault};
 ghost use Rattle.lra_book.specs.Next.{IsListing, IsNext, IsTakeReply, expire_reply, expired, member_reply, pull_reply, shows_so, status_reply, sweep_reply, view_expired, view_swept};
+ghost use Rattle.lra_book.specs.Trees.{tree_shown_on};
 
 use crate::holdings::{hold, survey_beyond};
+use crate::trees::tree_shown;
 use crate::{Call, PullBody, Reply};
 use lra_callback::pick;
 use lra_delta::Delta;
@@ -183,11 +185,11 @@ fn expire(
     })
 }
 
-/// Whether an LRA shows what was seen.
+/// Whether the tree of an LRA shows what was seen.
 fn shows_so(replica: &Replica, id: LraId, seen: LraStatus) -> bool
-    ensures { result ≡ shows_so seen (shown_on (view_of replica.now) id) }
+    ensures { result ≡ shows_so seen (tree_shown_on (view_of replica.now) id) }
 {
-    match replica.status(id) {
+    match tree_shown(replica, id) {
         Ok(status) => status == seen,
         Err(_) => false,
     }
@@ -204,9 +206,9 @@ fn sweep(
     ensures view { view_of replica.new ≡ view_of replica.old }
     ensures room { IfOk result (λ step. IfSome step.patch (λ change. Fits change replica.new)) }
     ensures reply { IfOk result (λ step. step.reply ≡ sweep_reply
-        (view_of replica.old) me root (shows_so seen (shown_on (view_of replica.old) root))) }
+        (view_of replica.old) me root (shows_so seen (tree_shown_on (view_of replica.old) root))) }
     ensures next { IfOk result (λ step. with_patch step.patch (view_of replica.old) ≡ view_swept
-        (view_of replica.old) me root (shows_so seen (shown_on (view_of replica.old) root))) }
+        (view_of replica.old) me root (shows_so seen (tree_shown_on (view_of replica.old) root))) }
     ensures cause { IfErr result (λ refusal. refusal ≡ NoMemory) }
 {
     if !shows_so(replica, root, seen) {

@@ -16,5 +16,6 @@ pub mod Said
 pub mod Shape
 pub mod Standing
 pub mod Statuses
+pub mod Trees
 pub mod Walks
 pub mod Wants

@@ -1,15 +1,33 @@
-// The LRAs that are removed with a root.
-ghost use Rattle.std.specs.Prelude.{◌≡◌, ◌↔◌, Err, None, Some, IfOk, find, if◌then◌else◌, is_some};
+// What a purge of a root removes, and what its tree shows before.
+ghost use Rattle.std.specs.Prelude.{◌≡◌, ◌↔◌, Err, None, Some, IfOk, List, find, if◌then◌else◌, is_some, ℕ};
+ghost use Rattle.lra_facts.specs.declared.fact.Fact.{Fact};
+ghost use Rattle.lra_facts.specs.Sets.{is_held};
 ghost use Rattle.lra_facts.specs.declared.refusal.Refusal.TheVariants.{NotHeld};
 ghost use Rattle.lra_forest.specs.Forests.{id_of, is_of};
 ghost use Rattle.lra_forest.specs.Said.{ids_below, is_below, is_root_at};
 ghost use Rattle.lra_forest.specs.Shape.{found_at};
-ghost use Rattle.lra_forest.specs.Standing.{answered};
+ghost use Rattle.lra_forest.specs.Standing.{IsNested, IsWhole, Stands, answered};
+ghost use Rattle.lra_forest.specs.Trees.{tree_shown_at, tree_shows, tree_status};
 
-use crate::{Forest, Record};
+use crate::{Forest, MAX_DEPTH, Record};
 use lra_facts::Refusal;
-use lra_id::LraId;
+use lra_id::{LraId, LraStatus};
 use std::alloc::{AllocError, Global};
+
+fn tree_status(status: LraStatus, uncompensated: bool) -> LraStatus
+    ensures { result ≡ tree_status status uncompensated }
+{
+    match status {
+        LraStatus::Closed => {
+            if uncompensated {
+                LraStatus::FailedToClose
+            } else {
+                LraStatus::Closed
+            }
+        }
+        other => other,
+    }
+}
 
 impl Forest {
     /// Whether an LRA is a root, and not nested in another.
@@ -48,5 +66,24 @@ impl Forest {
             }
         }
         Ok(ids)
+    }
+
+    /// What the tree of an LRA shows, which is the LRA with all that is nested in it: what the LRA
+    /// shows, or FailedToClose if it is Closed and one nested in it was cancelled alone and failed
+    /// to. It costs as much as `status`.
+    pub fn tree_status(&self, id: LraId) -> Result<LraStatus, Refusal>
+        ensures says { let at = found_at id.home self.now.records
+            in result ≡ answered (is_some (at id.num)) (tree_shown_at at id.num) }
+        ensures answer { (nodes : ℕ) (S : List Fact) →
+            IsWhole S → IsNested S → Stands nodes id.home S self.now.records →
+            result ≡ answered (is_held S id) (tree_shows S id) }
+        ensures refused { result ≡ Err NotHeld ↔ (find (is_of id) self.now.records ≡ None) }
+    {
+        let Some(record) = self.get(id) else {
+            return Err(Refusal::NotHeld);
+        };
+        let want = self.wanted_of(id.num(), record);
+        let seen = self.seen(id.num(), want, record.members.as_slice(), MAX_DEPTH - 1);
+        Ok(tree_status(seen.shown(want), seen.uncompensated))
     }
 }

@@ -39,6 +39,7 @@ use Rattle.lra_book.specs.declared.calls.Call.TheVariants.{Command as Enter, Tak
 use Rattle.lra_book.specs.declared.calls.Reply.{Reply as BookReply}
 use Rattle.lra_book.specs.declared.calls.Reply.TheVariants.{Command as Entered, Took, Gave}
 use Rattle.lra_book.specs.Next.{IsNext, IsTakeReply, Takes, expire_reply, expired, pull_reply, shows_so, status_reply, sweep_reply, view_expired, view_swept}
+use Rattle.lra_book.specs.Trees.{tree_shown_on}
 use Rattle.lra_trail.specs.NodeTrails.{Arrival, IsServed, IsTold, IsToldAs, Says, WasSent, event_by, is_accepted, node_of}
 use Rattle.lra_trail.proofs.KeptFrames.{last_numbered}
 use Rattle.lra_trail.proofs.OwnCommands.{Holds, at_node, command_holds, current_of, nodes_in, reply_is, settled_of, there_in, unless_accepted}
@@ -284,4 +285,4 @@ entry_means me s frame now a b Duties reply served (is, same) sent = Nothing ref
 entry_means me s frame now a b Expire reply served (is, next) sent =
     subst (λ (r : BookReply). Means me s frame now Expire r b) (sym is) (expiry_means me s frame now a b (overdue_on a me now) served (overdue_of me s now a served) next)
 entry_means me s frame now a b (Sweep l seen) reply served (is, next) sent =
-    subst (λ (r : BookReply). Means me s frame now (Sweep l seen) r b) (sym is) (sweep_means me s frame now a b l seen (shows_so seen (shown_on a l)) served next)
+    subst (λ (r : BookReply). Means me s frame now (Sweep l seen) r b) (sym is) (sweep_means me s frame now a b l seen (shows_so seen (tree_shown_on a l)) served next)

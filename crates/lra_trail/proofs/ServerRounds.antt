@@ -13,7 +13,7 @@ use Rattle.lra_facts.specs.declared.command.Command.TheVariants.{Begin, Decide, 
 use Rattle.lra_history.specs.Changes.{fresh_record, one_change, two_changes}
 use Rattle.lra_history.specs.Growth.{record_after}
 use Rattle.lra_history.specs.Histories.{entries_of}
-use Rattle.lra_history.specs.Next.{change_nested, change_on, change_record, changed, judge_on, next_fact_on, next_view, no_change, overdue_on, shown_on, view_by}
+use Rattle.lra_history.specs.Next.{change_nested, change_on, change_record, changed, judge_on, next_fact_on, next_view, no_change, overdue_on, view_by}
 use Rattle.lra_history.specs.Readings.{by_view}
 use Rattle.lra_history.specs.Replies.{Accepted, AlreadyKnown, Denied, Judgement}
 use Rattle.lra_history.specs.Views.{View, record_at}
@@ -31,6 +31,7 @@ use Rattle.lra_book.specs.declared.calls.Reply.{Reply}
 use Rattle.lra_book.specs.declared.calls.Reply.TheVariants.{Gave, Took}
 use Rattle.lra_book.specs.Next.{IsNext, IsTakeReply, pull_reply, shows_so, view_expired, view_swept}
 use Rattle.lra_book.specs.Trails.{LeadsTo, entry}
+use Rattle.lra_book.specs.Trees.{tree_shown_on}
 use Rattle.lra_progress.specs.Rounds.{all_counted, may_enter}
 use Rattle.lra_progress.proofs.AllCounted.{AllHear, brings, counts_all, took_all}
 use Rattle.lra_progress.proofs.FramesEnterNothing.{run_same}
@@ -106,7 +107,7 @@ next_above me a (Show l) now reply b next = stays a b next.1
 next_above me a (Survey after) now reply b next = stays a b next.1
 next_above me a Duties now reply b next = stays a b next.1
 next_above me a Expire now reply b next = subst (λ (view : View). IsBelow a.front view.front) (sym next.1) (expired_above a me (overdue_on a me now))
-next_above me a (Sweep l seen) now reply b next = subst (λ (view : View). IsBelow a.front view.front) (sym next.1) (swept_above a me l (shows_so seen (shown_on a l)))
+next_above me a (Sweep l seen) now reply b next = subst (λ (view : View). IsBelow a.front view.front) (sym next.1) (swept_above a me l (shows_so seen (tree_shown_on a l)))
 
 leads_above : (me : ℕ) (a : View) (trail : List Entry) (b : View) → LeadsTo me a trail b → IsBelow a.front b.front
 leads_above me a [] b legal = stays a b legal

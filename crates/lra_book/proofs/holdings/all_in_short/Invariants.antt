@@ -2,8 +2,9 @@ use Rattle.std.proofs.Common.{◌≡◌, ◌++◌, drop}
 use Rattle.lra_history.specs.Views.{record_at}
 use Rattle.lra_replica.specs.Replicas.{view_of}
 use Rattle.lra_book.specs.Holdings.{summaries_of}
+use Rattle.lra_book.specs.Trees.{tree_on}
 use Rattle.lra_book.proofs.holdings.all_in_short.Given as goal
 
 -- those that were pushed, and those of the rows left, make up all
 abbrev pub invariant-loop-row : goal.invariant-loop-row
-invariant-loop-row l = l.list.items ++ summaries_of (record_at (view_of l.replica)) (drop l.row-index l.rows) ≡ summaries_of (record_at (view_of l.replica)) l.rows
+invariant-loop-row l = l.list.items ++ summaries_of (tree_on (view_of l.replica)) (record_at (view_of l.replica)) (drop l.row-index l.rows) ≡ summaries_of (tree_on (view_of l.replica)) (record_at (view_of l.replica)) l.rows
