@@ -3,7 +3,7 @@
 
 use crate::due::{host_of, is_among, is_same};
 use crate::glue::Asked;
-use lra_book::{Call, Reply};
+use lra_book::{Call, Reply, Survey};
 use lra_callback::Duties;
 use lra_delta::Delta;
 use lra_facts::Refusal;
@@ -12,7 +12,6 @@ use lra_id::{Front, LAST_NUMBER, LraId, LraStatus, MAX_NODES, NodeId};
 use lra_luck::{DueCall, Halt};
 use lra_mailbox::{Keep, MailboxState, Sweeping, Task, Wanted};
 use lra_noting::{is_any, noted_by, purged_by};
-use lra_replica::Page;
 use lra_run::Runs;
 use lra_turns::Due;
 use std::alloc::Global;
@@ -309,11 +308,11 @@ impl<R: Runs> Life<R> {
     }
 
     /// Shows the sweep what a page lists.
-    pub fn see_page(&mut self, page: &Page, now: u64) {
-        for row in page.rows() {
-            self.state.see(at(now), row.id, row.status);
+    pub fn see_survey(&mut self, survey: &Survey, now: u64) {
+        for row in survey.rows() {
+            self.state.see(at(now), row.id, row.status, row.tree);
         }
-        self.state.turn(page.more());
+        self.state.turn(survey.more());
     }
 
     /// A root was to be purged by itself, and this was replied.

@@ -96,6 +96,10 @@ fn swept_early(alloc: Global, root: LraId, status: LraStatus, since: u64) -> Res
     )?))
 }
 
+fn is_failure(status: LraStatus) -> bool {
+    matches!(status, LraStatus::FailedToClose | LraStatus::FailedToCancel)
+}
+
 fn not_held(alloc: Global, root: LraId) -> Result<Halt, Halt> {
     Ok(Halt::Found(format!(in alloc; "{root} is purged that isn't held")?))
 }
@@ -151,18 +155,43 @@ impl<R: Runs> Node<R> {
         Ok(())
     }
 
-    /// Whether a root that it purges by itself showed the same for as long as that is kept.
-    fn see_swept(&self, root: LraId, began_at: u64, now: u64) -> Result<(), Halt> {
-        let Some(shown) = self.known.shown_of(root) else {
-            return Err(not_held(self.alloc, root)?);
-        };
-        let (since, status) = (shown.since.max(began_at), shown.status);
+    /// Checks that an LRA that goes by itself showed this for as long as that is kept.
+    fn see_kept(&self, id: LraId, status: LraStatus, since: u64, now: u64) -> Result<(), Halt> {
         let is_due = match self.time_of(status) {
             Some(time) => now.saturating_sub(since) >= time,
             None => false,
         };
         if !is_due {
-            return Err(swept_early(self.alloc, root, status, since)?);
+            return Err(swept_early(self.alloc, id, status, since)?);
+        }
+        Ok(())
+    }
+
+    /// What was the first in the tree of a root to show a failure, if any shows one.
+    fn first_failure(&self, root: LraId) -> Result<Option<Shown>, Halt> {
+        let mut first: Option<Shown> = None;
+        for id in &self.known.model().tree(root)? {
+            if let Some(shown) = self.known.shown_of(*id) {
+                let is_first = match &first {
+                    Some(before) => shown.since < before.since,
+                    None => true,
+                };
+                if is_failure(shown.status) && is_first {
+                    first = Some(shown);
+                }
+            }
+        }
+        Ok(first)
+    }
+
+    /// Checks that a root that goes by itself showed the same for as long as that is kept; and so did what failed in its tree.
+    fn see_swept(&self, root: LraId, began_at: u64, now: u64) -> Result<(), Halt> {
+        let Some(shown) = self.known.shown_of(root) else {
+            return Err(not_held(self.alloc, root)?);
+        };
+        self.see_kept(root, shown.status, shown.since.max(began_at), now)?;
+        if let Some(failed) = self.first_failure(root)? {
+            return self.see_kept(failed.id, failed.status, failed.since.max(began_at), now);
         }
         Ok(())
     }

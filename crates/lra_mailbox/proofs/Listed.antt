@@ -87,8 +87,8 @@ mention_noted : (is_out : Bool) (who : Called) (old new : Since) → is_out ≡ 
 mention_noted true who old new e is = also (was_heard old.heard who) who old new refl is
 mention_noted false who old new e is = absurd cc
 
-pub said_is_noted : (noted : Noted) (who : Called) (old new : Mail) → old.since.is_out ≡ true → noted.heard ≡ Some who → Notes noted old new → IsHeardIn who new.since
-said_is_noted noted who old new out e is =
+pub said_is_noted : (noted : Noted) (who : Called) (now : Duration) (old new : Mail) → old.since.is_out ≡ true → noted.heard ≡ Some who → Notes noted now old new → IsHeardIn who new.since
+said_is_noted noted who now old new out e is =
     mention_noted old.since.is_out who old.since new.since out (subst (λ (heard : Option Called). IsMentioned heard old.since new.since) e is.heard)
 
 mention_stays : (is_out : Bool) (who one : Called) (old new : Since) → MatchBool is_out (IsAlsoHeard who old new) (new ≡ old) → IsHeardIn one old → IsHeardIn one new
@@ -99,8 +99,8 @@ mentions_stay : (who : Option Called) (one : Called) (old new : Since) → IsMen
 mentions_stay None one old new is before = subst (IsHeardIn one) (sym is) before
 mentions_stay (Some who) one old new is before = mention_stays old.is_out who one old new is before
 
-pub said_stays : (noted : Noted) (one : Called) (old new : Mail) → Notes noted old new → IsHeardIn one old.since → IsHeardIn one new.since
-said_stays noted one old new is before = mentions_stay noted.heard one old.since new.since is.heard before
+pub said_stays : (noted : Noted) (one : Called) (now : Duration) (old new : Mail) → Notes noted now old new → IsHeardIn one old.since → IsHeardIn one new.since
+said_stays noted one now old new is before = mentions_stay noted.heard one old.since new.since is.heard before
 
 -- who pauses is named for nothing else
 names_on : (test : Duty → Bool) (now : Duration) (busy : List Called) (old new : Calling) → PausesEach now busy old new → AllNamed test old → AllNamed test new

@@ -11,7 +11,7 @@ use Rattle.lra_callback.specs.declared.answer.Heard.TheVariants.{Outcome}
 use Rattle.lra_callback.specs.declared.answer.Kind.{Kind}
 use Rattle.lra_callback.specs.declared.answer.Kind.TheVariants.{After, Forget}
 use Rattle.lra_callback.specs.declared.duty.Duty.{Duty}
-use Rattle.lra_delta.specs.Frames.{Frame}
+use Rattle.lra_heard.specs.Tellings.{Told}
 use Rattle.lra_heard.specs.Letters.{Said}
 use Rattle.lra_heard.specs.declared.letter.Unheard.{Unheard}
 use Rattle.lra_turns.specs.Calling.{Calling, IsTakenFrom, ended, forgotten}
@@ -115,11 +115,11 @@ pub record IsNoted (said : Said) (now : Duration) (old new : Mail) : Type 0 wher
   pub rest : new ≡ after_news (is_harmless said.duty.kind said.duty.act) (with_calls new.calls (with_since new.since old))
 
 -- what another node told waits to be taken, unless something waits already
-abbrev pub IsHandedOver : Frame → Mail → Mail → Bool → Type 0
-IsHandedOver frame old new is_put = MatchBool is_put ((old.telling ≡ None) × (new ≡ with_telling (Some frame) old)) ((old.telling ≢ None) × (new ≡ old))
+abbrev pub IsHandedOver : Told → Mail → Mail → Bool → Type 0
+IsHandedOver told old new is_put = MatchBool is_put ((old.telling ≡ None) × (new ≡ with_telling (Some told) old)) ((old.telling ≢ None) × (new ≡ old))
 
 -- the same of what commands wait for: not where the program is to end, nor where nothing of it is new
-abbrev pub IsAwaited : Frame → Mail → Mail → Bool → Type 0
-IsAwaited frame old new is_put =
-    MatchBool is_put (new ≡ with_opening (with_awaited frame.front old.opening) (with_telling (Some frame) old))
-    ((IsTrue old.has_ended ⊎ ((length frame.front ≢ length old.known.front) ⊎ IsBelow frame.front old.known.front)) × (new ≡ old))
+abbrev pub IsAwaited : Told → Mail → Mail → Bool → Type 0
+IsAwaited told old new is_put =
+    MatchBool is_put (new ≡ with_opening (with_awaited told.frame.front old.opening) (with_telling (Some told) old))
+    ((IsTrue old.has_ended ⊎ ((length told.frame.front ≢ length old.known.front) ⊎ IsBelow told.frame.front old.known.front)) × (new ≡ old))

@@ -1,8 +1,8 @@
 -- When a node looks through its home, and why.
-use Rattle.std.specs.Prelude.{◌+◌, ◌-◌, ◌&&◌, ◌||◌, Bool, true, false, min, nat_le, nat_lt}
+use Rattle.std.specs.Prelude.{◌≡◌, ◌+◌, ◌-◌, ◌&&◌, ◌||◌, ℕ, Bool, true, false, if◌then◌else◌, min, nat_le, nat_lt}
 use Rattle.std.specs.declared.time.Duration.{Duration}
-use Rattle.lra_mailbox.specs.Moments.{is_by}
-use Rattle.lra_mailbox.specs.declared.looking.TheConstants.{MANY}
+use Rattle.lra_mailbox.specs.Moments.{IsAfter, is_by}
+use Rattle.lra_mailbox.specs.declared.looking.TheConstants.{HALF, LOOK_MS, LOOK_OF_MANY_MS, LOOK_TO_COUNT_MS, MANY}
 use Rattle.lra_mailbox.specs.declared.looking.Looking.{Looking}
 
 -- once an LRA may have ended; once some were purged; once one more was begun; and once there was no room for one that has ended
@@ -21,6 +21,20 @@ missed l = record { counts = l.counts; is_watched = l.is_watched; is_stirred = l
 -- once a look begins, and the next may begin at these moments
 abbrev pub looked_at : Duration → Duration → Looking → Looking
 looked_at looks_at counts_at l = record { counts = l.counts; is_watched = l.is_watched; is_stirred = false; begun = 0; has_purged = false; has_missed = l.has_missed; taken = l.taken; looks_at = looks_at; counts_at = counts_at }
+
+-- the pause from one look to the next: a quarter of a second, or less where half of the home's places are taken
+abbrev pub look_pause : Looking → ℕ
+look_pause l = if nat_le HALF l.taken then LOOK_OF_MANY_MS else LOOK_MS
+
+-- a look begins: the next one may begin after the pause, and one that only counts after a second
+pub record Begins (now : Duration) (old new : Looking) : Type 0 where
+  pub is : new ≡ looked_at new.looks_at new.counts_at old
+  pub looks : IsAfter (look_pause old) now new.looks_at
+  pub counts : IsAfter LOOK_TO_COUNT_MS now new.counts_at
+
+-- once a look is over that has found so many: another follows where there was no room for one that has ended
+abbrev pub looked_over : ℕ → Looking → Looking
+looked_over taken l = record { counts = l.counts; is_watched = l.is_watched; is_stirred = l.is_stirred || l.has_missed; begun = l.begun; has_purged = l.has_purged; has_missed = false; taken = taken; looks_at = l.looks_at; counts_at = l.counts_at }
 
 -- whether three quarters of the home's places may be taken, where that is to be known
 abbrev pub may_be_many : Looking → Bool

@@ -4,7 +4,7 @@ use Rattle.std.specs.List.{list_any}
 use Rattle.std.specs.Duration.{as_nanos}
 use Rattle.std.specs.declared.time.Duration.{Duration}
 use Rattle.lra_id.specs.Fronts.{count, join_fronts}
-use Rattle.lra_delta.specs.Frames.{Frame}
+use Rattle.lra_heard.specs.Tellings.{Told}
 use Rattle.lra_heard.specs.Letters.{Said}
 use Rattle.lra_turns.specs.Calling.{Calling}
 use Rattle.lra_turns.specs.Slips.{at_once}
@@ -26,7 +26,7 @@ use Rattle.lra_mailbox.specs.declared.turn.Turn.{Turn}
 pub record Mail : Type 0 where
   pub calls : Calling
   pub letters : List Said
-  pub telling : Option Frame
+  pub telling : Option Told
   pub known : Known
   pub opening : Opening
   pub asking : Asking
@@ -45,7 +45,7 @@ with_calls calls m = record m { calls = calls }
 abbrev pub with_letters : List Said → Mail → Mail
 with_letters letters m = record m { letters = letters }
 
-abbrev pub with_telling : Option Frame → Mail → Mail
+abbrev pub with_telling : Option Told → Mail → Mail
 with_telling telling m = record m { telling = telling }
 
 abbrev pub with_known : Known → Mail → Mail

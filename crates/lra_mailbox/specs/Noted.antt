@@ -1,10 +1,11 @@
 -- What a call at the desk leaves for the threads to go on with.
-use Rattle.std.specs.Prelude.{◌≡◌, Bool, Option, None, Some, MatchBool, false, true}
+use Rattle.std.specs.Prelude.{◌≡◌, Bool, Option, None, Some, false, map, true}
+use Rattle.std.specs.declared.time.Duration.{Duration}
 use Rattle.lra_id.specs.Ids.{Id}
 use Rattle.lra_mailbox.specs.Looks.{with_begun, with_purged, with_stir}
 use Rattle.lra_mailbox.specs.Mail.{Mail, after_news, with_since, with_sweeps}
 use Rattle.lra_mailbox.specs.Since.{IsMentioned}
-use Rattle.lra_mailbox.specs.Sweeps.{AreLeft, Sweeps, with_ended, with_looking}
+use Rattle.lra_mailbox.specs.Sweeps.{Sweeps, freed, hastened, with_ended, with_full, with_looking}
 use Rattle.lra_mailbox.specs.declared.noted.Became.{Became}
 use Rattle.lra_mailbox.specs.declared.noted.Became.TheVariants.{Begun, Ended, Full, Nothing, Removed}
 use Rattle.lra_mailbox.specs.declared.noted.News.{News}
@@ -21,21 +22,21 @@ with_news Others m = after_news false m
 abbrev pub with_became : Became → Sweeps → Sweeps
 with_became Nothing s = s
 with_became Begun s = with_looking (with_begun s.looking) s
-with_became Full s = s
+with_became Full s = with_full true s
 with_became Ended s = with_looking (with_stir s.looking) s
 with_became Removed s = with_looking (with_purged s.looking) s
 
--- roots that waited for an LRA are tried; or, where a frame was taken, all that wait are tried soon
-abbrev pub IsFreed : Option Id → Sweeps → Sweeps → Type 0
-IsFreed None old new = new ≡ old
-IsFreed (Some id) old new = AreLeft old.ended new.ended × (new ≡ with_ended new.ended old)
+-- roots that waited for an LRA are tried; or, where a frame was taken, all that wait are tried within a second
+abbrev pub freed_of : Option Id → Sweeps → Sweeps
+freed_of None s = s
+freed_of (Some id) s = with_ended (map (freed id) s.ended) s
 
-abbrev pub IsFreedBy : (took : Bool) → Option Id → Sweeps → Sweeps → Type 0
-IsFreedBy took freed old new =
-    MatchBool took (AreLeft old.ended new.ended × (new ≡ with_ended new.ended old)) (IsFreed freed old new)
+abbrev pub freed_by : (took : Bool) → Option Id → Duration → Sweeps → Sweeps
+freed_by true freed now s = with_ended (map (hastened now) s.ended) s
+freed_by false freed now s = freed_of freed s
 
 -- all that a call leaves is noted
-pub record Notes (noted : Noted) (old new : Mail) : Type 0 where
-  pub freed : IsFreedBy noted.took noted.freed (with_became noted.became old.sweeps) new.sweeps
+pub record Notes (noted : Noted) (now : Duration) (old new : Mail) : Type 0 where
+  pub freed : new.sweeps ≡ freed_by noted.took noted.freed now (with_became noted.became old.sweeps)
   pub heard : IsMentioned noted.heard old.since new.since
   pub rest : new ≡ with_since new.since (with_sweeps new.sweeps (with_news noted.news old))

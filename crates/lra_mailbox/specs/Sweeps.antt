@@ -1,46 +1,45 @@
--- Which roots of a node's home have ended, since when they show what they show, and when one is to be purged.
-use Rattle.std.specs.Prelude.{◌≡◌, ◌≤◌, ◌-◌, ◌*◌, ◌⊎◌, ◌++◌, ◌∷◌, ◌==◌, ◌&&◌, ◌||◌, [], ℕ, Bool, true, false, List, Option, None, Some, MatchBool, if◌then◌else◌, filter, find, is_some, map, nat_le, not}
+-- Which roots of a node's home have ended, since when their trees show what they show, and when one is to be purged.
+use Rattle.std.specs.Prelude.{◌≡◌, ◌≤◌, ◌+◌, ◌-◌, ◌*◌, ◌⊎◌, ◌++◌, ◌∷◌, ◌==◌, ◌&&◌, ◌||◌, [], ℕ, Bool, true, false, List, Option, None, Some, MatchBool, if◌then◌else◌, filter, find, is_none, is_some, map, max, min, nat_le, nat_lt, not}
 use Rattle.std.specs.List.{All, list_any}
-use Rattle.std.specs.Option.{option_map}
+use Rattle.std.specs.Option.{option_map, option_map_or}
 use Rattle.std.specs.Duration.{as_nanos}
 use Rattle.std.specs.declared.time.Duration.{Duration}
-use Rattle.lra_id.specs.Ids.{Id, same_id}
+use Rattle.lra_id.specs.Ids.{Id, last_number, same_id}
 use Rattle.lra_id.specs.States.{rank}
 use Rattle.lra_id.specs.declared.status.LraStatus.{LraStatus}
 use Rattle.lra_id.specs.declared.status.LraStatus.TheVariants.{Cancelled, Closed, FailedToCancel, FailedToClose}
-use Rattle.lra_turns.specs.Slips.{at_once}
+use Rattle.lra_mailbox.specs.Censuses.{Counts, counted_over, counting, with_one}
 use Rattle.lra_mailbox.specs.Kept.{Kept}
-use Rattle.lra_mailbox.specs.Looks.{is_to_look, missed}
-use Rattle.lra_mailbox.specs.Moments.{is_by}
+use Rattle.lra_mailbox.specs.Looks.{Begins, is_to_look, looked_over, missed, with_stir}
+use Rattle.lra_mailbox.specs.Moments.{nanos_after}
 use Rattle.lra_mailbox.specs.declared.looking.Looking.{Looking}
 use Rattle.lra_mailbox.specs.declared.sweep.Chore.{Chore}
 use Rattle.lra_mailbox.specs.declared.sweep.Chore.TheVariants.{List as ToList, Purge}
+use Rattle.lra_mailbox.specs.declared.sweep.Fill.{Fill}
 use Rattle.lra_mailbox.specs.declared.sweep.Keep.{Keep}
 use Rattle.lra_mailbox.specs.declared.sweep.Purged.{Purged}
-use Rattle.lra_mailbox.specs.declared.sweep.Purged.TheVariants.{Gone, Missing}
+use Rattle.lra_mailbox.specs.declared.sweep.Purged.TheVariants.{Changed, Gone, Later, Missing, Nested, Waits}
+use Rattle.lra_mailbox.specs.declared.sweep.TheConstants.{FIRST_PAUSE_MS, LAST_PAUSE_MS}
 
--- a root that was seen to have ended: what it showed at the last look, since when, whether the look that goes on, or the last one, has
--- found it, and from when on a purge is tried, if ever
+-- Roots that have ended
+
+-- a root that was seen to have ended: what its tree showed at the last look, since when, and whether the look that goes on, or the last one, has
+-- found it; from when on a purge is tried, in nanoseconds, if ever; how long it paused last, in milliseconds, and the LRA of which a
+-- participant is to be told something before
 pub record Root : Type 0 where
   pub id : Id
   pub seen : LraStatus
   pub since : Duration
   pub is_found : Bool
-  pub tries_at : Option Duration
-
--- the node's number, how long roots are kept, those that have ended, whether a look goes on, and when the next one begins
-pub record Sweeps : Type 0 where
-  pub number : ℕ
-  pub keep : Keep
-  pub ended : List Root
-  pub looks : Bool
-  pub looking : Looking
+  pub tries_at : Option ℕ
+  pub pause : ℕ
+  pub waits_for : Option Id
 
 -- whether two statuses are one
 abbrev pub same_status : LraStatus → LraStatus → Bool
 same_status a b = rank a == rank b
 
--- how long one is kept that shows this, in milliseconds, if it is ever to be purged
+-- how long a tree is kept that shows this, in milliseconds, if it is ever to be purged
 abbrev pub time_of : Keep → LraStatus → Option ℕ
 time_of keep Closed = keep.ended
 time_of keep Cancelled = keep.ended
@@ -62,9 +61,9 @@ abbrev pub is_ripe : Keep → Duration → Root → Bool
 is_ripe keep now root = is_kept_for (time_of keep root.seen) (as_nanos now - as_nanos root.since)
 
 -- whether a purge may be tried
-abbrev pub is_tried : Duration → Option Duration → Bool
+abbrev pub is_tried : Duration → Option ℕ → Bool
 is_tried now None = false
-is_tried now (Some until) = is_by now until
+is_tried now (Some until) = nat_le until (as_nanos now)
 
 -- whether it is to be purged
 abbrev pub is_due : Keep → Duration → Root → Bool
@@ -77,27 +76,20 @@ first_due keep now ended = find (is_due keep now) ended
 abbrev pub kept_of : Root → Kept
 kept_of root = record { root = root.id; seen = root.seen }
 
--- one that was seen to show this for the first time
+-- one whose tree was seen to show this for the first time, or to show something else than before
 abbrev pub newcomer : Id → LraStatus → Duration → Root
-newcomer id seen now = record { id = id; seen = seen; since = now; is_found = true; tries_at = Some at_once }
+newcomer id seen now = record { id = id; seen = seen; since = now; is_found = true; tries_at = Some 0; pause = 0; waits_for = None }
 
--- the same of one that showed something else before; one that shows the same as before; one that a look hasn't found yet; and one of which
--- is left out when a purge is tried
-abbrev pub renewed : LraStatus → Duration → Root → Root
-renewed seen now root = record { id = root.id; seen = seen; since = now; is_found = true; tries_at = Some at_once }
-
+-- one that shows the same as before; and one that a look hasn't found yet
 abbrev pub found : Root → Root
-found root = record { id = root.id; seen = root.seen; since = root.since; is_found = true; tries_at = root.tries_at }
+found root = record { id = root.id; seen = root.seen; since = root.since; is_found = true; tries_at = root.tries_at; pause = root.pause; waits_for = root.waits_for }
 
 abbrev pub unfound : Root → Root
-unfound root = record { id = root.id; seen = root.seen; since = root.since; is_found = false; tries_at = root.tries_at }
+unfound root = record { id = root.id; seen = root.seen; since = root.since; is_found = false; tries_at = root.tries_at; pause = root.pause; waits_for = root.waits_for }
 
-abbrev pub untried : Root → Root
-untried root = record { id = root.id; seen = root.seen; since = root.since; is_found = root.is_found; tries_at = None }
-
--- once an LRA was seen to show this
+-- once its tree was seen to show this
 abbrev pub seen_as : Id → LraStatus → Duration → Root → Root
-seen_as id seen now root = if same_id root.id id then (if same_status root.seen seen then found root else renewed seen now root) else root
+seen_as id seen now root = if same_id root.id id then (if same_status root.seen seen then found root else newcomer root.id seen now) else root
 
 abbrev pub is_root : Id → Root → Bool
 is_root id root = same_id root.id id
@@ -109,58 +101,125 @@ is_found root = root.is_found
 abbrev pub without : Id → List Root → List Root
 without id ended = filter (λ (root : Root). not (same_id root.id id)) ended
 
--- the same roots, save from when on a purge of them is tried
-abbrev pub AreLeft : (old new : List Root) → Type 0
-AreLeft old new = map untried new ≡ map untried old
+-- Purges that are tried again
 
--- one more is remembered, if there is room for it
-abbrev pub IsAdded : Id → LraStatus → Duration → (old new : List Root) → Type 0
-IsAdded id seen now old new = (new ≡ old ++ newcomer id seen now ∷ []) ⊎ (new ≡ old)
+-- a root that is tried from such a moment on, if ever, after such a pause, and waits for this LRA before
+abbrev pub tried_from : Option ℕ → ℕ → Option Id → Root → Root
+tried_from at pause waits_for root = record { id = root.id; seen = root.seen; since = root.since; is_found = root.is_found; tries_at = at; pause = pause; waits_for = waits_for }
 
--- It is noted what an LRA shows: it is forgotten where those that show this are never purged; else it is remembered.
-abbrev pub NotesFor : Option ℕ → Duration → Id → LraStatus → (old new : List Root) → Type 0
-NotesFor None now id seen old new = new ≡ without id old
-NotesFor (Some time) now id seen old new = MatchBool (list_any (is_root id) old) (new ≡ map (seen_as id seen now) old) (IsAdded id seen now old new)
+-- a pause in milliseconds after another: the first is a second, each further one twice as long, and none longer than a minute
+abbrev pub next_pause : ℕ → ℕ
+next_pause pause = min LAST_PAUSE_MS (max FIRST_PAUSE_MS (pause * 2))
 
-abbrev pub IsNoted : Keep → Duration → Id → LraStatus → (old new : List Root) → Type 0
-IsNoted keep now id seen old new = NotesFor (time_of keep seen) now id seen old new
+-- one that pauses, longer than the last time, or until a participant of an LRA was told
+abbrev pub waiting : Duration → Option Id → Root → Root
+waiting now waits_for root = tried_from (Some (nanos_after (next_pause root.pause) now)) (next_pause root.pause) waits_for root
 
--- with others that have ended, and with another reason to look
+-- one whose purge came to this and was none: what is no root is never tried
+abbrev pub put_off : Purged → Duration → Root → Root
+put_off (Waits other) now root = waiting now (Some other) root
+put_off Changed now root = waiting now None root
+put_off Later now root = waiting now None root
+put_off _ now root = tried_from None root.pause root.waits_for root
+
+abbrev pub put_off_if : Id → Purged → Duration → Root → Root
+put_off_if id purged now root = if same_id root.id id then put_off purged now root else root
+
+-- once a participant of an LRA was told: who waited for that is tried at once
+abbrev pub freed : Id → Root → Root
+freed id root = if option_map_or (λ (other : Id). same_id other id) root.waits_for false then tried_from (Some 0) root.pause None root else root
+
+-- once another node told something: who waits for a participant of any LRA is tried within a second
+abbrev pub sooner : ℕ → Option ℕ → Root → Root
+sooner soon None root = root
+sooner soon (Some until) root = if nat_lt soon until then tried_from (Some soon) 0 root.waits_for root else root
+
+abbrev pub hastened : Duration → Root → Root
+hastened now root = if is_some root.waits_for then sooner (nanos_after FIRST_PAUSE_MS now) root.tries_at root else root
+
+-- Looks
+
+-- the node's number, how long trees are kept, the roots that have ended, beyond which LRA the next page of a look begins, whether a look goes
+-- on, when the next one begins, whether one couldn't be begun since that was last asked, as the home was full, and what the LRAs of the home show
+pub record Sweeps : Type 0 where
+  pub number : ℕ
+  pub keep : Keep
+  pub ended : List Root
+  pub beyond : Option Id
+  pub looks : Bool
+  pub looking : Looking
+  pub is_full : Bool
+  pub counts : Counts
+
+-- with others that have ended; with another reason to look; with another LRA beyond which the next page begins; with other counts; and once
+-- one couldn't be begun, or that was told
 abbrev pub with_ended : List Root → Sweeps → Sweeps
-with_ended ended s = record { number = s.number; keep = s.keep; ended = ended; looks = s.looks; looking = s.looking }
+with_ended ended s = record { number = s.number; keep = s.keep; ended = ended; beyond = s.beyond; looks = s.looks; looking = s.looking; is_full = s.is_full; counts = s.counts }
 
 abbrev pub with_looking : Looking → Sweeps → Sweeps
-with_looking looking s = record { number = s.number; keep = s.keep; ended = s.ended; looks = s.looks; looking = looking }
+with_looking looking s = record { number = s.number; keep = s.keep; ended = s.ended; beyond = s.beyond; looks = s.looks; looking = looking; is_full = s.is_full; counts = s.counts }
+
+abbrev pub with_beyond : Option Id → Sweeps → Sweeps
+with_beyond beyond s = record { number = s.number; keep = s.keep; ended = s.ended; beyond = beyond; looks = s.looks; looking = s.looking; is_full = s.is_full; counts = s.counts }
+
+abbrev pub with_counts : Counts → Sweeps → Sweeps
+with_counts counts s = record { number = s.number; keep = s.keep; ended = s.ended; beyond = s.beyond; looks = s.looks; looking = s.looking; is_full = s.is_full; counts = counts }
+
+abbrev pub with_full : Bool → Sweeps → Sweeps
+with_full is_full s = record { number = s.number; keep = s.keep; ended = s.ended; beyond = s.beyond; looks = s.looks; looking = s.looking; is_full = is_full; counts = s.counts }
+
+-- One more is remembered; or, if there is no room for it, that is noted, and another look follows this one
+abbrev pub IsAdded : Id → LraStatus → Duration → (old new : Sweeps) → Type 0
+IsAdded id seen now old new =
+    (new ≡ with_ended (old.ended ++ newcomer id seen now ∷ []) old)
+    ⊎ (new ≡ with_looking (missed old.looking) old)
+
+-- It is noted what a tree shows: its root is forgotten where those that show this are never purged; else it is remembered
+abbrev pub NotesFor : Option ℕ → Duration → Id → LraStatus → (old new : Sweeps) → Type 0
+NotesFor None now id seen old new = new ≡ with_ended (without id old.ended) old
+NotesFor (Some time) now id seen old new =
+    MatchBool (list_any (is_root id) old.ended) (new ≡ with_ended (map (seen_as id seen now) old.ended) old) (IsAdded id seen now old new)
+
+abbrev pub IsNoted : Duration → Id → LraStatus → (old new : Sweeps) → Type 0
+IsNoted now id seen old new = NotesFor (time_of old.keep seen) now id seen old new
+
+-- the LRA before all those of a home in the order of pages, if there can be one
+abbrev pub before_home : ℕ → Option Id
+before_home number = if number == 1 then None else Some (record { home = number - 1; num = last_number })
 
 -- once a look has begun; and once it is over, when what it hasn't found is forgotten
 abbrev pub begun : Looking → Sweeps → Sweeps
-begun looking s = record { number = s.number; keep = s.keep; ended = map unfound s.ended; looks = true; looking = looking }
+begun looking s = record { number = s.number; keep = s.keep; ended = map unfound s.ended; beyond = before_home s.number; looks = true; looking = looking; is_full = s.is_full; counts = counting s.counts }
 
-abbrev pub looked : Looking → Sweeps → Sweeps
-looked looking s = record { number = s.number; keep = s.keep; ended = filter is_found s.ended; looks = false; looking = looking }
+abbrev pub looked : Sweeps → Sweeps
+looked s = record { number = s.number; keep = s.keep; ended = filter is_found s.ended; beyond = s.beyond; looks = false; looking = looked_over s.counts.counted s.looking; is_full = s.is_full; counts = counted_over s.counts }
 
 -- whether a page that shows an LRA is of a look at the home
 abbrev pub is_sight : Id → Sweeps → Bool
 is_sight id s = s.looks && (id.home == s.number)
 
--- a page shows an LRA: while a look goes on it is noted, and one of another home ends the look
-abbrev pub IsSeen : Duration → Id → LraStatus → Sweeps → Sweeps → Type 0
-IsSeen now id seen old new =
+-- A page shows an LRA, and what its tree shows: the next page begins beyond it. While a look goes on the LRA is counted and its tree is noted,
+-- and one of another home ends the look
+abbrev pub IsSeen : Duration → Id → (shown seen : LraStatus) → Sweeps → Sweeps → Type 0
+IsSeen now id shown seen old new =
     MatchBool old.looks
     (MatchBool (id.home == old.number)
-    (IsNoted old.keep now id seen old.ended new.ended × (new ≡ with_looking new.looking (with_ended new.ended old)) × ((new.looking ≡ old.looking) ⊎ (new.looking ≡ missed old.looking)))
-    (new ≡ looked new.looking old))
-    (new ≡ old)
+    (IsNoted now id seen (with_counts (with_one shown old.counts) (with_beyond (Some id) old)) new)
+    (new ≡ looked (with_beyond (Some id) old)))
+    (new ≡ with_beyond (Some id) old)
 
--- a page is over: the last one ends the look
-abbrev pub IsTurned : Bool → Sweeps → Sweeps → Type 0
-IsTurned more old new = MatchBool (old.looks && not more) (new ≡ looked new.looking old) (new ≡ old)
+-- once a page is over: the last one ends the look
+abbrev pub turned : Bool → Sweeps → Sweeps
+turned more s = if s.looks && not more then looked s else s
 
--- what a purge leaves
-abbrev pub IsLeftBy : Purged → Id → (old new : List Root) → Type 0
-IsLeftBy Gone id old new = new ≡ without id old
-IsLeftBy Missing id old new = new ≡ without id old
-IsLeftBy _ id old new = AreLeft old new
+-- once a purge came to this
+abbrev pub left_by : Purged → Id → Duration → Sweeps → Sweeps
+left_by Gone id now s = with_ended (without id s.ended) s
+left_by Missing id now s = with_ended (without id s.ended) s
+left_by Changed id now s = with_looking (with_stir s.looking) (with_ended (map (put_off_if id Changed now) s.ended) s)
+left_by purged id now s = with_ended (map (put_off_if id purged now) s.ended) s
+
+-- Chores
 
 -- whether there is ever a chore, and whether there is one now
 abbrev pub sweeps : Sweeps → Bool
@@ -169,19 +228,33 @@ sweeps s = s.looking.counts || purges s.keep
 abbrev pub is_chore : Duration → Sweeps → Bool
 is_chore now s = sweeps s && (s.looks || (is_some (first_due s.keep now s.ended) || is_to_look now (purges s.keep) s.looking))
 
--- the next chore: a look begins or goes on; or, while there is none, one is purged that was kept long enough
+-- a look begins that is due, where nobody is to be purged
+abbrev pub BeginsLook : Duration → Sweeps → Sweeps → Type 0
+BeginsLook now old new =
+    (is_some (first_due old.keep now old.ended) ≡ false) × (is_to_look now (purges old.keep) old.looking ≡ true)
+    × (new ≡ begun new.looking old) × Begins now old.looking new.looking
+
+-- The next chore: a page of the look that goes on, or that begins now, beyond this LRA; or, while there is none, one is purged that was kept
+-- long enough
 abbrev pub IsNextChore : Duration → Sweeps → Sweeps → Option Chore → Type 0
 IsNextChore now old new None = (is_chore now old ≡ false) × (new ≡ old)
-IsNextChore now old new (Some (ToList beyond)) = (new ≡ old) ⊎ (new ≡ begun new.looking old)
-IsNextChore now old new (Some (Purge kept)) = (old.looks ≡ false) × (option_map kept_of (first_due old.keep now old.ended) ≡ Some kept) × (new ≡ old)
+IsNextChore now old new (Some (ToList beyond)) = (sweeps old ≡ true) × (beyond ≡ new.beyond) × MatchBool old.looks (new ≡ old) (BeginsLook now old new)
+IsNextChore now old new (Some (Purge kept)) =
+    (sweeps old ≡ true) × (old.looks ≡ false) × (option_map kept_of (first_due old.keep now old.ended) ≡ Some kept) × (new ≡ old)
 
--- an LRA was seen on a page, at a moment, to show this
+-- how full the home is
+abbrev pub fill_of : Sweeps → Fill
+fill_of s = record { taken = s.looking.taken; is_refused = s.is_full }
+
+-- What was seen
+
+-- the tree of an LRA was seen on a page, at a moment, to show this
 pub record Sight : Type 0 where
   pub now : Duration
   pub id : Id
   pub seen : LraStatus
 
--- Of all sights, the last first: an LRA was seen at this moment to show this, and whenever it was seen from then on.
+-- of all sights, the last first: a tree was seen at this moment to show this, and whenever it was seen from then on
 abbrev pub IsSeenSince : Id → LraStatus → Duration → List Sight → Type 0
 IsSeenSince id seen since [] = ⊥
 IsSeenSince id seen since (sight ∷ before) =
@@ -189,7 +262,7 @@ IsSeenSince id seen since (sight ∷ before) =
     ((sight.seen ≡ seen) × ((sight.now ≡ since) ⊎ IsSeenSince id seen since before))
     (IsSeenSince id seen since before)
 
--- what an LRA showed when it was seen last, if it ever was
+-- what a tree showed when it was seen last, if it ever was
 abbrev pub last_seen : Id → List Sight → Option LraStatus
 last_seen id [] = None
 last_seen id (sight ∷ before) = if same_id id sight.id then Some sight.seen else last_seen id before
@@ -198,14 +271,14 @@ last_seen id (sight ∷ before) = if same_id id sight.id then Some sight.seen el
 abbrev pub sights_after : Duration → Id → LraStatus → Sweeps → List Sight → List Sight
 sights_after now id seen s sights = if is_sight id s then record { now = now; id = id; seen = seen } ∷ sights else sights
 
--- of each root it is remembered since when it was seen to show what it shows
+-- of each root it is remembered since when its tree was seen to show what it shows
 abbrev pub IsSince : List Sight → Root → Type 0
 IsSince sights root = IsSeenSince root.id root.seen root.since sights
 
 abbrev pub AreSince : List Sight → List Root → Type 0
 AreSince sights ended = All (IsSince sights) ended
 
--- an LRA was seen to show this whenever it was seen since a moment, and that so long ago as those are kept that show this
+-- a tree was seen to show this whenever it was seen since a moment, and that is as long ago as those are kept that show this
 pub record WasKept (keep : Keep) (now : Duration) (kept : Kept) (sights : List Sight) : Type 0 where
   pub since : Duration
   pub time : ℕ

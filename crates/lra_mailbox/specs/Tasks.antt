@@ -2,7 +2,7 @@
 use Rattle.std.specs.Prelude.{⊤, ◌≡◌, ◌≤◌, ◌-◌, ◌+◌, ◌∷◌, ◌&&◌, ℕ, Bool, true, false, Option, None, Some, MatchBool, if◌then◌else◌, is_some, length, nat_lt, not}
 use Rattle.std.specs.Duration.{as_nanos}
 use Rattle.std.specs.declared.time.Duration.{Duration}
-use Rattle.lra_delta.specs.Frames.{Frame}
+use Rattle.lra_heard.specs.Tellings.{Told}
 use Rattle.lra_heard.specs.Letters.{Said}
 use Rattle.lra_mailbox.specs.Mail.{Mail, asked, is_anyone, is_wanted, looked, with_asking, with_hurry, with_known, with_last, with_letters, with_sweeps, with_telling, with_wanted}
 use Rattle.lra_mailbox.specs.Moments.{IsAfter, is_by}
@@ -84,11 +84,11 @@ pub record EntersFirst (old new : Mail) (task : Task) : Type 0 where
   pub first : old.letters ≡ letter ∷ new.letters
   pub rest : new ≡ with_last OfLetters (with_letters new.letters old)
 
--- the frame that waits is taken
-pub record TakesFrame (old new : Mail) (task : Task) : Type 0 where
-  pub frame : Frame
-  pub is : task ≡ Take frame
-  pub waits : old.telling ≡ Some frame
+-- what another node told and waits is taken
+pub record TakesTold (old new : Mail) (task : Task) : Type 0 where
+  pub told : Told
+  pub is : task ≡ Take told
+  pub waits : old.telling ≡ Some told
   pub rest : new ≡ with_last OfTelling (with_telling None old)
 
 -- the home is swept: the next chore is done
@@ -103,7 +103,7 @@ abbrev pub Does : Duration → Turn → Mail → Mail → Task → Type 0
 Does now OfDeadlines old new task = LooksAtDeadlines now old new task
 Does now OfCount old new task = AsksForCount now old new task
 Does now OfLetters old new task = EntersFirst old new task
-Does now OfTelling old new task = TakesFrame old new task
+Does now OfTelling old new task = TakesTold old new task
 Does now OfChores old new task = DoesChore now old new task
 Does now OfErrand old new task = (task ≡ Errand old.wanted) × (new ≡ with_last OfErrand (with_wanted Nothing old))
 Does now OfDuties old new task = (task ≡ Ask) × (new ≡ with_last OfDuties (with_asking (asked now old.asking) old))

@@ -13,14 +13,17 @@ ghost use Rattle.lra_turns.specs.declared.slip.Called.{Called as TheCalled};
 ghost use Rattle.lra_mailbox.specs.Hearing.{IsListed, IsNoted};
 ghost use Rattle.lra_mailbox.specs.Kept.{Kept};
 ghost use Rattle.lra_mailbox.specs.Mail.{Mail, is_counted_by, is_owed, settled, told_by_it};
-ghost use Rattle.lra_mailbox.specs.Noted.{Notes};
+ghost use Rattle.lra_mailbox.specs.Noted.{Notes, freed_by, with_became};
 ghost use Rattle.lra_mailbox.specs.Since.{IsHeardIn, is_unheard};
+ghost use Rattle.lra_mailbox.specs.declared.noted.Became.{Became as TheBecame};
 ghost use Rattle.lra_mailbox.specs.declared.noted.Noted.{Noted as TheNoted};
 ghost use Rattle.lra_mailbox.specs.Resting.{has_task, is_occupied, rests_until};
-ghost use Rattle.lra_mailbox.specs.Sweeps.{AreLeft, AreSince, IsLeftBy, IsNextChore, IsSeen, IsTurned, Root, Sight, Sweeps, WasKept, is_chore, last_seen, sights_after, time_of};
+ghost use Rattle.lra_mailbox.specs.Sweeps.{AreSince, IsNextChore, IsSeen, Root, Sight, Sweeps, WasKept, first_due, is_chore, kept_of, last_seen, left_by, next_pause, sights_after, sweeps, time_of, turned};
 ghost use Rattle.lra_mailbox.specs.declared.known.Known.{Known as TheKnown};
+ghost use Rattle.lra_mailbox.specs.declared.sweep.Chore.{Chore as TheChore};
 ghost use Rattle.lra_mailbox.specs.declared.sweep.Chore.TheVariants.{List as ToList, Purge};
 ghost use Rattle.lra_mailbox.specs.declared.sweep.Purged.{Purged as ThePurged};
+ghost use Rattle.lra_mailbox.specs.declared.sweep.TheConstants.{FIRST_PAUSE_MS, LAST_PAUSE_MS};
 ghost use Rattle.lra_mailbox.specs.Tasks.{IsFirstAfter, IsNextTask, StoresNothing, may_enter, turns_to};
 ghost use Rattle.lra_mailbox.specs.declared.task.Task.{Task as TheTask};
 ghost use Rattle.lra_mailbox.specs.declared.turn.Turn.{Turn as TheTurn};
@@ -44,19 +47,20 @@ pub fn a_wait_is_over_when_there_is_a_task()
         has_task later mail ≡ true → as_nanos (rests_until now mail) ≤ as_nanos later }
 {}
 
-/// Nothing is purged before its time. A root is remembered only since when a look showed what it shows, and each look since has; and it is
-/// purged, as one that shows this, only once that is so long ago as is said of those that show this.
+/// Nothing is purged before its time. A root is remembered only since when a look showed what its tree shows, and each look since has; and
+/// the tree is purged, as one that shows this, only once that is so long ago as is said of those that show this. Whatever else happens, what
+/// is remembered stays true.
 pub fn nothing_is_purged_before_its_time()
     ensures none { AreSince [] [] }
-    ensures seen { (now : TheDuration) (id : Id) (seen : TheStatus) (sights : List Sight) (old new : Sweeps) →
-        IsSeen now id seen old new → AreSince sights old.ended →
+    ensures seen { (now : TheDuration) (id : Id) (shown seen : TheStatus) (sights : List Sight) (old new : Sweeps) →
+        IsSeen now id shown seen old new → AreSince sights old.ended →
         AreSince (sights_after now id seen old sights) new.ended }
-    ensures turned { (more : Bool) (sights : List Sight) (old new : Sweeps) →
-        IsTurned more old new → AreSince sights old.ended → AreSince sights new.ended }
-    ensures purged { (purged : ThePurged) (id : Id) (sights : List Sight) (old new : List Root) →
-        IsLeftBy purged id old new → AreSince sights old → AreSince sights new }
-    ensures freed { (sights : List Sight) (old new : List Root) →
-        AreLeft old new → AreSince sights old → AreSince sights new }
+    ensures turned { (more : Bool) (sights : List Sight) (s : Sweeps) →
+        AreSince sights s.ended → AreSince sights (turned more s).ended }
+    ensures purged { (purged : ThePurged) (id : Id) (now : TheDuration) (sights : List Sight) (s : Sweeps) →
+        AreSince sights s.ended → AreSince sights (left_by purged id now s).ended }
+    ensures noted { (became : TheBecame) (took : Bool) (freed : Option Id) (now : TheDuration) (sights : List Sight) (s : Sweeps) →
+        AreSince sights s.ended → AreSince sights (freed_by took freed now (with_became became s)).ended }
     ensures lists { (now : TheDuration) (beyond : Option Id) (sights : List Sight) (old new : Sweeps) →
         IsNextChore now old new (Some (ToList beyond)) → AreSince sights old.ended →
         AreSince sights new.ended }
@@ -65,7 +69,19 @@ pub fn nothing_is_purged_before_its_time()
         WasKept old.keep now kept sights × (new ≡ old) }
 {}
 
-/// What is kept for ever is never purged: one that showed last that it goes on, or what those show that are kept for ever.
+/// What is due is purged. While no look goes on, the next chore is the purge of the first root that is due; a look goes on beyond the last LRA
+/// that it was told of; and a purge that is tried later is tried after a second at least, and after a minute at most.
+pub fn what_is_due_is_purged()
+    ensures due { (now : TheDuration) (root : Root) (old new : Sweeps) (chore : Option TheChore) →
+        sweeps old ≡ true → old.looks ≡ false → first_due old.keep now old.ended ≡ Some root →
+        IsNextChore now old new chore → chore ≡ Some (Purge (kept_of root)) }
+    ensures goes_on { (now later : TheDuration) (id : Id) (shown seen : TheStatus) (old new next : Sweeps) (chore : Option TheChore) →
+        IsSeen now id shown seen old new → sweeps new ≡ true → new.looks ≡ true →
+        IsNextChore later new next chore → chore ≡ Some (ToList (Some id)) }
+    ensures pauses { (pause : ℕ) → (FIRST_PAUSE_MS ≤ next_pause pause) × (next_pause pause ≤ LAST_PAUSE_MS) }
+{}
+
+/// What is kept for ever is never purged: a tree that showed last that it goes on, or what those show that are kept for ever.
 pub fn what_is_kept_for_ever_is_never_purged()
     ensures { (now : TheDuration) (kept : Kept) (seen : TheStatus) (sights : List Sight) (old new : Sweeps) →
         IsNextChore now old new (Some (Purge kept)) → AreSince sights old.ended →
@@ -98,12 +114,12 @@ pub fn who_is_answered_lacks_nothing_that_it_told()
 pub fn nobody_is_called_for_what_was_heard_behind_the_asking()
     ensures answered { (said : Said) (now : TheDuration) (old new : Mail) → old.since.is_out ≡ true →
         IsNoted said now old new → IsHeardIn (called_of said.duty) new.since }
-    ensures said { (noted : TheNoted) (who : TheCalled) (old new : Mail) → old.since.is_out ≡ true → noted.heard ≡ Some who →
-        Notes noted old new → IsHeardIn who new.since }
+    ensures said { (noted : TheNoted) (who : TheCalled) (now : TheDuration) (old new : Mail) → old.since.is_out ≡ true → noted.heard ≡ Some who →
+        Notes noted now old new → IsHeardIn who new.since }
     ensures answered_stays { (one : TheCalled) (said : Said) (now : TheDuration) (old new : Mail) →
         IsNoted said now old new → IsHeardIn one old.since → IsHeardIn one new.since }
-    ensures said_stays { (noted : TheNoted) (one : TheCalled) (old new : Mail) →
-        Notes noted old new → IsHeardIn one old.since → IsHeardIn one new.since }
+    ensures said_stays { (noted : TheNoted) (one : TheCalled) (now : TheDuration) (old new : Mail) →
+        Notes noted now old new → IsHeardIn one old.since → IsHeardIn one new.since }
     ensures put { (duties : List Duty) (now : TheDuration) (old new : Mail) → old.since.is_whole ≡ true →
         IsListed duties now old new → AllNamed (is_unheard old.since.heard) new.calls }
     ensures let_go { (test : Duty → Bool) (duties : List Duty) (now : TheDuration) (old new : Mail) → old.since.is_whole ≡ false →

@@ -4,6 +4,7 @@
 
 mod asking;
 mod asks;
+mod census;
 mod heard_since;
 mod known;
 pub mod laws;
@@ -18,6 +19,7 @@ mod task;
 mod turn;
 
 pub use asks::Asks;
+pub use census::STATUSES;
 pub use looking::MANY;
 pub use noted::{Became, News, Noted};
 pub use opening::OPENING_MS;

@@ -1,7 +1,7 @@
 // When a node looks through its home.
-ghost use Rattle.std.specs.Prelude.{◌≡◌, ◌||◌, false, true};
+ghost use Rattle.std.specs.Prelude.{◌≡◌, false, true};
 ghost use Rattle.lra_mailbox.specs.declared.looking.TheConstants.{MANY};
-ghost use Rattle.lra_mailbox.specs.Looks.{has_changed, is_to_look, looked_at, may_be_many, missed, with_begun, with_purged, with_stir};
+ghost use Rattle.lra_mailbox.specs.Looks.{Begins, has_changed, is_to_look, look_pause, looked_over, may_be_many, missed, with_begun, with_purged, with_stir};
 ghost use Rattle.lra_turns.specs.Slips.{at_once};
 
 use lra_forest::MAX_HELD;
@@ -114,25 +114,32 @@ impl Looking {
                     || (purges && self.is_stirred)))
     }
 
+    /// How long it is at least from the look that begins now to the next one, in milliseconds.
+    fn pause(&self) -> u64
+        ensures { result ≡ look_pause self.now }
+    {
+        if self.taken >= HALF {
+            LOOK_OF_MANY_MS
+        } else {
+            LOOK_MS
+        }
+    }
+
     /// Notes that a look begins.
     pub(crate) fn begin(&mut self, now: Duration)
-        ensures { self.new ≡ looked_at self.new.looks_at self.new.counts_at self.old }
+        ensures { Begins now self.old self.new }
     {
         self.is_stirred = false;
         self.begun = 0;
         self.has_purged = false;
-        let time = if self.taken >= HALF {
-            LOOK_OF_MANY_MS
-        } else {
-            LOOK_MS
-        };
-        self.looks_at = now.saturating_add(Duration::from_millis(time));
+        self.looks_at = now.saturating_add(Duration::from_millis(self.pause()));
         self.counts_at = now.saturating_add(Duration::from_millis(LOOK_TO_COUNT_MS));
     }
 
-    /// Notes that a look is over, which has found so many. Another follows where there was no room for one.
+    /// Notes that a look is over, which has found so many. Another follows if there was no room for
+    /// one that has ended.
     pub(crate) fn end(&mut self, taken: u64)
-        ensures { self.new ≡ record { counts = self.old.counts; is_watched = self.old.is_watched; is_stirred = self.old.is_stirred || self.old.has_missed; begun = self.old.begun; has_purged = self.old.has_purged; has_missed = false; taken = taken; looks_at = self.old.looks_at; counts_at = self.old.counts_at } }
+        ensures { self.new ≡ looked_over taken self.old }
     {
         self.is_stirred = self.is_stirred || self.has_missed;
         self.has_missed = false;

@@ -9,7 +9,7 @@ ghost use Rattle.lra_mailbox.specs.Since.{PausesEach, at_rest};
 ghost use Rattle.lra_mailbox.specs.Moments.{earlier_of};
 ghost use Rattle.lra_mailbox.specs.Mail.{after_news, counted, ended_by, hastened, is_any, is_anyone, is_owed, learnt, settled, to_count, told_by_it, with_asking, with_calls, with_end, with_hold, with_hurry, with_known, with_opening, with_sweeps, with_wanted};
 ghost use Rattle.lra_mailbox.specs.Noted.{Notes, with_news};
-ghost use Rattle.lra_mailbox.specs.Sweeps.{IsLeftBy, IsSeen, IsTurned, with_ended, with_looking};
+ghost use Rattle.lra_mailbox.specs.Sweeps.{IsSeen, fill_of, left_by, turned, with_full};
 ghost use Rattle.lra_id.specs.Fronts.{count};
 ghost use Rattle.lra_id.specs.declared.TheConstants.{MAX_NODES};
 ghost use Rattle.lra_mailbox.specs.Starts.{IsOpened, claim_of, claimed_by, heard_by, heard_with, own_awaited, patient};
@@ -19,6 +19,7 @@ ghost use Rattle.lra_mailbox.specs.declared.task.Wanted.TheVariants.{Nothing};
 ghost use Rattle.lra_mailbox.specs.declared.turn.Turn.TheVariants.{OfDuties as TheDuties};
 
 use crate::asking::Asking;
+use crate::census::STATUSES;
 use crate::heard_since::{HeardSince, pause_each};
 use crate::known::Known;
 use crate::noted::{News, Noted};
@@ -197,7 +198,7 @@ impl MailboxState {
 
     /// Notes what a call at the desk leaves to go on with.
     pub fn note(&mut self, noted: &Noted, now: Duration)
-        ensures { Notes noted.now self.old self.new }
+        ensures { Notes noted.now now self.old self.new }
     {
         self.hear_news(noted.news);
         self.since.mention(noted.heard);
@@ -209,39 +210,39 @@ impl MailboxState {
         }
     }
 
-    /// Tells the sweep of an LRA on a page.
-    pub fn see(&mut self, now: Duration, id: LraId, seen: LraStatus)
-        ensures seen { IsSeen now id seen self.old.sweeps self.new.sweeps }
+    /// Tells the sweep of an LRA on a page: what it shows, and what its tree shows.
+    pub fn see(&mut self, now: Duration, id: LraId, shown: LraStatus, seen: LraStatus)
+        ensures seen { IsSeen now id shown seen self.old.sweeps self.new.sweeps }
         ensures rest { self.new ≡ with_sweeps self.new.sweeps self.old }
     {
-        self.sweeping.see(now, id, seen);
+        self.sweeping.see(now, id, shown, seen);
     }
 
     /// Tells it that the page is over, and whether more follow.
     pub fn turn(&mut self, more: bool)
-        ensures turned { IsTurned more self.old.sweeps self.new.sweeps }
-        ensures rest { self.new ≡ with_sweeps self.new.sweeps self.old }
+        ensures { self.new ≡ with_sweeps (turned more self.old.sweeps) self.old }
     {
         self.sweeping.turn(more);
     }
 
     /// Tells it what came of a purge.
     pub fn purged(&mut self, now: Duration, id: LraId, purged: Purged)
-        ensures ended { IsLeftBy purged id self.old.sweeps.ended self.new.sweeps.ended }
-        ensures rest { self.new ≡ with_sweeps (with_looking self.new.sweeps.looking
-            (with_ended self.new.sweeps.ended self.old.sweeps)) self.old }
+        ensures { self.new ≡ with_sweeps (left_by purged id now self.old.sweeps) self.old }
     {
         self.sweeping.purged(now, id, purged);
     }
 
     /// How many LRAs of the home showed each status at the last look, in the order of their ranks.
-    pub fn held(&self) -> [u64; 7] {
+    pub fn held(&self) -> [u64; STATUSES]
+        ensures { result ≡ self.now.sweeps.counts.held }
+    {
         self.sweeping.held()
     }
 
-    /// How full the home is.
+    /// How full the home is, and whether none could be begun for that since this was last asked.
     pub fn fill(&mut self) -> Fill
-        ensures { self.new ≡ self.old }
+        ensures fill { result ≡ fill_of self.old.sweeps }
+        ensures told { self.new ≡ with_sweeps (with_full false self.old.sweeps) self.old }
     {
         self.sweeping.fill()
     }
@@ -350,8 +351,8 @@ impl MailboxState {
 
     /// Notes that another node answered, and what it told.
     pub fn note_heard(&mut self, other: NodeId, telling: &Telling)
-        ensures { self.new ≡ with_known (told_by_it other (count telling.now.front other) self.old.known) (with_opening
-            (heard_by other telling.now.front self.old.known.front self.old.opening) self.old) }
+        ensures { self.new ≡ with_known (told_by_it other (count telling.now.frame.front other) self.old.known) (with_opening
+            (heard_by other telling.now.frame.front self.old.known.front self.old.opening) self.old) }
     {
         let (told, known) = (telling.front(), self.known.front);
         self.opening.hear(other, &told, &known);

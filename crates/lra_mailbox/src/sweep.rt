@@ -1,7 +1,7 @@
 // What a node purges by itself, and when: its words.
-ghost use Rattle.std.specs.Prelude.{◌≡◌, IsTrue, true};
+ghost use Rattle.std.specs.Prelude.{◌≡◌};
 ghost use Rattle.lra_id.specs.Ids.{same_id};
-ghost use Rattle.lra_mailbox.specs.Sweeps.{is_due, is_ripe, is_tried, newcomer, purges, seen_as, time_of, unfound, untried};
+ghost use Rattle.lra_mailbox.specs.Sweeps.{freed, hastened, is_due, is_ripe, is_tried, newcomer, next_pause, purges, put_off_if, seen_as, time_of, unfound, waiting};
 
 use crate::ripe::Ripe;
 use lra_id::{LraId, LraStatus};
@@ -78,11 +78,21 @@ impl Keep {
     }
 }
 
+/// How long a purge waits that was refused, after a pause of so many milliseconds.
+fn next_pause(pause_ms: u64) -> u64
+    ensures { result ≡ next_pause pause_ms }
+{
+    pause_ms
+        .saturating_mul(2)
+        .max(FIRST_PAUSE_MS)
+        .min(LAST_PAUSE_MS)
+}
+
 /// An LRA of the home that has ended.
 #[derive(Drop)]
 pub(crate) struct EndedRoot {
     id: LraId,
-    /// What it showed at the last look, and since when.
+    /// What its tree showed at the last look, and since when.
     seen: LraStatus,
     since: Duration,
     /// Before this moment no purge is tried; never, where it is nested in another.
@@ -95,8 +105,9 @@ pub(crate) struct EndedRoot {
     is_found: bool,
 }
 
-// How long a pause is, and what it waits for, is in no clause.
 impl Model for EndedRoot {
+    ghost use Rattle.std.specs.Duration.{as_nanos};
+    ghost use Rattle.std.specs.Option.{option_map};
     ghost use Rattle.lra_mailbox.specs.Sweeps.{Root};
 
     ghost Value = { Root };
@@ -106,12 +117,14 @@ impl Model for EndedRoot {
       seen = e.seen;
       since = e.since;
       is_found = e.is_found;
-      tries_at = e.tries_at;
+      tries_at = option_map as_nanos e.tries_at;
+      pause = e.pause_ms;
+      waits_for = e.waits_for;
     } };
 }
 
 impl EndedRoot {
-    /// One that was seen to show this for the first time.
+    /// One whose tree was seen to show this for the first time.
     pub(crate) fn new(id: LraId, seen: LraStatus, now: Duration) -> EndedRoot
         ensures { result ≡ newcomer id seen now }
     {
@@ -154,7 +167,7 @@ impl EndedRoot {
         self.is_found = false;
     }
 
-    /// Notes what an LRA shows at this moment, if it is this one. Its time begins anew where it showed something else before.
+    /// Notes what the tree of an LRA shows at this moment, if it is this one. Its time begins anew if it showed something else before.
     pub(crate) fn see(&mut self, id: LraId, seen: LraStatus, now: Duration)
         ensures { self.new ≡ seen_as id seen now self.old }
     {
@@ -174,19 +187,16 @@ impl EndedRoot {
 
     /// Has it wait, longer than the last time, or until a participant of an LRA was told.
     fn wait_from(&mut self, now: Duration, waits_for: Option<LraId>)
-        ensures { untried self.new ≡ untried self.old }
+        ensures { self.new ≡ waiting now waits_for self.old }
     {
-        self.pause_ms = self
-            .pause_ms
-            .saturating_mul(2)
-            .clamp(FIRST_PAUSE_MS, LAST_PAUSE_MS);
+        self.pause_ms = next_pause(self.pause_ms);
         self.tries_at = Some(now.saturating_add(Duration::from_millis(self.pause_ms)));
         self.waits_for = waits_for;
     }
 
     /// Notes what came of a purge that was refused, if it was of this one.
     pub(crate) fn put_off(&mut self, id: LraId, purged: &Purged, now: Duration)
-        ensures { untried self.new ≡ untried self.old }
+        ensures { self.new ≡ put_off_if id purged.now now self.old }
     {
         if !self.is(id) {
             return;
@@ -202,7 +212,7 @@ impl EndedRoot {
 
     /// Has it tried at once, if it waits for a participant of this LRA.
     pub(crate) fn free(&mut self, id: LraId)
-        ensures { untried self.new ≡ untried self.old }
+        ensures { self.new ≡ freed id self.old }
     {
         if let Some(other) = self.waits_for {
             if other == id {
@@ -212,9 +222,9 @@ impl EndedRoot {
         }
     }
 
-    /// Has it tried soon, if it waits for a participant of any LRA.
+    /// Has it tried within a second, if it waits for a participant of any LRA.
     pub(crate) fn hasten(&mut self, now: Duration)
-        ensures { untried self.new ≡ untried self.old }
+        ensures { self.new ≡ hastened now self.old }
     {
         if self.waits_for.is_none() {
             return;

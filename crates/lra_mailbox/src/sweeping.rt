@@ -1,14 +1,16 @@
-// Which roots of a node's home have ended, and are to be purged; and how full the home is. It outlives the runs of the node; a start begins
-// anew.
-ghost use Rattle.std.specs.Prelude.{◌≡◌, ◌⊎◌, [], false, filter, map, true};
+// Which roots of a node's home have ended, and are to be purged with their trees; and how full the home is. It outlives the runs of the
+// node; a start begins anew.
+ghost use Rattle.std.specs.Prelude.{◌≡◌, ◌++◌, ◌∷◌, [], MatchBool, None, false, filter, map, true};
 ghost use Rattle.std.specs.List.{list_any};
 ghost use Rattle.std.specs.Option.{option_map};
 ghost use Rattle.lra_turns.specs.Slips.{at_once};
 ghost use Rattle.lra_mailbox.specs.declared.looking.TheConstants.{MANY};
-ghost use Rattle.lra_mailbox.specs.Looks.{is_to_look, missed};
+ghost use Rattle.lra_mailbox.specs.Censuses.{none_counted};
+ghost use Rattle.lra_mailbox.specs.Looks.{Begins, is_to_look};
 ghost use Rattle.lra_mailbox.specs.Noted.{with_became};
-ghost use Rattle.lra_mailbox.specs.Sweeps.{AreLeft, IsAdded, IsLeftBy, IsNextChore, IsNoted, IsSeen, IsTurned, begun, first_due, is_chore, purges, is_found, is_root, kept_of, looked, seen_as, sweeps, unfound, with_ended, with_looking, without};
+ghost use Rattle.lra_mailbox.specs.Sweeps.{IsAdded, IsNextChore, IsNoted, IsSeen, before_home, begun, fill_of, first_due, freed, hastened, is_chore, is_found, is_root, kept_of, left_by, looked, newcomer, purges, put_off_if, seen_as, sweeps, turned, unfound, with_ended, with_full, without};
 
+use crate::census::{Census, STATUSES};
 use crate::looking::Looking;
 use crate::noted::Became;
 use crate::ripe::Ripe;
@@ -19,7 +21,7 @@ use std::alloc::Global;
 use std::marker::Model;
 use std::time::Duration;
 
-/// Notes what an LRA shows that may be one of these.
+/// Notes what the tree of an LRA shows, which may be one of these.
 fn see_each(ended: &mut [EndedRoot], id: LraId, seen: LraStatus, now: Duration)
     ensures { ended.new ≡ map (seen_as id seen now) ended.old }
 {
@@ -39,7 +41,7 @@ fn unfind_each(ended: &mut [EndedRoot])
 
 /// Notes what came of a purge that was refused.
 fn put_off_each(ended: &mut [EndedRoot], id: LraId, purged: &Purged, now: Duration)
-    ensures { AreLeft ended.old ended.new }
+    ensures { ended.new ≡ map (put_off_if id purged.now now) ended.old }
 {
     for root in ended.iter_mut() {
         root.put_off(id, purged, now);
@@ -48,16 +50,16 @@ fn put_off_each(ended: &mut [EndedRoot], id: LraId, purged: &Purged, now: Durati
 
 /// Has those tried at once that waited for a participant of this LRA.
 fn free_each(ended: &mut [EndedRoot], id: LraId)
-    ensures { AreLeft ended.old ended.new }
+    ensures { ended.new ≡ map (freed id) ended.old }
 {
     for root in ended.iter_mut() {
         root.free(id);
     }
 }
 
-/// Has those tried soon that wait for a participant of any LRA.
+/// Has those tried within a second that wait for a participant of any LRA.
 fn hasten_each(ended: &mut [EndedRoot], now: Duration)
-    ensures { AreLeft ended.old ended.new }
+    ensures { ended.new ≡ map (hastened now) ended.old }
 {
     for root in ended.iter_mut() {
         root.hasten(now);
@@ -87,28 +89,14 @@ fn forget_missing(ended: &mut Vec<EndedRoot>)
 
 /// Adds one that has ended, if there is room for it. It says whether there was.
 fn add(ended: &mut Vec<EndedRoot>, id: LraId, seen: LraStatus, now: Duration) -> bool
-    ensures { IsAdded id seen now ended.old.items ended.new.items }
+    ensures { MatchBool result
+        (ended.new.items ≡ ended.old.items ++ newcomer id seen now ∷ [])
+        (ended.new.items ≡ ended.old.items) }
 {
     if ended.len() >= MAX_HELD {
         return false;
     }
     ended.push(EndedRoot::new(id, seen, now)).is_ok()
-}
-
-/// Notes what an LRA shows at this moment. It is remembered where those that show this are ever purged. It says whether there was room for
-/// that.
-fn note(ended: &mut Vec<EndedRoot>, keep: &Keep, id: LraId, seen: LraStatus, now: Duration) -> bool
-    ensures { IsNoted keep.now now id seen ended.old.items ended.new.items }
-{
-    if keep.time_of(seen).is_none() {
-        forget(ended, id);
-        return true;
-    }
-    if has(ended, id) {
-        see_each(ended, id, seen, now);
-        return true;
-    }
-    add(ended, id, seen, now)
 }
 
 /// The first that is to be purged at this moment.
@@ -121,43 +109,6 @@ fn due(ended: &[EndedRoot], keep: &Keep, now: Duration) -> Option<Ripe>
         }
     }
     None
-}
-
-/// What the LRAs of the home show.
-#[derive(Drop)]
-struct Census {
-    /// How many LRAs of the home the look has found so far, and how many of them show each status.
-    counted: u64,
-    showing: [u64; 7],
-    /// How many of those that the last one found showed each status.
-    held: [u64; 7],
-}
-
-impl Census {
-    fn new() -> Census {
-        Census {
-            counted: 0,
-            showing: [0; 7],
-            held: [0; 7],
-        }
-    }
-
-    fn begin(&mut self) {
-        self.counted = 0;
-        self.showing = [0; 7];
-    }
-
-    fn end(&mut self) {
-        self.held = self.showing;
-    }
-
-    /// Counts one that shows this.
-    fn count(&mut self, status: LraStatus) {
-        self.counted = self.counted.saturating_add(1);
-        if let Some(count) = self.showing.get_mut(usize::from(status.rank())) {
-            *count = count.saturating_add(1);
-        }
-    }
 }
 
 /// Has roots purged a while after they were first seen to have ended, or never; and knows how full the home is, where that is to be known.
@@ -175,7 +126,6 @@ pub struct Sweeping {
     census: Census,
 }
 
-// What is counted, and beyond what a look goes on, is in no clause.
 impl Model for Sweeping {
     ghost use Rattle.lra_mailbox.specs.Sweeps.{Sweeps};
 
@@ -185,15 +135,18 @@ impl Model for Sweeping {
       number = s.me;
       keep = s.keep;
       ended = s.ended.items;
+      beyond = s.beyond;
       looks = s.looks;
       looking = s.looking;
+      is_full = s.is_full;
+      counts = s.census;
     } };
 }
 
 impl Sweeping {
     /// Of a node, which keeps its roots so long; and knows how full the home is, or doesn't, and what its LRAs show, or doesn't.
     pub fn new(alloc: Global, me: NodeId, keep: Keep, counts: bool, is_watched: bool) -> Sweeping
-        ensures { result ≡ record { number = me; keep = keep; ended = []; looks = false; looking = record { counts = counts; is_watched = is_watched; is_stirred = true; begun = MANY; has_purged = false; has_missed = false; taken = 0; looks_at = at_once; counts_at = at_once } } }
+        ensures { result ≡ record { number = me; keep = keep; ended = []; beyond = None; looks = false; looking = record { counts = counts; is_watched = is_watched; is_stirred = true; begun = MANY; has_purged = false; has_missed = false; taken = 0; looks_at = at_once; counts_at = at_once }; is_full = false; counts = none_counted } }
     {
         Sweeping {
             me,
@@ -208,7 +161,9 @@ impl Sweeping {
     }
 
     /// The LRA before all those of the home in the order of pages, if there can be one.
-    fn before_home(&self) -> Option<LraId> {
+    fn before_home(&self) -> Option<LraId>
+        ensures { result ≡ before_home self.now.number }
+    {
         let Ok(home) = NodeId::new(self.me.number() - 1) else {
             return None;
         };
@@ -252,7 +207,8 @@ impl Sweeping {
 
     /// Begins a look.
     fn begin(&mut self, now: Duration)
-        ensures { self.new ≡ begun self.new.looking self.old }
+        ensures begun { self.new ≡ begun self.new.looking self.old }
+        ensures next { Begins now self.old.looking self.new.looking }
     {
         unfind_each(&mut self.ended);
         self.beyond = self.before_home();
@@ -261,14 +217,14 @@ impl Sweeping {
         self.census.begin();
     }
 
-    /// Ends a look. What it hasn't found is forgotten. Another follows where there was no room for one.
+    /// Ends a look. What it hasn't found is forgotten. Another follows if there was no room for one.
     fn end(&mut self)
-        ensures { self.new ≡ looked self.new.looking self.old }
+        ensures { self.new ≡ looked self.old }
     {
         self.looks = false;
+        self.looking.end(self.census.counted());
         self.census.end();
         forget_missing(&mut self.ended);
-        self.looking.end(self.census.counted);
     }
 
     /// The next chore, if there is one: a look that has begun is ended first, and then what is due is purged.
@@ -291,28 +247,41 @@ impl Sweeping {
         Some(Chore::List(self.beyond))
     }
 
-    /// Counts and notes an LRA of the home.
-    fn note(&mut self, now: Duration, id: LraId, seen: LraStatus)
-        ensures noted { IsNoted self.old.keep now id seen self.old.ended self.new.ended }
-        ensures rest { self.new ≡ with_looking self.new.looking (with_ended self.new.ended self.old) }
-        ensures looking { (self.new.looking ≡ self.old.looking)
-            ⊎ (self.new.looking ≡ missed self.old.looking) }
+    /// Remembers a root whose tree shows this, and which isn't remembered yet. If there is no room
+    /// for it, another look follows this one.
+    fn add(&mut self, now: Duration, id: LraId, seen: LraStatus)
+        ensures { IsAdded id seen now self.old self.new }
     {
-        self.census.count(seen);
-        if !note(&mut self.ended, &self.keep, id, seen, now) {
+        if !add(&mut self.ended, id, seen, now) {
             self.looking.note_missed();
         }
     }
 
-    /// Tells of an LRA on a page.
-    pub fn see(&mut self, now: Duration, id: LraId, seen: LraStatus)
-        ensures { IsSeen now id seen self.old self.new }
+    /// Notes what the tree of an LRA shows at this moment. Its root is remembered if those that show
+    /// this are ever purged.
+    fn note(&mut self, now: Duration, id: LraId, seen: LraStatus)
+        ensures { IsNoted now id seen self.old self.new }
+    {
+        if self.keep.time_of(seen).is_none() {
+            forget(&mut self.ended, id);
+        } else if has(&self.ended, id) {
+            see_each(&mut self.ended, id, seen, now);
+        } else {
+            self.add(now, id, seen);
+        }
+    }
+
+    /// Tells of an LRA on a page: what it shows, and what its tree shows, which is the LRA with all
+    /// that is nested in it.
+    pub fn see(&mut self, now: Duration, id: LraId, shown: LraStatus, seen: LraStatus)
+        ensures { IsSeen now id shown seen self.old self.new }
     {
         self.beyond = Some(id);
         if !self.looks {
             return;
         }
         if id.home() == self.me {
+            self.census.count(shown);
             self.note(now, id, seen);
         } else {
             self.end();
@@ -321,7 +290,7 @@ impl Sweeping {
 
     /// Tells that the page is over, and whether more follow.
     pub fn turn(&mut self, more: bool)
-        ensures { IsTurned more self.old self.new }
+        ensures { self.new ≡ turned more self.old }
     {
         if self.looks && !more {
             self.end();
@@ -330,8 +299,7 @@ impl Sweeping {
 
     /// Tells what came of a purge.
     pub fn purged(&mut self, now: Duration, id: LraId, purged: Purged)
-        ensures ended { IsLeftBy purged id self.old.ended self.new.ended }
-        ensures rest { self.new ≡ with_looking self.new.looking (with_ended self.new.ended self.old) }
+        ensures { self.new ≡ left_by purged id now self.old }
     {
         match purged {
             Purged::Gone | Purged::Missing => forget(&mut self.ended, id),
@@ -345,29 +313,30 @@ impl Sweeping {
 
     /// Tells that a participant of an LRA was told what it was to be told: roots that waited for that are tried at once.
     pub(crate) fn free(&mut self, id: LraId)
-        ensures ended { AreLeft self.old.ended self.new.ended }
-        ensures rest { self.new ≡ with_ended self.new.ended self.old }
+        ensures { self.new ≡ with_ended (map (freed id) self.old.ended) self.old }
     {
         free_each(&mut self.ended, id);
     }
 
     /// Tells that another node told something: roots that wait for a participant of any LRA are tried
-    /// soon.
+    /// within a second.
     pub(crate) fn hasten(&mut self, now: Duration)
-        ensures ended { AreLeft self.old.ended self.new.ended }
-        ensures rest { self.new ≡ with_ended self.new.ended self.old }
+        ensures { self.new ≡ with_ended (map (hastened now) self.old.ended) self.old }
     {
         hasten_each(&mut self.ended, now);
     }
 
     /// How many LRAs of the home showed each status at the last look, in the order of their ranks.
-    pub fn held(&self) -> [u64; 7] {
-        self.census.held
+    pub fn held(&self) -> [u64; STATUSES]
+        ensures { result ≡ self.now.counts.held }
+    {
+        self.census.held()
     }
 
-    /// How full the home is.
+    /// How full the home is, and whether none could be begun for that since this was last asked.
     pub fn fill(&mut self) -> Fill
-        ensures { self.new ≡ self.old }
+        ensures fill { result ≡ fill_of self.old }
+        ensures told { self.new ≡ with_full false self.old }
     {
         let is_refused = self.is_full;
         self.is_full = false;

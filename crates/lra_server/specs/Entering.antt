@@ -58,7 +58,7 @@ Counts clerk old new result =
 
 -- one call for a chore: a page is listed, or a root purged if it still shows what it showed for as long as it was kept
 abbrev pub DoesChore : {C : Type 0} → OfClerk C → (old new : C) → Chore → Result ⊤ Refusal → Type 0
-DoesChore clerk old new (chore.List beyond) result = IsMade clerk old new (call.Page beyond) result
+DoesChore clerk old new (chore.List beyond) result = IsMade clerk old new (call.Survey beyond) result
 DoesChore clerk old new (chore.Purge kept) result = IsMade clerk old new (call.Sweep kept.root kept.seen) result
 
 -- whether a call may be made for operators who want one of this kind: for a question none that enters something
@@ -75,7 +75,7 @@ MakesIf clerk old new (Some asked) result = IsMadeInMemory clerk old new asked r
 -- One call at most for a task: what was heard is entered, what another node told is taken, and so on.
 abbrev pub DoesTask : {C : Type 0} → OfClerk C → (old new : C) → Task → Result ⊤ Refusal → Type 0
 DoesTask clerk old new (task.Enter letter) result = EntersLetter clerk old new letter result
-DoesTask clerk old new (task.Take telling) result = IsMade clerk old new (call.Take telling) result
+DoesTask clerk old new (task.Take telling) result = IsMade clerk old new (call.Take telling.frame) result
 DoesTask clerk old new task.Ask result = IsMadeInMemory clerk old new call.Duties result
 DoesTask clerk old new task.Tick result = IsMade clerk old new call.Expire result
 DoesTask clerk old new task.Count result = Counts clerk old new result

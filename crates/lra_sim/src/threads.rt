@@ -247,10 +247,10 @@ impl<R: Runs> Play<R> {
     }
 
     fn list(&mut self, place: usize, beyond: Option<LraId>) -> Result<(), Halt> {
-        let reply = self.call(place, ENTERS, Call::Page(beyond))?;
+        let reply = self.call(place, ENTERS, Call::Survey(beyond))?;
         let now = self.now;
-        if let (Some(Reply::Listed(page)), Some(life)) = (&reply, self.life(place)) {
-            life.see_page(page, now);
+        if let (Some(Reply::Surveyed(survey)), Some(life)) = (&reply, self.life(place)) {
+            life.see_survey(survey, now);
         }
         Ok(())
     }

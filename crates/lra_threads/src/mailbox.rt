@@ -497,10 +497,10 @@ impl Mailbox {
         self.held.lock(rt).state.take_back()
     }
 
-    /// Tells the sweep of an LRA on a page.
-    pub fn see<R: Wait + Clock>(&self, rt: &R, id: LraId, status: LraStatus) {
+    /// Tells the sweep of an LRA on a page: what it shows, and what its tree shows.
+    pub fn see<R: Wait + Clock>(&self, rt: &R, id: LraId, shown: LraStatus, tree: LraStatus) {
         let moment = now(rt);
-        self.held.lock(rt).state.see(moment, id, status);
+        self.held.lock(rt).state.see(moment, id, shown, tree);
     }
 
     /// Tells it that the page is over, and whether more follow.

@@ -29,15 +29,20 @@ pub(crate) enum Role {
 }
 
 /// Adds who pulls from the other nodes.
-fn push_pullers(roles: &mut Vec<Role>, node: &Node) -> Result<(), AllocError> {
-    if !node.site.is_apart() {
-        if node.nodes > 1 {
+fn push_pullers(
+    roles: &mut Vec<Role>,
+    me: u8,
+    nodes: u8,
+    are_apart: bool,
+) -> Result<(), AllocError> {
+    if !are_apart {
+        if nodes > 1 {
             roles.push(Role::Pull)?;
         }
         return Ok(());
     }
-    for number in 1..=node.nodes {
-        if number != node.number() {
+    for number in 1..=nodes {
+        if number != me {
             roles.push(Role::Follow(number))?;
         }
     }
@@ -53,7 +58,7 @@ pub(crate) fn roles_of(alloc: Global, node: &Node) -> Result<Vec<Role>, AllocErr
         roles.push(Role::Call)?;
     }
     roles.push(Role::Accept)?;
-    push_pullers(&mut roles, node)?;
+    push_pullers(&mut roles, node.number(), node.nodes, node.site.is_apart())?;
     Ok(roles)
 }
 

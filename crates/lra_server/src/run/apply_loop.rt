@@ -105,7 +105,7 @@ fn take<R: Wait + Clock, C: Clerk>(
     clerk: &mut C,
     telling: Telling,
 ) -> Result<(), Refusal>
-    ensures { IsMade C.Clerk clerk.old clerk.new (TakeDelta telling) result }
+    ensures { IsMade C.Clerk clerk.old clerk.new (TakeDelta telling.frame) result }
 {
     let (front, from) = (telling.front(), telling.from());
     let (spare, known) = (spare_of(node, &telling), node.mailbox.front(rt));

@@ -1,5 +1,5 @@
-// Purges of roots that have ended, one call at a time.
-ghost use Rattle.lra_book.specs.declared.calls.Call.TheVariants.{Page as AskPage, Sweep as AskSweep};
+// Purges of trees whose roots have ended, one call at a time.
+ghost use Rattle.lra_book.specs.declared.calls.Call.TheVariants.{Survey as AskSurvey, Sweep as AskSweep};
 ghost use Rattle.lra_server.specs.Entering.{DoesChore, IsMade};
 
 use lra_book::{Call, Clerk, Reply};
@@ -15,11 +15,11 @@ use std::time::Clock;
 
 /// Notes what a page shows.
 fn note<R: Wait + Clock>(rt: &R, node: &Node, reply: &Reply) {
-    if let Reply::Listed(page) = reply {
-        for row in page.rows() {
-            node.mailbox.see(rt, row.id, row.status);
+    if let Reply::Surveyed(survey) = reply {
+        for row in survey.rows() {
+            node.mailbox.see(rt, row.id, row.status, row.tree);
         }
-        node.mailbox.turn(rt, page.more());
+        node.mailbox.turn(rt, survey.more());
     }
 }
 
@@ -31,14 +31,14 @@ fn list<R: Wait + Clock, C: Clerk>(
     clerk: &mut C,
     beyond: Option<LraId>,
 ) -> Result<(), Refusal>
-    ensures { IsMade C.Clerk clerk.old clerk.new (AskPage beyond) result }
+    ensures { IsMade C.Clerk clerk.old clerk.new (AskSurvey beyond) result }
 {
-    clerk.call(alloc, Call::Page(beyond), unix_millis(rt))?;
+    clerk.call(alloc, Call::Survey(beyond), unix_millis(rt))?;
     note(rt, node, clerk.reply());
     Ok(())
 }
 
-/// Purges a root, if it still shows what it showed for as long as it was kept.
+/// Purges the tree of a root, if it still shows what it showed for as long as it was kept.
 fn purge<R: Wait + Clock, C: Clerk>(
     rt: &R,
     alloc: Global,

@@ -1,7 +1,7 @@
 use Rattle.std.proofs.lemmas.List.Elements.{All-nil}
 use Rattle.std.proofs.Common.{[]}
 use Rattle.lra_mailbox.specs.Sweeps.{IsSince}
-use Rattle.lra_mailbox.proofs.Keeping.{left_since, lists_since, purged_since, purges_kept, seen_is_since, turned_since}
+use Rattle.lra_mailbox.proofs.Keeping.{lists_since, noted_call_since, purged_since, purges_kept, seen_is_since, turned_since}
 use Rattle.lra_mailbox.proofs.laws.nothing_is_purged_before_its_time.Goals as goal
 
 pub returns-clause-none : goal.returns-clause-none
@@ -16,8 +16,8 @@ returns-clause-turned c = turned_since
 pub returns-clause-purged : goal.returns-clause-purged
 returns-clause-purged c = purged_since
 
-pub returns-clause-freed : goal.returns-clause-freed
-returns-clause-freed c = left_since
+pub returns-clause-noted : goal.returns-clause-noted
+returns-clause-noted c = noted_call_since
 
 pub returns-clause-lists : goal.returns-clause-lists
 returns-clause-lists c = lists_since

@@ -1,7 +1,7 @@
-use Rattle.std.proofs.Common.{◌≡◌, map}
-use Rattle.lra_mailbox.specs.Sweeps.{untried}
+use Rattle.std.proofs.Common.{◌≡◌, ◌++◌, drop, map, take}
+use Rattle.lra_mailbox.specs.Sweeps.{freed}
 use Rattle.lra_mailbox.proofs.sweeping.free_each.Given as goal
 
--- all are as they were, save when they are tried
+-- those so far are changed, and the others are as they were
 abbrev pub invariant-loop-root : goal.invariant-loop-root
-invariant-loop-root l = map untried l.ended ≡ map untried l.fn.ended
+invariant-loop-root l = l.ended ≡ map (freed l.id) (take l.root-index l.fn.ended) ++ drop l.root-index l.fn.ended
