@@ -1,6 +1,6 @@
 -- What was written, by what the writing of a response came to.
 use Rattle.std.specs.Prelude.{⊤}
-use Rattle.std.proofs.Common.{◌≡◌, ◌+◌, length, inl, inr, None, Result, Ok, Err, OnOk, OnErr, subst}
+use Rattle.std.proofs.Common.{◌≡◌, ◌+◌, ℕ, List, length, inl, inr, Option, Some, None, Result, Ok, Err, OnOk, OnErr, subst}
 use Rattle.lra_facts.specs.declared.refusal.Refusal.{Refusal}
 use Rattle.lra_facts.specs.declared.refusal.Refusal.TheVariants.{NoMemory}
 use Rattle.lra_http.specs.MessageTexts.{response_text}
@@ -9,8 +9,8 @@ use Rattle.lra_http.specs.Streams.{IsFlushed, Takes, TakesPart, Writes}
 use Rattle.lra_http.specs.declared.fault.Fault.{Fault}
 use Rattle.lra_http.specs.declared.fault.Fault.TheVariants as fault
 use Rattle.lra_http.specs.ByteResponses.{Response}
-use Rattle.lra_api.specs.Answers.{answer_of, refusal_answer}
-use Rattle.lra_api.specs.Serving.{Ends, EndsNoMemory, ServesCall, ServesRequest, WritesNoMemory}
+use Rattle.lra_api.specs.Answers.{answer_of, refusal_answer, why_answer}
+use Rattle.lra_api.specs.Serving.{Ends, EndsNoMemory, ServesCall, ServesRequest, ServesUnless, WritesNoMemory}
 use Rattle.lra_api.specs.Streams.{Sends, SendsPart}
 use Rattle.lra_api.specs.declared.routing.Unrouted.{Unrouted}
 use Rattle.lra_book.specs.declared.calls.Call.{Call}
@@ -43,6 +43,21 @@ pub no_memory_served : {W : Type 0} (same : Type 0) (makes : Call → Result Rep
     → same → EndsNoMemory sink old new None result → ServesRequest same makes sink old new right result
 no_memory_served same makes sink old new (Ok call) result s ends = inr (s, ends)
 no_memory_served same makes sink old new (Err u) result s ends = (s, inr (inr ends))
+
+-- nor whether something is wrong with the body
+pub no_memory_unless : {W : Type 0} (why : Option (List ℕ)) (same : Type 0) (makes : Call → Result Reply Refusal → Type 0) (sink : OfSink W) (old new : W)
+    (right : Result Call Unrouted) (result : Result ⊤ ServeError)
+    → same → EndsNoMemory sink old new None result → ServesUnless why same makes sink old new right result
+no_memory_unless (Some why) same makes sink old new right result s ends = (s, inr (inr ends))
+no_memory_unless None same makes sink old new right result s ends = no_memory_served same makes sink old new right result s ends
+
+-- the answer that says why a body is wrong
+pub explained : {W : Type 0} (same : Type 0) (makes : Call → Result Reply Refusal → Type 0) (sink : OfSink W) (old new : W) (shown text : List ℕ)
+    (why : Option (List ℕ)) (right : Result Call Unrouted) (result : Result ⊤ ServeError)
+    → same → shown ≡ text → Some text ≡ why → Ends sink old new (why_answer shown) None result → ServesUnless why same makes sink old new right result
+explained same makes sink old new shown text why right result s is wrong ends =
+    subst (λ (w : Option (List ℕ)). ServesUnless w same makes sink old new right result) wrong
+    (s, subst (λ (t : List ℕ). Ends sink old new (why_answer t) None result) is ends)
 
 -- the answer to what came of a call
 pub replied : {W : Type 0} (makes : Result Reply Refusal → Type 0) (sink : OfSink W) (old new : W) (seen reply : Reply) (result : Result ⊤ ServeError)

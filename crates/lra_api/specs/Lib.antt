@@ -1,6 +1,7 @@
 pub mod AnswerBodies
 pub mod Answers
 pub mod Bodies
+pub mod BodyFaults
 pub mod Names
 pub mod Paths
 pub mod Routes

@@ -1,5 +1,5 @@
 -- What one request over a connection comes to.
-use Rattle.std.specs.Prelude.{◌≡◌, ◌⊎◌, ⊤, ℕ, Option, Some, None, Result, Ok, Err}
+use Rattle.std.specs.Prelude.{◌≡◌, ◌⊎◌, ⊤, ℕ, List, Option, Some, None, Result, Ok, Err}
 use Rattle.lra_facts.specs.declared.refusal.Refusal.{Refusal}
 use Rattle.lra_facts.specs.declared.refusal.Refusal.TheVariants.{NoMemory}
 use Rattle.lra_http.specs.MessageTexts.{response_text}
@@ -15,9 +15,10 @@ use Rattle.lra_book.specs.declared.calls.Reply.{Reply}
 use Rattle.lra_api.specs.declared.routing.Unrouted.{Unrouted}
 use Rattle.lra_api.specs.declared.serving.ServeError.{ServeError}
 use Rattle.lra_api.specs.declared.serving.ServeError.TheVariants.{Refused, Cut, ReadFault, WriteFault}
-use Rattle.lra_api.specs.Answers.{answer_of, fault_answer, refusal_answer, unrouted_answer}
+use Rattle.lra_api.specs.Answers.{answer_of, fault_answer, refusal_answer, unrouted_answer, why_answer}
 use Rattle.lra_api.specs.Routes.{routed}
 use Rattle.lra_api.specs.Streams.{Sends, SendsNothing, SendsPart}
+use Rattle.lra_api.specs.BodyFaults.{why_in}
 
 -- the text of E17 was written, or a part of it where a write failed, or nothing
 abbrev pub WritesNoMemory : {W : Type 0} → OfSink W → (old new : W) → Type 0
@@ -68,6 +69,14 @@ ServesRequest same makes sink old new (Ok call) result =
     ServesCall (makes call) sink old new result ⊎ (same × EndsNoMemory sink old new None result)
 ServesRequest same makes sink old new (Err unrouted) result =
     same × Ends sink old new (unrouted_answer unrouted) None result
+
+-- A request is served unless something is wrong with its body: then no call is made, and the answer that says why is written
+abbrev pub ServesUnless : {W : Type 0} → (why : Option (List ℕ)) → (same : Type 0) → (makes : Call → Result Reply Refusal → Type 0) → OfSink W → (old new : W) → Result Call Unrouted → Result ⊤ ServeError → Type 0
+ServesUnless (Some why) same makes sink old new asked result = same × Ends sink old new (why_answer why) None result
+ServesUnless None same makes sink old new asked result = ServesRequest same makes sink old new asked result
+
+abbrev pub ServesOrExplains : {W : Type 0} → (same : Type 0) → (makes : Call → Result Reply Refusal → Type 0) → OfSink W → (old new : W) → (now : ℕ) → Request → Result ⊤ ServeError → Type 0
+ServesOrExplains same makes sink old new now request result = ServesUnless (why_in now request) same makes sink old new (routed now request) result
 
 -- what is no whole request is served: nothing is written where the input ended or a read failed
 abbrev pub ServesFault : {W : Type 0} → OfSink W → (old new : W) → Fault → Result ⊤ ServeError → Type 0

@@ -1,12 +1,19 @@
 // What follows of the definitions alone.
-ghost use Rattle.std.specs.Prelude.{◌≡◌, ◌<◌, ◌≤◌, ◌^◌, ℕ, List, length};
+ghost use Rattle.std.specs.Prelude.{◌≡◌, ◌<◌, ◌≤◌, ◌^◌, ◌||◌, ℕ, List, None, Some, is_err, is_some, length, true};
+ghost use Rattle.std.specs.List.{list_all};
+ghost use Rattle.serde_json.specs.Data.{Data};
 ghost use Rattle.lra_id.specs.Ids.{Id, IsId};
 ghost use Rattle.lra_id.specs.declared.status.LraStatus.{LraStatus as TheLraStatus};
 ghost use Rattle.lra_id.specs.declared.status.MemberStatus.{MemberStatus as TheMemberStatus};
 ghost use Rattle.lra_http.specs.declared.fault.Fault.{Fault as TheFault};
+ghost use Rattle.lra_http.specs.declared.message.Request.{Request as TheRequest};
 ghost use Rattle.lra_book.specs.declared.calls.Reply.{Reply as TheReply};
+ghost use Rattle.lra_api.specs.declared.body_faults.Form.{Form as TheForm};
 ghost use Rattle.lra_api.specs.declared.routing.Unrouted.{Unrouted as TheUnrouted};
 ghost use Rattle.lra_api.specs.Answers.{answer_of, begun_answer, fault_answer, joined_answer, ok_json, status_answer, unrouted_answer};
+ghost use Rattle.lra_api.specs.Bodies.{object_in};
+ghost use Rattle.lra_api.specs.BodyFaults.{form_of, has_unknown, is_plain_byte, unknown_of, unknown_text, why_in};
+ghost use Rattle.lra_api.specs.Routes.{routed};
 ghost use Rattle.lra_api.specs.Texts.{member_body};
 ghost use Rattle.lra_api.specs.Wholes.{IsNumbered, IsWhole};
 
@@ -21,6 +28,25 @@ pub fn an_answer_tells_its_reply()
         IsId a → IsId b → status_answer a x ≡ status_answer b y → (a ≡ b) × (x ≡ y) }
     ensures member { (a b : Id) (m : ℕ) (x y : TheMemberStatus) → IsId a →
         IsId b → ok_json (member_body a m x) ≡ ok_json (member_body b m y) → (a ≡ b) × (x ≡ y) }
+{}
+
+/// Of a request that reads a body, the body is wrong if it has a member that its call doesn't know, or
+/// if the request is refused, and otherwise not. A member that isn't known is named before all else.
+/// Of a request that reads no body nothing is wrong.
+pub fn only_what_is_refused_or_unknown_is_wrong()
+    ensures exact { (now : ℕ) (request : TheRequest) (form : TheForm) → form_of request ≡ Some form →
+        is_some (why_in now request) ≡ (has_unknown form request.body || is_err (routed now request)) }
+    ensures named { (now : ℕ) (request : TheRequest) (form : TheForm) (body : Data) (name : List ℕ) →
+        form_of request ≡ Some form → object_in request.body ≡ Some body → unknown_of form body ≡ Some name →
+        why_in now request ≡ Some (unknown_text name) }
+    ensures none { (now : ℕ) (request : TheRequest) → form_of request ≡ None → why_in now request ≡ None }
+{}
+
+/// What is said of a wrong body stands in the JSON of its answer as it is: printable ASCII without
+/// quotes and backslashes, whatever the client sent.
+pub fn what_is_said_of_a_body_needs_no_escape()
+    ensures { (now : ℕ) (request : TheRequest) (why : List ℕ) →
+        why_in now request ≡ Some why → list_all is_plain_byte why ≡ true }
 {}
 
 /// The text of each answer is one whole response with its status, fields and body, for any reader

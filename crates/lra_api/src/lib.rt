@@ -4,6 +4,7 @@
 
 mod answers;
 mod body;
+mod body_faults;
 mod json;
 pub mod laws;
 mod names;
@@ -18,5 +19,7 @@ pub use body::Body;
 pub use names::{id_of, member_of};
 pub use path::{Paths, id_part, member_part, part_of, path_of, query_of, rest_of};
 pub use routing::{Unrouted, route};
-pub use serving::{ServeError, end, end_refused, serve_fault, serve_one, serve_request};
+pub use serving::{
+    ServeError, end, end_refused, serve_fault, serve_one, serve_or_explain, serve_request,
+};
 pub use table::{Endpoint, TableMethod, method_of};

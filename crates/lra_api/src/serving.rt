@@ -4,13 +4,14 @@ ghost use Rattle.lra_http.specs.declared.fault.Fault.{Fault as TheFault};
 ghost use Rattle.lra_http.specs.declared.fault.Fault.TheVariants.{WriteFault as OnWrite};
 ghost use Rattle.lra_http.specs.declared.message.Request.{Request as TheRequest};
 ghost use Rattle.lra_http.specs.ByteResponses.{Response as TheResponse};
-ghost use Rattle.lra_api.specs.Answers.{answer_of, fault_answer, refusal_answer, unrouted_answer};
+ghost use Rattle.lra_api.specs.Answers.{answer_of, fault_answer, refusal_answer, unrouted_answer, why_answer};
 ghost use Rattle.lra_api.specs.Routes.{routed};
-ghost use Rattle.lra_api.specs.Serving.{Ends, EndsNoMemory, Makes, Serves, ServesCall, ServesFault, ServesRequest, WritesNoMemory, told_first};
+ghost use Rattle.lra_api.specs.Serving.{Ends, EndsNoMemory, Makes, Serves, ServesCall, ServesFault, ServesRequest, ServesOrExplains, WritesNoMemory, told_first};
 ghost use Rattle.lra_api.specs.Streams.{IsReading};
 
 use crate::Paths;
-use crate::answers::{Answer, answer, fault_answer, refusal_answer, unrouted_answer};
+use crate::answers::{Answer, answer, fault_answer, refusal_answer, unrouted_answer, why_answer};
+use crate::body_faults::why_in;
 use crate::routing::{Unrouted, route_by};
 use lra_book::{Call, Clerk, Reply};
 use lra_facts::Refusal;
@@ -170,6 +171,33 @@ pub fn serve_request<W: Sink, C: Clerk>(
             }
             end_unrouted(alloc, writer, unrouted)
         }
+    }
+}
+
+fn end_wrong<W: Sink>(alloc: Global, writer: &mut W, why: &str) -> Result<(), ServeError>
+    ensures { Ends W.Sink writer.old writer.new (why_answer why.now) None result }
+{
+    let made = why_answer(alloc, why);
+    end(alloc, writer, made, None)
+}
+
+/// Serves a request as `serve_request` does, unless something is wrong with its body: then no call is
+/// made, and the answer says why. A JSON member that the call doesn't know is wrong too.
+pub fn serve_or_explain<W: Sink, C: Clerk>(
+    alloc: Global,
+    paths: &Paths,
+    writer: &mut W,
+    clerk: &mut C,
+    request: &Request,
+    now: u64,
+) -> Result<(), ServeError>
+    ensures { ServesOrExplains (clerk.new ≡ clerk.old) (Makes C.Clerk clerk.old clerk.new now)
+        W.Sink writer.old writer.new now request.now result }
+{
+    match why_in(alloc, paths, request, now) {
+        Ok(Some(why)) => end_wrong(alloc, writer, why.as_str()),
+        Ok(None) => serve_request(alloc, paths, writer, clerk, request, now),
+        Err(_) => end_no_memory(alloc, writer, None),
     }
 }
 

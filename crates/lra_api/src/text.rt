@@ -2,7 +2,7 @@
 ghost use Rattle.std.specs.Prelude.{◌≡◌, ◌++◌, IfOk, OnOk};
 ghost use Rattle.std.specs.Fmt.{decimal};
 ghost use Rattle.lra_id.specs.Ids.{text_of};
-ghost use Rattle.lra_api.specs.Texts.{member_body, more_rows, next_of, next_text, of_lra, of_status, page_body, recovery_path, refusal_body, rows_text, status_body, urn};
+ghost use Rattle.lra_api.specs.Texts.{member_body, more_rows, next_of, next_text, of_lra, of_status, page_body, recovery_path, refusal_body, rows_text, status_body, urn, why_body};
 ghost use Rattle.lra_api.specs.Texts as spec;
 
 use lra_id::{LraId, LraStatus, MemberStatus};
@@ -194,6 +194,18 @@ pub fn refusal_body(alloc: Global, text: &str) -> Result<Vec<u8>, AllocError>
     let mut body = Vec::new(alloc);
     push(&mut body, "{\"refused\":\"")?;
     push(&mut body, text)?;
+    push(&mut body, "\"}")?;
+    Ok(body)
+}
+
+/// The body that names E1, and says why a body is refused.
+#[tactic(auto, unfolding(crate::specs::Texts::why_body))]
+pub fn why_body(alloc: Global, why: &str) -> Result<Vec<u8>, AllocError>
+    ensures { IfOk result (λ body. body.items ≡ why_body why.now) }
+{
+    let mut body = Vec::new(alloc);
+    push(&mut body, "{\"refused\":\"E1 BadText\",\"why\":\"")?;
+    push(&mut body, why)?;
     push(&mut body, "\"}")?;
     Ok(body)
 }

@@ -12,6 +12,7 @@ use Rattle.lra_book.specs.declared.clerk.Clerk.{Ghosts as OfClerk}
 use Rattle.lra_api.specs.Routes.{routed}
 use Rattle.lra_api.specs.Serving.{Makes}
 use Rattle.lra_api.specs.Serving as serving
+use Rattle.lra_api.specs.BodyFaults.{why_in}
 use Rattle.lra_api.specs.declared.routing.Unrouted.{Unrouted}
 use Rattle.lra_api.specs.declared.serving.ServeError.{ServeError}
 use Rattle.lra_work.specs.Addressees.{is_misdirected, misdirected_answer}
@@ -33,14 +34,18 @@ request_by f makes sink old new (Ok call) result (inl made) = inl made
 request_by f makes sink old new (Ok call) result (inr (same, ends)) = inr (f same, ends)
 request_by f makes sink old new (Err unrouted) result (same, ends) = (f same, ends)
 
+strictly_by : {W A B : Type 0} → (why : Option (List ℕ)) → (A → B) → (makes : Call → Result Reply Refusal → Type 0) (sink : OfSink W) (old new : W) (asked : Result Call Unrouted) (result : Result ⊤ ServeError) → serving.ServesUnless why A makes sink old new asked result → serving.ServesUnless why B makes sink old new asked result
+strictly_by (Some why) f makes sink old new asked result (same, ends) = (f same, ends)
+strictly_by None f makes sink old new asked result served = request_by f makes sink old new asked result served
+
 pub serves_by : {W A B : Type 0} → (addressee : Addressee) → (A → B) → (makes : Call → Result Reply Refusal → Type 0) (sink : OfSink W) (old new : W) (now : ℕ) (read : Result Request Fault) (result : Result ⊤ ServeError) → ServesRead addressee A makes sink old new now read result → ServesRead addressee B makes sink old new now read result
 serves_by Anyone f makes sink old new now (Ok request) result served = request_by f makes sink old new (routed now request) result served
 serves_by {A = A} {B = B} (Node node) f makes sink old new now (Ok request) result served = settle (is_misdirected node request) served
   where
-    settle : (is : Bool) → MatchBool is (A × serving.Ends sink old new (misdirected_answer node) None result) (serving.ServesRequest A makes sink old new (routed now request) result)
-        → MatchBool is (B × serving.Ends sink old new (misdirected_answer node) None result) (serving.ServesRequest B makes sink old new (routed now request) result)
+    settle : (is : Bool) → MatchBool is (A × serving.Ends sink old new (misdirected_answer node) None result) (serving.ServesOrExplains A makes sink old new now request result)
+        → MatchBool is (B × serving.Ends sink old new (misdirected_answer node) None result) (serving.ServesOrExplains B makes sink old new now request result)
     settle true (same, ends) = (f same, ends)
-    settle false by_interface = request_by f makes sink old new (routed now request) result by_interface
+    settle false by_interface = strictly_by (why_in now request) f makes sink old new (routed now request) result by_interface
 serves_by addressee f makes sink old new now (Err fault) result (same, ends) = (f same, ends)
 
 -- a worker's clerk behind a gate makes the calls of the clerk

@@ -37,12 +37,12 @@ ending_of _ = None
 -- Serving. `same`: no call is made. `makes`: this call is made, once, and this comes of it
 
 -- A request is served by a node with a name: of a pull that is meant for another no call is made, and the text of that answer is
--- written; each other request is served by the interface
+-- written; each other request is served by the interface, unless something is wrong with its body
 abbrev pub ServesNamed : {W : Type 0} → NodeName → (same : Type 0) → (makes : Call → Result Reply Refusal → Type 0) → OfSink W → (old new : W) → (now : ℕ) → Request → Result ⊤ ServeError → Type 0
 ServesNamed node same makes sink old new now request result =
     MatchBool (is_misdirected node request)
     (same × serving.Ends sink old new (misdirected_answer node) None result)
-    (serving.ServesRequest same makes sink old new (routed now request) result)
+    (serving.ServesOrExplains same makes sink old new now request result)
 
 -- where anyone may be meant, the interface serves all
 abbrev pub ServesRequest : {W : Type 0} → Addressee → (same : Type 0) → (makes : Call → Result Reply Refusal → Type 0) → OfSink W → (old new : W) → (now : ℕ) → Request → Result ⊤ ServeError → Type 0
@@ -55,7 +55,7 @@ ServesRead addressee same makes sink old new now (Ok request) result = ServesReq
 ServesRead addressee same makes sink old new now (Err f) result = same × serving.ServesFault sink old new f result
 
 -- One connection is served, with this ending: one request is read, the call that it asks for is made at the connection's moment,
--- once, unless it is misdirected, and one answer is written
+-- once, unless it is misdirected or its body is wrong, and one answer is written
 abbrev pub Serves : {R W C : Type 0} → Addressee → OfSource R → OfSink W → OfClerk C → Connection R W → (old new : C) → Option Refusal → Type 0
 Serves {R} {W} addressee source sink clerk c old new ending =
     (reader : R) × (writer : W) × (read : Result Request Fault) × (result : Result ⊤ ServeError)

@@ -12,7 +12,9 @@ use crate::addressee::node_text;
 use crate::misdirected::is_misdirected;
 use crate::{Addressee, NodeName};
 use http::StatusCode;
-use lra_api::{Answer, Body, Paths, ServeError, end, serve_fault, serve_request, with_body};
+use lra_api::{
+    Answer, Body, Paths, ServeError, end, serve_fault, serve_or_explain, serve_request, with_body,
+};
 use lra_book::Clerk;
 use lra_http::{MAX_BODY_BYTES, Request, Sink, Source, read_request};
 use std::alloc::{AllocError, Global};
@@ -48,7 +50,8 @@ fn end_misdirected<W: Sink>(
     end(alloc, writer, made, None)
 }
 
-/// Serves a request by a node that has a name.
+/// Serves a request by a node that has a name: it refuses the pulls that are meant for another, and
+/// says what is wrong with a body.
 fn serve_named<W: Sink, C: Clerk>(
     alloc: Global,
     paths: &Paths,
@@ -64,7 +67,7 @@ fn serve_named<W: Sink, C: Clerk>(
     if is_misdirected(node, request) {
         return end_misdirected(alloc, writer, node);
     }
-    serve_request(alloc, paths, writer, clerk, request, now)
+    serve_or_explain(alloc, paths, writer, clerk, request, now)
 }
 
 fn serve_by<W: Sink, C: Clerk>(
@@ -85,8 +88,9 @@ fn serve_by<W: Sink, C: Clerk>(
     }
 }
 
-/// Reads one request and writes one answer, as `lra_api::serve_one`, unless the request is a pull
-/// that is meant for another node: then no call is made, and status 421 is written.
+/// Reads one request and writes one answer, as `lra_api::serve_one`. A node that has a name makes no
+/// call for a pull that is meant for another node, and writes status 421. Nor does it for a request
+/// whose body is wrong, and writes status 400 and why.
 pub(crate) fn serve_one<R: Source, W: Sink, C: Clerk>(
     alloc: Global,
     paths: &Paths,

@@ -63,7 +63,8 @@ fn serve<S: Source + Drop, W: Sink + Drop, C: Clerk>(
 /// Serves each connection that `next` gives, in order, up to none or to the first refusal that ends
 /// the run, E18 to E21. It gives the clerk back, and that refusal. The gate is asked before and
 /// after each of the clerk's calls. A pull that is meant for another node than the addressee is
-/// refused with status 421, and no call is made for it.
+/// refused with status 421, and no call is made for it. Nor is one made for a request whose body is
+/// wrong, if the addressee is one node: it is refused with status 400, and the answer says why.
 pub fn work<A: Arrivals, C: Clerk + Drop, G: Gate, R: Wait>(
     rt: &R,
     alloc: Global,
