@@ -40,22 +40,27 @@ is_named names part = list_any (is_same part) names
 abbrev pub is_own_host : List (List ℕ) → List ℕ → Bool
 is_own_host names host = is_address host || (is_same (host_part host) (codes "localhost") || is_named names (host_part host))
 
--- an origin is a page of a host
-abbrev pub is_behind : (scheme host origin : List ℕ) → Bool
-is_behind scheme host origin = nat_le (length scheme) (length origin) && (is_same (take (length scheme) origin) scheme && is_same (drop (length scheme) origin) host)
+-- an origin is a page of the host that was asked for, or of one of the node's names, at whatever port: a proxy may ask for another host than
+-- the page's
+abbrev pub is_page_of : List (List ℕ) → (host page : List ℕ) → Bool
+is_page_of names host page = is_same page host || is_named names (host_part page)
 
-abbrev pub is_own_origin : (host origin : List ℕ) → Bool
-is_own_origin host origin = is_behind (codes "http://") host origin || is_behind (codes "https://") host origin
+abbrev pub is_behind : (scheme : List ℕ) → List (List ℕ) → (host origin : List ℕ) → Bool
+is_behind scheme names host origin =
+    nat_le (length scheme) (length origin) && (is_same (take (length scheme) origin) scheme && is_page_of names host (drop (length scheme) origin))
+
+abbrev pub is_own_origin : List (List ℕ) → (host origin : List ℕ) → Bool
+is_own_origin names host origin = is_behind (codes "http://") names host origin || is_behind (codes "https://") names host origin
 
 -- a request is for another host, or comes from a page of another host
 abbrev pub is_foreign_host : List (List ℕ) → Option (List ℕ) → Bool
 is_foreign_host names None = false
 is_foreign_host names (Some host) = not (is_own_host names host)
 
-abbrev pub is_foreign_origin : (host origin : Option (List ℕ)) → Bool
-is_foreign_origin host None = false
-is_foreign_origin None (Some origin) = true
-is_foreign_origin (Some host) (Some origin) = not (is_own_origin host origin)
+abbrev pub is_foreign_origin : List (List ℕ) → (host origin : Option (List ℕ)) → Bool
+is_foreign_origin names host None = false
+is_foreign_origin names None (Some origin) = true
+is_foreign_origin names (Some host) (Some origin) = not (is_own_origin names host origin)
 
 -- the value of the first field with a name
 abbrev pub value_in : List ℕ → List Field → Option (List ℕ)
@@ -70,7 +75,7 @@ is_of_a_call fields = is_some (value_in (codes "Long-Running-Action") fields) ||
 abbrev pub is_foreign : List (List ℕ) → List Field → Bool
 is_foreign names fields =
     is_of_a_call fields
-    || (is_foreign_host names (value_in (codes "Host") fields) || is_foreign_origin (value_in (codes "Host") fields) (value_in (codes "Origin") fields))
+    || (is_foreign_host names (value_in (codes "Host") fields) || is_foreign_origin names (value_in (codes "Host") fields) (value_in (codes "Origin") fields))
 
 abbrev pub foreign_answer : Response
 foreign_answer = with_body 403 [] (codes "application/json") (codes "{\"refused\":\"Foreign\"}")

@@ -2,7 +2,7 @@
 ghost use Rattle.std.specs.Prelude.{◌≡◌, ◌<◌, IfOk, IfSome, length};
 ghost use Rattle.std.specs.Option.{option_copied};
 ghost use Rattle.std.specs.List.{list_any, position_from};
-ghost use Rattle.lra_operate.specs.Doors.{foreign_answer, host_part, is_address, is_behind, is_bracketed, is_colon, is_foreign, is_foreign_host, is_foreign_origin, is_named, is_of_a_call, is_other_byte, is_own_host, is_own_origin, is_same, value_in};
+ghost use Rattle.lra_operate.specs.Doors.{foreign_answer, host_part, is_address, is_behind, is_bracketed, is_colon, is_foreign, is_foreign_host, is_foreign_origin, is_named, is_of_a_call, is_other_byte, is_own_host, is_own_origin, is_page_of, is_same, value_in};
 
 use http::StatusCode;
 use lra_api::{Answer, Body, with_body};
@@ -82,21 +82,29 @@ fn is_own_host(names: &[Bytes], host: &[u8]) -> bool
     is_address(host) || (is_same(part, b"localhost") || is_named(names, part))
 }
 
-/// Whether an origin is this host behind a scheme.
-fn is_behind(scheme: &[u8], host: &[u8], origin: &[u8]) -> bool
-    ensures { result ≡ is_behind scheme.now host.now origin.now }
+/// Whether a page of this host, with its port, is the operators': the host was asked for, or it is
+/// one of these names. A proxy may ask for another host than the page's.
+fn is_page_of(names: &[Bytes], host: &[u8], page: &[u8]) -> bool
+    ensures { result ≡ is_page_of names.now host.now page.now }
+{
+    is_same(page, host) || is_named(names, host_part(page))
+}
+
+/// Whether an origin is such a page behind a scheme.
+fn is_behind(scheme: &[u8], names: &[Bytes], host: &[u8], origin: &[u8]) -> bool
+    ensures { result ≡ is_behind scheme.now names.now host.now origin.now }
 {
     if origin.len() < scheme.len() {
         return false;
     }
-    is_same(&origin[..scheme.len()], scheme) && is_same(&origin[scheme.len()..], host)
+    is_same(&origin[..scheme.len()], scheme) && is_page_of(names, host, &origin[scheme.len()..])
 }
 
-/// Whether an origin is a page of this host.
-fn is_own_origin(host: &[u8], origin: &[u8]) -> bool
-    ensures { result ≡ is_own_origin host.now origin.now }
+/// Whether an origin is a page of this host, or of one of these names.
+fn is_own_origin(names: &[Bytes], host: &[u8], origin: &[u8]) -> bool
+    ensures { result ≡ is_own_origin names.now host.now origin.now }
 {
-    is_behind(b"http://", host, origin) || is_behind(b"https://", host, origin)
+    is_behind(b"http://", names, host, origin) || is_behind(b"https://", names, host, origin)
 }
 
 /// Whether a request is for another host, if it names one.
@@ -110,12 +118,12 @@ fn is_foreign_host(names: &[Bytes], host: Option<&[u8]>) -> bool
 }
 
 /// Whether a request comes from a page of another host, if it comes from a page.
-fn is_foreign_origin(host: Option<&[u8]>, origin: Option<&[u8]>) -> bool
-    ensures { result ≡ is_foreign_origin (option_copied host.entry) (option_copied origin.entry) }
+fn is_foreign_origin(names: &[Bytes], host: Option<&[u8]>, origin: Option<&[u8]>) -> bool
+    ensures { result ≡ is_foreign_origin names.now (option_copied host.entry) (option_copied origin.entry) }
 {
     match (origin, host) {
         (None, _) => false,
-        (Some(origin), Some(host)) => !is_own_origin(host, origin),
+        (Some(origin), Some(host)) => !is_own_origin(names, host, origin),
         (Some(_), None) => true,
     }
 }
@@ -142,7 +150,8 @@ pub(crate) fn is_foreign(names: &[Bytes], fields: &Fields) -> bool
 {
     let host = value_in(fields, "Host");
     is_of_a_call(fields)
-        || (is_foreign_host(names, host) || is_foreign_origin(host, value_in(fields, "Origin")))
+        || (is_foreign_host(names, host)
+            || is_foreign_origin(names, host, value_in(fields, "Origin")))
 }
 
 /// The answer to such a request.
