@@ -72,9 +72,11 @@ class Service(Participant):
 
     def act(self, act: str, lra: str, where: str) -> tuple[int, str]:
         """What the coordinator calls for: a code and a text. The hotel needs time, and has compensated when it is asked
-        again."""
+        again. Who was asked to compensate ignores a complete that comes late."""
         with self.travel.lock:
             was = self.states[lra]
+            if act == "complete" and was.startswith("Compensat"):
+                return 200, was
             is_busy = act == "compensate" and self.name == "hotel" and not was.startswith("Compensat")
             now = "Compensating" if is_busy else "Compensated" if was == "Compensating" else DONE.get(act, was)
             self.states[lra] = now

@@ -652,6 +652,10 @@ class TestLuck(checks.Checked):
             ({"Host": "OPS.example:8170"}, 200),
             ({"Host": "lra1"}, 200),
             ({"Host": "lra2"}, 403),
+            ({"Origin": "https://ops.example"}, 200),
+            ({"Origin": "https://OPS.example:8443"}, 200),
+            ({"Origin": "https://ops.example.evil"}, 403),
+            ({"Origin": "https://lra2"}, 403),
         ):
             seen = request((HOST, group.doors[0]), "GET", "/health", None, fields)
             self.check(f"asked with {fields} it answers {wanted}", seen.status == wanted, seen)

@@ -3,9 +3,10 @@
 [TEST..].
 
 PROGRAM is crates/lra_member/out/lra_member, or --unproved (tools/unproved.py). A TEST is one of version, words, three,
-some, older, strange, kills, swept, flow, full, moved, apart and elsewhere; without one it does all, some two minutes.
-In kills a node, or all, is killed with kill -9 N times, 10 by default; --lras N says how many go through a home in
-flow, 2,000 by default. moved needs lra_node too, apart and elsewhere root, and all are skipped where that isn't there.
+some, older, strange, kills, swept, flow, full, misspelt, moved, apart and elsewhere; without one it does all, some two
+minutes. In kills a node, or all, is killed with kill -9 N times, 10 by default; --lras N says how many go through a
+home in flow, 2,000 by default. misspelt and moved need lra_node too, apart and elsewhere root, and all are skipped
+where that isn't there.
 Each check prints a line; the status is 1 where one fails. Standard library alone."""
 import concurrent.futures
 import glob
@@ -23,7 +24,7 @@ from collections.abc import Iterable
 sys.path.insert(0, os.path.dirname(os.path.dirname(os.path.abspath(__file__))))
 from tools import checks, repo, unproved, wire
 from tools.load import ENDED, Load, lost, misled
-from tools.node import SLOW, Group, Json, Server, comes_to, end_input, home_of, in_ms
+from tools.node import SLOW, Group, Json, Server, comes_to, end_input, home_of, in_ms, request
 from tools.participant import Participant
 from tools.ports import HOST, free_row, is_open, listening
 from tools.version import build_said
@@ -34,6 +35,30 @@ NO_FOLDER = b"node 2: its journal can't be opened: there is no folder, or no rig
             b"journal 2\n"
 # LRAs with their statuses.
 Shown = dict[str, str]
+# Bodies that members refuse, of which a node of lra_node takes some: of a begin, of a join and of a report; and why.
+WRONG_BEGINS = [
+    ('{"timeLimit":5000}', "timeLimit is not known here"),
+    ('{"limit":5000,"client id":"x"}', "a member is not known here"),
+    (f'{{"{"n" * 33}":1}}', "a member is not known here"),
+    ('{"limit":"5"}', "limit is no number of milliseconds"),
+    ('{"limit":18446744073709551615}', "limit is too long"),
+    ('{"parent":"x"}', "parent is no id"),
+    ("[]", "the body is no JSON object"),
+    ("limit=5", "the body is no JSON object"),
+]
+WRONG_JOINS = [
+    ('{"compensate":"http://h/c","compleet":"http://h/k"}', "compleet is not known here"),
+    ('{"compensate":1}', "compensate is no text"),
+    ('{"complete":"http://h/k"}', "neither compensate nor after is given"),
+    ('{"after":"http://h/a","status":"http://h/s"}', "compensate is not given"),
+    ('{"compensate":"https://h/c"}', "compensate is no http URL of at most 127 bytes"),
+    ("", "the body is no JSON object"),
+]
+WRONG_REPORTS = [
+    ('{"act":"compensate","outcome":"done","Outcome":"failed"}', "Outcome is not known here"),
+    ('{"act":"completed","outcome":"done"}', "act is neither complete nor compensate"),
+    ('{"act":"complete"}', "outcome is none of busy, done and failed"),
+]
 EIGHT = [f"h:{number}" for number in range(1, 9)]
 # Words that it doesn't take; DIR stands for a folder.
 OTHER_WORDS: list[list[str]] = [
@@ -524,6 +549,32 @@ class TestMembers(checks.Checked):
         ended = group.end()
         self.check("all end", ended == [0, 0, 0], ended)
 
+    def test_kept(self) -> None:
+        """A nested LRA that failed keeps its whole tree, though the root ended well."""
+        group, part = self.group(2, "keep=300", "keep-failed=5000").start(), self.participant()
+        part.answers["/fails"] = 409
+        root = group.begin(1)
+        nested = group.begin(1, parent=root)
+        group.join(1, nested, compensate=f"{part.url}/fails")
+        group.join(1, root, complete=f"{part.url}/done")
+        group.finish(1, nested, "cancel")
+        self.check("the nested one fails", group.all_come_to(nested, "FailedToCancel") is not None,
+                   group.status(1, nested))
+        began = time.monotonic()
+        group.finish(1, root)
+        self.check("the root is closed", group.comes_to(1, root, "Closed") is not None, group.status(1, root))
+        lone = group.begin(1)
+        group.finish(1, lone)
+        self.check("what is closed goes", group.comes_to(1, lone, "E3 NotHeld") is not None, group.status(1, lone))
+        time.sleep(1)
+        statuses = [group.status(1, lra) for lra in (root, nested)]
+        self.check("the tree with the failure stays", statuses == ["Closed", "FailedToCancel"], statuses)
+        gone = comes_to(SLOW, lambda: group.is_gone(1, root) and group.is_gone(1, nested))
+        took = time.monotonic() - began
+        self.check(f"and goes once what failed has had its time ({took:.1f} s)", gone and took > 5, statuses)
+        ended = group.end()
+        self.check("all end", ended == [0, 0], ended)
+
     def goes_at_its_time(self, group: Group) -> None:
         """Nothing goes unasked; and the time of what has ended begins again with a start."""
         lone = group.begin(1)
@@ -586,6 +637,49 @@ class TestMembers(checks.Checked):
         self.check("each once", group.lines(1) == wanted, group.log(1))
         ended = group.end()
         self.check("it ends", ended == [0], ended)
+
+    def test_misspelt(self) -> None:
+        """A member refuses bodies that are wrong, says why, and does nothing; lra_node passes over what it doesn't
+        know."""
+        group, part = self.group(1).start(), slow_participant()
+        self.refuses(group, "/lra", "POST", WRONG_BEGINS)
+        self.check("no LRA is begun", group.shown(1) == {}, group.shown(1))
+        lra = group.begin(1, limit=600000, parent=None)
+        self.refuses(group, f"/lra/{lra}/join", "PUT", WRONG_JOINS)
+        joined = group.join(1, lra, compensate=f"{part.url}/slow", complete=f"{part.url}/slow")
+        self.check("the first that joins is participant 1", joined[1].get("member") == 1, joined)
+        group.finish(1, lra, "cancel")
+        self.refuses(group, f"/lra/{lra}/member/1/report", "PUT", WRONG_REPORTS)
+        self.check("nothing is reported", group.status(1, lra) == "Cancelling", group.status(1, lra))
+        told = group.ask(1, "PUT", f"/lra/{lra}/member/1/report", {"act": "compensate", "outcome": "done"})
+        self.check("a right report is taken", told == (204, {}) and group.comes_to(1, lra, "Cancelled"), told)
+        other = group.ask(1, "PUT", "/lra/x/join", {"compleet": 1})
+        self.check("of an id that is wrong it says no more", other == (400, {"refused": "E1 BadText"}), other)
+        ended = group.end()
+        self.check("it ends", ended == [0], ended)
+        if not os.access(Server.program, os.X_OK):
+            self.skipTest(f"{Server.program} isn't there")
+        self.passes_over()
+
+    def refuses(self, group: Group, path: str, method: str, wrong: list[tuple[str, str]]) -> None:
+        """Each body is refused, with why."""
+        for body, why in wrong:
+            answer = request(group.address(1), method, path, body)
+            wanted = 400, f'{{"refused":"E1 BadText","why":"{why}"}}'
+            self.same(f"{method} {path.split('/')[-1]} {body}", wanted, (answer.status, answer.text))
+
+    def passes_over(self) -> None:
+        """A node of lra_node begins and joins as ever."""
+        server = self.server(1, self.folder_in("one")).wait_until_up()
+        begun = server.ask(1, "POST", "/lra", {"timeLimit": 5000})
+        self.check("lra_node passes a timeLimit over", begun[0] == 201, begun)
+        links = {"compensate": "http://h/c", "compleet": "http://h/k"}
+        joined = server.ask(1, "PUT", f"/lra/{begun[1]['lra']}/join", links)
+        self.check("and compleet", joined[0] == 200, joined)
+        refused = server.ask(1, "POST", "/lra", {"limit": "5"})
+        self.check("and says no why", refused == (400, {"refused": "E1 BadText"}), refused)
+        ended = server.end()
+        self.check("it ends too", ended == (0, ""), ended)
 
     def test_moved(self) -> None:
         """Journals that lra_node made are moved to members, file by file, and back."""
