@@ -184,16 +184,20 @@ impl<R: Runs> Node<R> {
         Ok(first)
     }
 
-    /// Checks that a root that goes by itself showed the same for as long as that is kept; and so did what failed in its tree.
+    /// Checks that a root that goes by itself showed the same for as long as that is kept. If something failed in its tree,
+    /// both have that time as what failed.
     fn see_swept(&self, root: LraId, began_at: u64, now: u64) -> Result<(), Halt> {
         let Some(shown) = self.known.shown_of(root) else {
             return Err(not_held(self.alloc, root)?);
         };
-        self.see_kept(root, shown.status, shown.since.max(began_at), now)?;
-        if let Some(failed) = self.first_failure(root)? {
-            return self.see_kept(failed.id, failed.status, failed.since.max(began_at), now);
+        let since = shown.since.max(began_at);
+        match self.first_failure(root)? {
+            Some(failed) => {
+                self.see_kept(root, failed.status, since, now)?;
+                self.see_kept(failed.id, failed.status, failed.since.max(began_at), now)
+            }
+            None => self.see_kept(root, shown.status, since, now),
         }
-        Ok(())
     }
 
     /// Nobody is to be told of a root that is purged; and where its home purges it by itself, it showed the same for as
