@@ -19,9 +19,10 @@ After each step it is looked whether the node's pages and records say what the f
 plain list of all facts that were entered; whether statuses rise, and commands are answered so; whether who is due is
 who the facts say, and each call is on the newest list; whether what is purged showed the same for its time, and what
 failed in its tree too; whether nothing is entered before the others were heard; whether no number is given twice; and
-whether after each stop all is there that was answered. At last all is well for two minutes: then nothing that was decided is left to be done, and all
-nodes are alike. Beyond a copy that is older a node's facts may be lost that no other node has heard of; what it told
-and is still on its way then is lost too, and what another couldn't take, which a server keeps.
+whether after each stop all is there that was answered. At last all is well for two minutes: then nothing that was
+decided is left to be done, and all nodes are alike. Beyond a copy that is older a node's facts may be lost that no
+other node has heard of; what it told and is still on its way then is lost too, and what another couldn't take, which a
+server keeps.
 
 It ends with 0 if nothing was found, or if each planted fault was. Standard library alone."""
 import concurrent.futures
