@@ -551,7 +551,7 @@ class TestMembers(checks.Checked):
 
     def test_kept(self) -> None:
         """A nested LRA that failed keeps its whole tree, though the root ended well."""
-        group, part = self.group(2, "keep=300", "keep-failed=5000").start(), self.participant()
+        group, part = self.group(3, "keep=300", "keep-failed=5000").start(), self.participant()
         part.answers["/fails"] = 409
         root = group.begin(1)
         nested = group.begin(1, parent=root)
@@ -573,7 +573,7 @@ class TestMembers(checks.Checked):
         took = time.monotonic() - began
         self.check(f"and goes once what failed has had its time ({took:.1f} s)", gone and took > 5, statuses)
         ended = group.end()
-        self.check("all end", ended == [0, 0], ended)
+        self.check("all end", ended == [0, 0, 0], ended)
 
     def goes_at_its_time(self, group: Group) -> None:
         """Nothing goes unasked; and the time of what has ended begins again with a start."""
