@@ -1,11 +1,11 @@
--- What a front keeps, and what it is seen as.
+-- The fields of a front, and the counts that they represent.
 use Rattle.std.specs.Prelude.{◌≡◌, ◌≤◌, ◌-◌, ◌++◌, ℕ, List, take, length, replicate}
 use Rattle.std.proofs.Common.{sym, ap, ◌∙◌, arith}
 use Rattle.std.proofs.lemmas.List.{length-take-le}
 use Rattle.lra_id.specs.declared.TheConstants.{MAX_NODES}
 use Rattle.lra_id.specs.declared.front.Front.TheInside.{Inside}
 
--- the counts of the nodes that there are, and zeros
+-- the counts of the existing nodes, followed by zeros
 pub record IsPadded (f : Inside) : Type 0 where
   pub some : 1 ≤ f.nodes
   pub few : f.nodes ≤ MAX_NODES

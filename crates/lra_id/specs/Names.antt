@@ -1,4 +1,4 @@
--- The names of statuses, as MicroProfile LRA 2.0 has them, and the words for acts, outcomes and verdicts.
+-- The names of statuses in MicroProfile LRA 2.0, and the words for acts, outcomes and verdicts.
 use Rattle.std.specs.Prelude.{ℕ, List, codes}
 use Rattle.lra_id.specs.declared.status.LraStatus.{LraStatus}
 use Rattle.lra_id.specs.declared.status.LraStatus.TheVariants as lra

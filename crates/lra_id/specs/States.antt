@@ -1,4 +1,5 @@
--- Orders on statuses, outcomes and verdicts, and what is shown by what is wanted and heard.
+-- Orders on statuses, outcomes and verdicts, and which status is shown for what is wanted and
+-- heard.
 use Rattle.std.specs.Prelude.{ℕ, Bool, true, false, Option, Some, None, ◌==◌}
 use Rattle.std.specs.Option.{option_map_or}
 use Rattle.lra_id.specs.declared.status.LraStatus.{LraStatus}
@@ -22,7 +23,7 @@ rank Cancelling = 4
 rank Cancelled = 5
 rank FailedToCancel = 6
 
--- one that is not held comes last
+-- the rank of a status, where an LRA that is not held comes last
 abbrev pub rank_of : Option LraStatus → ℕ
 rank_of status = option_map_or rank status 7
 
@@ -42,25 +43,25 @@ greater (Some Done) (Some Failed) = Some Failed
 greater (Some Done) _ = Some Done
 greater (Some Failed) b = Some Failed
 
--- whether two verdicts are one
+-- whether two verdicts are equal
 abbrev pub same_verdict : Verdict → Verdict → Bool
 same_verdict Close Close = true
 same_verdict Cancel Cancel = true
 same_verdict _ _ = false
 
--- whether two acts are one
+-- whether two acts are equal
 abbrev pub same_act : Act → Act → Bool
 same_act Complete Complete = true
 same_act Compensate Compensate = true
 same_act _ _ = false
 
--- what a participant that is asked to complete shows, by what was heard of it
+-- the status of a participant that is asked to complete, by the outcome that was heard
 abbrev pub completing : Option Outcome → MemberStatus
 completing (Some Done) = Completed
 completing (Some Failed) = FailedToComplete
 completing _ = Completing
 
--- what a participant that is asked to compensate shows, by what was heard of it
+-- the status of a participant that is asked to compensate, by the outcome that was heard
 abbrev pub compensating : Option Outcome → MemberStatus
 compensating (Some Done) = Compensated
 compensating (Some Failed) = FailedToCompensate
@@ -75,18 +76,19 @@ member_rank Compensating = 4
 member_rank Compensated = 5
 member_rank FailedToCompensate = 6
 
--- whether two statuses of participants are one
+-- whether two statuses of participants are equal
 abbrev pub same_member_status : MemberStatus → MemberStatus → Bool
 same_member_status a b = member_rank a == member_rank b
 
--- a participant is final where nothing is left for it to do
+-- a participant's status is final if nothing is left for it to do
 abbrev pub is_final : MemberStatus → Bool
 is_final MemberActive = false
 is_final Completing = false
 is_final Compensating = false
 is_final _ = true
 
--- what an LRA shows by what it wants, whether it is ended, and whether a participant failed to complete or to compensate
+-- the status of an LRA, by what it wants, whether it is ended, and whether a participant failed to
+-- complete or to compensate
 abbrev pub shown : Option Verdict → (ended incomplete uncompensated : Bool) → LraStatus
 shown None ended incomplete uncompensated = Active
 shown (Some Close) false incomplete uncompensated = Closing

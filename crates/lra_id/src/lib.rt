@@ -1,5 +1,5 @@
-//! The names of nodes and of LRAs, their texts, and fronts; the statuses of LRAs and of their
-//! participants, and the words for what is asked and heard.
+//! The ids of nodes and LRAs with their texts, fronts, the statuses of LRAs and participants, and
+//! the words for acts, outcomes and verdicts.
 #![tactic(auto)]
 
 mod front;
@@ -14,12 +14,12 @@ pub use node::NodeId;
 pub use outcome::{Act, Outcome, Verdict};
 pub use status::{LraStatus, MemberStatus};
 
-/// The greatest number of a fact: a node numbers its facts from 1 up to it.
+/// The greatest number of a fact. A node numbers its facts from 1 up to this.
 pub const LAST_NUMBER: u64 = 281_474_976_710_655;
 
-/// The most nodes that there may be.
+/// The greatest number of nodes in a group.
 pub const MAX_NODES: u8 = 8;
 
-/// A text or a number breaks its grammar.
+/// The error for a text or number that breaks its grammar.
 #[derive(Clone, Copy, Debug, PartialEq, Eq)]
 pub struct BadText;

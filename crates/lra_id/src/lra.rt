@@ -7,8 +7,8 @@ use std::fmt;
 use std::marker::Model;
 use uuid::Uuid;
 
-/// An LRA, by its home node and the number of its begin there. Ids are ordered by home, and then by
-/// number.
+/// The id of an LRA: its home node, and the number of its begin there. Ids are ordered by home, and
+/// then by number.
 #[derive(Clone, Copy, Debug, PartialEq, Eq)]
 pub struct LraId {
     home: NodeId,
@@ -28,8 +28,8 @@ impl Model for LraId {
 }
 
 impl LraId {
-    /// The LRA that this home began with its fact of this number, which is from 1 to
-    /// 281,474,976,710,655.
+    /// Returns the id of the LRA that this home began with its fact of this number. The number must
+    /// be from 1 to 281,474,976,710,655.
     pub fn new(home: NodeId, num: u64) -> Result<LraId, BadText>
         ensures value { IfOk result (λ id. (id.home ≡ home) × (id.num ≡ num)) }
         ensures exact { MatchResult result (λ _. IsFactNumber num) (λ _. IsFactNumber num → ⊥) }
@@ -41,7 +41,7 @@ impl LraId {
         Ok(LraId { home, num })
     }
 
-    /// The node that began it.
+    /// Returns the home: the node that began the LRA.
     pub fn home(self) -> NodeId
         ensures value { result ≡ self.home }
         ensures range { IsId self }
@@ -49,7 +49,7 @@ impl LraId {
         self.home
     }
 
-    /// The number of its begin.
+    /// Returns the number of the LRA's begin.
     pub fn num(self) -> u64
         ensures value { result ≡ self.num }
         ensures range { IsId self }
@@ -57,7 +57,7 @@ impl LraId {
         self.num
     }
 
-    /// Its bytes as a UUID of version 8 (RFC 9562, section 5.8).
+    /// Returns the id's bytes as a UUID of version 8 (RFC 9562, section 5.8).
     pub fn to_bytes(self) -> [u8; 16]
         ensures bytes { result ≡ layout self }
         ensures range { IsId self }
@@ -65,7 +65,7 @@ impl LraId {
         bytes_of(self.home.number(), self.num)
     }
 
-    /// Its text as a UUID: 36 bytes, in lower case with hyphens.
+    /// Returns the id's text as a UUID: 36 bytes, in lower case with hyphens.
     pub fn to_text(self) -> [u8; 36]
         ensures text { result ≡ text_of self }
         ensures utf8 { IsUtf8 result }
@@ -81,9 +81,9 @@ impl LraId {
     }
 
     /// Reads any of the four text forms of a UUID: hyphenated, simple, in braces, or after
-    /// `urn:uuid:`. The digits may be in either case, the prefix in lower case alone. A UUID of
-    /// another layout is refused. `uuid` takes the prefix in any case, so the lower case is tested
-    /// here.
+    /// `urn:uuid:`. The digits may be in either case, but the prefix must be in lower case. A UUID
+    /// of another layout is refused. The code tests the prefix's case itself, because `uuid`
+    /// accepts either case.
     pub fn from_text(text: &str) -> Result<LraId, BadText>
         ensures found { IfOk result (λ id. IsId id × IsTextOf text.now id) }
         ensures refused { IfErr result (λ _. (id : Id) → IsId id → IsTextOf text.now id → ⊥) }
@@ -91,8 +91,8 @@ impl LraId {
         LraId::from_ascii(text.as_bytes())
     }
 
-    /// Reads what `from_text` reads, from bytes that need not be text.
-    /// A script's line need not be.
+    /// Reads the same forms as `from_text`, from bytes that may not be valid text, such as those of
+    /// a script's line.
     pub fn from_ascii(text: &[u8]) -> Result<LraId, BadText>
         ensures found { IfOk result (λ id. IsId id × IsTextOf text.now id) }
         ensures refused { IfErr result (λ _. (id : Id) → IsId id → IsTextOf text.now id → ⊥) }
@@ -123,8 +123,8 @@ fn is_prefix_lower(text: &[u8]) -> bool
     text.len() != 45 || text.starts_with(b"urn:uuid:")
 }
 
-/// The id with these bytes. It lays out again what it read, so that no bit of another layout is
-/// passed over.
+/// Returns the id with these bytes. It lays out the id that it read again and compares the bytes,
+/// so it accepts no other layout.
 fn from_bytes(bytes: [u8; 16]) -> Result<LraId, BadText>
     ensures found { IfOk result (λ id. IsId id × (bytes ≡ layout id)) }
     ensures refused { IfErr result (λ _. (id : Id) → IsId id → bytes ≡ layout id → ⊥) }
@@ -140,7 +140,7 @@ fn from_bytes(bytes: [u8; 16]) -> Result<LraId, BadText>
     Ok(id)
 }
 
-/// The bytes of the id with this home and number.
+/// Returns the bytes of the id with this home and number.
 fn bytes_of(home: u8, num: u64) -> [u8; 16]
     requires home { IsNodeNumber home }
     requires num { IsFactNumber num }

@@ -1,4 +1,4 @@
-// The names of nodes.
+// The ids of nodes.
 ghost use Rattle.std.specs.Prelude.{◌≡◌, Some, IfOk, MatchResult};
 ghost use Rattle.std.specs.Fmt.{decimal};
 ghost use Rattle.lra_id.specs.Ids.{IsNodeNumber};
@@ -27,7 +27,7 @@ impl Model for NodeId {
 }
 
 impl NodeId {
-    /// The node with this number, which is from 1 to 8.
+    /// Returns the node with this number, which must be from 1 to 8.
     pub fn new(number: u8) -> Result<NodeId, BadText>
         ensures value { IfOk result (λ node. node ≡ number) }
         ensures exact { MatchResult result
@@ -39,7 +39,7 @@ impl NodeId {
         Ok(NodeId { number })
     }
 
-    /// Its number.
+    /// Returns the node's number.
     pub fn number(self) -> u8
         ensures value { result ≡ self }
         ensures range { IsNodeNumber self }
@@ -47,8 +47,8 @@ impl NodeId {
         self.number
     }
 
-    /// Does nothing. Where it is called, the prover knows that a node's number is from 1 to 8, which
-    /// the type alone doesn't tell it.
+    /// Does nothing. A call tells the prover that a node's number is from 1 to 8, which the type
+    /// alone doesn't tell it.
     pub fn is_a_node(self)
         ensures { IsNodeNumber self }
     {}

@@ -1,4 +1,4 @@
-// What a participant is asked, what is heard of it, and how an LRA is decided.
+// Acts that a participant is asked for, outcomes that it reports, and verdicts on an LRA.
 ghost use Rattle.std.specs.Prelude.{◌≡◌, ◌≢◌, Some, IfErr, IfOk, nat_le};
 ghost use Rattle.lra_id.specs.declared.outcome.Act.{Act};
 ghost use Rattle.lra_id.specs.declared.outcome.Outcome.{Outcome};
@@ -9,8 +9,8 @@ ghost use Rattle.lra_id.specs.States.{greater, level};
 use crate::BadText;
 use std::fmt;
 
-/// What a participant is asked to do: to complete where its LRA closes, to compensate where it is
-/// cancelled.
+/// An act that a participant is asked for: to complete if its LRA is closed, or to compensate if it
+/// is cancelled.
 #[derive(Clone, Copy, Debug, PartialEq, Eq)]
 pub enum Act {
     Complete,
@@ -18,7 +18,7 @@ pub enum Act {
 }
 
 impl Act {
-    /// The word for it in commands and requests.
+    /// Returns the act's word in commands and requests.
     pub fn name(self) -> &'static str
         ensures { result.now ≡ act_name self }
     {
@@ -28,7 +28,7 @@ impl Act {
         }
     }
 
-    /// The act that has this name; another text is refused.
+    /// Returns the act with this name. Any other text is refused.
     pub fn from_name(name: &str) -> Result<Act, BadText>
         ensures found { IfOk result (λ act. name.now ≡ act_name act) }
         ensures refused { IfErr result (λ _. (act : Act) → name.now ≢ act_name act) }
@@ -49,8 +49,8 @@ impl fmt::Display for Act {
     }
 }
 
-/// What was heard of an act. Of several outcomes the greatest is shown: Busy is less than Done, and
-/// Done than Failed.
+/// The reported outcome of an act. Of several outcomes the greatest is shown, in the order Busy,
+/// Done, Failed.
 #[derive(Clone, Copy, Debug, PartialEq, Eq, PartialOrd, Ord)]
 pub enum Outcome {
     Busy,
@@ -59,7 +59,7 @@ pub enum Outcome {
 }
 
 impl Outcome {
-    /// The word for it in commands and requests.
+    /// Returns the outcome's word in commands and requests.
     pub fn name(self) -> &'static str
         ensures { result.now ≡ outcome_name self }
     {
@@ -70,7 +70,7 @@ impl Outcome {
         }
     }
 
-    /// The greater of two, of which none is the least.
+    /// Returns the greater of two outcomes. `None` is the least.
     pub fn or_greater(own: Option<Outcome>, heard: Option<Outcome>) -> Option<Outcome>
         ensures { result ≡ greater own heard }
     {
@@ -82,14 +82,14 @@ impl Outcome {
         }
     }
 
-    /// Whether it is another one or greater.
+    /// Whether this outcome is equal to the other or greater.
     pub fn is_at_least(self, other: Outcome) -> bool
         ensures { result ≡ nat_le (level (Some other)) (level (Some self)) }
     {
         other <= self
     }
 
-    /// The outcome that has this name; another text is refused.
+    /// Returns the outcome with this name. Any other text is refused.
     pub fn from_name(name: &str) -> Result<Outcome, BadText>
         ensures found { IfOk result (λ outcome. name.now ≡ outcome_name outcome) }
         ensures refused { IfErr result (λ _. (outcome : Outcome) →
@@ -112,7 +112,7 @@ impl fmt::Display for Outcome {
     }
 }
 
-/// How an LRA is decided.
+/// The decision on an LRA.
 #[derive(Clone, Copy, Debug, PartialEq, Eq)]
 pub enum Verdict {
     Close,
@@ -120,7 +120,7 @@ pub enum Verdict {
 }
 
 impl Verdict {
-    /// The word for it in commands and requests.
+    /// Returns the verdict's word in commands and requests.
     pub fn name(self) -> &'static str
         ensures { result.now ≡ verdict_name self }
     {
@@ -130,7 +130,7 @@ impl Verdict {
         }
     }
 
-    /// The verdict that has this name; another text is refused.
+    /// Returns the verdict with this name. Any other text is refused.
     pub fn from_name(name: &str) -> Result<Verdict, BadText>
         ensures found { IfOk result (λ verdict. name.now ≡ verdict_name verdict) }
         ensures refused { IfErr result (λ _. (verdict : Verdict) →

@@ -1,4 +1,4 @@
-// What LRAs and participants show, by the names of MicroProfile LRA 2.0.
+// The statuses of LRAs and participants, with the names that MicroProfile LRA 2.0 gives them.
 ghost use Rattle.std.specs.Prelude.{◌≡◌, ◌≢◌, Some, IfErr, IfOk};
 ghost use Rattle.lra_id.specs.declared.status.LraStatus.{LraStatus};
 ghost use Rattle.lra_id.specs.declared.status.MemberStatus.{MemberStatus};
@@ -8,7 +8,7 @@ ghost use Rattle.lra_id.specs.States.{rank};
 use crate::BadText;
 use std::fmt;
 
-/// What an LRA shows (MicroProfile LRA 2.0, `LRAStatus`).
+/// The status of an LRA (MicroProfile LRA 2.0, `LRAStatus`).
 #[derive(Clone, Copy, Debug, PartialEq, Eq)]
 pub enum LraStatus {
     Active,
@@ -21,8 +21,8 @@ pub enum LraStatus {
 }
 
 impl LraStatus {
-    /// Its place in the order in which an LRA's statuses follow each other, from 0 for Active to 6
-    /// for FailedToCancel.
+    /// Returns the status's place in the order in which an LRA's statuses follow each other: from 0
+    /// for Active to 6 for FailedToCancel.
     pub fn rank(self) -> u8
         ensures { result ≡ rank self }
     {
@@ -37,7 +37,7 @@ impl LraStatus {
         }
     }
 
-    /// The standard's name of it.
+    /// Returns the standard's name of this status.
     pub fn name(self) -> &'static str
         ensures { result.now ≡ lra_name self }
     {
@@ -52,7 +52,7 @@ impl LraStatus {
         }
     }
 
-    /// The status that has this name; another text is refused.
+    /// Returns the LRA status with this name. Any other text is refused.
     pub fn from_name(name: &str) -> Result<LraStatus, BadText>
         ensures found { IfOk result (λ status. name.now ≡ lra_name status) }
         ensures refused { IfErr result (λ _. (status : LraStatus) → name.now ≢ lra_name status) }
@@ -78,7 +78,7 @@ impl fmt::Display for LraStatus {
     }
 }
 
-/// What a participant shows (MicroProfile LRA 2.0, `ParticipantStatus`).
+/// The status of a participant (MicroProfile LRA 2.0, `ParticipantStatus`).
 #[derive(Clone, Copy, Debug, PartialEq, Eq)]
 pub enum MemberStatus {
     Active,
@@ -91,7 +91,7 @@ pub enum MemberStatus {
 }
 
 impl MemberStatus {
-    /// The standard's name of it.
+    /// Returns the standard's name of this status.
     pub fn name(self) -> &'static str
         ensures { result.now ≡ member_name self }
     {
@@ -106,7 +106,7 @@ impl MemberStatus {
         }
     }
 
-    /// The status that has this name; another text is refused.
+    /// Returns the participant status with this name. Any other text is refused.
     pub fn from_name(name: &str) -> Result<MemberStatus, BadText>
         ensures found { IfOk result (λ status. name.now ≡ member_name status) }
         ensures refused { IfErr result (λ _. (status : MemberStatus) →
