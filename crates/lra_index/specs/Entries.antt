@@ -1,55 +1,55 @@
--- Entries, their order, and lists of them.
+-- Index entries, their order, and lists of them.
 use Rattle.std.specs.Prelude.{◌≡◌, ◌⊎◌, ◌==◌, ◌&&◌, ℕ, suc, Bool, true, false, Option, Some, None, List, [], ◌∷◌, filter, nat_lt, if◌then◌else◌}
 use mathlib.Core.Bool.{not}
 use Rattle.std.specs.List.{AllByRecursion}
 use Rattle.lra_id.specs.Ids.{Id, same_id}
 use Rattle.lra_index.specs.declared.entry.Entry.{Entry}
 
--- the LRA whose entry it is
+-- the LRA of an entry
 abbrev pub id_of : Entry → Id
 id_of e = record { home = e.home; num = e.num }
 
--- the entry of a stamp of an LRA
+-- the entry for a stamp of an LRA
 abbrev pub entry_of : ℕ → Id → Entry
 entry_of stamp l = record { stamp = stamp; home = l.home; num = l.num }
 
--- one comes before another: by stamp, then home, then number
+-- a comes before b: by stamp, then home, then number
 abbrev pub is_before : Entry → Entry → Bool
 is_before a b =
     if a.stamp == b.stamp then (if a.home == b.home then nat_lt a.num b.num else nat_lt a.home b.home)
     else nat_lt a.stamp b.stamp
 
--- whether two are one
+-- whether two entries are equal
 abbrev pub same_entry : Entry → Entry → Bool
 same_entry a b = (a.stamp == b.stamp) && same_id (id_of a) (id_of b)
 
--- it is one of them
+-- the entry is in the list
 abbrev pub In : Entry → List Entry → Type 0
 In e [] = ⊥
 In e (q ∷ qs) = (e ≡ q) ⊎ In e qs
 
--- each comes before all that follow it
+-- each entry comes before all that follow it
 abbrev pub IsRising : List Entry → Type 0
 IsRising [] = Unit {0}
 IsRising (e ∷ es) = AllByRecursion (λ q. is_before e q ≡ true) es × IsRising es
 
--- how many come before it from the front on
+-- how many entries at the beginning of the list come before e
 abbrev pub count_before : Entry → List Entry → ℕ
 count_before e [] = 0
 count_before e (q ∷ qs) = if is_before q e then suc (count_before e qs) else 0
 
--- whether there is one, and it is this one
+-- whether there is an entry, and it equals e
 abbrev pub is_entry : Entry → Option Entry → Bool
 is_entry e None = false
 is_entry e (Some q) = same_entry q e
 
--- with this one in its place, once
+-- the list with e in its place, once
 abbrev pub put_entry : Entry → List Entry → List Entry
 put_entry e [] = e ∷ []
 put_entry e (q ∷ qs) =
     if is_before q e then q ∷ put_entry e qs
     else (if same_entry q e then q ∷ qs else e ∷ q ∷ qs)
 
--- without this one
+-- the list without e
 abbrev pub without : Entry → List Entry → List Entry
 without e es = filter (λ q. not (same_entry q e)) es

@@ -1,18 +1,18 @@
-// Entries, and their order.
+// Index entries and their order.
 ghost use Rattle.std.specs.Prelude.{◌≡◌};
 ghost use Rattle.lra_index.specs.Entries.{is_before, same_entry};
 
 use lra_id::NodeId;
 
-/// That the record of an LRA has this stamp of a node. Entries are in order of stamp, then home,
-/// then number.
+/// An entry says that the record of an LRA has this stamp of a node. Entries are ordered by stamp,
+/// then home, then number.
 #[derive(Clone, Copy, Debug, PartialEq, Eq)]
 pub struct Entry {
     /// The number of the node's fact.
     pub stamp: u64,
     /// The LRA's home.
     pub home: NodeId,
-    /// The number of the LRA's begin there.
+    /// The number of the LRA's begin at its home.
     pub num: u64,
 }
 

@@ -1,4 +1,4 @@
-// The index of what is known, by stamp.
+// The index that finds records by their stamps.
 ghost use Rattle.std.specs.Prelude.{◌≡◌, ◌+◌, ◌≤◌, ◌<◌, ◌↔◌, ℕ, List, [], IfOk, IfSome, IsSome, None, Option, OnOk, filter, length, nat_lt, replicate};
 ghost use Rattle.lra_id.specs.declared.TheConstants.{MAX_NODES};
 ghost use Rattle.lra_id.specs.Ids.{Id};
@@ -12,8 +12,9 @@ use lra_id::{Front, NodeId};
 use std::alloc::{AllocError, Global};
 use std::marker::Model;
 
-/// For each node the stamps that the records of LRAs have of it, with their LRAs, in order.
-/// It has eight origins however many nodes there are, so no invariant bounds a record's stamps.
+/// For each node, the stamps that the records of LRAs have of it, each with its LRA, in order. The
+/// invariant doesn't bound a record's stamps, because there are always eight origins, whatever the
+/// number of nodes.
 #[derive(Debug, Drop)]
 pub struct Index {
     origins: Vec<Origin>,
@@ -40,7 +41,7 @@ impl Clone for Index {
     }
 }
 
-/// The stamp of the node at a place: 0 where there is none.
+/// Returns the stamp of the node at a place, or 0 if there is none.
 fn stamp_at(stamps: &Option<Front>, place: usize) -> u64
     ensures { result ≡ stamp_at stamps.now (place + 1) }
 {
@@ -53,7 +54,7 @@ fn stamp_at(stamps: &Option<Front>, place: usize) -> u64
     }
 }
 
-/// A front counts at most eight nodes.
+/// Tells the prover that a front counts at most eight nodes.
 fn are_few(stamps: &Option<Front>)
     ensures { IfSome stamps.now (λ v. length v ≤ MAX_NODES) }
 {
@@ -90,7 +91,7 @@ fn reindex_each(
 }
 
 impl Index {
-    /// No entry, of so many nodes.
+    /// Returns an index of this many nodes without entries.
     pub fn new(alloc: Global, nodes: usize) -> Result<Index, AllocError>
         ensures origins { IfOk result (λ index. index.origins ≡ replicate nodes []) }
         ensures empty { IfOk result (λ index. AreIndexesOf index.origins (λ _. None)) }
@@ -102,7 +103,7 @@ impl Index {
         Ok(Index { origins })
     }
 
-    /// Takes the memory that so many more entries of each node need.
+    /// Reserves memory for this many more entries of each node.
     pub fn reserve(&mut self, more: usize) -> Result<(), AllocError>
         ensures origins { self.new.origins ≡ self.old.origins }
         ensures ok { OnOk result (more ≤ self.new.spare) }
@@ -111,9 +112,9 @@ impl Index {
         reserve_each(&mut self.origins, more)
     }
 
-    /// Takes out the entries of the stamps that the record of an LRA had, and enters those that it
-    /// has now, at each node where the two differ. There is room for one more entry of each, where
-    /// stamps are entered. It takes no memory.
+    /// Removes the entries of the stamps that the record of an LRA had, and adds those of the
+    /// stamps that it has now, at each node where the two differ. If there are stamps to add, there
+    /// must be room for one more entry of each node. It takes no memory.
     pub fn reindex(&mut self, home: NodeId, num: u64, was: Option<Front>, now: Option<Front>)
         requires { IsSome now → 1 ≤ self.old.spare }
         ensures nodes { length self.new.origins ≡ length self.old.origins }
@@ -138,8 +139,8 @@ impl Index {
         }
     }
 
-    /// The entries of a node with greater stamps, in order: none, where there is no such node. It
-    /// finds the first by halving.
+    /// Returns the entries of a node whose stamps are greater than a count, in order, or none if
+    /// there is no such node. It finds the first by binary search.
     pub fn beyond(&self, origin: NodeId, count: u64) -> &[Entry]
         ensures entries { result.now
             ≡ filter (λ e. nat_lt count e.stamp) (entries_at self.now.origins origin) }

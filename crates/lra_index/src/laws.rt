@@ -1,16 +1,16 @@
-// Laws of the definitions: each function does nothing, and its contract is the law.
+// Laws of the definitions. Each function does nothing, and its contract is the law.
 ghost use Rattle.std.specs.Prelude.{◌≡◌, ℕ, List, Option};
 ghost use Rattle.lra_id.specs.Ids.{Id};
 ghost use Rattle.lra_index.specs.declared.entry.Entry.{Entry};
 ghost use Rattle.lra_index.specs.Indexes.{AreIndexesOf, IsIndexOf};
 
-/// What is known has one list of entries at each origin.
+/// The same known stamps have only one list of entries at each origin.
 pub fn what_is_known_has_one_index()
     ensures { (origin : ℕ) (known : Id → Option (List ℕ)) (xs ys : List Entry) →
         IsIndexOf origin xs known → IsIndexOf origin ys known → xs ≡ ys }
 {}
 
-/// An index goes by what is known of each LRA, and by nothing else.
+/// An index depends only on what is known of each LRA.
 pub fn an_index_goes_by_what_is_known_of_each()
     ensures { (origins : List (List Entry)) (known other : Id → Option (List ℕ)) →
         ((l : Id) → known l ≡ other l) → AreIndexesOf origins known → AreIndexesOf origins other }

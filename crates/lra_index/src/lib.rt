@@ -1,6 +1,6 @@
-//! For each node the stamps that the records of LRAs have of it, in order: what was changed beyond
-//! a count is told without a look at each record. It is proved over ids and numbers alone, of any
-//! function from ids to stamps.
+//! An index that keeps, for each node, the stamps that the records of LRAs have of it, in order. It
+//! finds what changed beyond a count without looking at every record. It is proved over ids and
+//! numbers alone, for any function from ids to stamps.
 #![tactic(auto)]
 
 mod entry;

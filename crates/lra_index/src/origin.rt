@@ -10,9 +10,8 @@ use lra_id::NodeId;
 use std::alloc::{AllocError, Global};
 use std::marker::Model;
 
-/// The entries of one node's stamps.
-/// They stand in one vector: at most 2,048 of 24 bytes, half of which an entry moves. Its room
-/// isn't given back.
+/// The entries of one node's stamps. They stand in one vector: at most 2,048 of 24 bytes, half of
+/// which an insertion moves. Its room isn't given back.
 #[derive(Debug, Drop)]
 pub(crate) struct Origin {
     entries: Vec<Entry>,
@@ -76,7 +75,7 @@ fn remove_among(entries: &mut Vec<Entry>, entry: &Entry)
     }
 }
 
-/// How many entries have at most this stamp.
+/// Returns the number of entries whose stamp is at most this count.
 fn count_to(entries: &[Entry], count: u64) -> usize
     requires { IsRising entries.now }
     ensures within { result ≤ length entries.now }
@@ -136,7 +135,7 @@ impl Origin {
         }
     }
 
-    /// Enters one stamp of an LRA in place of another: 0 has no entry.
+    /// Replaces one stamp of an LRA with another. A stamp of 0 has no entry.
     pub(crate) fn reindex(&mut self, home: NodeId, num: u64, was: u64, now: u64)
         requires { 0 < now → 1 ≤ self.old.spare }
         ensures { IsRestamped (record { home = home; num = num }) was now self.old self.new }
@@ -147,7 +146,7 @@ impl Origin {
         }
     }
 
-    /// The entries with greater stamps, in order. It finds the first by halving.
+    /// Returns the entries with greater stamps, in order. It finds the first by binary search.
     pub(crate) fn beyond(&self, count: u64) -> &[Entry]
         ensures { result.now ≡ filter (λ e. nat_lt count e.stamp) self.now.entries }
     {
