@@ -1,4 +1,5 @@
--- What is due of a participant: to compensate, in saga order, to forget, and to hear that its LRA has ended.
+-- What participants are due to do or to be told: to compensate, in saga order, to forget, and to be
+-- told that their LRA has ended.
 use Rattle.std.specs.Prelude.{◌==◌, ◌&&◌, ◌||◌, ◌++◌, ℕ, Bool, true, false, Option, Some, None, List, [], ◌∷◌, if◌then◌else◌, is_some, nat_lt}
 use mathlib.Core.Bool.{not}
 use Rattle.std.specs.List.{list_any}
@@ -17,10 +18,11 @@ use Rattle.lra_facts.specs.declared.fact.Fact.{Fact}
 use Rattle.lra_facts.specs.Links.{Links}
 use Rattle.lra_facts.specs.Sets.{member_number, parent_of, chain, is_root, is_under, is_decided, is_participant, links_of, has_left, heard, joined_status, is_ended, want}
 
--- Saga order. A saga T1 .. Tj that is given up runs the compensations Cj .. C1 (Garcia-Molina and Salem, Sagas, 1987,
--- section 2). Here what is nested is compensated in the place at which it was begun
+-- Saga order. A saga T1 .. Tj that is given up runs the compensations Cj .. C1 (Garcia-Molina and
+-- Salem, Sagas, 1987, section 2). Here a nested LRA is compensated at the place in the order at
+-- which it was begun
 
--- of the LRAs in a list, the last that passes
+-- the last LRA of a list that passes the test
 abbrev pub last_that : (Id → Bool) → List Id → Option Id
 last_that test [] = None
 last_that test (x ∷ xs) = option_map_or (λ y. Some y) (last_that test xs) (if test x then Some x else None)
@@ -29,11 +31,12 @@ last_that test (x ∷ xs) = option_map_or (λ y. Some y) (last_that test xs) (if
 abbrev pub topmost_cancelled : List Fact → Id → Option Id
 topmost_cancelled S l = last_that (is_decided S Cancel) (chain S l)
 
--- the member number of an LRA in its parent: none of a root
+-- the member number of an LRA in its parent, as a list that is empty for a root
 abbrev pub slot_of : List Fact → Id → List ℕ
 slot_of S l = option_map_or (λ p. member_number S p l.num ∷ []) (parent_of S l) []
 
--- along a chain, which begins at its lower end: the member numbers from below a down
+-- the member numbers of the LRAs of a chain that are below a, from the top down (the chain begins
+-- at its lower end)
 abbrev pub slots_below : List Fact → Id → List Id → List ℕ
 slots_below S a [] = []
 slots_below S a (x ∷ xs) = if same_id x a then [] else slots_below S a xs ++ slot_of S x
@@ -42,32 +45,34 @@ slots_below S a (x ∷ xs) = if same_id x a then [] else slots_below S a xs ++ s
 abbrev pub saga_path : List Fact → Id → ℕ → List ℕ
 saga_path S l m = option_map_or (λ a. slots_below S a (chain S l)) (topmost_cancelled S l) [] ++ m ∷ []
 
--- lexicographically greater: later in the saga
+-- lexicographically greater, that is, later in the saga
 abbrev pub is_later : List ℕ → List ℕ → Bool
 is_later [] q = false
 is_later (x ∷ p) [] = true
 is_later (x ∷ p) (y ∷ q) = nat_lt y x || ((x == y) && is_later p q)
 
--- no outcome that ends an act was heard
+-- no outcome that ends the act was heard
 abbrev pub is_pending : Option Outcome → Bool
 is_pending o = nat_lt (level o) 2
 
--- a participant with these links is to compensate, as far as this was heard of it: it gave a link for that, and no outcome
--- that ends it was heard
+-- a participant with these links, of which this was heard, is still to compensate: it gave a link
+-- for that, and no outcome that ends the act was heard
 abbrev pub has_to_compensate : Links → Option Outcome → Bool
 has_to_compensate links o = is_some links.compensate && is_pending o
 
--- the participant that joined l as m is to compensate: a listener never is
+-- the participant that joined l as m is still to compensate; a listener never is
 abbrev pub is_uncompensated : List Fact → Id → ℕ → Bool
 is_uncompensated S l m = option_map_or (λ links. has_to_compensate links (heard S l m Compensate)) (links_of S l m) false
 
--- it tells of a participant under a that is later in the saga than the path, and is still to compensate
+-- the fact joins a participant under a that is later in the saga than the path, and is still to
+-- compensate
 abbrev pub holds_back : List Fact → Id → List ℕ → Body → Bool
 holds_back S a path (Join d m links) =
     is_under S a d && (not (has_left S d m) && (is_later (saga_path S d m) path && is_uncompensated S d m))
 holds_back S a path _ = false
 
--- the participant m of l is to be asked to compensate now: it is to compensate, and none later in the saga is
+-- the participant m of l is to be asked to compensate now: it is still to compensate, and none
+-- later in the saga is
 abbrev pub is_compensation_due : List Fact → Id → ℕ → Bool
 is_compensation_due S l m =
     option_map_or
@@ -87,12 +92,13 @@ is_forgot l m _ = false
 abbrev pub has_forgot : List Fact → Id → ℕ → Bool
 has_forgot S l m = list_any (λ f. is_forgot l m f.body) S
 
--- it has something to forget: it failed, or it was completed in a nested LRA, which might still have been cancelled
+-- a participant has something to forget: it failed, or it completed in a nested LRA, which might
+-- still have been cancelled
 abbrev pub has_to_forget : Bool → MemberStatus → Bool
 has_to_forget nested s =
     same_member_status FailedToComplete s || (same_member_status FailedToCompensate s || (nested && same_member_status Completed s))
 
--- a participant of l with this number and these links is to be told that it may forget
+-- the participant of l with this number and these links is to be told that it may forget
 abbrev pub owes_forget : List Fact → Id → ℕ → Links → Bool
 owes_forget S l m links =
     is_over S l && (is_some links.forget && (not (has_forgot S l m) && has_to_forget (not (is_root S l)) (joined_status S l m links)))
@@ -117,22 +123,25 @@ abbrev pub wants_cancel : Option Verdict → Bool
 wants_cancel (Some Cancel) = true
 wants_cancel _ = false
 
--- No later decision changes what l shows: it is ended, and it wants Cancel or its root wants something. A closed LRA whose root
--- wants nothing is still cancelled with an LRA above it
+-- No later decision changes what l shows: it is ended, and it wants Cancel or its root wants
+-- something. A closed LRA whose root wants nothing can still be cancelled together with an LRA
+-- above it
 abbrev pub is_at_end : List Fact → Id → Bool
 is_at_end S l = is_ended S l && (wants_cancel (want S l) || is_root_decided S l)
 
--- a participant of l with this number and these links has a link for the end of its LRA, and was not told of it
+-- the participant of l with this number and these links has a link for the end of its LRA, and was
+-- not told of the end
 abbrev pub is_untold_by : List Fact → Id → ℕ → Links → Bool
 is_untold_by S l m links = is_some links.after && not (has_told S l m)
 
--- such a participant is to be told now
+-- such a participant is to be told of the end now
 abbrev pub owes_after : List Fact → Id → ℕ → Links → Bool
 owes_after S l m links = is_at_end S l && is_untold_by S l m links
 
 abbrev pub is_after_duty : List Fact → Id → ℕ → Bool
 is_after_duty S l m = is_participant S l m && option_map_or (owes_after S l m) (links_of S l m) false
 
--- the participant m of l is still to be told, now or later: it has a link for the end, and was not told
+-- the participant m of l is still to be told of the end, now or later: it has a link for the end,
+-- and was not told
 abbrev pub is_untold : List Fact → Id → ℕ → Bool
 is_untold S l m = is_participant S l m && option_map_or (is_untold_by S l m) (links_of S l m) false

@@ -1,4 +1,4 @@
--- Which text is kept of a link.
+-- The text that is kept of a link.
 use Rattle.std.specs.Prelude.{◌≡◌, ◌&&◌, ℕ, List, length, Bool, false, ⊤, Option, Some, None, Result, Ok, Err, is_some, nat_le, if◌then◌else◌, codes}
 use mathlib.Core.Bool.{not}
 use Rattle.std.specs.Str.{bytes_eq, is_utf8}
@@ -8,11 +8,11 @@ use Rattle.url.specs.Parser.{Parsed, parse_url}
 use Rattle.lra_facts.specs.declared.refusal.Refusal.{Refusal}
 use Rattle.lra_facts.specs.declared.refusal.Refusal.TheVariants.{BadText, NoMemory}
 
--- the most bytes of a link, as it is given and as it is kept
+-- the greatest length of a link in bytes, both as given and as kept
 abbrev pub max_link_bytes : ℕ
 max_link_bytes = 127
 
--- an http URL with no user, password or fragment, and a serialised text of at most 127 bytes
+-- an http URL without user, password or fragment, whose serialised text has at most 127 bytes
 abbrev pub is_link : Parts → Bool
 is_link url =
     bytes_eq url.scheme (codes "http") && (is_empty url.username && (is_empty url.password && (not (is_some url.fragment)
@@ -22,7 +22,8 @@ abbrev pub kept_of : Parsed Parts → Option (List ℕ)
 kept_of (Ok url) = if is_link url then Some (serialize url) else None
 kept_of (Err e) = None
 
--- the text that is kept of a link's text: what the URL Standard serialises. There is none where the text is no link
+-- the text that is kept of a link's text: the URL Standard's serialisation. It is `None` if the
+-- text is no link
 abbrev pub kept_text : List ℕ → Option (List ℕ)
 kept_text text = if nat_le (length text) max_link_bytes then kept_of (parse_url None text) else None
 
@@ -30,11 +31,12 @@ abbrev pub is_same : Option (List ℕ) → List ℕ → Bool
 is_same (Some kept) text = bytes_eq kept text
 is_same None text = false
 
--- whether it is the text that is kept of a link
+-- whether the text is the kept text of a link
 unfoldable pub is_kept : List ℕ → Bool
 is_kept text = is_utf8 text && is_same (kept_text text) text
 
--- what reading answers, where this is what is kept, if anything: only a lack of memory is not decided by the texts
+-- the result of reading, where `kept` is what the texts decide: only out of memory doesn't depend
+-- on the texts
 abbrev pub Reads : {A : Type 0} → Option A → Result A Refusal → Type 0
 Reads kept (Ok x) = kept ≡ Some x
 Reads kept (Err BadText) = kept ≡ None

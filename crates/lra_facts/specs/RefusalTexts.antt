@@ -1,4 +1,4 @@
--- How a refusal prints: its number, its name, and its values.
+-- The printed form of a refusal: its number, its name, and its values.
 use Rattle.std.specs.Prelude.{ℕ, List, ◌++◌, codes}
 use Rattle.std.specs.Fmt.{decimal}
 use Rattle.lra_id.specs.Ids.{id_text}

@@ -1,48 +1,48 @@
-// What a node is asked to enter, and what it replies.
+// Commands to a node, and their replies.
 use crate::{Links, Refusal};
 use lra_id::{Act, LraId, LraStatus, Outcome, Verdict};
 
-/// What a node is asked to enter.
+/// A command that a node is asked to carry out.
 #[derive(Clone, Debug, PartialEq, Drop)]
 pub enum Command {
-    /// Begin an LRA, top-level or nested, with a deadline in milliseconds, 0 for none.
+    /// Begins an LRA, top-level or nested. The deadline is in milliseconds, 0 for none.
     Begin {
         parent: Option<LraId>,
         deadline: u64,
     },
-    /// Have a participant join an LRA.
+    /// Lets a participant join an LRA.
     Join {
         id: LraId,
         links: Links,
     },
-    /// Have a participant leave an LRA.
+    /// Lets a participant leave an LRA.
     Leave {
         id: LraId,
         member: u8,
     },
-    /// Close or cancel an LRA.
+    /// Closes or cancels an LRA.
     Decide {
         id: LraId,
         verdict: Verdict,
     },
-    /// Enter what was heard of an act of a participant.
+    /// Records the outcome that a participant reported of an act.
     Report {
         id: LraId,
         member: u8,
         act: Act,
         outcome: Outcome,
     },
-    /// Enter that a participant was told to forget.
+    /// Records that a participant was told to forget.
     Forgot {
         id: LraId,
         member: u8,
     },
-    /// Enter that a participant was told that its LRA has ended.
+    /// Records that a participant was told that its LRA has ended.
     Told {
         id: LraId,
         member: u8,
     },
-    /// Remove a root and all that is nested in it.
+    /// Removes a root and everything nested in it.
     Purge {
         root: LraId,
     },
@@ -51,24 +51,25 @@ pub enum Command {
 /// The reply to a command.
 #[derive(Clone, Copy, Debug, PartialEq, Eq)]
 pub enum CommandReply {
-    /// An LRA of this id was begun, with this member number in its parent, or 0 where it has none.
+    /// An LRA with this id was begun. The number is its member number in its parent, or 0 if it has
+    /// no parent.
     Began(LraId, u8),
-    /// The participant joined this LRA under this member number.
+    /// The participant joined this LRA with this member number.
     Joined(LraId, u8),
     /// The participant left.
     Left,
-    /// The LRA was closed or cancelled, and shows this now.
+    /// The LRA was closed or cancelled, and now shows this status.
     Decided(LraId, LraStatus),
-    /// What was heard was entered.
+    /// The reported outcome was recorded.
     Reported,
-    /// It was known already, and nothing was entered.
+    /// The fact was already known, and nothing was recorded.
     Known,
-    /// That it was told to forget was entered.
+    /// The node recorded that the participant was told to forget.
     Forgotten,
-    /// That it was told of the end of its LRA was entered.
+    /// The node recorded that the participant was told that its LRA has ended.
     Told,
-    /// The root was removed, with all that was nested in it.
+    /// The root was removed, with everything nested in it.
     Purged,
-    /// Nothing was entered.
+    /// The command was refused, and nothing was recorded.
     Refused(Refusal),
 }

@@ -1,23 +1,23 @@
-// What nodes enter in their lists.
+// Facts: the log entries of nodes.
 use crate::Links;
 use lra_id::{Act, LraId, NodeId, Outcome, Verdict};
 
 /// What a fact says.
 #[derive(Debug, Drop)]
 pub enum Body {
-    /// An LRA is begun, whose id is the fact's origin and number. The deadline is a moment in
+    /// An LRA is begun. Its id is the fact's origin and number. The deadline is a moment in
     /// milliseconds, 0 for none.
     Begin {
         parent: Option<LraId>,
         deadline: u64,
     },
-    /// A participant joins an LRA under a member number.
+    /// A participant joins an LRA with a member number.
     Join {
         id: LraId,
         member: u8,
         links: Links,
     },
-    /// A participant leaves.
+    /// A participant leaves its LRA.
     Leave {
         id: LraId,
         member: u8,
@@ -27,7 +27,7 @@ pub enum Body {
         id: LraId,
         verdict: Verdict,
     },
-    /// An outcome of an act was heard of a participant.
+    /// An outcome of an act of a participant was heard.
     Report {
         id: LraId,
         member: u8,
@@ -44,13 +44,13 @@ pub enum Body {
         id: LraId,
         member: u8,
     },
-    /// A root and all that is nested in it is removed.
+    /// A root and everything nested in it are removed.
     Purge {
         root: LraId,
     },
 }
 
-/// A fact: what the node `origin` entered as its `num`th. Nodes number their facts from 1.
+/// A fact: the `num`th entry of the node `origin`. Nodes number their facts from 1.
 #[derive(Debug, Drop)]
 pub struct Fact {
     pub origin: NodeId,

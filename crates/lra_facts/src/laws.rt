@@ -1,4 +1,4 @@
-// Laws of the definitions, for every list of facts: each function does nothing, and its contract is
+// Laws of the definitions, for every list of facts. Each function does nothing, and its contract is
 // the law.
 ghost use Rattle.std.specs.Prelude.{◌≡◌, ◌++◌, ◌∷◌, [], ℕ, List, Some, true};
 ghost use Rattle.std.specs.List.{AllByRecursion};
@@ -12,7 +12,8 @@ ghost use Rattle.lra_facts.specs.Lists.{In};
 ghost use Rattle.lra_facts.specs.Laws.{AreJoinedOnce, AreNumberedOnce, Falls, IsSameSet};
 ghost use Rattle.lra_facts.specs.Sets.{NamesEarlier, chain, heard, is_decided, member_status, parent_of, status, want};
 
-/// An LRA has one chain: itself and the chain of its parent. Numbers fall along it, at one home.
+/// The chain of an LRA is the LRA itself, followed by the chain of its parent. Numbers decrease
+/// along a chain, and all its LRAs have the same home.
 #[tactic(auto, using(crate::proofs::Chains::chain_is, crate::proofs::MoreFacts::chain_falls))]
 pub fn numbers_fall_along_a_chain()
     ensures chain { (S : List Fact) (l : Id) →
@@ -20,7 +21,7 @@ pub fn numbers_fall_along_a_chain()
     ensures falls { (S : List Fact) (l : Id) → AllByRecursion NamesEarlier S → Falls (chain S l) }
 {}
 
-/// An LRA wants Cancel as soon as one of its chain is cancelled, whatever comes later.
+/// An LRA wants Cancel once any LRA of its chain is cancelled, whatever facts follow.
 #[tactic(auto, using(crate::proofs::MoreFacts::cancel_stays))]
 pub fn a_cancel_stays()
     ensures { (S later : List Fact) (a l : Id) →
@@ -36,7 +37,7 @@ pub fn the_greatest_outcome_is_heard()
         IsSameSet S T → (l : Id) (m : ℕ) (act : Act) → heard S l m act ≡ heard T l m act }
 {}
 
-/// The order of the facts in the list changes no status.
+/// The order of the facts in the list doesn't affect any status.
 #[tactic(auto, using(crate::proofs::Orders::status_same, crate::proofs::Orders::member_same))]
 pub fn order_changes_no_status()
     ensures lras { (S T : List Fact) (l : Id) →

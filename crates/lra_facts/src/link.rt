@@ -1,4 +1,4 @@
-// One link, and the text that is kept of it.
+// A link, and the text that is kept of it.
 ghost use Rattle.std.specs.Prelude.{◌≡◌, ◌≤◌, ◌<◌, Err, IfOk, None, Some, true, if◌then◌else◌, length};
 ghost use Rattle.lra_facts.specs.declared.refusal.Refusal.TheVariants.{BadText};
 ghost use Rattle.lra_facts.specs.LinkTexts.{Reads, is_kept, is_link, kept_text};
@@ -9,10 +9,10 @@ use std::marker::Model;
 use std::sync::ArcStr;
 use url::{ParseError, Url};
 
-/// The most bytes of a link.
+/// The greatest length of a link, in bytes.
 pub const MAX_LINK_BYTES: usize = 127;
 
-/// A link: an http URL of at most 127 bytes, kept as it is serialised.
+/// A link: an http URL of at most 127 bytes, kept in its serialised form.
 #[derive(Debug, Drop)]
 pub struct Link {
     text: ArcStr,
@@ -42,8 +42,9 @@ fn is_link(url: &Url) -> bool
 }
 
 impl Link {
-    /// Reads a link, and keeps the text that the URL is serialised to. That text is read as itself
-    /// again. What is no link is E1, and needs no memory where it has more than 127 bytes.
+    /// Reads a link, and keeps the serialised text of its URL. Reading that text again gives the
+    /// same text. A text that is no link is E1. If it has more than 127 bytes, refusing it needs no
+    /// memory.
     pub fn read(alloc: Global, text: &str) -> Result<Link, Refusal>
         ensures answer { Reads (kept_text text.now) result }
         ensures long { 127 < length text.now → result ≡ Err BadText }
@@ -56,14 +57,15 @@ impl Link {
             Ok(url) if is_link(&url) => Ok(Link {
                 text: ArcStr::from_str(alloc, url.as_str())?,
             }),
-            // An overflow counts as a lack of memory too. For a short text that is no link the
-            // contract allows E17, since the parser may need memory before it can tell.
+            // An overflow also counts as out of memory. For a short text that is no link the
+            // contract allows E17, because the parser may need memory before it can tell.
             Err(ParseError::OutOfMemory | ParseError::Overflow) => Err(Refusal::NoMemory),
             _ => Err(Refusal::BadText),
         }
     }
 
-    /// The link that is kept as these bytes, if one is.
+    /// Returns the link that is kept as these bytes, or `None` if they aren't the kept text of a
+    /// link.
     #[tactic(auto, unfolding(crate::specs::LinkTexts::is_kept))]
     pub fn from_kept(alloc: Global, text: &[u8]) -> Result<Option<Link>, AllocError>
         ensures { IfOk result (λ link. link ≡ (if is_kept text.now then Some text.now else None)) }
@@ -78,7 +80,7 @@ impl Link {
         }
     }
 
-    /// Its text, which is read as itself again.
+    /// Returns the kept text. Reading it again gives the same text.
     pub fn as_str(&self) -> &str
         ensures text { result.now ≡ self.now }
         ensures kept { kept_text self.now ≡ Some self.now }
@@ -86,7 +88,7 @@ impl Link {
         self.text.as_str()
     }
 
-    /// Its bytes, at most 127, which are kept as they are.
+    /// Returns the bytes of the kept text, of which there are at most 127.
     pub fn as_bytes(&self) -> &[u8]
         ensures text { result.now ≡ self.now }
         ensures short { length result.now ≤ 127 }

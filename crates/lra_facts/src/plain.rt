@@ -1,5 +1,4 @@
-//! Slow evaluators: what a list of facts says, read from every fact at each call. They take no
-//! memory.
+//! Slow evaluators of what a list of facts says. Each call reads every fact and takes no memory.
 ghost use Rattle.std.specs.Prelude.{◌≡◌, ◌↔◌, IsTrue, ◌+◌, ◌&&◌, is_some};
 ghost use mathlib.Core.Bool.{not};
 ghost use Rattle.std.specs.List.{list_any, AllByRecursion};
@@ -10,8 +9,9 @@ ghost use Rattle.lra_id.specs.States.{same_member_status, shown};
 use crate::{Body, Fact, Links};
 use lra_id::{Act, LAST_NUMBER, LraId, LraStatus, MemberStatus, NodeId, Outcome, Verdict};
 
-/// Whether the evaluators may read a list: its facts have numbers, and a nested LRA is begun at its
-/// parent's home after it. It tests what callers don't know.
+/// Whether the evaluators may read a list: each fact has a number that a node can give, and each
+/// nested LRA is begun at its parent's home, after its parent. Callers can't know this, so it is
+/// tested.
 pub fn are_in_order(facts: &[Fact]) -> bool
     ensures { IsTrue result ↔ (AllByRecursion NamesEarlier facts.now
         × AllByRecursion IsNumbered facts.now) }
@@ -36,7 +36,7 @@ fn names_earlier(fact: &Fact) -> bool
     }
 }
 
-/// Whether a fact is the begin of an LRA.
+/// Whether a fact begins this LRA.
 pub fn begins_lra(id: LraId, fact: &Fact) -> bool
     ensures { result ≡ begins id fact.now }
 {
@@ -61,7 +61,7 @@ fn named_parent(fact: &Fact) -> Option<LraId>
     }
 }
 
-/// The parent of an LRA, where it was begun and is nested.
+/// Returns the parent of an LRA, if the LRA was begun and is nested.
 pub fn parent(facts: &[Fact], id: LraId) -> Option<LraId>
     ensures { result ≡ parent_of facts.now id }
 {
@@ -85,7 +85,7 @@ fn decides(id: LraId, verdict: Verdict, fact: &Fact) -> bool
     }
 }
 
-/// Whether an LRA itself was decided by this verdict.
+/// Whether the LRA itself has a decision with this verdict.
 pub fn decided(facts: &[Fact], verdict: Verdict, id: LraId) -> bool
     ensures { result ≡ is_decided facts.now verdict id }
 {
@@ -109,8 +109,8 @@ fn decided_above(facts: &[Fact], verdict: Verdict, id: LraId) -> bool
     }
 }
 
-/// What an LRA wants: to be cancelled if it or an ancestor is, else to be closed if it or an
-/// ancestor is.
+/// Returns what an LRA wants: Cancel if it or an ancestor is cancelled, otherwise Close if it or an
+/// ancestor is closed.
 pub fn want_of(facts: &[Fact], id: LraId) -> Option<Verdict>
     requires { AllByRecursion NamesEarlier facts.now }
     ensures { result ≡ want facts.now id }
@@ -180,8 +180,8 @@ fn begins_held(facts: &[Fact], home: NodeId, fact: &Fact) -> bool
     }
 }
 
-/// How many LRAs of a home are held.
-/// It also asks that numbers are in range.
+/// Returns the number of LRAs of a home that are held. It also requires that all numbers are in
+/// range.
 pub fn held_at(facts: &[Fact], home: NodeId) -> usize
     requires earlier { AllByRecursion NamesEarlier facts.now }
     requires numbered { AllByRecursion IsNumbered facts.now }
@@ -208,7 +208,7 @@ fn leaves(id: LraId, member: u8, fact: &Fact) -> bool
     }
 }
 
-/// Whether a participant left.
+/// Whether a participant left its LRA.
 pub fn left(facts: &[Fact], id: LraId, member: u8) -> bool
     ensures { result ≡ has_left facts.now id member }
 {
@@ -235,7 +235,7 @@ fn report_of(id: LraId, member: u8, act: Act, fact: &Fact) -> Option<Outcome>
     }
 }
 
-/// The greatest outcome that was reported of an act of a participant.
+/// Returns the greatest outcome that was reported of an act of a participant.
 pub fn greatest_report(facts: &[Fact], id: LraId, member: u8, act: Act) -> Option<Outcome>
     ensures { result ≡ heard facts.now id member act }
 {
@@ -246,7 +246,8 @@ pub fn greatest_report(facts: &[Fact], id: LraId, member: u8, act: Act) -> Optio
     greatest
 }
 
-/// The status of a participant, by what its LRA wants, its links and what was heard of it.
+/// Returns the status of a participant, by what its LRA wants, by its links, and by what was heard
+/// of it.
 pub fn status_for(
     want: Option<Verdict>,
     links: &Links,
@@ -308,7 +309,8 @@ fn links_joined(id: LraId, member: u8, fact: &Fact) -> Option<&Links>
     }
 }
 
-/// The status of a participant, where the LRA is held, and one joined and didn't leave.
+/// Returns the status of a participant, if the LRA is held and the participant joined and didn't
+/// leave.
 pub fn member_of(facts: &[Fact], id: LraId, member: u8) -> Option<MemberStatus>
     requires { AllByRecursion NamesEarlier facts.now }
     ensures { result ≡ member_status facts.now id member }
@@ -342,7 +344,7 @@ fn shows_open(facts: &[Fact], id: LraId, fact: &Fact) -> bool
     }
 }
 
-/// Whether something is left for a participant to do.
+/// Whether a participant with this status still has something to do.
 pub fn is_open(status: MemberStatus) -> bool
     ensures { result ≡ is_open status }
 {
@@ -386,7 +388,7 @@ fn failed_under(facts: &[Fact], id: LraId, failed: MemberStatus) -> bool
         .any(|fact| shows_failed(facts, id, failed, fact))
 }
 
-/// The status of an LRA, by what it wants and how the participants under it stand.
+/// Returns the status of an LRA, by what it wants and by the state of the participants under it.
 pub fn shown_status(
     want: Option<Verdict>,
     unsettled: bool,
@@ -418,7 +420,7 @@ pub fn shown_status(
     }
 }
 
-/// What an LRA that is held shows.
+/// Returns the status of an LRA that is held.
 pub fn shows_now(facts: &[Fact], id: LraId) -> LraStatus
     requires { AllByRecursion NamesEarlier facts.now }
     ensures { result ≡ shows_now facts.now id }
@@ -429,7 +431,7 @@ pub fn shows_now(facts: &[Fact], id: LraId) -> LraStatus
     shown_status(want_of(facts, id), unsettled, incomplete, uncompensated)
 }
 
-/// The status of an LRA, where it is held.
+/// Returns the status of an LRA, if it is held.
 pub fn status_of(facts: &[Fact], id: LraId) -> Option<LraStatus>
     requires { AllByRecursion NamesEarlier facts.now }
     ensures { result ≡ status facts.now id }
@@ -454,14 +456,14 @@ pub fn gives_number(id: LraId, fact: &Fact) -> bool
     }
 }
 
-/// How many member numbers of an LRA were given.
+/// Returns the number of member numbers of an LRA that were given.
 pub fn numbers_given(facts: &[Fact], id: LraId) -> usize
     ensures { result ≡ numbers_given facts.now id }
 {
     facts.iter().filter(|fact| gives_number(id, fact)).count()
 }
 
-/// The depth of an LRA: 1 for a root, and one more for each LRA above it.
+/// Returns the depth of an LRA: 1 for a root, and one more for each LRA above it.
 #[tactic(auto, using(crate::proofs::Chains::parent_lesser, crate::proofs::Chains::depth_is))]
 pub fn depth_of(facts: &[Fact], id: LraId) -> u64
     requires { AllByRecursion NamesEarlier facts.now }
@@ -490,7 +492,7 @@ fn links(facts: &[Fact], id: LraId, member: u8) -> Option<&Links>
     None
 }
 
-/// Whether a want demands an act of a participant with these links.
+/// Whether a want demands this act of a participant with these links.
 pub fn demands(want: Option<Verdict>, links: &Links, act: Act) -> bool
     ensures { result ≡ demands want links.now act }
 {
@@ -501,7 +503,7 @@ pub fn demands(want: Option<Verdict>, links: &Links, act: Act) -> bool
     }
 }
 
-/// Whether what an LRA wants demands an act of a participant.
+/// Whether what an LRA wants demands this act of its participant.
 pub fn is_demanded(facts: &[Fact], id: LraId, member: u8, act: Act) -> bool
     requires { AllByRecursion NamesEarlier facts.now }
     ensures { result ≡ is_demanded facts.now id member act }

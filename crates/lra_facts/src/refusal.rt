@@ -1,4 +1,4 @@
-// Why a call is refused.
+// Reasons for refusing a call.
 ghost use Rattle.std.specs.Prelude.{◌≡◌, Some};
 ghost use Rattle.lra_facts.specs.RefusalTexts.{refusal_text};
 
@@ -6,33 +6,33 @@ use lra_id::{Front, LraId, LraStatus, NodeId};
 use std::alloc::AllocError;
 use std::fmt;
 
-/// Why a call was refused. A refused call changes nothing. docs/FORMATS.md has the order in which
-/// they are looked for.
+/// The reason why a call was refused. A refused call changes nothing. docs/FORMATS.md lists the
+/// order in which refusals are checked.
 #[derive(Clone, Copy, Debug, PartialEq, Eq)]
 pub enum Refusal {
     /// E1: a text, link, number or body breaks its grammar.
     BadText,
-    /// E2: the id's number is beyond the front for its home.
+    /// E2: the id's number is beyond the front's count of its home.
     UnknownLra,
-    /// E3: the front covers the id, and no LRA of that id is held.
+    /// E3: the front covers the id, but no LRA with that id is held.
     NotHeld,
-    /// E4: the call is for the home alone, which is this node.
+    /// E4: only the LRA's home accepts this call, and that home is the node given here.
     NotHome(NodeId),
     /// E5: no participant joined with this number, or it left.
     UnknownMember,
-    /// E6: the LRA wants something already, and shows this.
+    /// E6: the LRA already wants something, and shows this status.
     NotActive(LraStatus),
-    /// E7: nothing demands what is reported or forgotten; the LRA shows this.
+    /// E7: nothing demands what is reported or forgotten. The LRA shows this status.
     NotDue(LraStatus),
-    /// E8: the root is not ended, and shows this.
+    /// E8: the root is not ended, and shows this status.
     NotEnded(LraStatus),
-    /// E9: a nested LRA is not purged by itself.
+    /// E9: a nested LRA can't be purged by itself.
     NotRoot,
-    /// E10: this participant of this LRA is still to be told to forget.
+    /// E10: this participant of this LRA must still be told to forget.
     StillToForget(LraId, u8),
-    /// E24: this participant of this LRA is still to be told that the LRA has ended.
+    /// E24: this participant of this LRA must still be told that the LRA has ended.
     StillToTell(LraId, u8),
-    /// E11: 32 member numbers were given.
+    /// E11: all 32 member numbers were given.
     MembersFull,
     /// E12: the parent has depth 8.
     DepthFull,
@@ -42,7 +42,7 @@ pub enum Refusal {
     NumbersSpent,
     /// E15: a base is not below this front.
     Gap(Front),
-    /// E23: a record has a link for the end of its LRA, which version 1 of frames does not know.
+    /// E23: a record has a link for the end of its LRA, which version 1 of frames can't express.
     NeedsVersion2,
     /// E16: a frame, pull body or journal row breaks its grammar at this place.
     BadFrame(u64),
@@ -54,7 +54,7 @@ pub enum Refusal {
     Stopped,
     /// E20: the run has no room for one more entry.
     RunFull,
-    /// E21: the trail has lost what this number shows.
+    /// E21: the trail has lost entries, and this number shows where.
     TrailLost(u64),
     /// E22: receipts and trail differ at this place.
     Strange(u64),
