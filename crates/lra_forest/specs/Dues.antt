@@ -12,18 +12,19 @@ use Rattle.lra_facts.specs.Lists.{In}
 use Rattle.lra_facts.specs.Sets.{heard, is_demanded, is_held, is_participant, is_under}
 use Rattle.lra_forest.specs.declared.duties.Due.{Due}
 
--- each comes before all that follow it
+-- each element comes before all that follow it
 abbrev pub IsOrdered : {X : Type 0} → (X → X → Bool) → List X → Type 0
 IsOrdered before [] = Unit {0}
 IsOrdered before (x ∷ xs) = AllByRecursion (λ y. before x y ≡ true) xs × IsOrdered before xs
 
--- all that pass, and no other, in this order: where none comes before itself, each once
+-- all that pass, and no others, in this order; if no element comes before itself, each stands there
+-- once
 pub record AreAll {X : Type 0} (passes : X → Type 0) (before : X → X → Bool) (xs : List X) : Type 0 where
   pub all : (x : X) → passes x → In x xs
   pub only : (x : X) → In x xs → passes x
   pub order : IsOrdered before xs
 
--- one that passes and has none before it, or that none passes
+-- an element that passes and has none before it, or `None` if no element passes
 abbrev pub IsFirst : {X : Type 0} → (X → Type 0) → (X → X → Bool) → Option X → Type 0
 IsFirst {X} passes before None = (x : X) → passes x → ⊥
 IsFirst {X} passes before (Some y) = passes y × ((x : X) → passes x → before x y ≡ false)
@@ -34,39 +35,40 @@ pub record IsDueAt (home : ℕ) (S : List Fact) (due : List Fact → Id → ℕ 
   pub held : is_held S d.lra ≡ true
   pub owed : due S d.lra d.member ≡ true
 
--- by the number of the LRA, then by the member number
+-- ordered by the number of the LRA, then by the member number
 abbrev pub is_before : Due → Due → Bool
 is_before a b = nat_lt a.lra.num b.lra.num || ((a.lra.num == b.lra.num) && nat_lt a.member b.member)
 
--- the number of the topmost cancelled LRA of a chain, 0 for none
+-- the number of the topmost cancelled LRA of a chain, 0 if there is none
 abbrev pub topmost_number : List Fact → Id → ℕ
 topmost_number S l = option_map_or (λ a. a.num) (topmost_cancelled S l) 0
 
--- by the number of the topmost cancelled LRA. No two participants under one are due at once
+-- ordered by the number of the topmost cancelled LRA; no two participants under one are due at once
 abbrev pub is_topmost_before : List Fact → Due → Due → Bool
 is_topmost_before S a b = nat_lt (topmost_number S a.lra) (topmost_number S b.lra)
 
--- a participant that has a complete link and whose LRA closes is called until it is done or failed
+-- a participant that has a link to complete, and whose LRA closes, is called until the act is done
+-- or failed
 abbrev pub is_complete_duty : List Fact → Id → ℕ → Bool
 is_complete_duty S l m = is_participant S l m && (is_demanded S l m Complete && is_pending (heard S l m Complete))
 
--- it is cancelled, and no LRA that it is nested in is
+-- the LRA is cancelled, and no LRA above it is
 abbrev pub is_topmost : List Fact → Id → Bool
 is_topmost S l = option_map_or (same_id l) (topmost_cancelled S l) false
 
--- it is due to compensate, and its topmost cancelled LRA has this number
+-- the participant is due to compensate, and its topmost cancelled LRA has this number
 pub record IsDueUnder (home : ℕ) (S : List Fact) (num : ℕ) (d : Due) : Type 0 where
   pub due : IsDueAt home S is_compensation_due d
   pub topmost : topmost_number S d.lra ≡ num
 
--- the one that is due under an LRA, or that there is none
+-- the one participant that is due under an LRA, or `None` if there is none
 abbrev pub IsShare : ℕ → List Fact → ℕ → Option Due → Type 0
 IsShare home S num None = (d : Due) → IsDueUnder home S num d → ⊥
 IsShare home S num (Some x) = IsDueUnder home S num x × ((d : Due) → IsDueUnder home S num d → d ≡ x)
 
 -- The least of what is due under an LRA
 
--- it is the participant of an LRA with this number under l, and this is due of it
+-- d is a participant of the LRA with this number, that LRA is under l, and this is due of it
 pub record IsDueBelow (due : List Fact → Id → ℕ → Bool) (S : List Fact) (l : Id) (num : ℕ) (d : Due) : Type 0 where
   pub number : d.lra.num ≡ num
   pub under : is_under S l d.lra ≡ true
@@ -77,20 +79,20 @@ lesser_due None b = b
 lesser_due (Some a) None = Some a
 lesser_due (Some a) (Some b) = if is_before b a then Some b else Some a
 
--- it tells of a participant under l of which this is due
+-- the participant under l that the fact joins, if this is due of it
 abbrev pub due_by : (List Fact → Id → ℕ → Bool) → List Fact → Id → Body → Option Due
 due_by due S l (Join d m links) = if is_under S l d && due S d m then Some (record { lra = d; member = m }) else None
 due_by due S l _ = None
 
--- the least of those that the facts of a list tell of
+-- the least of the due participants that the facts of a list join
 abbrev pub least_due : (List Fact → Id → ℕ → Bool) → List Fact → List Fact → Id → Option Due
 least_due due S [] l = None
 least_due due S (f ∷ facts) l = lesser_due (due_by due S l f.body) (least_due due S facts l)
 
--- the least that is still to be told to forget
+-- the least participant that must still be told to forget
 abbrev pub least_forget : List Fact → Id → Option Due
 least_forget S l = least_due is_forget_duty S S l
 
--- the least that has a link for the end of its LRA, and was not told of it
+-- the least participant that has a link for the end of its LRA and was not told of the end
 abbrev pub least_untold : List Fact → Id → Option Due
 least_untold S l = least_due is_untold S S l

@@ -1,4 +1,4 @@
--- How records are made of a list of facts.
+-- How records are made from a list of facts.
 use Rattle.std.specs.Prelude.{◌≡◌, ◌≤◌, ◌&&◌, ◌==◌, ℕ, List, [], ◌∷◌, true, Option, Some, None, if◌then◌else◌, nat_lt, length, find, option_and_then}
 use Rattle.lra_id.specs.Ids.{Id}
 use Rattle.lra_facts.specs.declared.fact.Fact.{Fact}
@@ -8,20 +8,20 @@ use Rattle.lra_forest.specs.declared.record.TheConstants.{MAX_MEMBERS}
 use Rattle.lra_forest.specs.Records.{givers}
 use Rattle.lra_forest.specs.Standing.{AreOnce}
 
--- what is asked of a list of facts for its records to be made: each fact has an origin and a number of its own, and each
--- LRA has at most 32 members, whose numbers its home gives
+-- what a list of facts must satisfy so that records can be made of it: each fact has an origin and
+-- a number of its own, and each LRA has at most 32 members, whose numbers its home gives
 pub record IsRecordable (S : List Fact) : Type 0 where
   pub few : (l : Id) → length (givers S l) ≤ MAX_MEMBERS
   pub once : AreOnce S
   pub givers : (f : Fact) (l : Id) → In f S → gives_number l f.body ≡ true → f.origin ≡ l.home
 
--- the lesser of two numbers, where none is no number
+-- the lesser of two numbers, or the one that is there
 abbrev pub lesser_number : Option ℕ → Option ℕ → Option ℕ
 lesser_number None b = b
 lesser_number (Some a) None = Some a
 lesser_number (Some a) (Some b) = if nat_lt b a then Some b else Some a
 
--- its number, if it gives a number of l and is above n
+-- the fact's number, if it gives a member number of l and its own number is above n
 abbrev pub number_above : ℕ → Id → Fact → Option ℕ
 number_above n l f = if gives_number l f.body && nat_lt n f.num then Some f.num else None
 
@@ -30,7 +30,7 @@ abbrev pub least_above : ℕ → Id → List Fact → Option ℕ
 least_above n l [] = None
 least_above n l (f ∷ S) = lesser_number (number_above n l f) (least_above n l S)
 
--- a fact that gives a number of l, by its own number
+-- the fact with this number that gives a member number of l
 abbrev pub giver_at : Id → List Fact → ℕ → Option Fact
 giver_at l S num = find (λ f. gives_number l f.body && (f.num == num)) S
 

@@ -1,4 +1,4 @@
--- What is put and removed where another node's records are taken: only what changes, each once.
+-- What is put and removed when another node's records are taken: only what changes, each once.
 use Rattle.std.specs.Prelude.{◌≡◌, ◌⊎◌, ◌&&◌, ℕ, Bool, true, false, Option, Some, None, List, filter, is_none, is_some, map}
 use Rattle.std.specs.List.{AllByRecursion}
 use Rattle.std.specs.List.Sorted.{IsStrictlyIncreasing}
@@ -8,23 +8,25 @@ use Rattle.lra_forest.specs.Forests.{AreOf, id_of}
 use Rattle.lra_forest.specs.RecordMerges.{brought, is_gone}
 use Rattle.lra_forest.specs.Shape.{found_at}
 
--- What is put of an LRA of which one record is held and another, or none, is to be kept: the one to be kept, where it isn't the one
--- that is held. Nothing where it is, or where none is to be kept
--- (a relation of the three: no definition tests equality, and the match closes with no answer)
+-- What is put for an LRA, by the record that is held and the record that is to be kept, if any: the
+-- one to be kept, if it isn't the one that is held. Nothing is put if they are the same, or if none
+-- is to be kept (this relates all three, since no definition tests equality, and the match is
+-- complete without an answer)
 abbrev pub IsPut : (held kept put : Option Record) → Type 0
 IsPut held kept (Some r) = (kept ≡ Some r) × (held ≡ Some r → ⊥)
 IsPut held kept None = (kept ≡ None) ⊎ (kept ≡ held)
 
--- the other has no record of the LRA of this record, and holds it no more
+-- the other node has no record of this record's LRA, and no longer holds it
 abbrev pub is_lost : (home told : ℕ) → Option (List ℕ) → (theirs : List Record) → Record → Bool
 is_lost home told held theirs r = is_none (found_at home theirs r.num) && is_gone told held r.num
 
--- the LRAs of the records, among these, that are lost
+-- the LRAs of these records that are lost
 abbrev pub ids_lost : (home told : ℕ) → Option (List ℕ) → (theirs records : List Record) → List Id
 ids_lost home told held theirs records = map id_of (filter (is_lost home told held theirs) records)
 
--- What is to be changed in a home's records: the records that are put are in order, each once, and none is there as it is. The
--- LRAs that are removed are in order, each once. Each has a record there, and none that is put
+-- The changes of a home's records. The records that are put are in order, each once, and none is
+-- there unchanged. The LRAs that are removed are in order, each once. Each of them has a record
+-- there, and none that is put
 pub record AreOnlyChanges (home : ℕ) (own : List Record) (removed : List Id) (put : List Record) : Type 0 where
   pub order : AreOf home put
   pub others : AllByRecursion (λ r. found_at home own r.num ≡ Some r → ⊥) put
@@ -33,7 +35,7 @@ pub record AreOnlyChanges (home : ℕ) (own : List Record) (removed : List Id) (
   pub there : AllByRecursion (λ l. is_some (found_at home own l.num) ≡ true) removed
   pub apart : AllByRecursion (λ l. found_at home put l.num ≡ None) removed
 
--- What is told of an LRA to a receiver that has this of it, by a node that has that: what that node has, or nothing where it would
--- change nothing
+-- What is told of an LRA by a node whose record is `theirs` to a receiver whose record is `own`:
+-- the node's record, or nothing if that would change nothing
 abbrev pub IsTold : (own theirs told : Option Record) → Type 0
 IsTold own theirs told = (told ≡ theirs) ⊎ ((told ≡ None) × (brought false own theirs ≡ own))

@@ -10,11 +10,11 @@ use Rattle.lra_forest.specs.Records.{deadline_of}
 abbrev pub is_past : ℕ → ℕ → Bool
 is_past deadline now = not (deadline == 0) && nat_le deadline now
 
--- it is held, wants nothing, and its deadline has passed
+-- the LRA is held, wants nothing, and its deadline has passed
 abbrev pub is_overdue : List Fact → ℕ → Id → Bool
 is_overdue S now l = is_held S l && (is_past (deadline_of S l) now && is_none (want S l))
 
--- the overdue LRA of the home with the least number, or none where no LRA of the home is overdue
+-- the overdue LRA of the home with the least number, or `None` if no LRA of the home is overdue
 abbrev pub IsLeastOverdue : List Fact → ℕ → ℕ → Option Id → Type 0
 IsLeastOverdue S home now None = (l : Id) → l.home ≡ home → is_overdue S now l ≡ false
 IsLeastOverdue S home now (Some l) =

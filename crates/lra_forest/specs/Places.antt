@@ -12,7 +12,7 @@ abbrev pub with_number : ℕ → Option Record → Option Record
 with_number num None = None
 with_number num (Some r) = if r.num == num then Some r else None
 
--- with this record in its place. One with the same number is replaced
+-- the records with this one in its place; a record with the same number is replaced
 abbrev pub put_record : Record → List Record → List Record
 put_record r [] = r ∷ []
 put_record r (q ∷ qs) =

@@ -1,4 +1,5 @@
--- The merge of two records of one LRA, and what a home's records become when another node's are taken.
+-- The merge of two records of one LRA, and how a home's records change when another node's are
+-- taken.
 use Rattle.std.specs.Prelude.{◌&&◌, ◌||◌, ◌==◌, ℕ, Bool, false, Option, Some, None, List, [], ◌∷◌, filter, if◌then◌else◌, is_some, nat_le, option_map, Vec}
 use Rattle.std.specs.declared.alloc.Global.{Global}
 use mathlib.Core.Bool.{not}
@@ -16,8 +17,8 @@ use Rattle.lra_forest.specs.Places.{put_record}
 
 -- Two records of one LRA
 
--- A participant without what it has no link for: what was heard of its completing and compensating, and the marks that it was
--- told to forget, and that its LRA has ended
+-- A participant without whatever it has no link for: the outcomes of completing and compensating,
+-- and the marks that it was told to forget and told that its LRA has ended
 abbrev pub linked : ParticipantRecord → ParticipantRecord
 linked p =
     record {
@@ -28,8 +29,8 @@ linked p =
       told = is_some p.links.after && p.told;
     }
 
--- Of a participant the greater outcomes are kept, and each mark if either has it. What the kept one has no
--- link for is dropped
+-- The greater outcomes of a participant are kept, and each mark that either has. Whatever the kept
+-- one has no link for is dropped
 abbrev pub merged_participant : (kept other : ParticipantRecord) → ParticipantRecord
 merged_participant p q =
     linked (record {
@@ -40,14 +41,14 @@ merged_participant p q =
       told = p.told || q.told;
     })
 
--- A member is what the kept one says. Of a participant the other counts where it has a participant at the place too
+-- A member is what the kept one says. The other counts only if both are participants
 abbrev pub merged_member : (kept : Member) (other : Option Member) → Member
 merged_member (Participant p) (Some (Participant q)) = Participant (merged_participant p q)
 merged_member (Participant p) _ = Participant (linked p)
 merged_member (Nested num) _ = Nested num
 merged_member Left _ = Left
 
--- the members that are kept, each with what the other list has at its place, if anything
+-- the members that are kept, each merged with the other list's member at its place, if there is one
 abbrev pub merged_members : (kept other : List Member) → List Member
 merged_members [] others = []
 merged_members (m ∷ kept) [] = merged_member m None ∷ merged_members kept []
@@ -57,8 +58,9 @@ merged_members (m ∷ kept) (n ∷ others) = merged_member m (Some n) ∷ merged
 abbrev pub home_stamp : Record → ℕ
 home_stamp r = count r.stamps r.home
 
--- Only the home decides and numbers members, so that part is kept whole from the one with the greater home stamp, the first
--- where they are equal. Of each node the greater stamp is kept. What the begin says is the same in both
+-- Only the home decides and numbers members, so that part is kept whole from the record with the
+-- greater home stamp, or from the first if they are equal. The greater stamp of each node is kept.
+-- What the begin says is the same in both
 abbrev pub merged_record : Record → Record → Record
 merged_record r t =
     if nat_le (home_stamp t) (home_stamp r)
@@ -81,33 +83,35 @@ merged_record r t =
       members = merged_members t.members r.members;
     }
 
--- What is had of one LRA
+-- What is kept of one LRA
 
--- What a receiver keeps of an LRA, by what it has of it and what the other has. Covered: the receiver's front counts the
--- LRA's begin, so that it purged one that it lacks. Gone: the other had the LRA, and is known to hold it no more
+-- What a receiver keeps of an LRA, by its own record and the other node's. Covered: the receiver's
+-- front counts the LRA's begin, so if it has no record, it purged the LRA. Gone: the other node had
+-- the LRA, and is known not to hold it any more
 abbrev pub absorbed : (covered gone : Bool) → Option Record → Option Record → Option Record
 absorbed covered gone None None = None
 absorbed covered gone None (Some t) = if covered then None else Some t
 absorbed covered gone (Some r) None = if gone then None else Some r
 absorbed covered gone (Some r) (Some t) = Some (merged_record r t)
 
--- what comes of an LRA of which the other has a record
+-- what is kept of an LRA if the other node has a record of it
 abbrev pub brought : (covered : Bool) → Option Record → Option Record → Option Record
 brought covered own None = None
 brought covered own (Some t) = absorbed covered false own (Some t)
 
 -- What another node tells of a home
 
--- the numbers that are told, where they are
+-- the numbers of LRAs that are told, if they are told
 abbrev pub held_numbers : Option (Vec ℕ Global) → Option (List ℕ)
 held_numbers = option_map (λ nums. nums.items)
 
--- it tells of all LRAs of the home that it holds, and this number is none of theirs
+-- the node tells of all LRAs of the home that it holds, and this number isn't among them
 abbrev pub is_unlisted : Option (List ℕ) → ℕ → Bool
 is_unlisted None num = false
 is_unlisted (Some nums) num = not (list_any (λ n. n == num) nums)
 
--- The other has the begin of the LRA with this number, and doesn't hold it any more. It has this many of the home's facts
+-- The other node has counted the begin of the LRA with this number, and no longer holds the LRA.
+-- `told` is the number of the home's facts that it counts
 abbrev pub is_gone : (told : ℕ) → Option (List ℕ) → ℕ → Bool
 is_gone told held num = (is_fact_number num && nat_le num told) && is_unlisted held num
 
@@ -117,11 +121,11 @@ is_gone told held num = (is_fact_number num && nat_le num told) && is_unlisted h
 abbrev pub without : List Id → List Record → List Record
 without removed records = filter (λ r. not (list_any (λ l. is_of l r) removed)) records
 
--- with each of these records in its place
+-- the records with each of these in its place
 abbrev pub put_all : List Record → List Record → List Record
 put_all [] records = records
 put_all (r ∷ changed) records = put_all changed (put_record r records)
 
--- some are taken out, and then these are put in their places
+-- first some records are removed, and then these are put in their places
 abbrev pub changed_by : (removed : List Id) (changed records : List Record) → List Record
 changed_by removed changed records = put_all changed (without removed records)

@@ -1,5 +1,5 @@
--- What a set of facts says of an LRA, as one record. The set is given as a list in any order: what goes by order goes by
--- the facts' numbers.
+-- What a set of facts says of an LRA, as one record. The set is given as a list in any order.
+-- Whatever depends on order goes by the facts' numbers.
 use Rattle.std.specs.Prelude.{◌==◌, ◌&&◌, ◌||◌, ◌++◌, ℕ, zero, suc, List, [], ◌∷◌, Bool, false, Option, Some, None, nat_le, filter, map, if◌then◌else◌}
 use Rattle.std.specs.Option.{option_map, option_map_or}
 use Rattle.lra_id.specs.Ids.{Id, same_id}
@@ -19,7 +19,7 @@ use Rattle.lra_facts.specs.Lists.{most}
 
 -- Stamps
 
--- it names l: a begin in it, or another fact of it, save a purge
+-- the body names l: it begins an LRA in l, or is another fact of l, except for a purge
 abbrev pub is_named : Id → Body → Bool
 is_named l (Begin parent deadline) = option_map_or (λ p. same_id p l) parent false
 is_named l (Join id m links) = same_id id l
@@ -30,22 +30,22 @@ is_named l (Forgot id m) = same_id id l
 is_named l (Told id m) = same_id id l
 is_named l (Purge root) = false
 
--- it is the begin of l, or names it
+-- the fact is the begin of l, or names l
 abbrev pub is_about : Id → Fact → Bool
 is_about l f = begins l f || is_named l f.body
 
--- the greatest number of a node's facts about l, 0 for none
+-- the greatest number of a node's facts about l, 0 if there are none
 abbrev pub stamp : List Fact → Id → ℕ → ℕ
 stamp S l node = most (λ f. if (f.origin == node) && is_about l f then f.num else 0) S
 
--- 1 to n
+-- the numbers from 1 to n
 abbrev pub nodes_to : ℕ → List ℕ
 nodes_to zero = []
 nodes_to (suc n) = nodes_to n ++ suc n ∷ []
 
 -- Members
 
--- with this fact in its place by its number
+-- the facts with this one in its place by its number
 abbrev pub put_by_number : Fact → List Fact → List Fact
 put_by_number f [] = f ∷ []
 put_by_number f (g ∷ S) = if nat_le f.num g.num then f ∷ g ∷ S else g ∷ put_by_number f S
@@ -55,7 +55,7 @@ abbrev pub by_number : List Fact → List Fact
 by_number [] = []
 by_number (f ∷ S) = put_by_number f (by_number S)
 
--- what a fact that gives a number of l gives it to
+-- the member of l that gets the number that this fact gives
 abbrev pub member_by : List Fact → Id → ℕ → Body → Member
 member_by S l num (Join id m links) =
     if has_left S l m then Left
@@ -68,7 +68,7 @@ member_by S l num (Join id m links) =
     })
 member_by S l num _ = Nested num
 
--- the facts that give the numbers of l, in order
+-- the facts that give the member numbers of l, in order
 abbrev pub givers : List Fact → Id → List Fact
 givers S l = by_number (filter (λ f. gives_number l f.body) S)
 
@@ -85,11 +85,11 @@ abbrev pub deadline_of : List Fact → Id → ℕ
 deadline_of [] l = 0
 deadline_of (f ∷ S) l = if begins l f then deadline_given f.body else deadline_of S l
 
--- where the LRA with this number is nested in its parent
+-- the place of the LRA with this number in its parent
 abbrev pub place_in : List Fact → ℕ → Option Id → Option Place
 place_in S num parent = option_map (λ (p : Id). record { number = p.num; slot = member_number S p num }) parent
 
--- of l itself
+-- the decision on l itself
 abbrev pub decision_of : List Fact → Id → Option Verdict
 decision_of S l = if is_decided S Cancel l then Some Cancel else (if is_decided S Close l then Some Close else None)
 

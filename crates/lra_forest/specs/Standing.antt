@@ -14,7 +14,7 @@ use Rattle.lra_forest.specs.Records.{record_of}
 use Rattle.lra_forest.specs.Forests.{is_of}
 use Rattle.lra_facts.specs.Lists.{In}
 
--- parents come before what is nested in them, and are in the set with it
+-- parents come before what is nested in them, and are in the same set
 pub record IsWhole (S : List Fact) : Type 0 where
   pub nested : AllByRecursion NamesEarlier S
   pub parents : (l p : Id) → is_begun S l ≡ true → parent_of S l ≡ Some p → is_begun S p ≡ true
@@ -23,7 +23,7 @@ pub record IsWhole (S : List Fact) : Type 0 where
 abbrev pub Stands : ℕ → ℕ → List Fact → List Record → Type 0
 Stands nodes home S records = (l : Id) → l.home ≡ home → find (is_of l) records ≡ (if is_held S l then Some (record_of nodes S l) else None)
 
--- the answer where the LRA is held; it is refused where it is not
+-- the answer if the LRA is held, otherwise a refusal
 abbrev pub answered : {X : Type 0} → Bool → X → Result X Refusal
 answered held x = if held then Ok x else Err NotHeld
 
@@ -32,7 +32,7 @@ abbrev pub AreOnce : List Fact → Type 0
 AreOnce [] = Unit {0}
 AreOnce (f ∷ S) = AllByRecursion (λ g. f.origin ≡ g.origin → f.num ≡ g.num → ⊥) S × AreOnce S
 
--- member numbers are given at an LRA's home, and in order
+-- member numbers are given by an LRA's home, and in order
 pub record IsSeated (S : List Fact) : Type 0 where
   pub once : AreOnce S
   pub givers : (f : Fact) (l : Id) → In f S → gives_number l f.body ≡ true → f.origin ≡ l.home

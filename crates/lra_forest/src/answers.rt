@@ -1,4 +1,4 @@
-// What the records of a home answer of an LRA and of its participants.
+// Questions about LRAs and participants, answered from the records of one home.
 ghost use Rattle.std.specs.Prelude.{◌≡◌, ◌↔◌, ℕ, List, Err, None, Some, find, is_some, length, nat_le, if◌then◌else◌};
 ghost use Rattle.std.specs.List.{AllByRecursion};
 ghost use Rattle.std.specs.Option.{option_copied};
@@ -17,7 +17,7 @@ use crate::{Forest, MAX_DEPTH, Member, Participant, Record};
 use lra_facts::{Refusal, plain};
 use lra_id::{Act, LraId, Outcome};
 
-/// The participant that a member is.
+/// Returns the participant, if the member is one.
 pub fn participant_at(member: Option<&Member>) -> Option<&Participant>
     ensures { option_copied result ≡ participant_at (option_copied member.entry) }
 {
@@ -28,7 +28,7 @@ pub fn participant_at(member: Option<&Member>) -> Option<&Participant>
 }
 
 impl Participant {
-    /// The greatest outcome of an act that was heard of it.
+    /// Returns the greatest outcome that was heard of this act of the participant.
     pub fn heard(&self, act: Act) -> Option<Outcome>
         ensures { result ≡ heard_by self.now act }
     {
@@ -82,9 +82,9 @@ impl Forest {
         None
     }
 
-    /// Of the LRAs of the home that want nothing and whose deadline has passed, the one with the
-    /// least number. It looks at each record once, and where a deadline has passed at those of the
-    /// LRAs that it is nested in.
+    /// Returns the LRA with the least number among those of the home that want nothing and whose
+    /// deadline has passed. It looks at each record once. If a deadline has passed, it also looks
+    /// at the records above that LRA.
     pub fn overdue(&self, now: u64) -> Option<LraId>
         ensures says { result ≡ first_overdue self.now.home
             (found_at self.now.home self.now.records) now self.now.records }
@@ -113,8 +113,8 @@ impl Forest {
         depth
     }
 
-    /// How deep an LRA is nested, where a root has depth 1. It looks up the record of each that it
-    /// is nested in.
+    /// Returns the depth of an LRA, where a root has depth 1. It looks up the record of each LRA in
+    /// its chain.
     pub fn depth(&self, id: LraId) -> Result<u64, Refusal>
         ensures says { let at = found_at id.home self.now.records
             in result ≡ answered (is_some (at id.num)) (depth_at at id.num) }
@@ -129,7 +129,7 @@ impl Forest {
         Ok(self.depth_at(id.num()))
     }
 
-    /// How many member numbers of an LRA were given.
+    /// Returns the number of member numbers of an LRA that were given.
     pub fn numbers_given(&self, id: LraId) -> Result<usize, Refusal>
         ensures says { let at = found_at id.home self.now.records
             in result ≡ answered (is_some (at id.num)) (length (members_at at id.num)) }
@@ -144,8 +144,8 @@ impl Forest {
         Ok(record.members.len())
     }
 
-    /// Whether what an LRA wants demands an act of its participant with this member number. It
-    /// looks up the records of the LRA and of those that it is nested in.
+    /// Whether what an LRA wants demands this act of its participant with this member number. It
+    /// looks up the records of the LRA and of those above it.
     pub fn demands(&self, id: LraId, member: u8, act: Act) -> Result<bool, Refusal>
         ensures says { let at = found_at id.home self.now.records
             in result ≡ answered_of (is_some (at id.num))
@@ -165,8 +165,8 @@ impl Forest {
         Ok(plain::demands(want, &participant.links, act))
     }
 
-    /// Whether this outcome of an act was heard of the participant of an LRA with this member
-    /// number, or a greater one.
+    /// Whether this outcome of an act, or a greater one, was heard of the LRA's participant with
+    /// this member number.
     pub fn has_heard(
         &self,
         id: LraId,
@@ -191,7 +191,7 @@ impl Forest {
         Ok(hears(participant, act, outcome))
     }
 
-    /// The participant of an LRA with this member number, if the LRA is held and has one.
+    /// Returns the LRA's participant with this member number, if the LRA is held and has one.
     pub fn participant(&self, id: LraId, member: u8) -> Option<&Participant>
         ensures says { option_copied result
             ≡ participant_of (found_at id.home self.now.records) id.num member }
@@ -205,7 +205,7 @@ impl Forest {
         participant_at(record.members.get(member))
     }
 
-    /// The parent of an LRA, if the LRA is held and nested.
+    /// Returns the parent of an LRA, if the LRA is held and nested.
     pub fn parent(&self, id: LraId) -> Option<LraId>
         ensures says { result ≡ parent_at id.home (found_at id.home self.now.records) id.num }
         ensures settled { (nodes : ℕ) (S : List Fact) → IsWhole S → AllByRecursion IsNumbered S →

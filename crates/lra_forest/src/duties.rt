@@ -1,5 +1,5 @@
-// What is due of the participants of a home: to compensate in saga order, to complete, to forget,
-// and to hear of the end.
+// What the participants of a home are due to do or to be told: to compensate in saga order, to
+// complete, to forget, and to be told of the end.
 ghost use Rattle.std.specs.Prelude.{◌≡◌, ◌↔◌, ◌++◌, ◌&&◌, ℕ, Bool, List, Err, None, Some, false, IfOk, OnOk, find, flat_map, is_none, is_some, slice_get};
 ghost use Rattle.std.specs.List.{AllByRecursion, list_any};
 ghost use Rattle.std.specs.Option.{option_map_or};
@@ -27,15 +27,16 @@ use lra_facts::Refusal;
 use lra_id::{LraId, MemberStatus, Outcome, Verdict};
 use std::alloc::{AllocError, Global};
 
-/// A participant of which something is due, by its LRA and its member number.
+/// A participant of which something is due: its LRA and its member number.
 #[derive(Clone, Copy, Debug, PartialEq, Eq)]
 pub struct Due {
     pub lra: LraId,
     pub member: u8,
 }
 
-/// What a participant is called for without regard to the saga: to complete, to forget, or to hear
-/// that its LRA has ended. The `Errand` of `lra_callback` is what a call is for.
+/// The purposes of a call that don't depend on the saga: to complete, to forget, or to tell the
+/// participant that its LRA has ended. The `Errand` of `lra_callback` has the purposes of all
+/// calls.
 #[derive(Clone, Copy)]
 enum Errand {
     Complete,
@@ -43,8 +44,8 @@ enum Errand {
     Tell,
 }
 
-/// What the participants of an LRA may owe: nothing, to complete, to forget, by what is wanted and
-/// whether it is nested, or to hear that it has ended.
+/// What the participants of an LRA may owe: nothing, to complete, to forget (by what the LRA wants
+/// and whether it is nested), or to hear that the LRA has ended.
 #[derive(Clone, Copy)]
 enum Owing {
     Nothing,
@@ -53,9 +54,8 @@ enum Owing {
     Hearing,
 }
 
-/// The root that was asked last whether it is ended, and whether it is.
-/// What is remembered between turns is a condition and an invariant over records, so it is no
-/// premise above.
+/// The root that was last tested for whether it is ended, with the result. What is remembered
+/// between loop turns is a precondition and an invariant over records, so it is no premise above.
 #[derive(Clone, Copy)]
 struct LastRoot {
     root: u64,
@@ -192,8 +192,8 @@ impl Forest {
         }
     }
 
-    /// The last participant that is still to compensate, of the members of an LRA and those nested
-    /// in them to this depth. It goes from the greatest member number down.
+    /// Returns the last participant that must still compensate, among the members of an LRA and
+    /// those nested in them to this depth. It walks down from the greatest member number.
     #[cycle(walk)]
     fn last_pending(&self, number: u64, members: &Members, levels: u8) -> Option<Place>
         ensures { result ≡ last_of
@@ -256,10 +256,10 @@ impl Forest {
         Ok(dues)
     }
 
-    /// The compensations that are due: under each LRA that is cancelled, and that is nested in no
-    /// cancelled one, at most one, by the number of that LRA. It looks up the records under these
-    /// LRAs: each at most once. It goes on in a nested LRA only from the parent that its record
-    /// names, and so through forged records too at most once.
+    /// Returns the compensations that are due, in order of their topmost cancelled LRAs. Under each
+    /// LRA that is cancelled, and is nested in no cancelled one, at most one is due. It looks up
+    /// each record under these LRAs at most once. It goes on in a nested LRA only from the parent
+    /// that the LRA's record names, so even with forged records it visits each at most once.
     pub fn next_compensations(&self, alloc: Global) -> Result<Vec<Due>, AllocError>
         ensures says { IfOk result (λ dues. dues.items ≡ due_to_compensate self.now.home
             (found_at self.now.home self.now.records) self.now.records) }
@@ -272,8 +272,8 @@ impl Forest {
     }
 
     /// Whether the LRA with the second number is the one with the first, or nested in it, by its
-    /// chain of parents. `root_of`, `depth_at` and `wanted` walk up likewise: of a closure one walk
-    /// would have to say what each says of itself. Not tried.
+    /// chain of parents. `root_of`, `depth_at` and `wanted` walk up the same way. One walk that
+    /// takes a closure would have to say what each of them says of itself. Not tried.
     pub(crate) fn is_under(&self, above: u64, num: u64) -> bool
         ensures { result ≡ is_under_at (found_at self.now.home self.now.records) above num }
     {
@@ -351,7 +351,7 @@ impl Forest {
         }
     }
 
-    /// Whether the LRA with this number is ended, and no later decision changes what it shows.
+    /// Whether the LRA with this number is ended and no later decision changes what it shows.
     fn is_at_end(&self, num: u64) -> bool
         ensures { result ≡ is_at_end_at (found_at self.now.home self.now.records) num }
     {
@@ -361,7 +361,7 @@ impl Forest {
         is_cancel(self.wanted(num)) || self.is_root_decided(num)
     }
 
-    /// The same, where a root that was asked last is not asked again.
+    /// Like `is_over`, but doesn't test a root again that was tested last.
     fn is_over_since(&self, num: u64, last: &mut Option<LastRoot>) -> bool
         requires { IsLastRoot (found_at self.now.home self.now.records) last.old }
         ensures over { result ≡ is_over_at (found_at self.now.home self.now.records) num }
@@ -380,15 +380,16 @@ impl Forest {
         ended
     }
 
-    /// What the participants of the LRA of this record may have to forget once its root is ended.
+    /// Returns what the participants of this record's LRA may have to forget once its root is
+    /// ended.
     fn forgetting(&self, kept: &Record) -> Owing
         ensures { result ≡ forgetting_at (found_at self.now.home self.now.records) kept.now }
     {
         Owing::Forgetting(self.wanted(kept.num), kept.parent.is_some())
     }
 
-    /// What the participants of the LRA of this record have to forget. Where none may have anything
-    /// to forget, the root is not asked whether it is ended.
+    /// Returns what the participants of this record's LRA have to forget. If none may have anything
+    /// to forget, it doesn't test whether the root is ended.
     fn forgetting_since(&self, lra: LraId, kept: &Record, last: &mut Option<LastRoot>) -> Owing
         requires { IsLastRoot (found_at self.now.home self.now.records) last.old }
         ensures owed { owed_by result lra 1 kept.now.members ≡ owed_by (owing_at Errand.Forget
@@ -405,8 +406,8 @@ impl Forest {
         owing
     }
 
-    /// What the participants of the LRA of this record have to hear. Where none is to hear
-    /// anything, it is not asked whether the LRA has ended.
+    /// Returns what the participants of this record's LRA have to hear. If none has anything to
+    /// hear, it doesn't test whether the LRA has ended.
     fn hearing(&self, lra: LraId, kept: &Record) -> Owing
         ensures { owed_by result lra 1 kept.now.members ≡ owed_by (owing_at Errand.Tell
             (found_at self.now.home self.now.records) kept.now) lra 1 kept.now.members }
@@ -457,8 +458,8 @@ impl Forest {
         Ok(dues)
     }
 
-    /// The participants that are to be called to complete, by the numbers of their LRAs and their
-    /// member numbers.
+    /// Returns the participants that are to be called to complete, by the numbers of their LRAs and
+    /// their member numbers.
     pub fn complete_duties(&self, alloc: Global) -> Result<Vec<Due>, AllocError>
         ensures says { IfOk result (λ dues. dues.items
             ≡ due_to_complete (found_at self.now.home self.now.records) self.now.records) }
@@ -470,8 +471,8 @@ impl Forest {
         self.duties(alloc, Errand::Complete)
     }
 
-    /// The participants that are to be told that they may forget, by the numbers of their LRAs and
-    /// their member numbers.
+    /// Returns the participants that are to be told that they may forget, by the numbers of their
+    /// LRAs and their member numbers.
     pub fn forget_duties(&self, alloc: Global) -> Result<Vec<Due>, AllocError>
         ensures says { IfOk result (λ dues. dues.items
             ≡ due_to_forget (found_at self.now.home self.now.records) self.now.records) }
@@ -483,8 +484,8 @@ impl Forest {
         self.duties(alloc, Errand::Forget)
     }
 
-    /// The participants that are to be told that their LRAs have ended, by the numbers of these and
-    /// their member numbers.
+    /// Returns the participants that are to be told that their LRAs have ended, by the numbers of
+    /// these LRAs and their member numbers.
     pub fn after_duties(&self, alloc: Global) -> Result<Vec<Due>, AllocError>
         ensures says { IfOk result (λ dues. dues.items
             ≡ due_to_hear (found_at self.now.home self.now.records) self.now.records) }
@@ -496,8 +497,7 @@ impl Forest {
         self.duties(alloc, Errand::Tell)
     }
 
-    /// Whether the participant of an LRA with this member number is to be told that the LRA has
-    /// ended.
+    /// Whether the LRA's participant with this member number is to be told that the LRA has ended.
     pub fn is_to_hear(&self, id: LraId, member: u8) -> Result<bool, Refusal>
         ensures says { let at = found_at id.home self.now.records
             in result ≡ answered_of (is_some (at id.num))
@@ -516,7 +516,7 @@ impl Forest {
         Ok(self.is_at_end(record.num))
     }
 
-    /// Whether the participant of an LRA with this member number was told that the LRA has ended.
+    /// Whether the LRA's participant with this member number was told that the LRA has ended.
     pub fn was_told(&self, id: LraId, member: u8) -> Result<bool, Refusal>
         ensures says { let at = found_at id.home self.now.records
             in result ≡ answered_of (is_some (at id.num))
@@ -532,7 +532,7 @@ impl Forest {
         Ok(participant.told)
     }
 
-    /// Whether the participant of an LRA with this member number is to be told that it may forget.
+    /// Whether the LRA's participant with this member number is to be told that it may forget.
     pub fn is_to_forget(&self, id: LraId, member: u8) -> Result<bool, Refusal>
         ensures says { let at = found_at id.home self.now.records
             in result ≡ answered_of (is_some (at id.num))
@@ -551,7 +551,7 @@ impl Forest {
         Ok(self.is_over(record.num))
     }
 
-    /// Whether the participant of an LRA with this member number was told that it may forget.
+    /// Whether the LRA's participant with this member number was told that it may forget.
     pub fn has_forgotten(&self, id: LraId, member: u8) -> Result<bool, Refusal>
         ensures says { let at = found_at id.home self.now.records
             in result ≡ answered_of (is_some (at id.num))
@@ -588,8 +588,8 @@ impl Forest {
         first_owed(self.forgetting_since(lra, kept, last), lra, &kept.members)
     }
 
-    /// Of the participants of an LRA of this home and of what is nested in it, the least that is
-    /// still to be told to forget. The root is asked at most once whether it is ended.
+    /// Returns the least participant, of an LRA of this home or of an LRA nested in it, that must
+    /// still be told to forget. It tests at most once whether the root is ended.
     pub fn least_forget_duty(&self, above: LraId) -> Option<Due>
         requires { above.home ≡ self.now.home }
         ensures { result
@@ -617,8 +617,8 @@ impl Forest {
         first_owed(Owing::Hearing, lra, &kept.members)
     }
 
-    /// Of the participants of an LRA of this home and of what is nested in it, the least that has a
-    /// link for the end of its LRA and was not told of it.
+    /// Returns the least participant, of an LRA of this home or of an LRA nested in it, that has a
+    /// link for the end of its LRA and was not told of the end.
     pub fn least_unheard(&self, above: LraId) -> Option<Due>
         requires { above.home ≡ self.now.home }
         ensures { result ≡ least_unheard_of

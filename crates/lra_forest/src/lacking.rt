@@ -1,4 +1,4 @@
-// What of another node's records is news.
+// Which of another node's records are news.
 ghost use Rattle.std.specs.Prelude.{◌≡◌, ◌≤◌, ◌<◌, ◌==◌, ◌&&◌, ◌||◌, ℕ, None, Some, false, IfOk, IsTrue, OnOk, if◌then◌else◌, is_some};
 ghost use Rattle.std.specs.List.{AllByRecursion};
 ghost use Rattle.std.specs.Option.{option_copied};
@@ -14,7 +14,7 @@ use lra_facts::Link;
 use lra_id::Outcome;
 use std::alloc::{AllocError, Global};
 
-/// Whether an outcome stays as it is when another is heard.
+/// Whether an outcome stays unchanged when another one is heard.
 fn outcome_stays(link: Option<&Link>, kept: Option<Outcome>, heard: Option<Outcome>) -> bool
     ensures { IsTrue result →
         (if is_some (option_copied link.entry) then greater kept heard else None) ≡ kept }
@@ -22,14 +22,14 @@ fn outcome_stays(link: Option<&Link>, kept: Option<Outcome>, heard: Option<Outco
     where_linked(link, Outcome::or_greater(kept, heard)) == kept
 }
 
-/// Whether a mark stays as it is when another is heard.
+/// Whether a mark stays unchanged when another one is heard.
 fn mark_stays(link: Option<&Link>, kept: bool, heard: bool) -> bool
     ensures { IsTrue result → (is_some (option_copied link.entry) && (kept || heard)) ≡ kept }
 {
     (link.is_some() && (kept || heard)) == kept
 }
 
-/// Whether a participant stays as it is when another is merged into it.
+/// Whether a participant stays unchanged when another is merged into it.
 #[tactic(auto, using(crate::proofs::MemberMerges::participant_stays))]
 fn participant_stays(kept: &Participant, other: &Participant) -> bool
     ensures { IsTrue result → merged_participant kept.now other.now ≡ kept.now }
@@ -42,7 +42,7 @@ fn participant_stays(kept: &Participant, other: &Participant) -> bool
     completed && compensated && forgotten && told
 }
 
-/// Whether a member stays as it is when another is merged into it. Where it may not, it says no.
+/// Whether a member stays unchanged when another is merged into it. Returns false if it may change.
 fn stays(kept: &Member, other: Option<&Member>) -> bool
     ensures { IsTrue result → merged_member kept.now (option_copied other.entry) ≡ kept.now }
 {
@@ -55,7 +55,7 @@ fn stays(kept: &Member, other: Option<&Member>) -> bool
     }
 }
 
-/// Whether all of some members stay as they are when others are merged into them.
+/// Whether all of some members stay unchanged when others are merged into them.
 fn all_stay(kept: &Members, other: &Members) -> bool
     ensures { IsTrue result → merged_members kept.now other.now ≡ kept.now }
 {
@@ -68,7 +68,7 @@ fn all_stay(kept: &Members, other: &Members) -> bool
     true
 }
 
-/// Whether a record has all that another of its LRA tells. It takes no memory.
+/// Whether a record already has everything that another record of its LRA says. It takes no memory.
 pub(crate) fn has_all(own: &Record, heard: &Record) -> bool
     ensures { IsTrue result → merged_record own.now heard.now ≡ own.now }
 {
@@ -84,7 +84,7 @@ fn copied(kept: &Record) -> Result<Record, AllocError>
 }
 
 impl Forest {
-    /// Whether the own record of an LRA has all that another of it tells.
+    /// Whether the own record of an LRA already has everything that another record of it says.
     fn knows(&self, heard: &Record) -> bool
         ensures { let own = found_at self.now.home self.now.records heard.now.num in
             IsTrue result → brought false own (Some heard.now) ≡ own }
@@ -118,9 +118,9 @@ impl Forest {
         Ok(())
     }
 
-    /// Copies of another node's records of the home, in order, without those that tell nothing new:
-    /// the two records of such an LRA are merged into the one that is here. It looks up each of the
-    /// other's records by halving, and takes memory for the copies alone.
+    /// Copies those of another node's records of the home that bring news, in order. A record
+    /// brings none if merging it into the record here changes nothing. It looks up each of the
+    /// other's records by binary search, and takes memory only for the copies.
     pub fn lacking(&self, alloc: Global, other: &Forest) -> Result<Forest, AllocError>
         requires { other.now.home ≡ self.now.home }
         ensures home { IfOk result (λ news. news.home ≡ self.now.home) }

@@ -1,4 +1,4 @@
-// What a home's records become when another node's are taken.
+// How a home's records change when another node's records are merged into them.
 ghost use Rattle.std.specs.Prelude.{◌≡◌, ◌≤◌, ◌<◌, ◌==◌, ℕ, Some, None, false, IfOk, IsTrue, OnOk, if◌then◌else◌, is_some, nat_le};
 ghost use Rattle.std.specs.List.{AllByRecursion};
 ghost use Rattle.std.specs.Option.{option_copied};
@@ -13,31 +13,31 @@ use lra_facts::Link;
 use lra_id::{LraId, Outcome};
 use std::alloc::{AllocError, Global};
 
-/// What another node tells of a home.
+/// What another node sends of a home.
 #[derive(Debug, Drop)]
 pub struct Told {
     /// Records of LRAs of the home.
     pub records: Forest,
-    /// The numbers of all LRAs of the home that the other holds, where it tells them.
+    /// The numbers of all LRAs of the home that the other node holds, if it sends them.
     pub held: Option<Vec<u64>>,
 }
 
-/// What is to be changed in the records of a home: LRAs whose records are taken out, and records
-/// that are then put in their places. Each stands there once, in order of the numbers.
+/// The changes to the records of a home: LRAs whose records are removed, and records that are then
+/// put in their places. Each stands there once, in order of the numbers.
 #[derive(Debug, Drop)]
 pub struct Changes {
     pub removed: Vec<LraId>,
     pub records: Forest,
 }
 
-/// What was heard of an act, where there is a link for it.
+/// Returns the outcome that was heard of an act, if there is a link for it.
 pub(crate) fn where_linked(link: Option<&Link>, heard: Option<Outcome>) -> Option<Outcome>
     ensures { result ≡ (if is_some (option_copied link.entry) then heard else None) }
 {
     if link.is_some() { heard } else { None }
 }
 
-/// A participant without what it has no link for.
+/// Returns the participant without whatever it has no link for.
 fn linked(kept: Participant) -> Participant
     ensures { result ≡ linked kept }
 {
@@ -54,7 +54,8 @@ fn linked(kept: Participant) -> Participant
     }
 }
 
-/// A participant, with what another record heard of it, and without what it has no link for.
+/// Returns the participant with what another record heard of it, and without whatever it has no
+/// link for.
 fn merged_participant(kept: Participant, other: &Participant) -> Participant
     ensures { result ≡ merged_participant kept other.now }
 {
@@ -83,7 +84,7 @@ fn merged_member(kept: Member, other: Option<&Member>) -> Member
     }
 }
 
-/// Adds to members what another record heard of them, and drops what they have no link for. It
+/// Adds to members what another record heard of them, and drops whatever they have no link for. It
 /// takes no memory.
 fn merge_members(kept: &mut Members, other: &Members)
     ensures { kept.new ≡ merged_members kept.old other.now }
@@ -95,7 +96,7 @@ fn merge_members(kept: &mut Members, other: &Members)
     }
 }
 
-/// Whether it is the same which of two members is merged into the other.
+/// Whether merging either of two members into the other gives the same.
 fn is_alike(kept: &Member, other: &Member) -> bool
     ensures { IsTrue result → merged_member kept.now (Some other.now)
         ≡ merged_member other.now (Some kept.now) }
@@ -109,7 +110,7 @@ fn is_alike(kept: &Member, other: &Member) -> bool
     }
 }
 
-/// Whether it is the same which members are merged into the others.
+/// Whether merging either list of members into the other gives the same.
 fn are_alike(kept: &Members, other: &Members) -> bool
     ensures { IsTrue result → merged_members kept.now other.now
         ≡ merged_members other.now kept.now }
@@ -126,8 +127,8 @@ fn are_alike(kept: &Members, other: &Members) -> bool
     true
 }
 
-/// The own members, with what another record heard of them. They are copied only where they differ
-/// from the other's in more than that.
+/// Returns the own members with what another record heard of them. It copies them only if they
+/// differ from the other's in more than that.
 fn merged_own(own: &Members, other: Members) -> Result<Members, AllocError>
     ensures { IfOk result (λ members. members ≡ merged_members own.now other) }
 {
@@ -147,8 +148,8 @@ pub(crate) fn home_stamp(kept: &Record) -> u64
     kept.stamps.count(kept.home)
 }
 
-/// Two records of one LRA, made into one. Members, links and the decision are those of the record
-/// that heard more of the home's own facts.
+/// Merges two records of one LRA. The members, links and decision are those of the record that
+/// counts more of the home's own facts.
 pub(crate) fn merge_records(own: &Record, other: Record) -> Result<Record, AllocError>
     ensures { IfOk result (λ r. r ≡ merged_record own.now other) }
 {
@@ -182,8 +183,8 @@ impl Told {
         }
     }
 
-    /// The LRA of this record, if the other has no record of it and holds it no more. The other has
-    /// this many of the home's facts.
+    /// Returns the LRA of this record if the other node has no record of it and no longer holds it.
+    /// `told` is the number of the home's facts that the other node counts.
     fn gone(&self, told: u64, own: &Record) -> Option<LraId>
         ensures { result ≡ (if is_lost self.now.records.home told (held_numbers self.now.held)
             self.now.records.records own.now then Some (id_of own.now) else None) }
@@ -196,8 +197,8 @@ impl Told {
     }
 }
 
-/// Those of these LRAs of which the other has no record and that it holds no more. Nothing is looked
-/// up where it doesn't tell what it holds.
+/// Returns the LRAs of these records of which the other node has no record and which it no longer
+/// holds. If that node doesn't send which LRAs it holds, nothing is looked up.
 #[tactic(auto, using(crate::proofs::OnlyWhatChanges::none_lost))]
 fn all_gone(
     alloc: Global,
@@ -227,9 +228,10 @@ fn unless_there(next: Record, own: &Record) -> Option<Record>
 }
 
 impl Forest {
-    /// What is put of an LRA of which the other has this record: both records merged, or where it
-    /// is missing here the other's, unless the begin is counted here. Then it was purged here.
-    /// Nothing where that is the record that is here.
+    /// Returns the record to put for an LRA of which the other node has this record. If there is a
+    /// record here too, the result is both merged. If there is none, the result is the other's
+    /// record, unless the begin is counted here, because then the LRA was purged here. Returns
+    /// `None` if the record here would not change.
     fn news(&self, mine: u64, heard: Record) -> Result<Option<Record>, AllocError>
         ensures { IfOk result (λ put. let own = found_at self.now.home self.now.records heard.num in
             IsPut own (brought (nat_le heard.num mine) own (Some heard)) put) }
@@ -284,16 +286,20 @@ impl Forest {
         Ok(records)
     }
 
-    /// What is to be changed in these records when another node's are taken. Mine is how many of
-    /// the home's facts their node has, told how many the other has. An LRA of which both have a
-    /// record gets the two merged. One of which the other alone has a record gets that, unless mine
-    /// counts its begin: since then it was purged here. One of which these alone have a record is
-    /// taken out if the other tells all LRAs of the home that it holds and this is none of them,
-    /// though told counts its begin: since then it was purged there. Else it stays. A record that
-    /// would be put as it is here is no change, and each change stands there once. It looks up each
-    /// record among the other's by halving, goes over the numbers that are told for each one that
-    /// the other lacks, and takes memory for what is to be changed and for one record that is
-    /// merged.
+    /// Returns how these records change when another node's records are merged into them. `mine` is
+    /// the number of the home's facts that this node counts, `told` the number that the other
+    /// counts.
+    ///
+    /// An LRA of which both have a record gets the merged record. An LRA of which only the other
+    /// has a record gets that record, unless `mine` counts its begin, because then it was purged
+    /// here. An LRA of which only these records have one is removed if the other lists all LRAs of
+    /// the home that it holds and doesn't list this one, although `told` counts its begin, because
+    /// then it was purged there. Otherwise it stays.
+    ///
+    /// A record that would stay the same is no change, and each change stands there once. It looks
+    /// up each record among the other's by binary search, goes through the listed numbers for each
+    /// record that the other lacks, and takes memory only for the changes and for one record that
+    /// is being merged.
     pub fn taking(
         &self,
         alloc: Global,
@@ -313,7 +319,7 @@ impl Forest {
             (found_at self.now.home self.now.records num)
             (found_at self.now.home other.records.records num)) }
     {
-        // What these ensure is needed: both are in order.
+        // The prover needs what these calls ensure: both are in order.
         let own = self.records();
         let _ = other.records.records();
         let removed = all_gone(alloc, own, told, &other)?;

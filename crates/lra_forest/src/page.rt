@@ -1,4 +1,4 @@
-// Records in order of their numbers, in room that was made for 32.
+// A page: up to 32 records in order of their numbers, with room for 32 from the start.
 ghost use Rattle.std.specs.Prelude.{◌≡◌, ◌↔◌, ◌+◌, ◌≤◌, ◌<◌, ◌==◌, ◌++◌, ◌∷◌, [], None, Some, false, true, IfOk, IsTrue, OnOk, drop, filter, is_some, length, nat_lt, slice_get, vec_capacity, vec_len};
 ghost use mathlib.Core.Bool.{not};
 ghost use Rattle.std.specs.Option.{option_copied};
@@ -12,10 +12,10 @@ use std::alloc::{AllocError, Global};
 use std::marker::Model;
 use std::mem;
 
-/// How many records fit on a page.
+/// The number of records that fit on a page.
 const PAGE_ROOM: usize = 32;
 
-/// Up to 32 records. There is room for so many.
+/// Up to 32 records. There is always room for that many.
 #[derive(Debug, Drop)]
 pub(crate) struct Page {
     records: Vec<Record>,
@@ -40,7 +40,8 @@ fn place_of(records: &[Record], num: u64) -> usize
     records.partition_point(|record| record.num < num)
 }
 
-/// The record with a number, among records in order of their numbers. It halves them at each step.
+/// Returns the record with a number, among records in order of their numbers. It uses binary
+/// search.
 fn with_number(records: &[Record], num: u64) -> Option<&Record>
     requires { IsAscending records.now }
     ensures { option_copied result
@@ -65,7 +66,8 @@ fn stands_at(records: &[Record], place: usize, num: u64) -> bool
     }
 }
 
-/// Puts a record in its place. There is room for it, or one with its number to be replaced.
+/// Puts a record in its place. There must be room for it, or a record with its number, which is
+/// replaced.
 #[tactic(auto, using(crate::proofs::Puts::put_set, crate::proofs::Puts::put_insert, crate::proofs::Puts::some_within, crate::proofs::Places::place_length))]
 fn put_among(records: &mut Vec<Record>, added: Record)
     requires order { IsAscending records.old.items }
@@ -128,7 +130,7 @@ fn remove_among(records: &mut Vec<Record>, num: u64)
 }
 
 impl Page {
-    /// No record, and room for 32.
+    /// Makes an empty page with room for 32 records.
     pub(crate) fn new(alloc: Global) -> Result<Page, AllocError>
         ensures { IfOk result (λ page. page ≡ []) }
     {
@@ -145,7 +147,7 @@ impl Page {
         Ok(())
     }
 
-    /// The records in order of their numbers.
+    /// Returns the records in order of their numbers.
     pub(crate) fn as_slice(&self) -> &[Record]
         ensures records { result.now ≡ self.now }
         ensures few { length result.now ≤ PAGE_ROOM }
@@ -153,7 +155,7 @@ impl Page {
         &self.records
     }
 
-    /// The records in order of their numbers, without the page.
+    /// Takes the page apart, and returns its records in order of their numbers.
     pub(crate) fn into_records(self) -> Vec<Record>
         ensures { result.items ≡ self }
     {
@@ -173,7 +175,7 @@ impl Page {
         self.records.is_empty()
     }
 
-    /// Whether there are records, and the number of the last is lesser.
+    /// Whether there are records and the number of the last one is less than this.
     pub(crate) fn lies_below(&self, num: u64) -> bool
         ensures { result ≡ lies_below num self.now }
     {
@@ -183,7 +185,7 @@ impl Page {
         }
     }
 
-    /// The record with a number. It halves the records at each step.
+    /// Returns the record with a number. It uses binary search.
     pub(crate) fn numbered(&self, num: u64) -> Option<&Record>
         requires { IsAscending self.now }
         ensures { option_copied result
@@ -192,7 +194,7 @@ impl Page {
         with_number(&self.records, num)
     }
 
-    /// The records with greater numbers.
+    /// Returns the records with greater numbers.
     pub(crate) fn after(&self, num: u64) -> &[Record]
         requires { IsAscending self.now }
         ensures { result.now ≡ filter (λ r. nat_lt num r.num) self.now }
@@ -201,7 +203,7 @@ impl Page {
         &records[count_to(records, num)..]
     }
 
-    /// Puts a record behind the others. The page is not full.
+    /// Puts a record behind the others. The page must not be full.
     pub(crate) fn push(&mut self, added: Record)
         requires { length self.old < PAGE_ROOM }
         ensures { self.new ≡ self.old ++ added ∷ [] }
@@ -209,7 +211,7 @@ impl Page {
         self.records.push_reserved(added);
     }
 
-    /// Puts a record in its place. The page is not full.
+    /// Puts a record in its place. The page must not be full.
     pub(crate) fn put(&mut self, added: Record)
         requires order { IsAscending self.old }
         requires room { length self.old < PAGE_ROOM }
@@ -219,7 +221,7 @@ impl Page {
         put_among(&mut self.records, added);
     }
 
-    /// Puts a record in the place of the one with its number.
+    /// Replaces the record with this record's number, and returns the old one.
     pub(crate) fn exchange(&mut self, next: Record) -> Record
         requires order { IsAscending self.old }
         requires there { let place = count_below next.num self.old in
@@ -232,7 +234,7 @@ impl Page {
         exchange_among(&mut self.records, next)
     }
 
-    /// Takes away the record with a number.
+    /// Removes the record with a number.
     pub(crate) fn remove(&mut self, num: u64)
         requires { IsAscending self.old }
         ensures records { self.new ≡ filter (λ r. not (r.num == num)) self.old }

@@ -1,4 +1,4 @@
-// The records of a home on pages of at most 32.
+// The records of a home, on pages of at most 32.
 ghost use Rattle.std.specs.Prelude.{◌≡◌, ◌+◌, ◌-◌, ◌*◌, ◌≤◌, ◌<◌, ◌==◌, ◌++◌, ◌∷◌, ◌^◌, ℕ, max, List, [], None, Some, true, IfOk, MatchOption, OnErr, OnOk, drop, filter, get_or, is_some, length, nat_lt, slice_get, vec_capacity, vec_len};
 ghost use mathlib.Core.Bool.{not};
 ghost use Rattle.std.specs.List.{insert, remove};
@@ -15,16 +15,19 @@ use std::alloc::{AllocError, Global};
 use std::marker::Model;
 use std::vec;
 
-/// The most pages of a home.
+/// The greatest number of pages of a home.
 const MAX_PAGES: usize = 1 << 32;
 
-/// Records in order of their numbers, on pages of at most 32. Behind them there are empty pages,
-/// each with its room: a record for which there is no room on its page takes one of those, and no
-/// memory. Since a full page is halved for it, each empty page is room for 16 records, less what
-/// stands beyond 16 on the pages by now. So a put moves the records of one page. A page is a vector
-/// and no array, so that to insert one moves 24 bytes for each page after it. Two sparse pages
-/// aren't merged. Room is counted where it is needed, so that no put has to keep a count; that one
-/// empty page is kept no clause says.
+/// Records in order of their numbers, on pages of at most 32.
+///
+/// Behind the pages with records there are empty pages, each with its room. A record for which its
+/// page has no room takes one of these, and no memory. Since a full page is halved then, each empty
+/// page is room for 16 records, less the records beyond 16 that the pages have now. So a put moves
+/// the records of only one page.
+///
+/// A page is a vector and not an array, so inserting a page moves 24 bytes for each page after it.
+/// Two sparse pages aren't merged. Room is counted when it is needed, so that no put has to keep a
+/// count. No clause says that one empty page is kept.
 #[derive(Debug, Drop)]
 pub(crate) struct Pages {
     pages: Vec<Page>,
@@ -44,7 +47,7 @@ impl Model for Pages {
     ghost invariant = { λ p. AreEmptyLast p.pages.items × (vec_len p.pages ≤ 2 ^ 32) };
 }
 
-/// The first page that doesn't lie below a number. It halves the pages at each step.
+/// Returns the place of the first page that doesn't lie below a number. It uses binary search.
 fn page_of(pages: &[Page], num: u64) -> usize
     requires order { IsAscending (records_in pages.now) }
     requires last { AreEmptyLast pages.now }
@@ -81,7 +84,7 @@ fn exchange_in(pages: &mut Vec<Page>, next: Record) -> Record
     pages[at].exchange(next)
 }
 
-/// Puts a page at a place, where there is room for one more.
+/// Inserts a page at a place. There must be room for one more.
 fn insert_page(pages: &mut Vec<Page>, at: usize, page: Page)
     requires within { at ≤ vec_len pages.old }
     requires room { vec_len pages.old < vec_capacity pages.old }
@@ -91,8 +94,8 @@ fn insert_page(pages: &mut Vec<Page>, at: usize, page: Page)
     let _ = pages.insert(at, page);
 }
 
-/// Moves half of the records of a full page to an empty page behind it, and says which of the two a
-/// number belongs on.
+/// Moves half of the records of a full page to an empty page behind it, and returns the place of
+/// the one on which a number belongs.
 fn seat_on_half(pages: &mut Vec<Page>, at: usize, num: u64) -> usize
     requires last { AreEmptyLast pages.old.items }
     requires spare { 1 ≤ empty_pages pages.old.items }
@@ -116,8 +119,8 @@ fn seat_on_half(pages: &mut Vec<Page>, at: usize, num: u64) -> usize
     seat
 }
 
-/// The page on which there is room for one more record with a number that no record has. Where its
-/// page is full, half of the records there move to an empty page.
+/// Returns the place of a page with room for one more record, whose number no record has. If the
+/// page where it belongs is full, half of the records there move to an empty page.
 fn seat(pages: &mut Vec<Page>, num: u64) -> usize
     requires order { IsAscending (records_in pages.old.items) }
     requires last { AreEmptyLast pages.old.items }
@@ -127,7 +130,7 @@ fn seat(pages: &mut Vec<Page>, num: u64) -> usize
 {
     let at = page_of(pages, num);
     if pages[at].is_empty() {
-        // Behind all others.
+        // The record belongs behind all others.
         if at > 0 && !pages[at - 1].is_full() {
             at - 1
         } else {
@@ -183,7 +186,7 @@ fn remove_in(pages: &mut Vec<Page>, num: u64)
     }
 }
 
-/// How many of the pages are empty.
+/// Returns the number of empty pages.
 fn empty_in(pages: &[Page]) -> usize
     ensures { result ≡ empty_pages pages.now }
 {
@@ -196,7 +199,7 @@ fn empty_in(pages: &[Page]) -> usize
     count
 }
 
-/// What the pages weigh: so many fewer records fit than 16 for each empty page.
+/// Returns the weight of the pages. The room is 16 records for each empty page, less this weight.
 fn weight_of(pages: &[Page]) -> usize
     requires { length pages.now ≤ 2 ^ 32 }
     ensures { result ≡ weight_in pages.now }
@@ -212,7 +215,8 @@ fn weight_of(pages: &[Page]) -> usize
     weight + count
 }
 
-/// How many pages are to be empty, so that so many more records fit beside pages of this weight.
+/// Returns how many pages must be empty for this many more records to fit, if the pages have this
+/// weight.
 fn pages_for(more: usize, weight: usize) -> usize
     ensures room { (empty : ℕ) → result ≤ empty → more ≤ max empty (16 * empty - weight) }
     ensures few { 16 * result ≤ more + weight + 30 }
@@ -221,7 +225,7 @@ fn pages_for(more: usize, weight: usize) -> usize
     more.min(more.div_ceil(16) + weight.div_ceil(16))
 }
 
-/// How many records there are.
+/// Returns the number of records.
 fn count_in(pages: &[Page]) -> usize
     requires { length pages.now ≤ 2 ^ 32 }
     ensures { result ≡ length (records_in pages.now) }
@@ -246,8 +250,9 @@ fn add_page(alloc: Global, pages: &mut Vec<Page>) -> Result<(), AllocError>
     Ok(())
 }
 
-/// The page for one more record behind all others: the last one with records, or where that is
-/// full the one behind it. It may still have to be added. It halves nothing.
+/// Returns the place of the page for one more record behind all others: the last page with records,
+/// or the place behind it if that page is full. The page may still have to be added. It doesn't
+/// search.
 fn last_seat(pages: &[Page]) -> usize
     requires { AreEmptyLast pages.now }
     ensures { IsLastSeat result pages.now }
@@ -266,7 +271,8 @@ fn last_seat(pages: &[Page]) -> usize
     0
 }
 
-/// The page for one more record behind all others, which is added if need be.
+/// Returns the place of the page for one more record behind all others, and adds that page if
+/// needed.
 fn make_last_seat(pages: &mut Vec<Page>) -> Result<usize, AllocError>
     requires last { AreEmptyLast pages.old.items }
     requires few { vec_len pages.old ≤ 2 ^ 32 }
@@ -300,7 +306,7 @@ fn push_in(pages: &mut Vec<Page>, added: Record) -> Result<(), AllocError>
     Ok(())
 }
 
-/// Adds empty pages, until there are so many more.
+/// Adds this many empty pages.
 #[tactic(auto, using(crate::proofs::PageEdits::behind, crate::proofs::PageEdits::emptied_behind, crate::proofs::PageEdits::more_behind, crate::proofs::PageWeights::behind_weighs))]
 fn add_pages(pages: &mut Vec<Page>, more: usize) -> Result<(), AllocError>
     requires last { AreEmptyLast pages.old.items }
@@ -319,7 +325,7 @@ fn add_pages(pages: &mut Vec<Page>, more: usize) -> Result<(), AllocError>
     Ok(())
 }
 
-/// Gives back the last page, which is empty.
+/// Frees the last page, which must be empty.
 fn drop_last(pages: &mut Vec<Page>)
     requires last { AreEmptyLast pages.old.items }
     requires empty { 1 ≤ empty_pages pages.old.items }
@@ -333,7 +339,7 @@ fn drop_last(pages: &mut Vec<Page>)
     };
 }
 
-/// Gives back all empty pages but one.
+/// Frees all empty pages but one.
 fn keep_one(pages: &mut Vec<Page>)
     requires last { AreEmptyLast pages.old.items }
     ensures items { records_in pages.new.items ≡ records_in pages.old.items }
@@ -347,7 +353,7 @@ fn keep_one(pages: &mut Vec<Page>)
     }
 }
 
-/// The records that are left of some pages, in order.
+/// The remaining records of some pages, in order.
 #[derive(Drop)]
 pub struct Records<'a> {
     page: &'a [Record],
@@ -379,7 +385,8 @@ impl<'a> Iterator for Records<'a> {
     }
 }
 
-/// The first of the records that are left of a page, or of those behind it, and what is left then.
+/// Returns the first of the remaining records, from a page or from those behind it, and what
+/// remains after it.
 fn first_of<'a>(
     page: &'a [Record],
     pages: &'a [Page],
@@ -423,7 +430,7 @@ fn after_in(pages: &[Page], num: u64) -> Records<'_>
 }
 
 impl Pages {
-    /// No record, and no page.
+    /// Returns pages without records: none.
     pub(crate) fn new(alloc: Global) -> Pages
         ensures items { result.items ≡ [] }
     {
@@ -432,14 +439,14 @@ impl Pages {
         }
     }
 
-    /// How many records there are.
+    /// Returns the number of records.
     pub(crate) fn len(&self) -> usize
         ensures { result ≡ length self.now.items }
     {
         count_in(&self.pages)
     }
 
-    /// The records in order of their numbers.
+    /// Returns the records in order of their numbers.
     pub(crate) fn iter(&self) -> Records<'_>
         ensures { result ≡ self.now.items }
     {
@@ -449,7 +456,7 @@ impl Pages {
         }
     }
 
-    /// The records in order of their numbers, each by itself.
+    /// Takes the pages apart, and returns the records one by one, in order of their numbers.
     pub(crate) fn into_records(self) -> IntoRecords
         ensures { result ≡ self.items }
     {
@@ -460,7 +467,7 @@ impl Pages {
         }
     }
 
-    /// The records with greater numbers, in order. It finds the first by halving.
+    /// Returns the records with greater numbers, in order. It finds the first by binary search.
     pub(crate) fn after(&self, num: u64) -> Records<'_>
         requires { IsAscending self.now.items }
         ensures { result ≡ filter (λ r. nat_lt num r.num) self.now.items }
@@ -468,7 +475,8 @@ impl Pages {
         after_in(&self.pages, num)
     }
 
-    /// The record with a number. It halves the pages at each step, and then the records of one.
+    /// Returns the record with a number. It uses binary search, first among the pages and then on
+    /// one page.
     pub(crate) fn numbered(&self, num: u64) -> Option<&Record>
         requires { IsAscending self.now.items }
         ensures { option_copied result
@@ -477,7 +485,7 @@ impl Pages {
         numbered_in(&self.pages, num)
     }
 
-    /// Takes the memory that so many more records need.
+    /// Reserves memory for this many more records.
     pub(crate) fn reserve(&mut self, more: usize) -> Result<(), AllocError>
         ensures items { self.new.items ≡ self.old.items }
         ensures ok { OnOk result (more ≤ self.new.spare) }
@@ -491,7 +499,7 @@ impl Pages {
         Ok(())
     }
 
-    /// Gives back all empty pages but one.
+    /// Frees all empty pages but one.
     pub(crate) fn release(&mut self)
         ensures items { self.new.items ≡ self.old.items }
         ensures spare { self.new.spare ≤ 16 }
@@ -500,8 +508,8 @@ impl Pages {
         keep_one(&mut self.pages);
     }
 
-    /// Puts a record in its place, and gives back the one that it replaces. There is room for it, or
-    /// one with its number.
+    /// Puts a record in its place, and returns the record that it replaces. There must be room for
+    /// it, or a record with its number.
     pub(crate) fn replace(&mut self, added: Record) -> Option<Record>
         requires order { IsAscending self.old.items }
         requires room { with_number added.num
@@ -530,7 +538,7 @@ impl Pages {
         push_in(&mut self.pages, added)
     }
 
-    /// Puts a record in the place of the one with its number.
+    /// Replaces the record with this record's number, and returns the old one.
     pub(crate) fn exchange(&mut self, next: Record) -> Record
         requires order { IsAscending self.old.items }
         requires there { let place = count_below next.num self.old.items in
@@ -543,7 +551,7 @@ impl Pages {
         exchange_in(&mut self.pages, next)
     }
 
-    /// Takes away the record with a number.
+    /// Removes the record with a number.
     pub(crate) fn remove(&mut self, num: u64)
         requires { IsAscending self.old.items }
         ensures items { self.new.items ≡ filter (λ r. not (r.num == num)) self.old.items }
@@ -563,7 +571,7 @@ impl Clone for Pages {
     }
 }
 
-/// The records that are left of some pages, in order, each by itself.
+/// The remaining records of some pages, in order, each owned.
 #[derive(Drop)]
 pub struct IntoRecords {
     page: vec::IntoIter<Record>,

@@ -1,4 +1,4 @@
-// What a purge of a root removes, and what its tree shows before.
+// What a purge of a root removes, and what the root's tree shows before that.
 ghost use Rattle.std.specs.Prelude.{◌≡◌, ◌↔◌, Err, None, Some, IfOk, List, find, if◌then◌else◌, is_some, ℕ};
 ghost use Rattle.lra_facts.specs.declared.fact.Fact.{Fact};
 ghost use Rattle.lra_facts.specs.Sets.{is_held};
@@ -30,7 +30,7 @@ fn tree_status(status: LraStatus, uncompensated: bool) -> LraStatus
 }
 
 impl Forest {
-    /// Whether an LRA is a root, and not nested in another.
+    /// Whether an LRA is a root, that is, not nested in another.
     pub fn is_root(&self, id: LraId) -> Result<bool, Refusal>
         ensures says { let at = found_at id.home self.now.records
             in result ≡ answered (is_some (at id.num)) (is_root_at at id.num) }
@@ -52,8 +52,8 @@ impl Forest {
         LraId::new(kept.home, kept.num).ok()
     }
 
-    /// An LRA of this home and all that is nested in it, by number. It looks at each of the home's
-    /// records once, and climbs from it.
+    /// Returns an LRA of this home and all LRAs nested in it, by number. It looks at each of the
+    /// home's records once, and walks up from each.
     pub fn tree(&self, alloc: Global, above: LraId) -> Result<Vec<LraId>, AllocError>
         requires { above.home ≡ self.now.home }
         ensures { IfOk result (λ ids. ids.items
@@ -68,9 +68,9 @@ impl Forest {
         Ok(ids)
     }
 
-    /// What the tree of an LRA shows, which is the LRA with all that is nested in it: what the LRA
-    /// shows, or FailedToClose if it is Closed and one nested in it was cancelled alone and failed
-    /// to. It costs as much as `status`.
+    /// Returns what the tree of an LRA shows: the LRA with everything nested in it. That is the
+    /// LRA's status, or FailedToClose if it is Closed and an LRA nested in it was cancelled alone
+    /// and failed to. It costs as much as `status`.
     pub fn tree_status(&self, id: LraId) -> Result<LraStatus, Refusal>
         ensures says { let at = found_at id.home self.now.records
             in result ≡ answered (is_some (at id.num)) (tree_shown_at at id.num) }

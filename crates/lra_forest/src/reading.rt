@@ -1,4 +1,4 @@
-// What a list of facts says of one LRA, as a record.
+// Makes a record of what a list of facts says of one LRA.
 ghost use Rattle.std.specs.Prelude.{◌≡◌, ◌+◌, ◌<◌, ◌≤◌, ◌&&◌, ◌==◌, ◌^◌, IfOk, Some, None, map, find, nat_lt, if◌then◌else◌};
 ghost use Rattle.std.specs.List.{AllByRecursion};
 ghost use Rattle.std.specs.Option.{option_copied};
@@ -101,7 +101,7 @@ fn names(id: LraId, fact: &Fact) -> bool
     }
 }
 
-/// The number of a fact of a node about an LRA, else 0.
+/// Returns the number of a fact if it is one of this node's facts about the LRA, otherwise 0.
 fn number_about(id: LraId, node: NodeId, fact: &Fact) -> u64
     ensures { result
         ≡ (if (fact.now.origin == node) && is_about id fact.now then fact.now.num else 0) }
@@ -224,7 +224,8 @@ fn next_giver(facts: &[Fact], id: LraId, after: u64) -> Option<&Fact>
     }
 }
 
-/// The members of an LRA in order of their numbers. It goes over the facts twice for each.
+/// Returns the members of an LRA in order of their numbers. It reads the facts twice for each
+/// member.
 #[tactic(auto, using(crate::proofs::MembersAndStamps::next_some, crate::proofs::MembersAndStamps::next_none))]
 fn members(alloc: Global, facts: &[Fact], id: LraId) -> Result<Members, AllocError>
     requires numbered { AllByRecursion IsNumbered facts.now }
@@ -257,7 +258,7 @@ fn stamps(facts: &[Fact], id: LraId, nodes: usize) -> Front
     front
 }
 
-/// What facts say of an LRA, as one record.
+/// Makes one record of what facts say of an LRA.
 pub fn record_of(
     alloc: Global,
     facts: &[Fact],
@@ -288,7 +289,7 @@ fn is_begin(fact: &Fact) -> bool
     matches!(&fact.body, Body::Begin { .. })
 }
 
-/// The LRA that a fact begins, if it is of this home and is held.
+/// Returns the LRA that a fact begins, if it is of this home and is held.
 pub fn held_begin(facts: &[Fact], home: NodeId, fact: &Fact) -> Option<LraId>
     requires earlier { AllByRecursion NamesEarlier facts.now }
     requires numbered { IsNumbered fact.now }

@@ -1,4 +1,4 @@
-// What is seen of participants.
+// What is seen of participants under an LRA.
 ghost use Rattle.std.specs.Prelude.{◌≡◌, ◌&&◌, is_some};
 ghost use mathlib.Core.Bool.{not};
 ghost use Rattle.lra_id.specs.States.{shown};
@@ -8,8 +8,8 @@ use crate::Participant;
 use lra_facts::plain;
 use lra_id::{LraStatus, MemberStatus, Verdict};
 
-/// What is seen of some participants: whether one has something left to do, one failed to complete,
-/// and one failed to compensate.
+/// What is seen of some participants: whether one still has something to do, whether one failed to
+/// complete, and whether one failed to compensate.
 #[derive(Clone, Copy)]
 pub struct Seen {
     pub unsettled: bool,
@@ -18,14 +18,14 @@ pub struct Seen {
 }
 
 impl Seen {
-    /// What is seen of no participant.
+    /// What is seen if there are no participants.
     pub const NOTHING: Seen = Seen {
         unsettled: false,
         incomplete: false,
         uncompensated: false,
     };
 
-    /// What is seen of one with this status.
+    /// Returns what is seen of a participant with this status.
     pub fn of(status: MemberStatus) -> Seen
         ensures { result ≡ seen_by (λ test. test status) }
     {
@@ -36,7 +36,7 @@ impl Seen {
         }
     }
 
-    /// What is seen of these and of others.
+    /// Returns what is seen of these participants and the others together.
     pub fn or(self, other: Seen) -> Seen
         ensures { result ≡ seen_or self other }
     {
@@ -47,14 +47,14 @@ impl Seen {
         }
     }
 
-    /// Whether an LRA that wants this, and under which this is seen, is ended.
+    /// Whether an LRA that wants this is ended, if this is what is seen under it.
     pub fn is_ended(self, want: Option<Verdict>) -> bool
         ensures { result ≡ (is_some want && not self.unsettled) }
     {
         want.is_some() && !self.unsettled
     }
 
-    /// The status of an LRA that wants this, and under which this is seen.
+    /// Returns the status of an LRA that wants this, if this is what is seen under it.
     pub fn shown(self, want: Option<Verdict>) -> LraStatus
         ensures { result
             ≡ shown want (is_some want && not self.unsettled) self.incomplete self.uncompensated }
@@ -63,8 +63,8 @@ impl Seen {
     }
 }
 
-/// The status of a participant, by what its LRA wants. One without a complete link is completed as
-/// soon as its LRA closes.
+/// Returns the status of a participant, by what its LRA wants. A participant without a link to
+/// complete is Completed as soon as its LRA closes.
 pub fn status_of(want: Option<Verdict>, participant: &Participant) -> MemberStatus
     ensures { result ≡ status_in want participant.now }
 {

@@ -14,7 +14,7 @@ ghost use Rattle.lra_forest.specs.Shape.{found_at, is_untouched, is_shallow, rec
 use crate::{Changes, Forest, MAX_DEPTH, Member, Place, Record};
 use lra_id::{Front, LraId};
 
-/// The most LRAs of one home that are held.
+/// The greatest number of LRAs of one home that are held.
 pub const MAX_HELD: usize = 256;
 
 fn is_among(ids: &[LraId], kept: &Record) -> bool
@@ -28,7 +28,7 @@ fn is_among(ids: &[LraId], kept: &Record) -> bool
     false
 }
 
-/// Whether changes leave a record of the home as it is: they neither replace nor remove it.
+/// Whether changes leave a record of the home unchanged: they neither replace nor remove it.
 fn is_untouched(changes: &Changes, kept: &Record) -> bool
     ensures { result ≡ is_untouched changes.now kept.now }
 {
@@ -39,13 +39,13 @@ fn is_untouched(changes: &Changes, kept: &Record) -> bool
 }
 
 impl Forest {
-    /// The record of the LRA with this number, if it is none of those that are removed. It is
-    /// looked up by halving, and then among those that are removed.
+    /// Returns the record of the LRA with this number, unless it is among those to be removed. It
+    /// is looked up by binary search, and then among those to be removed.
     fn kept_at(&self, removed: &[LraId], num: u64) -> Option<&Record>
         ensures { option_copied result
             ≡ found_at self.now.home (without removed.now self.now.records) num }
     {
-        // What this ensures is needed here: they are in order.
+        // The prover needs what this call ensures: the records are in order.
         let _ = self.records();
         let Some(record) = self.numbered(num) else {
             return None;
@@ -57,14 +57,14 @@ impl Forest {
         }
     }
 
-    /// The record of the LRA with this number once the records are changed: one of the changes,
-    /// else one that stays.
+    /// Returns the record that the LRA with this number has after the changes: one of the changes,
+    /// otherwise one that stays.
     fn changed_at<'a>(&'a self, changes: &'a Changes, num: u64) -> Option<&'a Record>
         requires { changes.now.records.home ≡ self.now.home }
         ensures { option_copied result
             ≡ found_at self.now.home (records_after changes.now self.now) num }
     {
-        // Calling `records` hands the prover that both are in order.
+        // Calling `records` tells the prover that both are in order.
         let _ = self.records();
         let _ = changes.records.records();
         if let Some(record) = changes.records.numbered(num) {
@@ -73,8 +73,8 @@ impl Forest {
         self.kept_at(&changes.removed, num)
     }
 
-    /// Whether from the LRA with this number up a root is met among the first so many, once the
-    /// records are changed.
+    /// Whether, after the changes, a root is found within this many LRAs, going up from the LRA
+    /// with this number.
     fn is_shallow_within(&self, changes: &Changes, num: u64, levels: u8) -> bool
         requires { changes.now.records.home ≡ self.now.home }
         ensures { result ≡ is_shallow levels self.now.home (records_after changes.now self.now) num }
@@ -92,8 +92,8 @@ impl Forest {
         false
     }
 
-    /// Whether an LRA is no deeper than 8 once the records are changed. Its record is at hand, so
-    /// that only those above it are looked up.
+    /// Whether an LRA is no deeper than 8 after the changes. Its record is at hand, so only those
+    /// above it are looked up.
     fn is_shallow(&self, changes: &Changes, kept: &Record) -> bool
         requires { changes.now.records.home ≡ self.now.home }
         ensures { let after = records_after changes.now self.now
@@ -106,8 +106,8 @@ impl Forest {
         }
     }
 
-    /// Whether the record of the parent is there once the records are changed, and has the LRA with
-    /// this number as the member at its place.
+    /// Whether the record of the parent exists after the changes and has the LRA with this number
+    /// as the member at this place.
     fn is_nested_at(&self, changes: &Changes, num: u64, place: Place) -> bool
         requires { changes.now.records.home ≡ self.now.home }
         ensures { IsTrue result ↔ IsNestedAt self.now.home
@@ -133,8 +133,8 @@ impl Forest {
         }
     }
 
-    /// Whether the record of each LRA that is nested here is there once the records are changed.
-    /// That it names this one as its parent is asked from the child's side.
+    /// Whether each LRA that is nested here has a record after the changes. That the record names
+    /// this one as its parent is tested from the child's side.
     fn has_nested(&self, changes: &Changes, members: &[Member]) -> bool
         requires { changes.now.records.home ≡ self.now.home }
         ensures { IsTrue result ↔
@@ -151,8 +151,8 @@ impl Forest {
         true
     }
 
-    /// Whether a record has its place once the records are changed, under a front, if it is one of
-    /// them then. It isn't looked up itself.
+    /// Whether a record is in place after the changes, under a front, if it is one of the records
+    /// then. The record itself isn't looked up.
     fn is_in_place(&self, changes: &Changes, front: &Front, kept: &Record) -> bool
         requires { changes.now.records.home ≡ self.now.home }
         ensures { let after = records_after changes.now self.now
@@ -165,14 +165,14 @@ impl Forest {
             && kept.stamps.below(front)
     }
 
-    /// Whether each record of the changes has its place once the records are changed.
+    /// Whether each record of the changes is in place after the changes.
     fn are_changes_in_place(&self, changes: &Changes, front: &Front) -> bool
         requires { changes.now.records.home ≡ self.now.home }
         ensures { let after = records_after changes.now self.now
             in IsTrue result ↔ AllByRecursion (λ r. IsInPlace front.now self.now.home after r.num r)
             changes.now.records.records }
     {
-        // Calling `records` hands the prover that both are in order.
+        // Calling `records` tells the prover that both are in order.
         let _ = self.records();
         let _ = changes.records.records();
         for record in changes.records.records() {
@@ -183,15 +183,15 @@ impl Forest {
         true
     }
 
-    /// Whether a record of the home has its place once the records are changed, if they leave it
-    /// as it is. Only one that has no place is looked up among the changes.
+    /// Whether a record of the home is in place after the changes, if they leave it unchanged. It
+    /// is looked up among the changes only if it is not in place.
     fn is_in_place_if_untouched(&self, changes: &Changes, front: &Front, kept: &Record) -> bool
         requires home { changes.now.records.home ≡ self.now.home }
         requires own { In kept.now self.now.records }
         ensures { IsTrue result ↔ (is_untouched changes.now kept.now ≡ true → IsInPlace front.now
             self.now.home (records_after changes.now self.now) kept.now.num kept.now) }
     {
-        // Calling `records` hands the prover that both are in order.
+        // Calling `records` tells the prover that both are in order.
         let _ = self.records();
         let _ = changes.records.records();
         if self.is_in_place(changes, front, kept) {
@@ -200,8 +200,7 @@ impl Forest {
         !is_untouched(changes, kept)
     }
 
-    /// Whether each record of the home that stays as it is has its place once the records are
-    /// changed.
+    /// Whether each record of the home that stays unchanged is in place after the changes.
     fn are_untouched_in_place(&self, changes: &Changes, front: &Front) -> bool
         requires { changes.now.records.home ≡ self.now.home }
         ensures { let after = records_after changes.now self.now
@@ -216,7 +215,7 @@ impl Forest {
         true
     }
 
-    /// How many records stay: all, where none is removed.
+    /// Returns the number of records that stay, which is all of them if none is removed.
     #[tactic(auto, using(crate::proofs::ChangedCounts::all_stay))]
     fn count_kept(&self, removed: &[LraId]) -> usize
         ensures { result ≡ length (without removed.now self.now.records) }
@@ -238,7 +237,7 @@ impl Forest {
         ensures { result ≡ length (filter (λ r. is_none
             (found_at self.now.home (without removed.now self.now.records) r.num)) added.now.records) }
     {
-        // Calling `len` hands the prover how many there are at most.
+        // Calling `len` tells the prover the greatest possible number of records.
         let _ = added.len();
         let mut count = 0;
         for record in added.records() {
@@ -249,13 +248,13 @@ impl Forest {
         count
     }
 
-    /// Whether there are at most 256 once the records are changed: those that stay, and those that
-    /// are added.
+    /// Whether there are at most 256 records after the changes, counting those that stay and those
+    /// that are added.
     fn is_few(&self, changes: &Changes) -> bool
         requires { changes.now.records.home ≡ self.now.home }
         ensures { IsTrue result ↔ length (records_after changes.now self.now) ≤ MAX_HELD }
     {
-        // Calling `records` hands the prover that both are in order.
+        // Calling `records` tells the prover that both are in order.
         let _ = self.records();
         let _ = changes.records.records();
         let removed = changes.removed.as_slice();
@@ -266,18 +265,18 @@ impl Forest {
         self.count_added(removed, &changes.records) <= MAX_HELD - kept
     }
 
-    /// Whether these records have their shape once they are changed, under a front: they are at
-    /// most 256, the parent that a record names is there and has it as the member at its place,
-    /// each nested LRA is there, none is deeper than 8, and no stamp is beyond the front. The
-    /// records stay as they are. For each record it looks up its parents and its nested LRAs: by
-    /// halving, and each time among those that are removed. A record itself is looked up only
-    /// where it has no place.
+    /// Whether these records have their shape after the changes, under a front. That means: there
+    /// are at most 256; the parent that a record names has a record, with the LRA as the member at
+    /// its place; each nested LRA has a record; no LRA is deeper than 8; and no stamp is beyond the
+    /// front. The records themselves are not changed. For each record it looks up the parents and
+    /// the nested LRAs by binary search, and each time among those to be removed. It looks up the
+    /// record itself only if that is not in place.
     pub fn keeps_shape_with(&self, changes: &Changes, front: &Front) -> bool
         requires { changes.now.records.home ≡ self.now.home }
         ensures { IsTrue result ↔ AreInShape front.now self.now.home
             (changed_by changes.now.removed.items changes.now.records.records self.now.records) }
     {
-        // Calling `records` hands the prover that both are in order.
+        // Calling `records` tells the prover that both are in order.
         let _ = self.records();
         let _ = changes.records.records();
         if !self.is_few(changes) {
