@@ -1,4 +1,4 @@
--- A command at its home: the LRA that it names, and what the records of a home tell.
+-- A command at its home: the LRA that it names, and what the records of a home say.
 use Rattle.std.specs.Prelude.{◌≡◌, ℕ, Option, Some, List, IfSome, if◌then◌else◌, is_some, length}
 use Rattle.std.specs.Option.{option_map_or}
 use Rattle.lra_id.specs.Ids.{Id}
@@ -12,7 +12,7 @@ use Rattle.lra_facts.specs.declared.command.Command.{Command}
 use Rattle.lra_facts.specs.declared.command.Command.TheVariants.{Begin, Join, Leave, Decide, Report, Forgot, Told, Purge}
 use Rattle.lra_history.specs.Replies.{Reading}
 
--- the LRA that a command names: that in which another is begun, none where a root is
+-- the LRA that a command names: for a begin the parent, and none for a root
 abbrev pub named_by : Command → Option Id
 named_by (Begin parent deadline) = parent
 named_by (Join l links) = Some l
@@ -23,15 +23,15 @@ named_by (Forgot l m) = Some l
 named_by (Told l m) = Some l
 named_by (Purge root) = Some root
 
--- why it is refused where its LRA's home is no node
+-- the refusal of a command whose LRA's home is no node
 abbrev pub lost_by : List ℕ → Command → Refusal
 lost_by v c = option_map_or (λ l. if is_covered v l then NotHeld else UnknownLra) (named_by c) UnknownLra
 
--- it names no LRA of another home
+-- the command names no LRA of another home
 abbrev pub IsOfHome : ℕ → Command → Type 0
 IsOfHome home c = IfSome (named_by c) (λ l. l.home ≡ home)
 
--- what the records of a home tell of its LRAs
+-- what the records of a home say of its LRAs
 abbrev pub by_home : List Record → Reading
 by_home records =
     record {

@@ -1,4 +1,5 @@
--- What a participant is told without an outcome: that it may forget, and that its LRA has ended
+-- Notices to a participant, which ask for no outcome: that it may forget, and that its LRA has
+-- ended
 use Rattle.std.specs.Prelude.{ℕ}
 use Rattle.lra_id.specs.Ids.{Id}
 use Rattle.lra_forest.specs.declared.record.Member.{Member}
@@ -10,17 +11,17 @@ use Rattle.lra_history.specs.Growth.{forgetting, hearing}
 use Rattle.lra_replica.specs.declared.commands.notices.Notice.{Notice}
 use Rattle.lra_replica.specs.declared.commands.notices.Notice.TheVariants.{ToForget, OfTheEnd}
 
--- the command that enters it
+-- the command that records a notice
 abbrev pub command_for : Notice → Id → ℕ → Command
 command_for ToForget l m = Forgot l m
 command_for OfTheEnd l m = Told l m
 
--- and its reply
+-- the reply to that command
 abbrev pub reply_to : Notice → CommandReply
 reply_to ToForget = Forgotten
 reply_to OfTheEnd = ToldReply
 
--- the member that was told
+-- the member with the mark that it was told
 abbrev pub noted : Notice → Member → Member
 noted ToForget = forgetting
 noted OfTheEnd = hearing

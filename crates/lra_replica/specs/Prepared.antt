@@ -1,4 +1,4 @@
--- What a prepare answers.
+-- The result of preparing a command.
 use Rattle.std.specs.Prelude.{◌≡◌, ◌⊎◌, ◌+◌, ℕ, Bool, true, false, Some, None, List, Result, Ok, Err, IfSome}
 use Rattle.lra_id.specs.Ids.{Id}
 use Rattle.lra_id.specs.Fronts.{count}
@@ -16,16 +16,16 @@ use Rattle.lra_history.specs.Next.{change_on, judge_on, accepted_on}
 use Rattle.lra_replica.specs.declared.patch.Prepared.{Prepared}
 use Rattle.lra_replica.specs.Replicas.{Fits, ReplicaState}
 
--- the refusal of a command, or running out of memory, which comes only where the command is accepted
+-- the command's refusal, or out of memory, which is possible only if the command is accepted
 abbrev pub IsDenied : List Fact → View → ℕ → Command → Refusal → Type 0
 IsDenied S view me c refusal = ((refusal ≡ NoMemory) × (judge S view.front me c ≡ Accepted)) ⊎ (reply_of S view.front me c ≡ Refused refusal)
 
--- the reply that the definitions give, with its patch, or what denies it
+-- the reply that the definitions give, with its patch, or the reason why it is denied
 abbrev pub IsPrepared : List Fact → View → ℕ → Command → Result Prepared Refusal → Type 0
 IsPrepared S view me c (Ok prepared) = (prepared.reply ≡ reply_of S view.front me c) × AddsFact S view me c prepared.patch
 IsPrepared S view me c (Err refusal) = IsDenied S view me c refusal
 
--- what is made of a command of which this answers whether it is known already, or the refusal
+-- the judgement that a result of `judge` stands for: already known, accepted, or the refusal
 abbrev pub judged_as : Result Bool Refusal → Judgement
 judged_as (Ok true) = AlreadyKnown
 judged_as (Ok false) = Accepted
@@ -36,7 +36,8 @@ abbrev pub HasRoom : Result Prepared Refusal → ReplicaState → Type 0
 HasRoom (Ok prepared) kept = IfSome prepared.patch (λ change. Fits change kept)
 HasRoom (Err refusal) kept = Unit {0}
 
--- What a prepare answers: the refusal; that it is known; or the reply and what is changed, and only there running out of memory
+-- The result of preparing a command, by its judgement: the refusal, that it is known, or the reply
+-- and the change. Only in the last case memory may run out
 abbrev pub IsAnswer : Judgement → CommandReply → Change → Result Prepared Refusal → Type 0
 IsAnswer (Denied r) reply change result = result ≡ Err r
 IsAnswer AlreadyKnown reply change result = result ≡ Ok (record { reply = Known; patch = None })
@@ -45,8 +46,9 @@ IsAnswer Accepted reply change result = (result ≡ Err NoMemory) ⊎ (result �
 abbrev pub IsNext : View → ℕ → Command → Result Prepared Refusal → Type 0
 IsNext view me c result = IsAnswer (judge_on view me c) (accepted_on view me c) (change_on view me c) result
 
--- The first half of it: where the command is accepted, a copy of the record of l with the number of the node's next fact; else the
--- refusal. Running out of memory comes only where it is accepted
+-- The first half of preparing. If the command is accepted, it gives a copy of the record of l with
+-- the number of the node's next fact, otherwise the refusal. Memory may run out only if the command
+-- is accepted
 abbrev pub IsReadyNext : View → ℕ → Command → Id → Result Record Refusal → Type 0
 IsReadyNext view me c l (Ok copy) =
     (judge_on view me c ≡ Accepted)

@@ -1,4 +1,5 @@
--- A replica as contracts see it: its state, the view that this is, and the room for a patch.
+-- A replica as contracts see it: its state, the view that this state represents, and the room for a
+-- patch.
 use Rattle.std.specs.Prelude.{◌≡◌, ◌≤◌, ◌+◌, ◌-◌, ◌==◌, ℕ, Option, List, [], ◌∷◌, length, map, filter, find, replicate, slice_get}
 use Rattle.std.specs.List.{AllByRecursion}
 use Rattle.std.specs.Option.{option_map, option_map_or}
@@ -10,7 +11,8 @@ use Rattle.lra_index.specs.Indexes.{AreIndexesOf, HeldIndex}
 use Rattle.lra_history.specs.Views.{View, records_at}
 use Rattle.lra_history.specs.Changes.{Change}
 
--- a front, the last purge of each home, each home's records, and the index of their stamps, with the room for more that was made
+-- a front, the last purge of each home, each home's records, and the index of their stamps, with
+-- the room that was made for more
 pub record ReplicaState : Type 0 where
   pub front : List ℕ
   pub purges : List ℕ
@@ -21,7 +23,7 @@ pub record ReplicaState : Type 0 where
 abbrev pub records_in : List HomeRecords → List (List Record)
 records_in homes = map (λ (home : HomeRecords). home.records) homes
 
--- room and index are no part of what it says
+-- the view of a replica, which doesn't include the room and the index
 abbrev pub view_of : ReplicaState → View
 view_of kept = record { front = kept.front; purges = kept.purges; records = records_in kept.homes }
 
@@ -30,13 +32,13 @@ abbrev pub AreHomesFrom : ℕ → List HomeRecords → Type 0
 AreHomesFrom k [] = Unit {0}
 AreHomesFrom k (home ∷ homes) = (home.home ≡ k) × AreHomesFrom (k + 1) homes
 
--- homes numbered from 1, without a record
+-- homes numbered from 1, without records
 pub record AreEmptyHomes (nodes : ℕ) (homes : List HomeRecords) : Type 0 where
   pub count : length homes ≡ nodes
   pub numbered : AreHomesFrom 1 homes
   pub empty : map (λ home. home.records) homes ≡ replicate nodes []
 
--- the stamps that the homes' records have of l: none, where it has no record
+-- the stamps that the homes' records have of l; there are none if l has no record
 abbrev pub stamps_in : List (List Record) → Id → Option (List ℕ)
 stamps_in records l = option_map (λ (r : Record). r.stamps) (find (is_of l) (records_at records l.home))
 
@@ -44,8 +46,8 @@ stamps_in records l = option_map (λ (r : Record). r.stamps) (find (is_of l) (re
 abbrev pub stamps_of : View → Id → Option (List ℕ)
 stamps_of view l = stamps_in view.records l
 
--- one home for each node that the front counts, each home's records in order, and of each of eight nodes the stamps of all
--- records in the index
+-- one home for each node that the front counts, each home's records in order, and in the index the
+-- stamps of all records for each of eight nodes
 pub record IsReplicaState (kept : ReplicaState) : Type 0 where
   pub purges : length kept.purges ≡ length kept.front
   pub homes : length kept.homes ≡ length kept.front
@@ -54,15 +56,16 @@ pub record IsReplicaState (kept : ReplicaState) : Type 0 where
   pub origins : length kept.index.origins ≡ MAX_NODES
   pub indexed : AreIndexesOf kept.index.origins (stamps_of (view_of kept))
 
--- how many records there is room for at a home
+-- how many more records there is room for at a home
 abbrev pub spare_at : List HomeRecords → ℕ → ℕ
 spare_at homes home = option_map_or (λ (h : HomeRecords). h.spare) (slice_get homes (home - 1)) 0
 
--- at each home there is room for 16 records more at most
+-- at each home there is room for at most 16 more records
 abbrev pub HasLittleRoom : ReplicaState → Type 0
 HasLittleRoom kept = (home : ℕ) → 1 ≤ home → spare_at kept.homes home ≤ 16
 
--- there is as much room at each home and in the index as there was, or more: a patch that fitted fits still
+-- at each home and in the index there is as much room as before, or more, so a patch that fitted
+-- still fits
 pub record KeepsRoom (before after : ReplicaState) : Type 0 where
   pub homes : (home : ℕ) → 1 ≤ home → spare_at before.homes home ≤ spare_at after.homes home
   pub index : before.index.spare ≤ after.index.spare
@@ -70,7 +73,7 @@ pub record KeepsRoom (before after : ReplicaState) : Type 0 where
 abbrev pub count_of_home : ℕ → List Record → ℕ
 count_of_home home records = length (filter (λ r. r.home == home) records)
 
--- it counts the same nodes, and there is room for its records
+-- the change counts the same nodes, and there is room for its records
 pub record Fits (change : Change) (kept : ReplicaState) : Type 0 where
   pub front : length change.front ≡ length kept.front
   pub purges : length change.purges ≡ length kept.front

@@ -8,7 +8,8 @@ use Rattle.lra_forest.specs.RecordMerges.{held_numbers}
 use Rattle.lra_forest.specs.Shape.{found_at}
 use Rattle.lra_history.specs.Views.{View, records_at}
 
--- of each LRA what is had, unless that changes nothing in a, and the numbers of all; the home's records are in order
+-- of each LRA its record, unless that changes nothing in a, and the numbers of all LRAs; the home's
+-- records are in order
 abbrev pub IsToldBy : View → HomeRecords → Told → Type 0
 IsToldBy a home told =
     (told.records.home ≡ home.home)

@@ -1,4 +1,5 @@
--- What is due of the participants of a home by a view, as lists, and what the view has of one participant and its LRA.
+-- What is due of the participants of a home by a view, as lists, and what the view says of one
+-- participant and its LRA.
 use Rattle.std.specs.Prelude.{ℕ, List, Option}
 use Rattle.lra_id.specs.Ids.{Id}
 use Rattle.lra_forest.specs.declared.duties.Due.{Due}

@@ -1,4 +1,4 @@
-// Making a patch's changes.
+// Applying a prepared patch to a replica.
 ghost use Rattle.std.specs.Prelude.{◌≡◌, ◌≢◌, ◌≤◌, ◌<◌, ◌+◌, ◌==◌, None, Some, ℕ, if◌then◌else◌, length};
 ghost use Rattle.std.specs.List.{AllByRecursion};
 ghost use Rattle.std.specs.Option.{option_map};
@@ -14,7 +14,7 @@ use crate::{Patch, Replica};
 use lra_forest::{Forest, Record};
 use lra_id::{Front, LraId};
 
-/// The stamps of the record with a number, if the home has one.
+/// Returns the stamps of the record with a number, if the home has one.
 fn stamps_at(home: &Forest, num: u64) -> Option<Front>
     ensures { result ≡ option_map (λ (r : RecordFields). r.stamps)
         (found_at home.now.home home.now.records num) }
@@ -25,7 +25,7 @@ fn stamps_at(home: &Forest, num: u64) -> Option<Front>
     }
 }
 
-/// The stamps of a record that was replaced.
+/// Returns the stamps of a record that was replaced.
 fn stamps_of(was: Option<Record>) -> Option<Front>
     ensures { result ≡ option_map (λ (r : RecordFields). r.stamps) was }
 {
@@ -35,9 +35,8 @@ fn stamps_of(was: Option<Record>) -> Option<Front>
     }
 }
 
-/// Puts a record in its place at its home, and answers with the stamps of the one that it replaces.
-/// It is over the homes alone: so the invariant that ties them to the index is one record for its
-/// caller.
+/// Puts a record in its place at its home, and returns the stamps of the one that it replaces. It
+/// takes only the homes, so for its caller the invariant that ties them to the index is one record.
 fn put_among(homes: &mut Vec<Forest>, added: Record) -> Option<Front>
     requires numbered { AreHomesFrom 1 homes.old.items }
     requires ordered { AllByRecursion (λ h. AreOf h.home h.records) homes.old.items }
@@ -58,7 +57,7 @@ fn put_among(homes: &mut Vec<Forest>, added: Record) -> Option<Front>
     stamps_of(homes[place].replace(added))
 }
 
-/// Removes the record of an LRA, if its home has one, and answers with its stamps.
+/// Removes the record of an LRA, if its home has one, and returns its stamps.
 fn remove_among(homes: &mut Vec<Forest>, id: LraId) -> Option<Front>
     requires numbered { AreHomesFrom 1 homes.old.items }
     requires ordered { AllByRecursion (λ h. AreOf h.home h.records) homes.old.items }
@@ -83,10 +82,10 @@ fn remove_among(homes: &mut Vec<Forest>, id: LraId) -> Option<Front>
 }
 
 impl Replica {
-    /// Makes a patch's changes. The patch was prepared on the present view, and the room that was
-    /// made for it is there: so this takes no memory and always succeeds. It costs an insertion for
-    /// each record, and one in the index for each of its stamps that changes. Then it gives back
-    /// the room that is left of each home, but for one page: 16 records at most.
+    /// Applies a patch. The patch was prepared on the present view, and its room was made, so this
+    /// takes no memory and always succeeds. It costs an insertion for each record, and one in the
+    /// index for each of its stamps that changes. At the end it frees the spare room of each home
+    /// except for one page: 16 records at most.
     pub fn apply(&mut self, patch: Patch)
         requires { Fits patch self.old }
         ensures view { view_of self.new ≡ patched patch (view_of self.old) }

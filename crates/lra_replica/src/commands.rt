@@ -1,4 +1,4 @@
-// The eight commands: each is judged at the home of the LRA that it names, and one that is accepted
+// The eight commands. Each is judged at the home of the LRA that it names. If it is accepted, it
 // becomes a patch that adds its fact.
 ghost use Rattle.std.specs.Prelude.{◌≡◌, ◌≤◌, ◌<◌, Ok, IfOk, false, length};
 ghost use Rattle.std.specs.Option.{option_map_or};
@@ -27,7 +27,7 @@ use lra_facts::{Command, CommandReply, Refusal};
 use lra_id::{Front, LraId, NodeId};
 use std::alloc::{AllocError, Global};
 
-/// The LRA that a command names, if it names one.
+/// Returns the LRA that a command names, if it names one.
 fn named(command: &Command) -> Option<LraId>
     ensures { result ≡ named_by command.now }
 {
@@ -43,7 +43,7 @@ fn named(command: &Command) -> Option<LraId>
     }
 }
 
-/// The home at which a command of a node is judged.
+/// Returns the home at which a node's command is judged.
 fn home_of(command: &Command, me: NodeId) -> NodeId
     ensures { result ≡ option_map_or (λ l. l.home) (named_by command.now) me }
 {
@@ -53,7 +53,7 @@ fn home_of(command: &Command, me: NodeId) -> NodeId
     }
 }
 
-/// Why a command is refused whose LRA has a home that is no node.
+/// Returns the refusal of a command whose LRA has a home that is no node.
 fn lost(front: &Front, command: &Command) -> Refusal
     ensures { result ≡ lost_by front.now command.now }
 {
@@ -64,8 +64,8 @@ fn lost(front: &Front, command: &Command) -> Refusal
 }
 
 impl Replica {
-    /// What the node makes of a command: whether it is known already, and is accepted otherwise; or
-    /// why it is refused.
+    /// Judges a command: returns true if it is already known, false if it is accepted, or the
+    /// refusal.
     fn judge(&self, me: NodeId, command: &Command) -> Result<bool, Refusal>
         requires { me ≤ length self.now.front }
         ensures judged { judge_on (view_of self.now) me command.now ≡ judged_as result }
@@ -78,7 +78,7 @@ impl Replica {
         }
     }
 
-    /// Prepares an accepted command, by the function of that command. Only memory can be wanting.
+    /// Prepares an accepted command, by that command's function. It fails only if memory runs out.
     fn accept(
         &mut self,
         alloc: Global,
@@ -114,7 +114,7 @@ impl Replica {
         }
     }
 
-    /// What a command comes to: a refusal, that it is known already, or its patch.
+    /// Returns the outcome of a command: its refusal, that it is already known, or its patch.
     fn outcome(&mut self, alloc: Global, me: NodeId, command: Command) -> Result<Prepared, Refusal>
         requires { me ≤ length self.old.front }
         ensures view { view_of self.new ≡ view_of self.old }
@@ -133,8 +133,8 @@ impl Replica {
         Ok(self.accept(alloc, me, command)?)
     }
 
-    /// Prepares what a command asks of a node. `begin`, `join` and the others, which do it for one
-    /// command each, say what that costs and its errors.
+    /// Prepares a command of a node. `begin`, `join` and the others each do this for one command,
+    /// and state its cost and its errors.
     pub fn prepare(
         &mut self,
         alloc: Global,

@@ -1,4 +1,4 @@
-// Whether two replicas hold the same, and copies of a replica.
+// Copies of a replica, and whether two replicas hold the same.
 ghost use Rattle.std.specs.Prelude.{◌≡◌, ◌↔◌, IfOk, IsTrue, length};
 ghost use Rattle.lra_replica.specs.Replicas.{view_of};
 
@@ -6,7 +6,7 @@ use crate::Replica;
 use std::alloc::AllocError;
 
 impl Replica {
-    /// Whether another holds the same: the front, the last purges and each home's records. It looks
+    /// Whether another replica holds the same front, last purges and records of each home. It looks
     /// at each record once.
     pub fn same(&self, other: &Replica) -> bool
         ensures { IsTrue result ↔ (view_of self.now ≡ view_of other.now) }
@@ -26,7 +26,7 @@ impl Replica {
         true
     }
 
-    /// A copy that holds the same. It makes no room for more records.
+    /// Makes a copy that holds the same. It makes no room for more records.
     pub fn try_clone(&self) -> Result<Replica, AllocError>
         ensures { IfOk result (λ replica. view_of replica ≡ view_of self.now) }
     {

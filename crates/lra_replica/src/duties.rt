@@ -1,4 +1,4 @@
-// What is due of the participants of the LRAs of a home.
+// What the participants of a home's LRAs are due to do or to be told.
 ghost use Rattle.std.specs.Prelude.{◌≡◌, ◌≤◌, IfOk, length};
 ghost use Rattle.std.specs.Option.{option_copied};
 ghost use Rattle.lra_facts.specs.Duties.{is_after_duty, is_compensation_due, is_forget_duty};
@@ -15,8 +15,8 @@ use lra_id::{LraId, NodeId};
 use std::alloc::{AllocError, Global};
 
 impl Replica {
-    /// The compensations that are due in LRAs of a home: at most one under each topmost cancelled
-    /// LRA, by its number.
+    /// Returns the compensations that are due in LRAs of a home: at most one under each topmost
+    /// cancelled LRA, by its number.
     pub fn next_compensations(&self, alloc: Global, me: NodeId) -> Result<Vec<Due>, AllocError>
         requires { me ≤ length self.now.front }
         ensures says { IfOk result (λ dues. dues.items ≡ compensations_of (view_of self.now) me) }
@@ -29,8 +29,8 @@ impl Replica {
         }
     }
 
-    /// The participants in LRAs of a home that are to be called to complete, by LRA and member
-    /// number.
+    /// Returns the participants in LRAs of a home that are to be called to complete, by LRA and
+    /// member number.
     pub fn complete_duties(&self, alloc: Global, me: NodeId) -> Result<Vec<Due>, AllocError>
         requires { me ≤ length self.now.front }
         ensures says { IfOk result (λ dues. dues.items ≡ completions_of (view_of self.now) me) }
@@ -43,8 +43,8 @@ impl Replica {
         }
     }
 
-    /// The participants in LRAs of a home that are to be told that they may forget, by LRA and
-    /// member number.
+    /// Returns the participants in LRAs of a home that are to be told that they may forget, by LRA
+    /// and member number.
     pub fn forget_duties(&self, alloc: Global, me: NodeId) -> Result<Vec<Due>, AllocError>
         requires { me ≤ length self.now.front }
         ensures says { IfOk result (λ dues. dues.items ≡ forgets_of (view_of self.now) me) }
@@ -57,8 +57,8 @@ impl Replica {
         }
     }
 
-    /// The participants in LRAs of a home that are to be told that these have ended, by LRA and
-    /// member number.
+    /// Returns the participants in LRAs of a home that are to be told that these LRAs have ended,
+    /// by LRA and member number.
     pub fn after_duties(&self, alloc: Global, me: NodeId) -> Result<Vec<Due>, AllocError>
         requires { me ≤ length self.now.front }
         ensures says { IfOk result (λ dues. dues.items ≡ hearings_of (view_of self.now) me) }
@@ -71,7 +71,7 @@ impl Replica {
         }
     }
 
-    /// The participant of an LRA with this member number, if the LRA is held and has one.
+    /// Returns the LRA's participant with this member number, if the LRA is held and has one.
     pub fn participant(&self, id: LraId, member: u8) -> Option<&Participant>
         ensures says { option_copied result ≡ participant_in (view_of self.now) id member }
         ensures settled { OfItsSet (view_of self.now)
@@ -83,7 +83,7 @@ impl Replica {
         }
     }
 
-    /// The parent of an LRA, if the LRA is held and nested.
+    /// Returns the parent of an LRA, if the LRA is held and nested.
     pub fn parent(&self, id: LraId) -> Option<LraId>
         ensures says { result ≡ parent_in (view_of self.now) id }
         ensures settled { OfItsSet (view_of self.now) (λ S. result ≡ parent_held S id) }

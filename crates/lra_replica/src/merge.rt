@@ -1,4 +1,4 @@
-// Taking what another node tells.
+// Taking what another node sends.
 ghost use Rattle.std.specs.Prelude.{◌≡◌, ◌≤◌, ◌⊎◌, ◌++◌, [], ℕ, List, IfErr, IfOk, OnErr, OnOk, MatchResult, length};
 ghost use Rattle.lra_id.specs.Fronts.{join_fronts};
 ghost use Rattle.lra_facts.specs.declared.refusal.Refusal.TheVariants.{BadFrame, NoMemory};
@@ -41,8 +41,8 @@ fn add_changes(patch: &mut Patch, changes: Changes) -> Result<(), AllocError>
 }
 
 impl Replica {
-    /// What is to be changed at one home, under a front, when what another node tells of it is
-    /// taken. Reach is how many of the home's facts the other has.
+    /// Returns the changes at one home, under a front, if what another node sends of it is taken.
+    /// `reach` is the number of the home's facts that the other node counts.
     fn changes_at(
         &self,
         alloc: Global,
@@ -141,14 +141,17 @@ impl Replica {
         Ok(())
     }
 
-    /// Prepares to take what another replica of as many nodes tells, and makes room for it. Of an
-    /// LRA of which both have a record, the two are merged. One that the other alone has is taken,
-    /// unless the own front counts its begin, since then it was purged here. One that is held here
-    /// alone is removed where the other tells all that it holds at that home and its front counts
-    /// the begin, since then it was purged there. The greater of each node's counts and last purges
-    /// are kept. E16 at place 0 where the view would lose its shape. The patch has only what
-    /// changes, each once: a record that is kept as it was isn't put again. It costs what
-    /// `Forest::taking` and `keeps_shape_with` cost at each home.
+    /// Prepares to take what another replica of as many nodes sends, and makes room for it.
+    ///
+    /// If both have a record of an LRA, the two are merged. An LRA that only the other has is
+    /// taken, unless the own front counts its begin, because then it was purged here. An LRA that
+    /// is held only here is removed if the other lists all that it holds at that home and its front
+    /// counts the begin, because then it was purged there. The greater of each node's counts and
+    /// last purges are kept.
+    ///
+    /// Errors: E16 at place 0 if the view would lose its shape. The patch has only what changes,
+    /// each once: a record that stays as it was isn't put again. It costs what `Forest::taking` and
+    /// `keeps_shape_with` cost at each home.
     pub fn absorb(&mut self, alloc: Global, taken: Taken) -> Result<Patch, Refusal>
         requires { length self.old.front ≡ length taken.front }
         ensures view { view_of self.new ≡ view_of self.old }
@@ -176,9 +179,9 @@ impl Replica {
     }
 
     /// Merges another replica of as many nodes into this one, by the rules of `absorb`. E16 at
-    /// place 0 where the merged records would break the shape; replicas of one history never do. On
-    /// any refusal nothing changes. It costs a look at each record of the other, a copy of each that
-    /// tells something new, and what `absorb` of these costs.
+    /// place 0 if the merged records would break the shape, which never happens with replicas of
+    /// one history. A refusal changes nothing. It costs a look at each record of the other, a copy
+    /// of each that brings news, and the cost of `absorb` for these.
     pub fn merge(&mut self, alloc: Global, other: &Replica) -> Result<(), Refusal>
         requires { length self.old.front ≡ length other.now.front }
         ensures merged { OnOk result (view_of self.new

@@ -1,4 +1,4 @@
-// Pages of what a node holds.
+// Pages of the LRAs that a node holds.
 ghost use Rattle.std.specs.Prelude.{◌≡◌, ◌≤◌, ◌∷◌, [], List, None, Some, IfErr, IfOk, if◌then◌else◌, length};
 ghost use Rattle.lra_id.specs.declared.TheConstants.{MAX_NODES};
 ghost use Rattle.lra_id.specs.Ids.{is_fact_number};
@@ -18,10 +18,10 @@ use lra_id::{LraId, LraStatus, NodeId};
 use std::alloc::{AllocError, Global};
 use std::marker::Model;
 
-/// How many rows a page has at most.
+/// The greatest number of rows on a page.
 pub const MAX_ROWS: usize = 64;
 
-/// An LRA, and what it shows.
+/// An LRA and its status.
 #[derive(Clone, Copy, Debug, PartialEq, Eq)]
 pub struct Row {
     pub id: LraId,
@@ -44,14 +44,14 @@ impl Model for Page {
 }
 
 impl Page {
-    /// Its rows, in order of their homes and numbers.
+    /// Returns the rows, in order of their homes and numbers.
     pub fn rows(&self) -> &[Row]
         ensures { result.now ≡ self.now.rows }
     {
         &self.rows
     }
 
-    /// Whether more follow.
+    /// Whether more LRAs follow.
     pub fn more(&self) -> bool
         ensures { result ≡ self.now.more }
     {
@@ -86,7 +86,7 @@ impl Replica {
         ensures few { result ≤ MAX_NODES }
         ensures state { IsReplicaState self.now }
     {
-        // Calling `homes` hands the prover what holds of every replica's state.
+        // Calling `homes` tells the prover what holds of every replica's state.
         let _ = self.homes();
         self.front().nodes()
     }
@@ -146,10 +146,11 @@ impl Replica {
         Ok(Page { rows, more })
     }
 
-    /// The next 64 LRAs that are held beyond this one, or the first of all, in order of their homes
-    /// and numbers, each with what it shows. Only memory can be wanting. For each row it finds the
-    /// LRA by halving its home's records, after a look at each home between, and what it shows
-    /// costs as much as `status`. An LRA whose number no fact can have is left out.
+    /// Returns the next 64 LRAs that are held beyond this one, or the first ones of all, in order
+    /// of their homes and numbers, each with its status. It fails only if memory runs out. For each
+    /// row it looks at each home in between, and finds the LRA by binary search in its home's
+    /// records. The status costs as much as `status`. An LRA whose number no fact can have is left
+    /// out.
     pub fn page(&self, alloc: Global, after: Option<LraId>) -> Result<Page, Refusal>
         ensures page { IfOk result (λ page. IsPage (by_view (view_of self.now)) after page) }
         ensures settled { OfItsSet (view_of self.now)

@@ -1,4 +1,4 @@
-// What is to be changed in a replica.
+// The changes that are prepared for a replica.
 ghost use Rattle.std.specs.Prelude.{◌≡◌};
 
 use lra_facts::CommandReply;
@@ -6,9 +6,9 @@ use lra_forest::Record;
 use lra_id::{Front, LraId};
 use std::marker::Model;
 
-/// What is to be changed in a replica: whole records to put in their places, LRAs to remove, and
-/// the front and the last purges from then on. It is made for one view of a replica, which has room
-/// for it.
+/// The changes that are prepared for a replica: whole records to put in their places, LRAs to
+/// remove, and the new front and last purges. A patch is made for one view of a replica, which has
+/// room for it.
 #[derive(Debug, Drop)]
 pub struct Patch {
     pub(crate) records: Vec<Record>,
@@ -31,28 +31,28 @@ impl Model for Patch {
 }
 
 impl Patch {
-    /// The records that are put in their places.
+    /// Returns the records that are put in their places.
     pub fn records(&self) -> &[Record]
         ensures { result.now ≡ self.now.records }
     {
         &self.records
     }
 
-    /// The LRAs whose records are removed.
+    /// Returns the LRAs whose records are removed.
     pub fn removed(&self) -> &[LraId]
         ensures { result.now ≡ self.now.removed }
     {
         &self.removed
     }
 
-    /// The front from then on.
+    /// Returns the front after the patch.
     pub fn front(&self) -> Front
         ensures { result ≡ self.now.front }
     {
         self.front
     }
 
-    /// The number of each home's last purge from then on.
+    /// Returns the number of each home's last purge after the patch.
     pub fn purges(&self) -> Front
         ensures { result ≡ self.now.purges }
     {
@@ -60,11 +60,11 @@ impl Patch {
     }
 }
 
-/// What a command that is not refused comes to.
+/// The result of preparing a command that is not refused.
 #[derive(Debug, Drop)]
 pub struct Prepared {
-    /// The reply to it.
+    /// The command's reply.
     pub reply: CommandReply,
-    /// The patch that adds its fact, or none where it brings nothing new.
+    /// The patch that adds the command's fact, or `None` if the command brings nothing new.
     pub patch: Option<Patch>,
 }

@@ -1,4 +1,4 @@
-// What one node tells another.
+// What one node sends another.
 ghost use Rattle.std.specs.Prelude.{◌≡◌, IfOk};
 ghost use Rattle.lra_history.specs.Merging.{IsTelling, TellsNews};
 ghost use Rattle.lra_replica.specs.Replicas.{view_of};
@@ -10,8 +10,8 @@ use lra_id::Front;
 use std::alloc::{AllocError, Global};
 use std::marker::Model;
 
-/// What another node tells: its front and last purges, and of each home some records and, where it
-/// tells them, the numbers of all LRAs that it holds there.
+/// What another node sends: its front and last purges, and for each home some records and, if it
+/// sends them, the numbers of all LRAs that it holds there.
 #[derive(Debug, Drop)]
 pub struct Taken {
     pub(crate) front: Front,
@@ -31,8 +31,8 @@ impl Model for Taken {
 }
 
 impl Taken {
-    /// What a node tells that has this front and these last purges, and tells this of each home,
-    /// one for each node.
+    /// Makes what a node sends from its front, its last purges, and what it sends of each home, one
+    /// for each node.
     pub fn new(front: Front, purges: Front, homes: Vec<Told>) -> Taken
         requires { IsTelling (record { front = front; purges = purges; homes = homes.items }) }
         ensures { result ≡ record { front = front; purges = purges; homes = homes.items } }
@@ -46,11 +46,12 @@ impl Taken {
 }
 
 impl Replica {
-    /// What a home tells that is news here. All is, where there is no such home.
+    /// Returns what a home tells that is news here. If there is no such home here, everything is
+    /// news.
     fn told_by(&self, alloc: Global, home: &Forest) -> Result<Told, AllocError>
         ensures { IfOk result (λ told. IsToldBy (view_of self.now) home.now told) }
     {
-        // Calling `records` hands the prover that they are in order.
+        // Calling `records` tells the prover that they are in order.
         let _ = home.records();
         let records = match self.home(home.home()) {
             Some(own) => own.lacking(alloc, home)?,
@@ -62,9 +63,9 @@ impl Replica {
         })
     }
 
-    /// What it has that is news to another: its front and last purges, the numbers of all LRAs that
-    /// it holds, and copies of the records that tell something new. It looks up each of its records
-    /// among the other's by halving.
+    /// Returns what this replica has that is news to another: its front and last purges, the
+    /// numbers of all LRAs that it holds, and copies of the records that bring news. It looks up
+    /// each of its records among the other's by binary search.
     pub fn tell_news(&self, alloc: Global, other: &Replica) -> Result<Taken, AllocError>
         ensures { IfOk result
             (λ taken. TellsNews (view_of other.now) taken (view_of self.now)) }

@@ -1,4 +1,4 @@
-// The begin of an LRA, top-level or nested.
+// Beginning an LRA, top-level or nested.
 ghost use Rattle.std.specs.Prelude.{◌≡◌, ◌≤◌, ◌<◌, ◌+◌, None, Some, Ok, IfOk, length};
 ghost use Rattle.lra_id.specs.Ids.{last_number};
 ghost use Rattle.lra_id.specs.Fronts.{count};
@@ -53,7 +53,7 @@ impl Replica {
         }
     }
 
-    /// Prepares the begin of a root that is accepted.
+    /// Prepares an accepted begin of a root.
     pub(crate) fn accept_root(
         &mut self,
         alloc: Global,
@@ -78,7 +78,7 @@ impl Replica {
         })
     }
 
-    /// Prepares the begin of a nested LRA that is accepted.
+    /// Prepares an accepted begin of a nested LRA.
     pub(crate) fn accept_nested(
         &mut self,
         alloc: Global,
@@ -112,9 +112,9 @@ impl Replica {
     }
 
     /// Prepares the begin of an LRA, top-level or in a parent, with a deadline in milliseconds, 0
-    /// for none. A root costs one insertion, a nested LRA a copy of its parent's record and a look
-    /// at those that the parent is nested in. Errors, the first that holds: of a root E13, E14; of
-    /// a nested LRA E2, E3, E4, E6, E11, E12, E13, E14; and E17.
+    /// for none. A root costs one insertion. A nested LRA costs a copy of its parent's record and a
+    /// look at those above the parent. Errors, the first that holds: for a root E13, E14; for a
+    /// nested LRA E2, E3, E4, E6, E11, E12, E13, E14; and E17.
     pub fn begin(
         &mut self,
         alloc: Global,

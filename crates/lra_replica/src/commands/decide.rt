@@ -1,4 +1,4 @@
-// An LRA is closed or cancelled.
+// Closing or cancelling an LRA.
 ghost use Rattle.std.specs.Prelude.{◌≡◌, ◌≤◌, ◌<◌, Ok, IfOk, is_some, length, true};
 ghost use Rattle.lra_id.specs.Ids.{last_number};
 ghost use Rattle.lra_id.specs.Fronts.{count};
@@ -33,7 +33,7 @@ impl Replica {
         self.homes[place].status_with(next)
     }
 
-    /// Prepares a decision that is accepted.
+    /// Prepares an accepted decision.
     pub(crate) fn accept_decision(
         &mut self,
         alloc: Global,
@@ -63,9 +63,9 @@ impl Replica {
         })
     }
 
-    /// Prepares a decision: an LRA is closed or cancelled. It costs a copy of the LRA's record, and
-    /// a look at those that it is nested in and at those that are nested in it. Errors, the first
-    /// that holds: E2, E3, E4, E6, E14, E17. Only the copy and the patch take memory.
+    /// Prepares a decision to close or cancel an LRA. It costs a copy of the LRA's record, and a
+    /// look at the records above it and at those nested in it. Errors, the first that holds: E2,
+    /// E3, E4, E6, E14, E17. Only the copy and the patch take memory.
     pub fn decide(
         &mut self,
         alloc: Global,

@@ -1,4 +1,4 @@
-// What the fact of a command changes: the front, and one record or two.
+// What a command's fact changes: the front, and one or two records.
 ghost use Rattle.std.specs.Prelude.{◌≡◌, ◌≤◌, ◌<◌, ◌+◌, Some, IfOk, OnOk, is_some, length, true};
 ghost use Rattle.lra_id.specs.Ids.{last_number};
 ghost use Rattle.lra_id.specs.Fronts.{count};
@@ -13,7 +13,7 @@ use lra_forest::Record;
 use lra_id::{Front, LraId, NodeId};
 use std::alloc::{AllocError, Global};
 
-/// Marks the number of a node's newest fact.
+/// Sets a node's stamp to the number of its newest fact.
 pub fn stamp(stamps: &mut Front, node: NodeId, num: u64)
     ensures stamps { stamps.new ≡ stamped node num stamps.old }
     ensures some { 1 ≤ node }
@@ -24,7 +24,8 @@ pub fn stamp(stamps: &mut Front, node: NodeId, num: u64)
 }
 
 impl Replica {
-    /// A copy of the record of an LRA that is held, with the number of a node's next fact.
+    /// Copies the record of an LRA that is held, and stamps it with the number of a node's next
+    /// fact.
     pub(crate) fn copy_with_stamp(&self, id: LraId, node: NodeId) -> Result<Record, AllocError>
         requires left { count self.now.front node < last_number }
         requires held { is_some (record_at (view_of self.now) id) ≡ true }
@@ -42,7 +43,7 @@ impl Replica {
         Ok(copy)
     }
 
-    /// The front with one more of a node that has a number left.
+    /// Returns the front with one more fact of a node that has a number left.
     pub(crate) fn raised(&self, me: NodeId) -> Front
         requires node { me ≤ length self.now.front }
         requires left { count self.now.front me < last_number }
@@ -55,7 +56,7 @@ impl Replica {
         front
     }
 
-    /// Takes the memory that so many more records of a home need.
+    /// Reserves the memory that this many more records of a home need.
     pub(crate) fn make_room(&mut self, home: NodeId, more: usize) -> Result<(), AllocError>
         requires { home ≤ length self.old.front }
         ensures view { view_of self.new ≡ view_of self.old }
@@ -66,7 +67,7 @@ impl Replica {
         self.homes[place].reserve(more)
     }
 
-    /// Takes the memory that the stamps of so many records need in the index.
+    /// Reserves the memory that the stamps of this many records need in the index.
     pub(crate) fn make_entries(&mut self, more: usize) -> Result<(), AllocError>
         ensures view { view_of self.new ≡ view_of self.old }
         ensures homes { self.new.homes ≡ self.old.homes }
@@ -76,7 +77,7 @@ impl Replica {
         self.index.reserve(more)
     }
 
-    /// Takes the memory that so many more records of a home need, with their stamps.
+    /// Reserves the memory that this many more records of a home need, with their stamps.
     fn make_place(&mut self, home: NodeId, more: usize) -> Result<(), AllocError>
         requires { home ≤ length self.old.front }
         ensures view { view_of self.new ≡ view_of self.old }
@@ -88,7 +89,7 @@ impl Replica {
         self.make_room(home, more)
     }
 
-    /// The patch of a fact that changes one record, and the room that it needs.
+    /// Makes the patch of a fact that changes one record, and the room that it needs.
     pub(crate) fn patch_of_one(
         &mut self,
         alloc: Global,
@@ -117,7 +118,7 @@ impl Replica {
         })
     }
 
-    /// The patch of a fact that changes two records of one home, and the room that it needs.
+    /// Makes the patch of a fact that changes two records of one home, and the room that it needs.
     pub(crate) fn patch_of_two(
         &mut self,
         alloc: Global,

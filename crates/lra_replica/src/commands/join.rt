@@ -1,4 +1,4 @@
-// A participant joins.
+// Joining a participant to an LRA.
 ghost use Rattle.std.specs.Prelude.{◌≡◌, ◌≤◌, ◌<◌, Ok, IfOk, length};
 ghost use Rattle.lra_id.specs.Ids.{last_number};
 ghost use Rattle.lra_id.specs.Fronts.{count};
@@ -16,7 +16,7 @@ use lra_id::{LraId, NodeId};
 use std::alloc::{AllocError, Global};
 
 impl Replica {
-    /// Prepares a join that is accepted.
+    /// Prepares an accepted join.
     pub(crate) fn accept_join(
         &mut self,
         alloc: Global,
@@ -49,9 +49,9 @@ impl Replica {
         })
     }
 
-    /// Prepares a join: a participant with these links joins the LRA under its next member number.
-    /// It costs a copy of the LRA's record and a look at those that it is nested in. Errors, the
-    /// first that holds: E2, E3, E4, E6, E11, E14, E17.
+    /// Prepares a join: a participant with these links joins the LRA with its next member number.
+    /// It costs a copy of the LRA's record and a look at those above it. Errors, the first that
+    /// holds: E2, E3, E4, E6, E11, E14, E17.
     pub fn join(
         &mut self,
         alloc: Global,

@@ -1,6 +1,6 @@
-// What a node makes of a command, by the records of the home of the LRA that the command names: its
-// first refusal, that it is known already, or that it is accepted. The questions answer what the
-// definitions do, an optional refusal; with `?` each would need a second form.
+// Judging a command by the records of the home of the LRA that it names: whether it is refused,
+// already known, or accepted. The functions here return what the definitions do, an optional
+// refusal. With `?` each would need a second form.
 ghost use Rattle.std.specs.Prelude.{◌≡◌, ◌<◌, [], ◌∷◌, None, Some, Ok, false, true};
 ghost use Rattle.lra_id.specs.Fronts.{count};
 ghost use Rattle.lra_id.specs.Ids.{last_number};
@@ -14,7 +14,7 @@ use lra_facts::{Command, Refusal};
 use lra_forest::{Forest, MAX_DEPTH, MAX_HELD, MAX_MEMBERS};
 use lra_id::{Act, Front, LAST_NUMBER, LraId, NodeId};
 
-/// The refusal to show an LRA, where none of its id is held.
+/// Returns the refusal to show an LRA, if no LRA with its id is held.
 fn refusal_to_show(home: &Forest, front: &Front, id: LraId) -> Option<Refusal>
     ensures { let t = by_home home.now.records
         in result ≡ first (unknown front.now id ∷ gone_by t id ∷ []) }
@@ -28,7 +28,7 @@ fn refusal_to_show(home: &Forest, front: &Front, id: LraId) -> Option<Refusal>
     None
 }
 
-/// The refusal of what only the home may enter of an LRA.
+/// Returns the refusal of a command for an LRA that only the LRA's home accepts.
 fn refusal_at_home(home: &Forest, front: &Front, me: NodeId, id: LraId) -> Option<Refusal>
     ensures { let t = by_home home.now.records
         in result ≡ first (unknown front.now id ∷ gone_by t id ∷ away me id ∷ []) }
@@ -42,7 +42,7 @@ fn refusal_at_home(home: &Forest, front: &Front, me: NodeId, id: LraId) -> Optio
     None
 }
 
-/// E6, with what an LRA shows.
+/// Returns E6 with the LRA's status.
 fn not_active(home: &Forest, id: LraId) -> Option<Refusal>
     ensures { let t = by_home home.now.records in t.held id ≡ true →
         result ≡ Some (NotActive (t.shows id)) }
@@ -53,7 +53,7 @@ fn not_active(home: &Forest, id: LraId) -> Option<Refusal>
     }
 }
 
-/// The refusal of what wants an LRA that wants nothing yet.
+/// Returns the refusal of a command that requires an LRA that wants nothing yet.
 fn refusal_of_inactive(home: &Forest, id: LraId) -> Option<Refusal>
     ensures { let t = by_home home.now.records in t.held id ≡ true → result ≡ inactive_by t id }
 {
@@ -63,7 +63,8 @@ fn refusal_of_inactive(home: &Forest, id: LraId) -> Option<Refusal>
     }
 }
 
-/// The refusal of what only the home may enter of an LRA that wants nothing yet.
+/// Returns the refusal of a command that only the home accepts, and only for an LRA that wants
+/// nothing yet.
 fn refusal_unless_active(home: &Forest, front: &Front, me: NodeId, id: LraId) -> Option<Refusal>
     ensures { let t = by_home home.now.records in result ≡ first
         (unknown front.now id ∷ gone_by t id ∷ away me id ∷ inactive_by t id ∷ []) }
@@ -83,7 +84,7 @@ fn refusal_of_full(home: &Forest, id: LraId) -> Option<Refusal>
     }
 }
 
-/// The refusal to give a further member number in an LRA.
+/// Returns the refusal to give one more member number in an LRA.
 fn refusal_to_number_member(home: &Forest, front: &Front, me: NodeId, id: LraId) -> Option<Refusal>
     ensures { let t = by_home home.now.records in result ≡ first (unknown
         front.now id ∷ gone_by t id ∷ away me id ∷ inactive_by t id ∷ full_by t id ∷ []) }
@@ -103,7 +104,7 @@ fn refusal_of_deep(home: &Forest, id: LraId) -> Option<Refusal>
     }
 }
 
-/// The refusal to begin one more LRA at a home.
+/// Returns the refusal to begin one more LRA at a home.
 fn refusal_to_hold(home: &Forest, me: NodeId) -> Option<Refusal>
     ensures { let t = by_home home.now.records in result ≡ crowded_by t me }
 {
@@ -127,7 +128,7 @@ fn refusal_to_nest(home: &Forest, front: &Front, me: NodeId, parent: LraId) -> O
     refusal_to_hold(home, me)
 }
 
-/// The refusal of a number that no participant has.
+/// Returns the refusal of a member number that no participant has.
 fn refusal_of_stranger(home: &Forest, id: LraId, member: u8) -> Option<Refusal>
     ensures { let t = by_home home.now.records in t.held id ≡ true →
         result ≡ stranger_by t id member }
@@ -157,7 +158,7 @@ fn refusal_to_leave(
     refusal_of_inactive(home, id)
 }
 
-/// The refusal of what only a participant has of an LRA that is held.
+/// Returns the refusal of a command that requires a participant of an LRA that is held.
 fn refusal_of_no_participant(home: &Forest, front: &Front, id: LraId, member: u8) -> Option<Refusal>
     ensures { let t = by_home home.now.records in result
         ≡ first (unknown front.now id ∷ gone_by t id ∷ stranger_by t id member ∷ []) }
@@ -168,7 +169,7 @@ fn refusal_of_no_participant(home: &Forest, front: &Front, id: LraId, member: u8
     refusal_of_stranger(home, id, member)
 }
 
-/// E7, with what an LRA shows.
+/// Returns E7 with the LRA's status.
 fn not_due(home: &Forest, id: LraId) -> Option<Refusal>
     ensures { let t = by_home home.now.records in t.held id ≡ true →
         result ≡ Some (NotDue (t.shows id)) }
@@ -256,7 +257,7 @@ fn refusal_of_no_root(home: &Forest, id: LraId) -> Option<Refusal>
     }
 }
 
-/// E8, with what an LRA shows.
+/// Returns E8 with the LRA's status.
 fn not_ended(home: &Forest, id: LraId) -> Option<Refusal>
     ensures { let t = by_home home.now.records in t.held id ≡ true →
         result ≡ Some (NotEnded (t.shows id)) }
@@ -318,7 +319,7 @@ fn refusal_to_purge(home: &Forest, front: &Front, me: NodeId, root: LraId) -> Op
     refusal_of_untold(home, root)
 }
 
-/// The first refusal that a command meets, but for the want of numbers.
+/// Returns the first refusal that a command meets, except for the one of spent numbers.
 fn refusal_of(home: &Forest, front: &Front, me: NodeId, command: &Command) -> Option<Refusal>
     requires { IsOfHome home.now.home command.now }
     ensures { result ≡ refusal_by (by_home home.now.records) front.now me command.now }
@@ -362,7 +363,7 @@ fn is_known(home: &Forest, command: &Command) -> bool
     }
 }
 
-/// The refusal of any further fact of a node, where its numbers are spent.
+/// Returns the refusal of any further fact of a node whose numbers are spent.
 fn refusal_to_number(front: &Front, me: NodeId) -> Option<Refusal>
     ensures { result ≡ spent front.now me }
 {
@@ -372,8 +373,8 @@ fn refusal_to_number(front: &Front, me: NodeId) -> Option<Refusal>
     None
 }
 
-/// What a node makes of a command: whether it is known already, and is accepted otherwise; or why
-/// it is refused.
+/// Judges a node's command: returns true if it is already known, false if it is accepted, or the
+/// refusal.
 pub(crate) fn judge(
     home: &Forest,
     front: &Front,

@@ -1,4 +1,4 @@
-// A participant leaves.
+// Letting a participant leave its LRA.
 ghost use Rattle.std.specs.Prelude.{◌≡◌, ◌≤◌, ◌<◌, ◌-◌, Ok, IfOk, length};
 ghost use Rattle.lra_id.specs.Ids.{last_number};
 ghost use Rattle.lra_id.specs.Fronts.{count};
@@ -35,7 +35,7 @@ fn leave_from(members: &mut Members, number: u8)
 }
 
 impl Replica {
-    /// Prepares a leave that is accepted.
+    /// Prepares an accepted leave.
     pub(crate) fn accept_leave(
         &mut self,
         alloc: Global,
@@ -61,8 +61,8 @@ impl Replica {
         })
     }
 
-    /// Prepares a leave of a participant. It costs what `join` costs. Errors, the first that holds:
-    /// E2, E3, E4, E5, E6, E14, E17.
+    /// Prepares the leave of a participant. It costs as much as `join`. Errors, the first that
+    /// holds: E2, E3, E4, E5, E6, E14, E17.
     pub fn leave(
         &mut self,
         alloc: Global,

@@ -1,4 +1,4 @@
-// What a participant was told: that it may forget, or that its LRA has ended.
+// Recording what a participant was told: that it may forget, or that its LRA has ended.
 ghost use Rattle.std.specs.Prelude.{◌≡◌, ◌≤◌, ◌<◌, ◌-◌, Ok, IfOk, OnOk, length};
 ghost use Rattle.lra_id.specs.Ids.{last_number};
 ghost use Rattle.lra_id.specs.Fronts.{count};
@@ -17,13 +17,13 @@ use lra_forest::{Member, Members, Participant};
 use lra_id::{LraId, NodeId};
 use std::alloc::{AllocError, Global};
 
-/// What a participant is told without an outcome: a call brings it, and any node enters that it
-/// came.
+/// A notice to a participant, which asks for no outcome. A call delivers it, and any node may
+/// record that it was delivered.
 #[derive(Clone, Copy)]
 enum Notice {
-    /// It may forget its LRA.
+    /// The participant may forget its LRA.
     ToForget,
-    /// Its LRA has ended.
+    /// The participant's LRA has ended.
     OfTheEnd,
 }
 
@@ -37,7 +37,7 @@ impl Notice {
         }
     }
 
-    /// The member that was told.
+    /// Returns the member with the mark that it was told.
     fn note(self, member: Member) -> Member
         ensures { result ≡ noted self member }
     {
@@ -120,7 +120,7 @@ impl Replica {
         })
     }
 
-    /// Prepares that a participant was told to forget, where that is accepted.
+    /// Prepares an accepted record that a participant was told to forget.
     pub(crate) fn accept_forgot(
         &mut self,
         alloc: Global,
@@ -140,7 +140,7 @@ impl Replica {
         self.accept_notice(alloc, me, id, member, Notice::ToForget)
     }
 
-    /// Prepares that a participant was told of the end, where that is accepted.
+    /// Prepares an accepted record that a participant was told of the end.
     pub(crate) fn accept_told(
         &mut self,
         alloc: Global,
@@ -160,11 +160,11 @@ impl Replica {
         self.accept_notice(alloc, me, id, member, Notice::OfTheEnd)
     }
 
-    /// Prepares that a participant was told to forget, which any node may enter. Where it was told
-    /// already, it is known, and there is no patch. It costs a copy of the LRA's record and a look
-    /// at those of its root's tree. Errors, the first that holds: E2, E3, E5, E7; where it isn't
-    /// known E14, E17. One function over `Notice` does this and `told`; each has clauses of its
-    /// own, as callers cite one.
+    /// Prepares the record that a participant was told to forget, which any node may make. If it
+    /// was told already, the command is known, and there is no patch. It costs a copy of the LRA's
+    /// record and a look at those of its root's tree. Errors, the first that holds: E2, E3, E5, E7;
+    /// if it isn't known, E14, E17. One function over `Notice` does this and `told`. Each has
+    /// clauses of its own, because a caller cites only one.
     pub fn forgot(
         &mut self,
         alloc: Global,
@@ -183,8 +183,8 @@ impl Replica {
         self.prepare(alloc, me, Command::Forgot { id, member })
     }
 
-    /// Prepares that a participant was told that its LRA has ended, which any node may enter. When
-    /// it is known, its cost and its errors are as for `forgot`.
+    /// Prepares the record that a participant was told that its LRA has ended, which any node may
+    /// make. Known commands, cost and errors are as for `forgot`.
     pub fn told(
         &mut self,
         alloc: Global,

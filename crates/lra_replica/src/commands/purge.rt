@@ -1,4 +1,4 @@
-// A purge of a root and all that is nested in it.
+// Purging a root and everything nested in it.
 ghost use Rattle.std.specs.Prelude.{◌≡◌, ◌≤◌, ◌<◌, Ok, IfOk, length};
 ghost use Rattle.lra_id.specs.Ids.{last_number};
 ghost use Rattle.lra_id.specs.Fronts.{count};
@@ -47,7 +47,7 @@ impl Replica {
         }
     }
 
-    /// Prepares a purge that is accepted.
+    /// Prepares an accepted purge.
     pub(crate) fn accept_purge(
         &mut self,
         alloc: Global,
@@ -71,7 +71,7 @@ impl Replica {
         })
     }
 
-    /// Prepares a purge: a root that is ended is removed, with all that is nested in it. It costs a
+    /// Prepares a purge, which removes a root that is ended and everything nested in it. It costs a
     /// look at each of the home's records. Errors, the first that holds: E2, E3, E4, E9, E8, E10,
     /// E24, E14, E17.
     pub fn purge(&mut self, alloc: Global, me: NodeId, root: LraId) -> Result<Prepared, Refusal>

@@ -1,4 +1,4 @@
-// What was heard of an act of a participant.
+// Recording the outcome of an act of a participant.
 ghost use Rattle.std.specs.Prelude.{◌≡◌, ◌≤◌, ◌<◌, ◌-◌, Ok, IfOk, OnOk, length};
 ghost use Rattle.lra_id.specs.Ids.{last_number};
 ghost use Rattle.lra_id.specs.Fronts.{count};
@@ -55,7 +55,7 @@ fn report_to(
 }
 
 impl Replica {
-    /// Prepares a report that is accepted.
+    /// Prepares an accepted report.
     pub(crate) fn accept_report(
         &mut self,
         alloc: Global,
@@ -83,10 +83,10 @@ impl Replica {
         })
     }
 
-    /// Prepares a report of an outcome of an act of a participant, which any node may enter. Where
-    /// this outcome or a greater one was heard, it is known, and there is no patch. It costs a copy
-    /// of the LRA's record and a look at those that it is nested in. Errors, the first that holds:
-    /// E2, E3, E5, E7; where it isn't known E14, E17.
+    /// Prepares a report of an outcome of an act of a participant, which any node may record. If
+    /// this outcome or a greater one was heard already, it is known, and there is no patch. It
+    /// costs a copy of the LRA's record and a look at those above it. Errors, the first that holds:
+    /// E2, E3, E5, E7; if it isn't known, E14, E17.
     pub fn report(
         &mut self,
         alloc: Global,
