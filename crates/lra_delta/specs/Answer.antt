@@ -1,4 +1,4 @@
--- what decoding answers
+-- the answer of decoding
 use Rattle.std.specs.Prelude.{◌≡◌, Result, Ok, Err}
 use Rattle.lra_facts.specs.declared.refusal.Refusal.{Refusal}
 use Rattle.lra_facts.specs.declared.refusal.Refusal.TheVariants.{BadFrame, NoMemory}
@@ -10,7 +10,7 @@ Refuses (BadFrame place) read = read ≡ Err (Fault place)
 Refuses NoMemory read = Unit {0}
 Refuses _ read = ⊥
 
--- what reading gives, unless memory ran out
+-- the result of reading, unless memory ran out
 abbrev pub Decodes : {A : Type 0} → Result A Refusal → Result A Stop → Type 0
 Decodes (Ok d) read = read ≡ Ok d
 Decodes (Err e) read = Refuses e read

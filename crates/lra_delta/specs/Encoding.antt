@@ -1,4 +1,4 @@
--- the encoding of a frame, one of each version
+-- the encoding of a frame, one for each version
 use Rattle.std.specs.Prelude.{◌++◌, ℕ, List, [], Bool, true, false, Option, Some, None, length}
 use Rattle.std.specs.List.{flat_map}
 use Rattle.std.specs.Int.{w8, w16, w32, w64, to_be_bytes}
@@ -33,7 +33,7 @@ number n = to_be_bytes w64 n
 abbrev pub vector : List ℕ → List ℕ
 vector ns = flat_map number ns
 
--- where an LRA is nested
+-- the place where an LRA is nested
 unfoldable pub place : Place → List ℕ
 place p = number p.number ++ byte p.slot
 
@@ -63,16 +63,16 @@ abbrev pub flag_mark : Bool → ℕ
 flag_mark false = 0
 flag_mark true = 1
 
--- a link's text, none for no link
+-- a link's text, which is empty for no link
 abbrev pub link_text : Option (List ℕ) → List ℕ
 link_text None = []
 link_text (Some text) = text
 
--- its length, and the text
+-- a text with its length before it
 unfoldable pub counted : List ℕ → List ℕ
 counted text = byte (length text) ++ text
 
--- what version 1 does not know takes no byte there
+-- the link for the end, which takes no byte in version 1
 abbrev pub after_link : Version → Option (List ℕ) → List ℕ
 after_link One link = []
 after_link Two link = counted (link_text link)
@@ -85,7 +85,7 @@ unfoldable pub links_text : Version → Links → List ℕ
 links_text v l =
     counted (link_text l.complete) ++ (counted (link_text l.compensate) ++ (counted (link_text l.status) ++ (counted (link_text l.forget) ++ after_link v l.after)))
 
--- what is marked of a participant: what was heard of it, and what it was told
+-- the marks of a participant: what was heard of it, and what it was told
 abbrev pub marks_of : ParticipantRecord → Marks
 marks_of p = record { completed = p.completed; compensated = p.compensated; forgotten = p.forgotten; told = p.told }
 

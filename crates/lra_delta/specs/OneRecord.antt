@@ -1,4 +1,4 @@
--- One record alone, as a journal keeps it: under a front, with base zero and no live list.
+-- One record by itself, as a journal keeps it: under a front, with base zero and no live list.
 use Rattle.std.specs.Prelude.{◌≤◌, ◌<◌, ◌^◌, ◌==◌, ℕ, List, [], None, Result, Ok, Err, if◌then◌else◌, length, replicate}
 use Rattle.lra_id.specs.declared.TheConstants.{MAX_NODES}
 use Rattle.lra_id.specs.Fronts.{count}
@@ -14,8 +14,8 @@ use Rattle.lra_delta.specs.Reading.{read_record_at}
 abbrev pub under : Version → (front : List ℕ) → Context
 under v front = told_context v (replicate (length front) 0) front []
 
--- The record keeps the rules under this front, of at most 8 nodes and with numbers of 48 bits: it is of one of the nodes, and
--- would keep those of a frame with base zero
+-- The record keeps the rules under this front, which has at most 8 nodes and numbers of 48 bits:
+-- the record is of one of the nodes, and would keep the rules of a frame with base zero
 pub record KeepsRulesUnder (front : List ℕ) (kept : Record) : Type 0 where
   pub few : length front ≤ MAX_NODES
   pub small : (node : ℕ) → count front node < 2 ^ 48
@@ -23,7 +23,7 @@ pub record KeepsRulesUnder (front : List ℕ) (kept : Record) : Type 0 where
   pub high : kept.home ≤ length front
   pub fits : KeepsRulesIn (replicate (length front) 0) front None kept
 
--- what has an encoding of a version as one record
+-- the record has an encoding of a version by itself
 abbrev pub IsRecordUnderAs : Version → (front : List ℕ) → Record → Type 0
 IsRecordUnderAs v front kept = IsRecord (under v front) start kept
 
@@ -33,7 +33,7 @@ alone_at v front r = do
   kept ← read_record_at (under v front) start r
   if kept.1.place == r.limit then Ok kept else Err (Broken kept.1.place kept.1.place)
 
--- all of the bytes
+-- the record that all of the bytes encode
 abbrev pub record_in_as : Version → (front bytes : List ℕ) → Result Record Stop
 record_in_as v front bytes = told_of (value_of (alone_at v front (record { place = 0; limit = length bytes; ahead = bytes })))
 

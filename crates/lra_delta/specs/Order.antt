@@ -1,4 +1,4 @@
--- when records come in the order of a frame
+-- records in the order of a frame
 use Rattle.std.specs.Prelude.{◌≡◌, ◌+◌, ℕ, [], true, List, OnOk, Option, Result, map, slice_index}
 use Rattle.lra_forest.specs.declared.record.Record.{Record}
 use Rattle.lra_forest.specs.declared.merging.Told.{Told}
@@ -32,18 +32,18 @@ live_of_place base purges front place = read_live_at (slice_index base place) (s
 abbrev pub next_place : ℕ → Option (List ℕ) → ℕ
 next_place place live = place + 1
 
--- of each home from 1 to so many no record
+-- for each home from 1 to this many no record
 pub record AreEmpty (nodes : ℕ) (homes : List Told) : Type 0 where
   pub numbered : AreToldFrom 1 homes
   pub none : records_told homes ≡ by_home nodes []
 
--- these records, in their order, each at its home, and the live lists as they were
+-- these records were put in their order, each at its home, and the live lists are as they were
 pub record ArePut (nodes : ℕ) (old new : List Told) (rs : List Record) : Type 0 where
   pub told : AreToldFrom 1 new
   pub held : lists new ≡ lists old
   pub records : records_told new ≡ by_home nodes rs
 
--- what was read is records, which were put
+-- what was read are records, and they were put
 abbrev pub ArePutAs : (nodes : ℕ) (before after : Seen) (old new : List Told) (result : Result (Unit {0}) Stop) → (Rest → Read (List Record)) → Type 0
 ArePutAs nodes before after old new result scan =
     (rs : List Record)

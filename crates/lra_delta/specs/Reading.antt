@@ -55,7 +55,8 @@ outcome_of (suc zero) = Some Busy
 outcome_of (suc (suc zero)) = Some Done
 outcome_of (suc (suc (suc n))) = Some Failed
 
--- one field: its fault is at its first byte, and its length alone tells whether it is too long or too short
+-- a text is one field: its fault is at its first byte, and its length alone tells whether it is too
+-- long or too short
 unfoldable pub text_at : (ℕ → Bool) → (List ℕ → Bool) → Rest → Read (List ℕ)
 text_at fits rule r = do
   len ← number_at w8 fits r
@@ -66,13 +67,13 @@ abbrev pub link_of : List ℕ → Option (List ℕ)
 link_of [] = None
 link_of (c ∷ text) = Some (c ∷ text)
 
--- of a link that may be needed, or not allowed
+-- a link, which may be needed, or not allowed
 unfoldable pub link_at : (needed allowed : Bool) → Rest → Read (Option (List ℕ))
 link_at needed allowed r = do
   text ← text_at (is_length_for needed allowed) is_kept_or_none r
   Ok (link_of text.0, text.1)
 
--- what version 1 does not know is not there
+-- the link for the end, which isn't there in version 1
 unfoldable pub after_at : Version → (needed : Bool) → Rest → Read (Option (List ℕ))
 after_at One needed r = Ok (None, r)
 after_at Two needed r = link_at needed true r
@@ -81,14 +82,14 @@ unfoldable pub told_at : Version → Option (List ℕ) → Rest → Read ℕ
 told_at One link r = Ok (0, r)
 told_at Two link r = number_at w8 (is_mark_for link) r
 
--- behind the others the link for the end, which is needed where there is none to compensate
+-- after the other links the one for the end, which is needed if there is none to compensate
 unfoldable pub last_link_at : Version → (complete compensate status forget : Option (List ℕ)) → Rest → Read Links
 last_link_at v complete compensate status forget r = do
   link ← after_at v (is_none compensate) r
   Ok (record { complete = complete; compensate = compensate; status = status; forget = forget; after = link.0 }, link.1)
 
--- a link to compensate is needed in version 1, and beside one to complete; those for the status and to forget stand beside it
--- alone
+-- A link to compensate is needed in version 1, and if there is one to complete. Those for the
+-- status and to forget are allowed only beside it
 unfoldable pub links_at : Version → Rest → Read Links
 links_at v r = do
   complete ← link_at false true r
@@ -97,7 +98,7 @@ links_at v r = do
   forget ← link_at false (is_some compensate.0) status.1
   last_link_at v complete.0 compensate.0 status.0 forget.0 forget.1
 
--- what has no link has no mark
+-- without a link there is no mark
 unfoldable pub marks_at : Version → Links → Rest → Read Marks
 marks_at v links r = do
   completed ← number_at w8 (is_outcome_for links.complete) r
@@ -204,11 +205,11 @@ body_at v r = do
   records ← read_records_at (record { version = v; base = base.0; front = front.0; lives = lives.0 }) lives.1
   Ok (record { base = base.0; front = front.0; purges = purges.0; live = lives.0; records = by_home nodes.0 records.0 }, records.1)
 
--- the stated length bounds what comes
+-- the stated length limits what comes
 abbrev pub within : ℕ → Rest → Rest
 within len r = record { place = r.place; limit = min r.limit (r.place + len); ahead = r.ahead }
 
--- so many bytes of body
+-- a body of this many bytes
 unfoldable pub ended_at : Version → ℕ → Rest → Read Frame
 ended_at v len r = do
   d ← body_at v (within len r)
@@ -223,25 +224,25 @@ framed_at r = do
   d ← ended_at (version_of version.0) len.0 len.1
   Ok ((version_of version.0, d.0), d.1)
 
--- that, and then the end
+-- such a frame, and then the end
 unfoldable pub versioned_at : Rest → Read (Version × Frame)
 versioned_at r = do
   d ← framed_at r
   if d.1.place == r.limit then Ok d else Err (Broken d.1.place d.1.place)
 
--- the frame, of whichever version
+-- the frame, of any version
 unfoldable pub frame_at : Rest → Read Frame
 frame_at r = do
   d ← versioned_at r
   Ok (d.0.1, d.1)
 
--- a frame of so many bytes, at the start of these, or why and where reading it halts
+-- a frame of this many bytes, at the start of these, or why and where reading it halts
 abbrev pub looking : ℕ → List ℕ → Result Frame Halt
 looking size bytes = value_of (frame_at (record { place = 0; limit = size; ahead = bytes }))
 
 abbrev pub read_of : ℕ → List ℕ → Result Frame Stop
 read_of size bytes = told_of (looking size bytes)
 
--- all of the bytes
+-- the frame that all of the bytes encode
 abbrev pub frame_in : List ℕ → Result Frame Stop
 frame_in bytes = read_of (length bytes) bytes

@@ -27,7 +27,7 @@ use Rattle.lra_delta.specs.Encoding.{body, flat, outcome_mark, flag_mark}
 abbrev pub is_mark : ℕ → Bool
 is_mark t = nat_le t 1
 
--- a parent's number
+-- the number of a parent
 abbrev pub is_above : ℕ → ℕ → Bool
 is_above num n = nat_le 1 n && nat_lt n num
 
@@ -49,7 +49,7 @@ is_decision n = nat_le n 2
 abbrev pub is_outcome : ℕ → Bool
 is_outcome n = nat_le n 3
 
--- none without its link
+-- an outcome, which must be none without its link
 abbrev pub is_outcome_for : Option (List ℕ) → ℕ → Bool
 is_outcome_for link n = nat_le n 3 && (is_some link || (n == 0))
 
@@ -59,19 +59,19 @@ is_mark_for link n = nat_le n 1 && (is_some link || (n == 0))
 abbrev pub is_given_length : ℕ → Bool
 is_given_length n = nat_le 1 n && nat_le n 127
 
--- of a link that may be left out, or may not be there
+-- the length of a link that may be needed, or not allowed
 abbrev pub is_length_for : (needed allowed : Bool) → ℕ → Bool
 is_length_for needed allowed n = nat_le n 127 && ((not needed || nat_le 1 n) && (allowed || (n == 0)))
 
 abbrev pub may_be : (needed allowed : Bool) → Option (List ℕ) → Bool
 may_be needed allowed link = (not needed || is_some link) && (allowed || is_none link)
 
--- of the one for the end, which version 1 does not know
+-- the link for the end, which version 1 doesn't have
 abbrev pub may_be_after : Version → (needed : Bool) → Option (List ℕ) → Bool
 may_be_after One needed link = is_none link
 may_be_after Two needed link = may_be needed true link
 
--- one to compensate is needed in version 1, and beside one to complete
+-- a link to compensate is needed in version 1, and if there is one to complete
 abbrev pub needs_compensate : Version → Option (List ℕ) → Bool
 needs_compensate v complete = is_first v || is_some complete
 
@@ -83,7 +83,8 @@ abbrev pub IsLink : Option (List ℕ) → Type 0
 IsLink None = Unit {0}
 IsLink (Some text) = (is_given_length (length text) ≡ true) × (is_kept text ≡ true)
 
--- The links are those of a participant of the saga, or in version 2 that for the end alone. What has no link has nothing of it
+-- The links are those of a participant of the saga, or in version 2 only the one for the end.
+-- Nothing is there that has no link
 pub record IsParticipant (v : Version) (p : ParticipantRecord) : Type 0 where
   pub complete : IsLink p.links.complete
   pub compensate : IsLink p.links.compensate
@@ -97,7 +98,7 @@ pub record IsParticipant (v : Version) (p : ParticipantRecord) : Type 0 where
   pub forgotten : is_mark_for p.links.forget (flag_mark p.forgotten) ≡ true
   pub told : is_mark_for p.links.after (flag_mark p.told) ≡ true
 
--- above the record's and every earlier nested LRA's, at most the home's stamp
+-- above the number of the record and of every earlier nested LRA, and at most the home's stamp
 abbrev pub is_nested : ℕ → ℕ → ℕ → Bool
 is_nested last stamp n = nat_lt last n && nat_le n stamp
 
@@ -122,7 +123,7 @@ is_node_count n = nat_le 1 n && nat_le n MAX_NODES
 abbrev pub are_counts : List ℕ → Bool
 are_counts ns = list_all (λ n. nat_le n last_number) ns
 
--- each at most the other's
+-- each number is at most the limit at its place
 abbrev pub at_most : List ℕ → List ℕ → Bool
 at_most limits ns = list_all (λ p. nat_le p.0 p.1) (zip ns limits)
 
@@ -150,7 +151,7 @@ IsLive base purge count (Some ns) =
 
 -- records
 
--- what a record is read against
+-- the context in which a record is read
 pub record Context : Type 0 where
   pub version : Version
   pub base : List ℕ
@@ -199,11 +200,11 @@ is_record_count nodes n = nat_le n (MAX_HELD * nodes)
 abbrev pub context : Version → Frame → Context
 context v d = record { version = v; base = d.base; front = d.front; lives = d.live }
 
--- of a base, a front and what is told of each home
+-- the context for a base, a front and what is told of each home
 abbrev pub told_context : Version → (base front : List ℕ) → List Told → Context
 told_context v base front homes = record { version = v; base = base; front = front; lives = map (λ (told : Told). held_numbers told.held) homes }
 
--- the records of each home from 1 to so many
+-- the records of each home from 1 to this many
 abbrev pub by_home : ℕ → List Record → List (List Record)
 by_home nodes rs = map (λ home. filter (λ (r : Record). r.home == home) rs) (nodes_to nodes)
 
@@ -223,11 +224,11 @@ pub record IsBody (v : Version) (d : Frame) : Type 0 where
 abbrev pub is_frame_length : ℕ → Bool
 is_frame_length n = nat_le n 67108855
 
--- what has an encoding of a version
+-- the frame has an encoding of a version
 pub record IsDeltaAs (v : Version) (d : Frame) : Type 0 where
   pub is_body : IsBody v d
   pub short : is_frame_length (length (body v d)) ≡ true
 
--- what has an encoding of version 2
+-- the frame has an encoding of version 2
 abbrev pub IsDelta : Frame → Type 0
 IsDelta d = IsDeltaAs Two d

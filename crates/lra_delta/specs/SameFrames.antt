@@ -1,4 +1,4 @@
--- Whether two frames are the same, part by part.
+-- Whether two frames are equal, part by part.
 use Rattle.std.specs.Prelude.{◌&&◌, ℕ, Bool, Option, List}
 use Rattle.std.specs.Cmp.Lexicographic.{pointwise}
 use Rattle.std.specs.Option.{option_eq}

@@ -1,4 +1,4 @@
--- a source as an input, and what a reading of it says
+-- a source as an input, and what a reading of it ensures
 use Rattle.std.specs.Prelude.{◌≡◌, ◌+◌, ◌<◌, ◌≤◌, ℕ, List, [], ◌++◌, length, get_or, take, Option, None, Some, Result, Ok, Err, IfOk, IfErr}
 use Rattle.std.specs.Borrow.{MutBor}
 use Rattle.std.specs.Io.KnownBytes.{Consumes, IsAtEnd}
@@ -12,11 +12,11 @@ use Rattle.lra_delta.specs.FrameFields.{Broken}
 use Rattle.lra_delta.specs.Reading.{looking, read_of}
 use Rattle.lra_delta.specs.Seen.{HasReason, Seen, Standing, StaysWell, IsWell}
 
--- how a source stands, by what is known of sources
+-- the state of a source, by what is known of sources
 abbrev pub standing : {S : Type 0} → (S → GivenBytes) → (S → Calls) → S → ℕ → Standing
 standing stream calls s counted = record { stream = stream s; calls = calls s; counted = counted }
 
--- a source of which nothing was read, and so many bytes may be
+-- a source of which nothing was read yet and this many bytes may be read
 abbrev pub of_source : {S : Type 0} → (S → GivenBytes) → (S → Calls) → MutBor S → S → ℕ → ℕ → Seen
 of_source stream calls source s counted bytes = record {
   first = record { standing = standing stream calls s counted; bytes = bytes; source = source.ghost_name };
@@ -25,7 +25,7 @@ of_source stream calls source s counted bytes = record {
   limit = bytes;
 }
 
--- a stream over a source that stood so at its start, and stands so now
+-- a stream over a source, with the source's state at the start and now
 abbrev pub of_stream : {S : Type 0} → (S → GivenBytes) → (S → Calls) → S → ℕ → MutBor S → ℕ → ℕ → List ℕ → ℕ → Seen
 of_stream stream calls start begun source counted bytes taken limit = record {
   first = record { standing = standing stream calls start begun; bytes = bytes; source = source.ghost_name };
@@ -34,7 +34,8 @@ of_stream stream calls start begun source counted bytes taken limit = record {
   limit = limit;
 }
 
--- how the calls came out so far: no one failed; or the last one found the end; or the last one failed, or one too many was interrupted
+-- the results of the calls so far: none failed; or the last one found the end; or the last one
+-- failed, or one too many was interrupted
 abbrev pub Stands : Progress → GivenBytes → Calls → Calls → ℕ → Type 0
 Stands Going stream old new counted = (new.failed ≡ old.failed) × (counted < too_many_interrupted)
 Stands Ended stream old new counted = (new.failed ≡ old.failed) × (counted < too_many_interrupted) × FoundEnd stream
@@ -42,7 +43,7 @@ Stands Failed stream old new counted =
     (counted < too_many_interrupted → (new.failed ≡ old.failed + 1) × (new.last_failed ≡ 1))
     × (too_many_interrupted ≤ counted → (new.failed ≡ old.failed) × (counted ≡ too_many_interrupted))
 
--- so many calls at most that gave bytes, found the end or failed
+-- the greatest number of calls that gave bytes, found the end or failed
 abbrev pub most_calls : Progress → ℕ → ℕ
 most_calls Going place = place
 most_calls Ended place = place + 1
@@ -77,7 +78,8 @@ Takes old new result buffer =
     × IfErr result (λ e. (new.taken ≡ old.taken) × IsEnd e × HasReason e new)
     × (IsWell old → StaysWell result new)
 
--- what was taken was given, no more than may be, in no more calls, and the interrupted ones were counted
+-- what was taken was given; it is no more than allowed, came in no more calls than bytes, and the
+-- interrupted calls were counted
 pub record IsSound (s : Seen) : Type 0 where
   pub gives : Gives s.first.standing.stream s.now.stream s.taken
   pub short : length s.taken ≤ s.first.bytes
@@ -86,10 +88,10 @@ pub record IsSound (s : Seen) : Type 0 where
   pub few : s.now.calls.made + s.first.standing.calls.interrupted ≤ s.first.standing.calls.made + s.first.bytes + s.now.calls.interrupted
   pub bytes : (i : ℕ) → get_or s.taken i 0 < 256
 
--- ---- what reading a frame says
+-- ---- what reading a frame ensures
 
--- Bytes show why no frame of so many stands there, whatever follows them; behind the end nothing does. At a fault they are just
--- those that have to be looked at.
+-- The given bytes show why no frame of this many bytes stands there, whatever follows them; after
+-- the end nothing follows. At a fault they are exactly those that have to be looked at.
 abbrev pub Refuses : ℕ → Stop → List ℕ → Type 0
 Refuses bytes (Fault place) given =
     ((more : List ℕ) → looking bytes (given ++ more) ≡ Err (Broken place (length given))) × (place ≤ length given)
@@ -97,7 +99,8 @@ Refuses bytes Cut given = (read_of bytes given ≡ Err Cut) × (length given < b
 Refuses bytes ReadFault given = read_of bytes given ≡ Err Cut
 Refuses bytes Memory given = Unit {0}
 
--- what was given is so, of at most so many bytes, and a cut comes where the last call found the end
+-- what was given refuses a frame so, has at most this many bytes, and is cut only if the last call
+-- found the end
 pub record StopsReading (bytes : ℕ) (old new : GivenBytes) (stop : Stop) : Type 0 where
   pub given : List ℕ
   pub gives : Gives old new given
@@ -105,19 +108,19 @@ pub record StopsReading (bytes : ℕ) (old new : GivenBytes) (stop : Stop) : Typ
   pub refuses : Refuses bytes stop given
   pub ended : stop ≡ Cut → FoundEnd new
 
--- P holds of a read fault, and Q of each other stop
+-- P holds for a read fault, and Q for each other stop
 abbrev pub OnReadFault : (P Q : Type 0) → Stop → Type 0
 OnReadFault P Q ReadFault = P
 OnReadFault P Q Cut = Q
 OnReadFault P Q (Fault place) = Q
 OnReadFault P Q Memory = Q
 
--- how the calls came out by which a frame of at most so many bytes was read
+-- the results of the calls by which a frame of at most this many bytes was read
 abbrev pub ReadsCalls : {A : Type 0} → (bytes before : ℕ) → Calls → Calls → Result A Stop → Type 0
 ReadsCalls bytes before old new (Ok x) = AllWell bytes before old new
 ReadsCalls bytes before old new (Err e) = OnReadFault (IsLost bytes before old new) (AllWell bytes before old new) e
 
--- what reading gives of known bytes: nothing where memory ran out or a read failed
+-- the result of reading known bytes; nothing is said if memory ran out or a read failed
 abbrev pub Says : {A : Type 0} → Result A Stop → Result A Stop → Type 0
 Says (Ok x) read = read ≡ Ok x
 Says (Err (Fault place)) read = read ≡ Err (Fault place)

@@ -1,4 +1,4 @@
--- What a view becomes when a frame is taken.
+-- The view that results from taking a frame.
 use Rattle.std.specs.Prelude.{◌≡◌, ◌≤◌, ◌⊎◌, ℕ, Option, find, length}
 use Rattle.lra_id.specs.Ids.{Id}
 use Rattle.lra_id.specs.Fronts.{IsBelow, count, is_covered, join_fronts}
@@ -11,14 +11,14 @@ use Rattle.lra_history.specs.ViewShape.{HasShape}
 use Rattle.lra_history.specs.Views.{View, record_at, records_at}
 use Rattle.lra_delta.specs.Frames.{Frame, live_at}
 
--- what a view has of an LRA once the frame is taken
+-- the record of an LRA once a view has taken the frame
 abbrev pub taken_from : View → Frame → Id → Option Record
 taken_from a frame l =
     absorbed (is_covered a.front l) (is_gone (count frame.front l.home) (live_at frame.live l.home) l.num)
     (record_at a l) (find (is_of l) (records_at frame.records l.home))
 
--- c is a once the frame is taken, of a node that counts the same nodes: the greater counts and purges, and of each LRA what is
--- taken
+-- c is the view a once the frame is taken, from a node that counts the same nodes: it has the
+-- greater counts and purges, and of each LRA what is taken
 pub record IsTaken (a : View) (frame : Frame) (c : View) : Type 0 where
   pub nodes : length a.front ≡ length frame.front
   pub front : c.front ≡ join_fronts a.front frame.front
@@ -27,8 +27,9 @@ pub record IsTaken (a : View) (frame : Frame) (c : View) : Type 0 where
   pub order : (home : ℕ) → 1 ≤ home → home ≤ length c.front → AreOf home (records_at c.records home)
   pub records : (l : Id) → 1 ≤ l.home → l.home ≤ length c.front → record_at c l ≡ taken_from a frame l
 
--- Why the frame is not taken: memory runs out; it counts other nodes; the view's front does not count all that the base
--- counts; or no view that takes the frame has the shape
+-- The reason why the frame is not taken: memory runs out; it counts another number of nodes; the
+-- view's front doesn't count everything that the base counts; or no view that takes the frame has
+-- the shape
 abbrev pub RefusesTaking : View → Frame → Refusal → Type 0
 RefusesTaking a frame refusal =
     (refusal ≡ NoMemory)

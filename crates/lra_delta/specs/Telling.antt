@@ -1,4 +1,5 @@
--- What is told of records that have stamps beyond a base, as it is gathered from the index by stamp.
+-- What is told of records that have stamps beyond a base, as it is collected from the index of
+-- stamps.
 use Rattle.std.specs.Prelude.{◌≡◌, ℕ, Bool, Option, Some, None, List, find, if◌then◌else◌, length, map, nat_lt}
 use Rattle.std.specs.List.{AllByRecursion, list_any}
 use Rattle.lra_id.specs.Ids.{Id, same_id}
@@ -14,7 +15,7 @@ use Rattle.lra_index.specs.Indexes.{stamp_at}
 use Rattle.lra_replica.specs.Replicas.{AreHomesFrom}
 use Rattle.lra_delta.specs.Order.{lists}
 
--- one home for each of so many nodes, numbered from 1, each with its records in order
+-- one home for each of this many nodes, numbered from 1, each with its records in order
 pub record AreHomes (nodes : ℕ) (homes : List HomeRecords) : Type 0 where
   pub count : length homes ≡ nodes
   pub numbered : AreHomesFrom 1 homes
@@ -24,30 +25,31 @@ pub record AreHomes (nodes : ℕ) (homes : List HomeRecords) : Type 0 where
 abbrev pub record_in : List HomeRecords → Id → Option Record
 record_in homes l = find (is_of l) (records_at (map (λ (home : HomeRecords). home.records) homes) l.home)
 
--- of each home the records that are told
+-- the records of each home that are told
 abbrev pub homes_told : List Told → List HomeRecords
 homes_told told = map (λ (t : Told). t.records) told
 
--- what was told stays told. Else what is kept is told, if it is asked for. Said so, two steps are
--- one by cases on an option (`asked_twice`)
+-- A record that was told stays told. Otherwise the kept record is told, if it is asked for. In this
+-- form two steps are one by cases on an option (`asked_twice`)
 abbrev pub told_too : (asked : Bool) → (kept told : Option Record) → Option Record
 told_too asked kept (Some r) = Some r
 told_too asked kept None = if asked then kept else None
 
--- the records that the homes keep of the LRAs that are asked for are told too, and no list of numbers changes
+-- the homes' records of the LRAs that are asked for are told as well, and no list of numbers
+-- changes
 pub record AreTold (asked : Id → Bool) (kept : List HomeRecords) (old new : List Told) : Type 0 where
   pub homes : AreHomes (length kept) (homes_told new)
   pub lists : lists new ≡ lists old
   pub found : (l : Id) → record_in (homes_told new) l ≡ told_too (asked l) (record_in kept l) (record_in (homes_told old) l)
 
--- one of the entries is the LRA's
+-- one of the entries is of this LRA
 abbrev pub is_listed : List Entry → Id → Bool
 is_listed entries l = list_any (λ e. same_id (id_of e) l) entries
 
--- of a node these stamps say more than the base counts
+-- these stamps are greater than the base's count for a node
 abbrev pub is_newer : (base : List ℕ) → Option (List ℕ) → (node : ℕ) → Bool
 is_newer base stamps node = nat_lt (count base node) (stamp_at stamps node)
 
--- of one of the nodes from 1 to so many
+-- so for one of the nodes from 1 to this many
 abbrev pub is_newer_to : (nodes : ℕ) → (base : List ℕ) → Option (List ℕ) → Bool
 is_newer_to nodes base stamps = list_any (is_newer base stamps) (nodes_to nodes)

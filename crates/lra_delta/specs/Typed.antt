@@ -9,7 +9,7 @@ use Rattle.lra_forest.specs.declared.record.Record.{Record}
 use Rattle.lra_delta.specs.Frames.{Frame}
 use Rattle.lra_delta.specs.Rules.{IsLink}
 
--- each link that is given is kept as it is, and they are those of a participant
+-- each given link is kept as it is, and together they are the links of a participant
 pub record AreLinks (links : Links) : Type 0 where
   pub complete : IsLink links.complete
   pub compensate : IsLink links.compensate
@@ -23,7 +23,7 @@ HasLinks (Nested num) = Unit {0}
 HasLinks (Participant p) = AreLinks p.links
 HasLinks Left = Unit {0}
 
--- a deadline of 64 bits, and links
+-- a deadline of 64 bits, and such links
 pub record IsTypedRecord (r : Record) : Type 0 where
   pub deadline : r.deadline < 2 ^ 64
   pub links : All HasLinks r.members

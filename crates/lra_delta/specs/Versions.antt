@@ -1,4 +1,4 @@
--- The versions of frames: their numbers, and what the first does not know.
+-- The versions of frames: their numbers, and what version 1 doesn't have.
 use Rattle.std.specs.Prelude.{◌&&◌, ℕ, zero, suc, Bool, true, false, Option, List, is_none, is_some, nat_le}
 use Rattle.std.specs.List.{list_any}
 use Rattle.lra_forest.specs.declared.record.Member.{Member}
@@ -25,17 +25,17 @@ abbrev pub is_first : Version → Bool
 is_first One = true
 is_first Two = false
 
--- whether a version knows the link for the end
+-- whether a version has the link for the end
 abbrev pub knows : Version → Option (List ℕ) → Bool
 knows One link = is_none link
 knows Two link = true
 
--- it has a link for the end of its LRA, which version 1 does not know
+-- the member is a participant with a link for the end of its LRA, which version 1 doesn't have
 abbrev pub listens : Member → Bool
 listens (Participant p) = is_some p.links.after
 listens (Nested num) = false
 listens Left = false
 
--- a record of the frame has such a participant: it needs version 2
+-- a record of the frame has such a participant, so the frame needs version 2
 abbrev pub needs_two : Frame → Bool
 needs_two frame = list_any (λ rs. list_any (λ (r : Record). list_any listens r.members) rs) frame.records

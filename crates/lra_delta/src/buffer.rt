@@ -6,7 +6,7 @@ use crate::output::Output;
 use lra_http::Log;
 use std::alloc::{AllocError, Global};
 
-/// A byte vector, until memory runs out.
+/// A byte vector that takes what is put until memory runs out.
 #[derive(Drop)]
 pub struct Buffer {
     bytes: Vec<u8>,
@@ -16,7 +16,7 @@ pub struct Buffer {
 }
 
 impl Buffer {
-    /// Nothing was put yet.
+    /// Makes an empty buffer.
     pub fn new(alloc: Global) -> Buffer
         ensures { ⟦<Buffer as Output>⟧.text result ≡ [] }
     {
@@ -27,7 +27,7 @@ impl Buffer {
         }
     }
 
-    /// All that was put, if memory was there for it.
+    /// Returns all bytes that were put, unless memory ran out.
     pub fn into_bytes(self) -> Result<Vec<u8>, AllocError>
         ensures { IfOk result (λ bytes. bytes.items ≡ ⟦<Buffer as Output>⟧.text self) }
     {

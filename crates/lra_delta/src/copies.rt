@@ -1,4 +1,4 @@
-// Copies of what a node tells. Only memory can be wanting.
+// Copies of what a node sends. Making one fails only if memory runs out.
 ghost use Rattle.std.specs.Prelude.{◌≡◌, IfOk, map};
 ghost use Rattle.lra_delta.specs.Sending.{part_of};
 

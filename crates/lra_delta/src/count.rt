@@ -1,11 +1,11 @@
-// The length of what is put.
+// An output that counts what is put.
 ghost use Rattle.std.specs.Prelude.{◌≡◌, ◌≤◌, ◌<◌, ◌%◌, ◌^◌, length, [], true, false, IfNone, IfSome};
 ghost use Rattle.lra_delta.specs.WrittenSoFar.{no_sink};
 
 use crate::output::Output;
 use lra_http::Log;
 
-/// Counts the bytes that are put, and keeps none.
+/// Counts the bytes that are put, and keeps none of them.
 #[derive(Drop)]
 pub struct ByteCount {
     text: Log,
@@ -17,7 +17,7 @@ pub struct ByteCount {
 }
 
 impl ByteCount {
-    /// Nothing was put yet.
+    /// Makes a count of no bytes.
     pub fn new() -> ByteCount
         ensures { ⟦<ByteCount as Output>⟧.text result ≡ [] }
     {
@@ -28,14 +28,14 @@ impl ByteCount {
         }
     }
 
-    /// How many bytes were put, as a number of 64 bits.
+    /// Returns how many bytes were put, as a number of 64 bits.
     pub fn total(&self) -> u64
         ensures { result ≡ length (⟦<ByteCount as Output>⟧.text self.now) % 2 ^ 64 }
     {
         self.total
     }
 
-    /// How many bytes were put, or `None` where no number of 64 bits counts them.
+    /// Returns how many bytes were put, or `None` if that doesn't fit a number of 64 bits.
     pub fn exact(&self) -> Option<u64>
         ensures some { IfSome result (λ n. n ≡ length (⟦<ByteCount as Output>⟧.text self.now)) }
         ensures none { IfNone result (2 ^ 64 ≤ length (⟦<ByteCount as Output>⟧.text self.now)) }

@@ -1,4 +1,4 @@
-// Frames out of bytes.
+// Decoding frames from bytes.
 ghost use Rattle.std.specs.Prelude.{◌≡◌, Ok, IfOk};
 ghost use Rattle.lra_delta.specs.Answer.{Decodes};
 ghost use Rattle.lra_delta.specs.Frames.{Frame};
@@ -14,7 +14,7 @@ use crate::slice::Slice;
 use lra_facts::Refusal;
 use std::alloc::Global;
 
-/// What all of the bytes encode.
+/// Returns the frame that all of the bytes encode.
 fn frame_in_slice(alloc: Global, bytes: &[u8]) -> Result<Delta, Refusal>
     ensures { Decodes result (frame_in bytes.now) }
 {
@@ -29,15 +29,15 @@ fn frame_in_slice(alloc: Global, bytes: &[u8]) -> Result<Delta, Refusal>
 }
 
 impl Delta {
-    /// What all of the bytes encode, in version 1 or 2. E16 at the place of the first field that
-    /// isn't whole or breaks its rule.
+    /// Decodes all of the bytes as a frame of version 1 or 2. E16 at the place of the first field
+    /// that isn't whole or breaks its rule.
     pub fn decode(alloc: Global, bytes: &[u8]) -> Result<Delta, Refusal>
-        // Which place it is.
+        // The exact place.
         ensures exact { Decodes result (frame_in bytes.now) }
-        // What is read keeps the rules, and is encoded so.
+        // What is read keeps the rules and has this encoding.
         ensures found { IfOk result (λ delta. (version : Version)
             × IsDeltaAs version delta × (bytes.now ≡ encoding_as version delta)) }
-        // What is encoded so is read, unless memory runs out.
+        // What has this encoding is read, unless memory runs out.
         ensures only { (version : Version) (frame : Frame) → IsDeltaAs version frame →
             bytes.now ≡ encoding_as version frame → Decodes result (Ok frame) }
     {

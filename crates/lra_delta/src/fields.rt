@@ -1,4 +1,4 @@
-// Numbers of a frame.
+// Reading the numbers of a frame.
 ghost use Rattle.std.specs.Prelude.{◌≡◌, ◌+◌, length, IfOk};
 ghost use Rattle.std.specs.Int.{w8, w16, w32, w64};
 ghost use Rattle.lra_delta.specs.FrameFields.{whole_at};
@@ -6,7 +6,7 @@ ghost use Rattle.lra_delta.specs.Seen.{Reads};
 
 use crate::input::{Input, Stop};
 
-/// A number of one byte.
+/// Reads a number of one byte.
 pub fn byte<I: Input>(input: &mut I) -> Result<u8, Stop>
     ensures gives { Reads (I.seen input.old) (I.seen input.new) (λ x. x) result (whole_at w8) }
     ensures took { IfOk result
@@ -18,7 +18,7 @@ pub fn byte<I: Input>(input: &mut I) -> Result<u8, Stop>
     Ok(u8::from_be_bytes(buffer))
 }
 
-/// A number of two bytes.
+/// Reads a number of two bytes.
 pub fn two_bytes<I: Input>(input: &mut I) -> Result<u16, Stop>
     ensures gives { Reads (I.seen input.old) (I.seen input.new) (λ x. x) result (whole_at w16) }
     ensures took { IfOk result
@@ -30,7 +30,7 @@ pub fn two_bytes<I: Input>(input: &mut I) -> Result<u16, Stop>
     Ok(u16::from_be_bytes(buffer))
 }
 
-/// A number of four bytes.
+/// Reads a number of four bytes.
 pub fn four_bytes<I: Input>(input: &mut I) -> Result<u32, Stop>
     ensures gives { Reads (I.seen input.old) (I.seen input.new) (λ x. x) result (whole_at w32) }
     ensures took { IfOk result
@@ -42,7 +42,7 @@ pub fn four_bytes<I: Input>(input: &mut I) -> Result<u32, Stop>
     Ok(u32::from_be_bytes(buffer))
 }
 
-/// A number of eight bytes.
+/// Reads a number of eight bytes.
 pub fn number<I: Input>(input: &mut I) -> Result<u64, Stop>
     ensures gives { Reads (I.seen input.old) (I.seen input.new) (λ x. x) result (whole_at w64) }
     ensures took { IfOk result

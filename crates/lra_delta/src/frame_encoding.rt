@@ -1,4 +1,4 @@
-// The encoding of a frame, one of each version, put field by field.
+// The encoding of a frame, one for each version, put field by field.
 ghost use Rattle.std.specs.Prelude.{◌≡◌, ◌%◌, ◌^◌, ◌++◌, ◌⊎◌, ◌↔◌, Err, true, false, length, IfOk, IfErr};
 ghost use Rattle.std.specs.List.{All, flat_map, list_any};
 ghost use Rattle.lra_facts.specs.declared.refusal.Refusal.TheVariants.{NeedsVersion2, NoMemory};
@@ -23,7 +23,7 @@ use lra_facts::Refusal;
 use lra_forest::{Member, Record, Records, Told};
 use std::alloc::{AllocError, Global};
 
-/// A count of two bytes.
+/// Puts a count of two bytes.
 #[tactic(auto, using(crate::proofs::Widths::in_two_bytes))]
 fn put_count<O: Output>(out: &mut O, n: u64)
     ensures same { O.start out.new ≡ O.start out.old }
@@ -139,7 +139,7 @@ pub(crate) fn put_body<O: Output>(out: &mut O, version: Version, delta: &Delta)
     put_records(out, version, delta.homes());
 }
 
-/// How many bytes a frame has after its length, as a number of 64 bits.
+/// Returns how many bytes a frame has after its length, as a number of 64 bits.
 fn body_length(version: Version, delta: &Delta) -> u64
     ensures { result ≡ length (body version delta.now) % 2 ^ 64 }
 {
@@ -159,7 +159,7 @@ fn put_header<O: Output>(out: &mut O, version: Version, len: u64)
     out.put(&((len % 4_294_967_296) as u32).to_be_bytes());
 }
 
-/// Puts the bytes that encode what a node tells.
+/// Puts the bytes that encode what a node sends.
 #[tactic(auto, using(crate::proofs::Widths::four_of_eight))]
 pub fn put_frame<O: Output>(out: &mut O, version: Version, delta: &Delta)
     ensures same { O.start out.new ≡ O.start out.old }
@@ -170,8 +170,9 @@ pub fn put_frame<O: Output>(out: &mut O, version: Version, delta: &Delta)
     put_body(out, version, delta);
 }
 
-/// The bytes that encode what a node tells, in version 2. What keeps the rules that the frames of
-/// nodes of a history keep keeps those of a frame, so that its bytes are read as itself again.
+/// Encodes what a node sends, in version 2. If the delta keeps the rules that the frames of a
+/// history's nodes keep, it also keeps those of a frame, so its bytes are read as the same delta
+/// again.
 pub fn encode(alloc: Global, delta: &Delta) -> Result<Vec<u8>, AllocError>
     ensures text { IfOk result (λ bytes. bytes.items ≡ encoding delta.now) }
     ensures frame { IsOfGrammar delta.now → IsDelta delta.now }
@@ -223,8 +224,8 @@ fn needs_two(delta: &Delta) -> bool
     any_tells(delta.homes())
 }
 
-/// The bytes that encode what a node tells in version 1, for nodes that know no other. Errors: E23
-/// where a record has a link for the end of its LRA, and only there; E17.
+/// Encodes what a node sends in version 1, for nodes that know no other version. Errors: E23 if and
+/// only if a record has a link for the end of its LRA; E17.
 pub fn encode_v1(alloc: Global, delta: &Delta) -> Result<Vec<u8>, Refusal>
     ensures text { IfOk result (λ bytes. bytes.items ≡ encoding_as One delta.now) }
     ensures refused { IfErr result (λ refusal. (refusal ≡ NoMemory) ⊎ (refusal ≡ NeedsVersion2)) }

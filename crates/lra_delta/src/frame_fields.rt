@@ -1,4 +1,4 @@
-// The fields of a frame before and after its records.
+// Reading the fields of a frame before and after its records.
 ghost use Rattle.std.specs.Prelude.{[], ◌≡◌, ◌++◌, ◌∷◌, ◌+◌, ◌-◌, ◌*◌, ◌≤◌, ◌<◌, ◌==◌, ℕ, Option, length, slice_index, slice_set, IfOk, OnOk};
 ghost use Rattle.std.specs.Int.{w8, w32, w64};
 ghost use Rattle.lra_id.specs.declared.TheConstants.{MAX_NODES};
@@ -281,7 +281,8 @@ fn each_record<I: Input>(
             input,
         )?;
         last = after(last, &kept);
-        // straight to its home: a list between would move each record, of some 150 bytes, twice
+        // A record goes straight to its home: a list in between would move each record, of some 150
+        // bytes, twice.
         put_home(homes, kept)?;
     }
     Ok(())
@@ -362,7 +363,7 @@ fn version_of<I: Input>(input: &mut I) -> Result<Version, Stop>
     }
 }
 
-/// How many bytes come after it.
+/// Reads the length, which is the number of bytes that follow it.
 fn length_of<I: Input>(input: &mut I) -> Result<u32, Stop>
     ensures { Reads (I.seen input.old) (I.seen input.new)
         (λ x. x) result (number_at w32 is_frame_length) }
@@ -375,14 +376,14 @@ fn length_of<I: Input>(input: &mut I) -> Result<u32, Stop>
     Ok(len)
 }
 
-/// Whether so many bytes from a start end at a place.
+/// Whether a place is this many bytes after a start.
 fn ends(start: u64, len: u64, place: u64) -> bool
     ensures { result ≡ (place == start + len) }
 {
     start <= place && place - start == len
 }
 
-/// A frame, which must end where its length says and where the input has to.
+/// Reads a frame, which must end where its length says, and that must be the end of the input.
 #[tactic(auto, unfolding(crate::specs::Reading::frame_at, crate::specs::Reading::versioned_at, crate::specs::Reading::framed_at, crate::specs::Reading::ended_at))]
 pub fn frame_of<I: Input>(alloc: Global, input: &mut I) -> Result<Delta, Stop>
     ensures answers { Answers (I.seen input.old) (I.seen input.new) (λ x. x) result frame_at }

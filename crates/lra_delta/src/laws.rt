@@ -1,4 +1,4 @@
-// Laws of frames: each function but one does nothing, and its contract is the law.
+// Laws of frames. Each function but one does nothing, and its contract is the law.
 ghost use Rattle.std.specs.Prelude.{◌++◌, ◌≡◌, ◌≤◌, ℕ, List, Ok, true, false, length, nat_lt};
 ghost use Rattle.lra_id.specs.declared.TheConstants.{MAX_NODES};
 ghost use Rattle.lra_id.specs.Ids.{Id};
@@ -27,13 +27,13 @@ ghost use Rattle.lra_delta.specs.Typed.{IsTyped, IsTypedRecord};
 
 pub use crate::scan::since_by_scan;
 
-/// The frame of a view that stands for a set is the frame of the set.
+/// The frame of a view that stands for a set is the frame of that set.
 pub fn the_frame_of_a_view_is_that_of_its_set()
     ensures { (S : List Fact) (view : View) (base : List ℕ) →
         StandsFor S view → IsFrame S base (frame_of view base) }
 {}
 
-/// A set has one frame since a base, of so many nodes.
+/// A set has only one frame since a base, for a given number of nodes.
 #[tactic(auto, using(crate::proofs::OneFrameOfASet::one_frame))]
 pub fn a_set_has_one_frame()
     ensures { (S : List Fact) (base : List ℕ) (a b : Frame) →
@@ -46,9 +46,9 @@ pub fn a_set_has_a_view()
         IsCounted S front → (view : View) × (view.front ≡ front) × StandsFor S view }
 {}
 
-/// Where a base counts nothing that a closed set lacks, that set lacks nothing that the frame of
-/// another since the base leaves out: no purge of a home whose live list is left out, and no fact
-/// about an LRA whose record is.
+/// If a base counts nothing that a closed set lacks, that set lacks nothing that the frame of
+/// another set since the base leaves out: no purge of a home whose live list is left out, and no
+/// fact about an LRA whose record is left out.
 pub fn a_base_below_leaves_out_nothing()
     ensures purges { (h : History) (v w base : List ℕ) (home : ℕ) (f : Fact) (a : Id) →
         IsLawful h → IsClosed h v → IsClosed h w →
@@ -59,9 +59,9 @@ pub fn a_base_below_leaves_out_nothing()
         In f (facts h w) → is_about l f ≡ true → In f (facts h v) }
 {}
 
-/// A view of a closed set that takes the frame of another since a base below its front is the view
-/// of the sets' union, and there is such a view, with the shape. It is what comes of merging the
-/// other's view too.
+/// If the view of a closed set takes the frame of another closed set since a base below its front,
+/// the result is the view of the sets' union. Such a view exists, and it has the shape. Merging the
+/// other's view gives the same.
 pub fn a_taken_frame_is_the_union()
     ensures view { (h : History) (v w base : List ℕ) (a c : View) (frame : Frame) → IsLawful h →
         IsClosed h v → IsClosed h w → StandsFor (facts h v) a → IsFrame (facts h w) base frame →
@@ -83,8 +83,8 @@ pub fn frames_of_a_history_keep_the_rules()
         IsBelow base view.front → IsOfGrammar (frame_of view base) }
 {}
 
-/// A frame that keeps the rules is no longer than a frame can be, where no link is longer than
-/// links can be.
+/// A frame that keeps the rules is no longer than a frame can be, if no link is longer than links
+/// can be.
 #[tactic(auto, using(crate::proofs::FrameSizes::frame_most))]
 pub fn frames_are_not_too_long()
     ensures { (version : Version) (frame : Frame) →
@@ -92,9 +92,9 @@ pub fn frames_are_not_too_long()
         frame_size version frame ≤ 67108855 }
 {}
 
-/// What keeps the rules that the frames of nodes of a history keep, and has the types of a delta,
-/// keeps the rules of a frame. So what a node of a lawful history tells has an encoding, which is
-/// read as itself again.
+/// A frame that keeps the rules that the frames of a history's nodes keep, and has the types of a
+/// delta, keeps the rules of a frame. So what a node of a lawful history sends has an encoding,
+/// which is read as the same frame again.
 pub fn frames_of_a_history_have_an_encoding()
     ensures rules { (frame : Frame) → IsTyped frame → IsOfGrammar frame → IsDelta frame }
     ensures first { (frame : Frame) → IsTyped frame → IsOfGrammar frame →
@@ -105,8 +105,9 @@ pub fn frames_of_a_history_have_an_encoding()
         frame_in (encoding (frame_of view base)) ≡ Ok (frame_of view base) }
 {}
 
-/// What a node of a lawful history keeps of an LRA has an encoding of its own, under its front: it
-/// fits there, and what fits and has the types of a record keeps the rules.
+/// A record that a node of a lawful history keeps has an encoding of its own, under the node's
+/// front. It fits under the front, and a record that fits there and has the types of a record keeps
+/// the rules.
 pub fn records_of_a_history_have_an_encoding()
     ensures fit { (h : History) (w : List ℕ) (view : View) (home : ℕ) (kept : Record) →
         IsLawful h → IsClosed h w →
@@ -117,16 +118,17 @@ pub fn records_of_a_history_have_an_encoding()
         IsTypedRecord kept → KeepsRulesUnder front kept → IsRecordUnder front kept }
 {}
 
-/// A record that keeps the rules of version 1 under a front keeps those of version 2. So one that
-/// was read in version 1 is read back where it is written in version 2.
+/// A record that keeps the rules of version 1 under a front also keeps those of version 2. So a
+/// record that was read in version 1 and is written in version 2 is read as the same record again.
 #[tactic(auto, using(crate::proofs::FirstVersion::record_first))]
 pub fn a_record_of_version_1_keeps_the_rules_of_version_2()
     ensures { (front : List ℕ) (kept : Record) →
         IsRecordUnderAs One front kept → IsRecordUnder front kept }
 {}
 
-/// What keeps the rules of a frame of a version has one encoding of it, and no prefix of an
-/// encoding is another's, of whichever version. So it is of a record under a front.
+/// A frame that keeps the rules of a version has one encoding of that version. No prefix of an
+/// encoding is the encoding of another frame, of any version. The same holds for a record under a
+/// front.
 pub fn one_encoding()
     ensures frame { (v w : Version) (a b : Frame) (x y : List ℕ) → IsDeltaAs v a → IsDeltaAs w b →
         encoding_as v a ++ x ≡ encoding_as w b ++ y → (v ≡ w) × (a ≡ b) × (x ≡ y) }

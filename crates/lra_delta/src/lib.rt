@@ -1,4 +1,5 @@
-//! Frames: what a node tells another that has the facts which a base counts.
+//! Frames, which carry what a node sends another that has the facts counted by a base: their value,
+//! their bytes, and what happens when one is taken.
 #![tactic(auto)]
 
 mod buffer;

@@ -5,10 +5,10 @@ ghost use Rattle.lra_facts.specs.LinkTexts.{is_kept};
 use lra_facts::Link;
 use std::alloc::{AllocError, Global};
 
-/// The most links that are remembered.
+/// The greatest number of links that are remembered.
 const MOST: usize = 16;
 
-/// A copy of the one of these links that has this text.
+/// Returns a copy of the link with this text, if it is among these.
 fn copy_among(links: &[Link], text: &[u8]) -> Result<Option<Link>, AllocError>
     ensures { IfOk result (λ copy. IfSome copy
         (λ link. Some link ≡ (if is_kept text.now then Some text.now else None))) }
@@ -21,9 +21,9 @@ fn copy_among(links: &[Link], text: &[u8]) -> Result<Option<Link>, AllocError>
     Ok(None)
 }
 
-/// The links that were read lately, at most 16. A service gives the same few to each LRA, and a
-/// copy of one costs a small part of what parsing its text again does. What is remembered changes
-/// no answer.
+/// The links that were read lately, at most 16. A service gives the same few to each LRA, and
+/// copying a link costs a small part of parsing its text again. What is remembered changes no
+/// answer.
 #[derive(Drop)]
 pub struct LinksRead {
     links: Vec<Link>,
@@ -31,7 +31,7 @@ pub struct LinksRead {
 }
 
 impl LinksRead {
-    /// None was read yet.
+    /// Makes an empty list.
     pub fn new(alloc: Global) -> LinksRead {
         LinksRead {
             links: Vec::new(alloc),
@@ -39,8 +39,8 @@ impl LinksRead {
         }
     }
 
-    /// Remembers a copy of it, where there is memory for one, in place of the one that was
-    /// remembered first if there are 16.
+    /// Remembers a copy of a link, if there is memory for it. If there are 16 already, it replaces
+    /// the one that was remembered first.
     fn remember(&mut self, link: &Link) {
         let Ok(copy) = link.clone() else {
             return;
@@ -55,8 +55,8 @@ impl LinksRead {
         self.replaced = self.replaced.wrapping_add(1);
     }
 
-    /// The link that is kept as these bytes, if one is: a copy of one that is remembered, or else
-    /// it is parsed.
+    /// Returns the link that is kept as these bytes, if there is one. It copies a remembered link,
+    /// or else parses the bytes.
     pub(crate) fn link(&mut self, alloc: Global, text: &[u8]) -> Result<Option<Link>, AllocError>
         ensures { IfOk result (λ link. link ≡ (if is_kept text.now then Some text.now else None)) }
     {

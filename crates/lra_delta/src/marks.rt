@@ -1,4 +1,4 @@
-// What is marked of a participant, in order.
+// Reading the marks of a participant in order.
 ghost use Rattle.std.specs.Prelude.{◌≡◌};
 ghost use Rattle.std.specs.Int.{w8};
 ghost use Rattle.std.specs.Option.{option_copied};
@@ -13,7 +13,7 @@ use crate::version::Version;
 use lra_facts::{Link, Links};
 use lra_id::Outcome;
 
-/// What was heard of a participant, and what it was told.
+/// The marks of a participant: what was heard of it, and what it was told.
 #[derive(Clone, Copy, Debug, PartialEq, Eq)]
 pub struct Marks {
     pub completed: Option<Outcome>,
@@ -33,7 +33,7 @@ fn outcome_of(mark: u8) -> Option<Outcome>
     }
 }
 
-/// The mark of what was heard of an act: 0 without a link.
+/// Reads the mark of what was heard of an act, which is 0 without a link.
 fn heard_of<I: Input>(link: Option<&Link>, input: &mut I) -> Result<u8, Stop>
     ensures { Reads (I.seen input.old) (I.seen input.new)
         (λ x. x) result (number_at w8 (is_outcome_for (option_copied link.entry))) }
@@ -46,7 +46,7 @@ fn heard_of<I: Input>(link: Option<&Link>, input: &mut I) -> Result<u8, Stop>
     Ok(mark)
 }
 
-/// The mark of being told to forget, or of the end: 0 without a link.
+/// Reads the mark of being told to forget, or of the end, which is 0 without a link.
 fn mark_of<I: Input>(link: Option<&Link>, input: &mut I) -> Result<u8, Stop>
     ensures { Reads (I.seen input.old) (I.seen input.new)
         (λ x. x) result (number_at w8 (is_mark_for (option_copied link.entry))) }
@@ -59,7 +59,7 @@ fn mark_of<I: Input>(link: Option<&Link>, input: &mut I) -> Result<u8, Stop>
     Ok(mark)
 }
 
-/// The mark of being told of the end, where the version knows it.
+/// Reads the mark of being told of the end, if the version has it.
 #[tactic(auto, unfolding(crate::specs::Reading::told_at))]
 fn told_of<I: Input>(version: Version, link: Option<&Link>, input: &mut I) -> Result<u8, Stop>
     ensures { Reads (I.seen input.old) (I.seen input.new) (λ x. x) result (told_at version (option_copied link.entry)) }
@@ -70,7 +70,7 @@ fn told_of<I: Input>(version: Version, link: Option<&Link>, input: &mut I) -> Re
     }
 }
 
-/// What is marked of a participant with these links.
+/// Reads the marks of a participant with these links.
 #[tactic(auto, unfolding(crate::specs::Reading::marks_at))]
 pub(crate) fn marks_of<I: Input>(
     version: Version,

@@ -1,4 +1,4 @@
-// One record, as the journal keeps it.
+// The encoding of one record, as the journal keeps it.
 ghost use Rattle.std.specs.Prelude.{◌≡◌, ℕ, List, IfOk, Ok};
 ghost use Rattle.lra_forest.specs.declared.record.Record.{Record};
 ghost use Rattle.lra_delta.specs.Answer.{Decodes};
@@ -45,7 +45,7 @@ fn alone_of<I: Input>(
     Ok(kept)
 }
 
-/// The record that all of the bytes encode.
+/// Returns the record that all of the bytes encode.
 fn record_in_slice(
     alloc: Global,
     bytes: &[u8],
@@ -65,7 +65,7 @@ fn record_in_slice(
     }
 }
 
-/// The record that all of the bytes encode in a version, with base zero and no live list, under a
+/// Decodes all of the bytes as a record of a version, with base zero and no live list, under a
 /// front. E16 at the place of the first field that isn't whole or breaks its rule.
 pub fn decode_record(
     alloc: Global,
@@ -73,12 +73,12 @@ pub fn decode_record(
     front: &Front,
     version: Version,
 ) -> Result<Record, Refusal>
-    // Which place it is.
+    // The exact place.
     ensures exact { Decodes result (record_in_as version front.now bytes.now) }
-    // What is read keeps the rules, and is encoded so.
+    // What is read keeps the rules and has this encoding.
     ensures found { IfOk result (λ kept. IsRecordUnderAs version front.now kept
         × (bytes.now ≡ record_text_as version kept)) }
-    // What is encoded so is read, unless memory runs out.
+    // What has this encoding is read, unless memory runs out.
     ensures only { (kept : Record) →
         IsRecordUnderAs version front.now kept →
         bytes.now ≡ record_text_as version kept → Decodes result (Ok kept) }
@@ -86,8 +86,7 @@ pub fn decode_record(
     decode_record_with(alloc, bytes, front, version, &mut LinksRead::new(alloc))
 }
 
-/// The same, for one of many: each of its links is copied from those that were read lately, where
-/// it is one of them.
+/// Like `decode_record`, for one record of many: each of its links that was read lately is copied.
 pub fn decode_record_with(
     alloc: Global,
     bytes: &[u8],
@@ -105,8 +104,8 @@ pub fn decode_record_with(
     record_in_slice(alloc, bytes, front, version, links)
 }
 
-/// The bytes that encode a record, in version 2. Under a front where it fits they are read as
-/// itself again.
+/// Encodes a record in version 2. Under a front where the record fits, its bytes are read as the
+/// same record again.
 pub fn encode_record(alloc: Global, kept: &Record) -> Result<Vec<u8>, AllocError>
     ensures text { IfOk result (λ bytes. bytes.items ≡ record_text kept.now) }
     ensures rules { (front : List ℕ) →

@@ -1,17 +1,17 @@
-// What a frame is written to.
+// The output to which a frame is written.
 ghost use Rattle.std.specs.Prelude.{◌≡◌, ◌++◌, ℕ, List};
 ghost use Rattle.lra_delta.specs.WrittenSoFar.{Start};
 
-/// What a frame is written to, field by field. One that may meet a fault keeps it, and goes on in
-/// `text` alone.
+/// An output to which a frame is written field by field. If it meets a fault, it remembers that,
+/// and from then on only `text` grows.
 pub trait Output {
-    /// All that was put so far, also after a fault.
+    /// Everything that was put so far, including what was put after a fault.
     ghost text: { Self → List ℕ };
 
-    /// The sink behind it, and how it stood at the start.
+    /// The sink behind this output, and its state at the start.
     ghost start: { Self → Start };
 
-    /// Takes these bytes, behind those before.
+    /// Appends these bytes.
     fn put(&mut self, bytes: &[u8])
         ensures same { start self.new ≡ start self.old }
         ensures text { text self.new ≡ text self.old ++ bytes.now };

@@ -1,4 +1,4 @@
-// A frame out of a source.
+// Reading a frame from a source.
 ghost use Rattle.std.specs.Prelude.{◌≡◌, ◌+◌, ◌<◌, length, take, IfErr, IfOk, IfSome, OnOk};
 ghost use Rattle.lra_http.specs.Streams.{Gives, too_many_interrupted};
 ghost use Rattle.lra_delta.specs.Encoding.{encoding_as};
@@ -15,13 +15,16 @@ use lra_http::Source;
 use std::alloc::Global;
 
 impl Delta {
-    /// A frame of exactly so many bytes, of version 1 or 2, read from a source number by number and
-    /// text by text: over a socket a buffered reader goes below. What is behind them is left
-    /// unread. `interrupted` counts the interrupted calls of the message that they belong to. E16
-    /// at the place of the first field that isn't whole within the frame or breaks its rule, of
-    /// which no more was read than tells so, and nothing behind it: of a link whose length breaks
-    /// its rule that length alone, and no field for which the stated length has no room. `Cut` or
-    /// `ReadFault` where the source ends or fails before that.
+    /// Reads a frame of exactly this many bytes, of version 1 or 2, from a source, number by number
+    /// and text by text. For a socket there should be a buffered reader below. What follows the
+    /// frame is left unread. `interrupted` counts the interrupted calls of the message to which
+    /// these bytes belong.
+    ///
+    /// Errors: E16 at the place of the first field that isn't whole within the frame or breaks its
+    /// rule. Then no more of the field was read than is needed to tell, and nothing behind it. If a
+    /// link's length breaks its rule, only that length was read. A field for which the stated
+    /// length has no room wasn't read at all. `Cut` or `ReadFault` if the source ends or fails
+    /// before that.
     pub fn read<S: Source>(
         alloc: Global,
         reader: &mut S,
@@ -29,15 +32,15 @@ impl Delta {
         interrupted: &mut u16,
     ) -> Result<Delta, Stop>
         requires { interrupted.old < too_many_interrupted }
-        // What was given is the encoding of a frame that keeps the rules, in a version, and no byte
-        // more.
+        // The source gave the encoding of a frame that keeps the rules, in a version, and not one
+        // byte more.
         ensures frame { IfOk result (λ delta. (version : Version)
             × IsDeltaAs version delta × (length (encoding_as version delta) ≡ bytes)
             × Gives (S.stream reader.old) (S.stream reader.new) (encoding_as version delta)) }
-        // What was given before each stop shows it, whatever follows.
+        // What the source gave before each stop shows the reason, whatever follows.
         ensures stop { IfErr result
             (StopsReading bytes (S.stream reader.old) (S.stream reader.new)) }
-        // Where the bytes that come are known, the answer is what reading the next ones gives.
+        // If the bytes that come are known, the answer is what reading the next ones gives.
         ensures known { IfSome (S.stream reader.old).left
             (λ ahead. Says result (read_of bytes (take bytes ahead))) }
         ensures calls { ReadsCalls bytes

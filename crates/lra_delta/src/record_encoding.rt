@@ -1,4 +1,4 @@
-// The encoding of a record, one of each version, put field by field.
+// The encoding of a record, one for each version, put field by field.
 ghost use Rattle.std.specs.Prelude.{◌≡◌, ◌++◌, ◌≤◌, Some, length};
 ghost use Rattle.std.specs.List.{All, flat_map};
 ghost use Rattle.std.specs.Option.{option_copied};
@@ -12,7 +12,7 @@ use lra_facts::{Link, Links};
 use lra_forest::{Member, Members, Participant, Place, Record};
 use lra_id::{Front, Outcome, Verdict};
 
-/// A number of one byte.
+/// Puts a number of one byte.
 pub(crate) fn put_byte<O: Output>(out: &mut O, n: u8)
     ensures same { O.start out.new ≡ O.start out.old }
     ensures text { O.text out.new ≡ O.text out.old ++ byte n }
@@ -20,7 +20,7 @@ pub(crate) fn put_byte<O: Output>(out: &mut O, n: u8)
     out.put(&[n]);
 }
 
-/// A number of eight bytes.
+/// Puts a number of eight bytes.
 pub(crate) fn put_number<O: Output>(out: &mut O, n: u64)
     ensures same { O.start out.new ≡ O.start out.old }
     ensures text { O.text out.new ≡ O.text out.old ++ number n }
@@ -74,7 +74,7 @@ fn put_text<O: Output>(out: &mut O, text: &[u8])
     out.put(text);
 }
 
-/// A link. It is one that is read again.
+/// Puts a link, which can be read again.
 #[tactic(auto, using(crate::proofs::Fitted::kept_is_link))]
 fn put_link<O: Output>(out: &mut O, link: &Link)
     ensures same { O.start out.new ≡ O.start out.old }
@@ -95,7 +95,8 @@ fn put_link_or_none<O: Output>(out: &mut O, link: Option<&Link>)
     }
 }
 
-/// The link for the end, where the version knows it. What it is by its type is said in any case.
+/// Puts the link for the end, if the version has it. What its type says of it is ensured in any
+/// case.
 fn put_after<O: Output>(out: &mut O, version: Version, link: Option<&Link>)
     ensures same { O.start out.new ≡ O.start out.old }
     ensures text { O.text out.new ≡ O.text out.old ++ after_link version (option_copied link.entry) }
@@ -199,7 +200,7 @@ fn put_members<O: Output>(out: &mut O, version: Version, ms: &Members)
     put_each_member(out, version, list);
 }
 
-/// Numbers, one after another.
+/// Puts numbers, one after another.
 pub(crate) fn put_numbers<O: Output>(out: &mut O, ns: &[u64])
     ensures same { O.start out.new ≡ O.start out.old }
     ensures text { O.text out.new ≡ O.text out.old ++ flat_map number ns.now }
@@ -209,7 +210,7 @@ pub(crate) fn put_numbers<O: Output>(out: &mut O, ns: &[u64])
     }
 }
 
-/// The counts of a front.
+/// Puts the counts of a front.
 pub(crate) fn put_front<O: Output>(out: &mut O, front: &Front)
     ensures same { O.start out.new ≡ O.start out.old }
     ensures text { O.text out.new ≡ O.text out.old ++ vector front.now }
@@ -217,7 +218,7 @@ pub(crate) fn put_front<O: Output>(out: &mut O, front: &Front)
     put_numbers(out, front.as_slice());
 }
 
-/// A record. What its numbers and links keep by their types is said beside.
+/// Puts a record. It also ensures what the types say of the record's numbers and links.
 #[tactic(auto, unfolding(crate::specs::Encoding::record_text_as))]
 pub(crate) fn put_record<O: Output>(out: &mut O, version: Version, r: &Record)
     ensures same { O.start out.new ≡ O.start out.old }

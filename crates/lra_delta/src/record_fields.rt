@@ -1,4 +1,4 @@
-// The fields of a record in order.
+// Reading the fields of a record in order.
 ghost use Rattle.std.specs.Prelude.{[], ◌≡◌, ◌+◌, ◌-◌, ◌*◌, ◌≤◌, ◌<◌, ◌==◌, ℕ, length, true, false, is_none, is_some, Some, IfOk};
 ghost use Rattle.std.specs.Int.{w8, w64};
 ghost use Rattle.std.specs.List.{list_any};
@@ -78,7 +78,7 @@ fn is_length_for(needed: bool, allowed: bool, len: u8) -> bool
     len <= 127 && (!needed || 1 <= len) && (allowed || len == 0)
 }
 
-/// A link, which may be needed here, or not allowed.
+/// Reads a link, which may be needed here, or not allowed.
 #[tactic(auto, unfolding(crate::specs::Reading::link_at, crate::specs::Reading::text_at))]
 fn link_of<I: Input>(
     alloc: Global,
@@ -108,7 +108,7 @@ fn link_of<I: Input>(
     }
 }
 
-/// The link for the end, where the version knows it.
+/// Reads the link for the end, if the version has it.
 #[tactic(auto, unfolding(crate::specs::Reading::after_at))]
 fn after_of<I: Input>(
     alloc: Global,
@@ -133,7 +133,7 @@ fn needs_compensate(version: Version, complete: &Option<Link>) -> bool
     version == Version::One || complete.is_some()
 }
 
-/// These links, each of which may be there as it is.
+/// Makes the links of a participant from these, each of which may be there as it is.
 #[tactic(auto, using(crate::proofs::Together::links_are))]
 fn links_of(
     version: Version,
@@ -155,8 +155,8 @@ fn links_of(
     }
 }
 
-/// What it takes is dropped. An early return that drops four links has an end for each that is
-/// given.
+/// Drops these links. Otherwise an early return that drops four links would have a separate end for
+/// each that is given.
 fn let_go(
     complete: Option<Link>,
     compensate: Option<Link>,
@@ -164,7 +164,7 @@ fn let_go(
     forget: Option<Link>,
 ) {}
 
-/// These links with that for the end behind them.
+/// Reads the link for the end, and returns these links together with it.
 #[tactic(auto, unfolding(crate::specs::Reading::last_link_at))]
 fn with_after<I: Input>(
     alloc: Global,
@@ -232,7 +232,8 @@ fn participant_of<I: Input>(
 
 // ---- members
 
-/// A member. An LRA that is nested has a number above the last one, at most the stamp of the home.
+/// Reads a member. The number of a nested LRA must be above the last one's and at most the stamp of
+/// the home.
 #[tactic(auto, unfolding(crate::specs::Reading::member_at, crate::specs::Reading::member_by))]
 fn member_of<I: Input>(
     alloc: Global,
@@ -315,7 +316,7 @@ fn members_of<I: Input>(
 
 // ---- vectors
 
-/// So many numbers, at most as many as there can be nodes.
+/// Reads this many numbers, at most as many as there can be nodes.
 fn each_number<I: Input>(count: u8, input: &mut I) -> Result<Front, Stop>
     requires some { 1 ≤ count }
     requires few { count ≤ MAX_NODES }
@@ -331,7 +332,7 @@ fn each_number<I: Input>(count: u8, input: &mut I) -> Result<Front, Stop>
     Ok(Front::from_counts(&numbers[..usize::from(count)]))
 }
 
-/// A vector of so many numbers: one field.
+/// Reads a vector of this many numbers, which is one field.
 #[tactic(auto, unfolding(crate::specs::FrameFields::many_at))]
 pub(crate) fn many_of<I: Input>(count: u8, input: &mut I) -> Result<Front, Stop>
     requires some { 1 ≤ count }
@@ -468,7 +469,7 @@ fn stamps_of<I: Input>(
     Ok(stamps)
 }
 
-/// A record, after the last one.
+/// Reads the record that follows the last one.
 #[tactic(auto, unfolding(crate::specs::Reading::read_record_at))]
 pub(crate) fn record_of<I: Input>(
     alloc: Global,

@@ -1,4 +1,4 @@
-// Whether two nodes tell the same.
+// Whether two nodes send the same.
 ghost use Rattle.std.specs.Prelude.{◌≡◌, ◌&&◌, length, map};
 ghost use Rattle.std.specs.Cmp.Lexicographic.{pointwise};
 ghost use Rattle.std.specs.Option.{option_eq};
@@ -64,7 +64,7 @@ fn same_homes(a: &[Told], b: &[Told]) -> bool
 }
 
 impl Delta {
-    /// Whether another tells the same.
+    /// Whether another delta has the same contents.
     pub fn same(&self, other: &Delta) -> bool
         ensures { result ≡ same_frame self.now other.now }
     {

@@ -1,4 +1,4 @@
-// What a replica tells since a base, by a look at each record.
+// What a replica sends since a base, found by looking at each record.
 ghost use Rattle.std.specs.Prelude.{◌≡◌, ◌⊎◌, ◌++◌, ◌∷◌, ◌<◌, [], ℕ, List, Err, true, IfErr, IfOk, OnOk, filter, if◌then◌else◌, length, map};
 ghost use Rattle.std.specs.List.{AllByRecursion};
 ghost use Rattle.lra_id.specs.Fronts.{IsBelow};
@@ -51,7 +51,7 @@ fn records_since(alloc: Global, home: &Forest, base: &Front) -> Result<Forest, A
     Ok(since)
 }
 
-/// What is told of a home since a base.
+/// Returns what is sent of a home since a base.
 fn told_since(
     alloc: Global,
     home: &Forest,
@@ -65,7 +65,7 @@ fn told_since(
     Ok(Told { records, held })
 }
 
-/// What is told of each home since a base.
+/// Returns what is sent of each home since a base.
 fn homes_since(
     alloc: Global,
     homes: &[Forest],
@@ -82,7 +82,7 @@ fn homes_since(
     Ok(told)
 }
 
-/// What `Delta::since` answers, by the same contract, but made by a look at each record. Tests
+/// Returns the same as `Delta::since`, by the same contract, but looks at each record. Tests
 /// compare the two.
 pub fn since_by_scan(alloc: Global, replica: &Replica, base: &Front) -> Result<Delta, Refusal>
     requires { length base.now ≡ length replica.now.front }

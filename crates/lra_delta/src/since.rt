@@ -1,4 +1,4 @@
-// What a replica tells since a base, out of its index by stamp.
+// What a replica sends since a base, found by its index of stamps.
 ghost use Rattle.std.specs.Prelude.{◌≡◌, ◌⊎◌, ◌<◌, ℕ, List, Err, None, Some, IfErr, IfOk, OnOk, find, if◌then◌else◌, length, map, nat_lt};
 ghost use Rattle.lra_id.specs.declared.TheConstants.{MAX_NODES};
 ghost use Rattle.lra_id.specs.Fronts.{IsBelow, count};
@@ -26,7 +26,7 @@ use lra_index::Entry;
 use lra_replica::Replica;
 use std::alloc::{AllocError, Global};
 
-/// The numbers of all LRAs that are held at a home, where it purged after the base.
+/// Returns the numbers of all LRAs that are held at a home, if it purged after the base.
 pub(crate) fn live_since(
     alloc: Global,
     home: &Forest,
@@ -44,7 +44,7 @@ pub(crate) fn live_since(
     }
 }
 
-/// What is told of a home, but for its records.
+/// Returns what is sent of a home, except for its records.
 fn told_without(
     alloc: Global,
     home: &Forest,
@@ -86,7 +86,7 @@ fn put_copy(told: &mut Forest, kept: &Record) -> Result<(), AllocError>
     Ok(())
 }
 
-/// Tells of the LRA with a number, too, where the home has its record.
+/// Adds a copy of the record of the LRA with a number, if the home has it and it was not added yet.
 fn tell_number(told: &mut Forest, home: &Forest, num: u64) -> Result<(), AllocError>
     requires home { told.old.home ≡ home.now.home }
     requires order { AreOf told.old.home told.old.records }
@@ -105,7 +105,7 @@ fn tell_number(told: &mut Forest, home: &Forest, num: u64) -> Result<(), AllocEr
     put_copy(told, kept)
 }
 
-/// Tells of the LRA of an entry, too.
+/// Adds the record of the LRA of an entry.
 fn tell_entry(told: &mut Vec<Told>, homes: &[Forest], entry: &Entry) -> Result<(), AllocError>
     requires told { AreHomes (length homes.now) (homes_told told.old.items) }
     requires homes { AreHomes (length homes.now) homes.now }
@@ -131,7 +131,7 @@ fn tell_each(told: &mut Vec<Told>, homes: &[Forest], entries: &[Entry]) -> Resul
     Ok(())
 }
 
-/// Tells of the LRAs whose records have a stamp of a node beyond the base, too.
+/// Adds the records that have a stamp of this node beyond the base.
 fn tell_beyond(
     told: &mut Vec<Told>,
     replica: &Replica,
@@ -147,7 +147,7 @@ fn tell_beyond(
     tell_each(told, replica.homes(), entries)
 }
 
-/// Tells of the LRAs whose records have a stamp beyond the base.
+/// Adds the records that have a stamp of any node beyond the base.
 fn tell_all(told: &mut Vec<Told>, replica: &Replica, base: &Front) -> Result<(), AllocError>
     requires { AreHomes (length replica.now.homes) (homes_told told.old.items) }
     ensures { OnOk result (AreTold
@@ -163,7 +163,7 @@ fn tell_all(told: &mut Vec<Told>, replica: &Replica, base: &Front) -> Result<(),
     Ok(())
 }
 
-/// What is told of each home since a base.
+/// Returns what is sent of each home since a base.
 fn homes_since(
     alloc: Global,
     replica: &Replica,
@@ -180,7 +180,7 @@ fn homes_since(
 }
 
 impl Delta {
-    /// What a replica tells where this is told of each home.
+    /// Returns what a replica sends, if this is sent of each home.
     pub(crate) fn telling(replica: &Replica, base: &Front, homes: Vec<Told>) -> Delta
         requires nodes { length base.now ≡ length replica.now.front }
         requires below { IsBelow base.now replica.now.front }
@@ -198,19 +198,19 @@ impl Delta {
         Delta::new(*base, front, purges, homes)
     }
 
-    /// What a replica tells another that has the facts which a base of as many nodes counts: its
-    /// front and last purges, the records that have a stamp beyond the base, and of each home that
-    /// purged after the base the numbers of all LRAs that it holds there. E15 with the replica's
-    /// front where the base is not below that. It finds each node's stamps beyond the base by
-    /// halving, looks up the record of each such stamp, and copies it once. It looks at no other
-    /// record, but that it goes over those of a home whose numbers it tells.
+    /// Returns what a replica sends another that has the facts counted by a base of as many nodes:
+    /// its front and last purges, the records that have a stamp beyond the base, and for each home
+    /// that purged after the base the numbers of all LRAs that it holds there. E15 with the
+    /// replica's front if the base is not below it. It finds each node's stamps beyond the base by
+    /// binary search, looks up the record of each such stamp, and copies it once. It looks at no
+    /// other record, except those of a home whose numbers it sends.
     pub fn since(alloc: Global, replica: &Replica, base: &Front) -> Result<Delta, Refusal>
         requires { length base.now ≡ length replica.now.front }
         ensures frame { IfOk result (λ delta. (delta ≡ frame_of (view_of replica.now) base.now)
             × IsBelow base.now replica.now.front) }
         ensures set { (S : List Fact) →
             StandsFor S (view_of replica.now) → IfOk result (λ delta. IsFrame S base.now delta) }
-        // What a node of a lawful history tells keeps the rules of frames.
+        // What a node of a lawful history sends keeps the rules of frames.
         ensures grammar { (h : History) (w : List ℕ) → IsLawful h → IsClosed h w →
             StandsFor (facts h w) (view_of replica.now) → IfOk result (λ delta. IsOfGrammar delta) }
         ensures gap { (IsBelow base.now replica.now.front → ⊥) →

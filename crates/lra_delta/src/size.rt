@@ -1,4 +1,4 @@
-// The length of an encoding, where a number of 64 bits counts it.
+// The length of an encoding, if it fits a number of 64 bits.
 ghost use Rattle.std.specs.Prelude.{◌≡◌, ◌≤◌, ◌^◌, length, IfNone, IfSome};
 ghost use Rattle.lra_delta.specs.Encoding.{body, encoding};
 ghost use Rattle.lra_delta.specs.declared.version.Version.TheVariants.{Two};
@@ -8,7 +8,8 @@ use crate::count::ByteCount;
 use crate::frame_encoding::put_body;
 use crate::version::Version;
 
-/// How many bytes a frame of version 2 has after its length, where a number of 64 bits counts them.
+/// Returns how many bytes a frame of version 2 has after its length, if that fits a number of 64
+/// bits.
 fn body_size(delta: &Delta) -> Option<u64>
     ensures some { IfSome result (λ n. n ≡ length (body Two delta.now)) }
     ensures none { IfNone result (2 ^ 64 ≤ length (body Two delta.now)) }
@@ -19,8 +20,8 @@ fn body_size(delta: &Delta) -> Option<u64>
 }
 
 impl Delta {
-    /// How many bytes encode it in version 2, or `None` where no number of 64 bits counts them. It
-    /// takes no memory.
+    /// Returns the length of this delta's encoding in version 2, or `None` if that doesn't fit a
+    /// number of 64 bits. It takes no memory.
     pub fn length(&self) -> Option<u64>
         ensures some { IfSome result (λ n. n ≡ length (encoding self.now)) }
         ensures none { IfNone result (2 ^ 64 ≤ length (encoding self.now)) }

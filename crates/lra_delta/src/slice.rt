@@ -15,7 +15,7 @@ pub struct Slice<'a> {
 }
 
 impl<'a> Slice<'a> {
-    /// None of the bytes was taken yet.
+    /// Makes an input of which no byte was taken yet.
     pub fn new(bytes: &'a [u8]) -> Slice<'a>
         ensures { ⟦<Slice<'a> as Input>⟧.seen result ≡ of_slice bytes.now 0 (length bytes.now) }
     {

@@ -8,20 +8,20 @@ use crate::input::{Input, Stop};
 use lra_http::{Log, Source, read_piece};
 use std::snapshot::Snapshot;
 
-/// How far a stream is.
+/// The progress of a stream.
 #[derive(Clone, Copy, Debug, PartialEq, Eq)]
 pub enum Progress {
-    /// It goes on.
+    /// The stream goes on.
     Going,
     /// The last call found the end.
     Ended,
-    /// The last call failed, or one too many was interrupted.
+    /// The last call failed, or one call too many was interrupted.
     Failed,
 }
 
-/// What clauses read of a source: how it was at the start, and what was taken of it since. It
-/// stands outside of the stream, since a struct that owns a snapshot beside a `&mut` forgets what
-/// it leaves behind that.
+/// What clauses read of a source: its state at the start, and what was taken of it since. It stands
+/// outside of the stream because a struct that owns a snapshot beside a `&mut` forgets what it
+/// leaves behind that.
 #[derive(Drop)]
 pub struct Track<S> {
     start: Snapshot<S>,
@@ -29,7 +29,7 @@ pub struct Track<S> {
 }
 
 impl<S: Source> Track<S> {
-    /// Nothing was taken of this source.
+    /// Makes the track of a source from which nothing was taken yet.
     pub fn new(source: &S) -> Track<S>
         ensures start { result.start.value ≡ source.now }
         ensures taken { result.taken ≡ [] }
@@ -41,13 +41,14 @@ impl<S: Source> Track<S> {
     }
 }
 
-/// Numbers of one byte are below 256, which clauses of lists don't know by themselves.
+/// Tells the prover that numbers of one byte are below 256, which clauses about lists don't know by
+/// themselves.
 fn bytes_fit(bytes: &[u8])
     ensures { (i : ℕ) → get_or bytes.now i 0 < 256 }
 {}
 
-/// A source that a frame is read from, of at most so many bytes. One that meets its end or a fault
-/// keeps that, and reads no more.
+/// A source from which a frame of at most this many bytes is read. Once it meets its end or a
+/// fault, it remembers that and reads no more.
 #[derive(Drop)]
 pub struct Stream<'a, S: Source> {
     source: &'a mut S,
@@ -71,7 +72,7 @@ pub struct Stream<'a, S: Source> {
 }
 
 impl<'a, S: Source> Stream<'a, S> {
-    /// Reads at most so many bytes of the source.
+    /// Makes a stream that reads at most this many bytes of the source.
     pub fn new(
         source: &'a mut S,
         track: &'a mut Track<S>,
@@ -96,7 +97,7 @@ impl<'a, S: Source> Stream<'a, S> {
         }
     }
 
-    /// The count of interrupted calls of the message so far.
+    /// Returns how many calls of the message were interrupted so far.
     pub fn interrupted(&self) -> u16
         ensures count { result ≡ (⟦<Stream<'a, S> as Input>⟧.seen self.now).now.counted }
         ensures sound { IsSound (⟦<Stream<'a, S> as Input>⟧.seen self.now) }
@@ -104,7 +105,7 @@ impl<'a, S: Source> Stream<'a, S> {
         self.interrupted
     }
 
-    /// Some of the next bytes, one at least.
+    /// Reads some of the next bytes, at least one.
     fn piece(&mut self, buffer: &mut [u8]) -> Result<usize, Stop>
         requires some { 0 < length buffer.old }
         requires fits { length (⟦<Stream<'a, S> as Input>⟧.seen self.old).taken + length buffer.old

@@ -1,9 +1,9 @@
-// The versions of frames.
+// Versions of frames.
 ghost use Rattle.std.specs.Prelude.{◌≡◌};
 ghost use Rattle.lra_delta.specs.Versions.{version_mark};
 
-/// A version of frames and of the records in them. Version 1 knows no link for the end of an LRA,
-/// and what it says means that there is none.
+/// A version of frames and of the records in them. Version 1 has no link for the end of an LRA, and
+/// a record in version 1 means that there is none.
 #[derive(Clone, Copy, Debug, PartialEq, Eq)]
 pub enum Version {
     One,
@@ -11,7 +11,7 @@ pub enum Version {
 }
 
 impl Version {
-    /// Its number in a frame.
+    /// Returns the version's number in a frame.
     pub fn number(self) -> u8
         ensures { result ≡ version_mark self }
     {

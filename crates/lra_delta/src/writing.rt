@@ -1,4 +1,4 @@
-// A frame to a sink.
+// Writing a frame to a sink.
 ghost use Rattle.std.specs.Prelude.{◌≡◌, ◌+◌, ◌<◌, ◌≤◌, ◌++◌, false, length, OnOk, OnErr, []};
 ghost use Rattle.std.specs.Io.KnownBytes.{Appends};
 ghost use Rattle.lra_http.specs.Streams.{Streams, Takes, TakesPart, too_many_interrupted};
@@ -14,8 +14,8 @@ use crate::version::Version;
 use lra_http::{Log, Sink, WriteFault, write_all};
 use std::snapshot::Snapshot;
 
-/// What clauses read of a sink: how it was at the start, and what was put since. It stands outside
-/// of `Writing`, since a struct that owns a snapshot beside a `&mut` forgets what it leaves behind
+/// What clauses read of a sink: its state at the start, and what was put since. It stands outside
+/// of `Writing` because a struct that owns a snapshot beside a `&mut` forgets what it leaves behind
 /// that.
 #[derive(Drop)]
 struct Sheet<W> {
@@ -24,7 +24,7 @@ struct Sheet<W> {
 }
 
 impl<W: Sink> Sheet<W> {
-    /// Nothing was put to this sink.
+    /// Makes the sheet of a sink to which nothing was put yet.
     fn new(sink: &W) -> Sheet<W>
         ensures start { result.start.value ≡ sink.now }
         ensures text { result.text ≡ [] }
@@ -36,7 +36,7 @@ impl<W: Sink> Sheet<W> {
     }
 }
 
-/// A sink that a frame is written to, until a write fails.
+/// A sink to which a frame is written, until a write fails.
 #[derive(Drop)]
 struct Writing<'a, W: Sink> {
     sink: &'a mut W,
@@ -88,9 +88,10 @@ impl<'a, W: Sink> Output for Writing<'a, W> {
 }
 
 impl Delta {
-    /// Writes the bytes that encode it in version 2, number by number and text by text, or a prefix
-    /// of them before a fault: over a socket a buffered writer goes below. It takes no memory.
-    /// `interrupted` counts the interrupted calls of the message that they belong to.
+    /// Writes the bytes that encode this delta in version 2, number by number and text by text, or
+    /// a prefix of them before a fault. For a socket there should be a buffered writer below. It
+    /// takes no memory. `interrupted` counts the interrupted calls of the message to which these
+    /// bytes belong.
     #[tactic(auto, using(crate::proofs::PartsPut::part_put))]
     pub fn write<W: Sink>(&self, writer: &mut W, interrupted: &mut u16) -> Result<(), WriteFault>
         requires { interrupted.old < too_many_interrupted }
@@ -103,7 +104,8 @@ impl Delta {
         ensures counted { (W.calls writer.new).interrupted + interrupted.old
             ≡ (W.calls writer.old).interrupted + interrupted.new }
         ensures below { OnOk result (interrupted.new < too_many_interrupted) }
-        // What keeps the rules that the frames of nodes of a history keep is read as itself again.
+        // A delta that keeps the rules that the frames of a history's nodes keep is read as the
+        // same delta again.
         ensures frame { IsOfGrammar self.now → IsDelta self.now }
     {
         let mut sheet = Sheet::new(writer);
