@@ -5,12 +5,14 @@
 mod front;
 mod lra;
 mod node;
+mod number;
 mod outcome;
 mod status;
 
 pub use front::Front;
 pub use lra::LraId;
 pub use node::NodeId;
+pub use number::number_of;
 pub use outcome::{Act, Outcome, Verdict};
 pub use status::{LraStatus, MemberStatus};
 

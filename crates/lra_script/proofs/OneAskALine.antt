@@ -29,7 +29,8 @@ use Rattle.lra_script.specs.Asks.{IsInRange, HasArguments, IsMemberNumber, IsNod
 use Rattle.lra_script.specs.CallLines.{IsAnswerInRange, GivesAnswer, IsRestOf}
 use Rattle.lra_script.specs.Joins.{GivesLinks}
 use Rattle.lra_script.specs.LineParts.{onto_first, parts, words_of}
-use Rattle.lra_script.proofs.DecimalNumbers.{id_parted, one_number, own}
+use Rattle.lra_id.proofs.DecimalNumbers.{own}
+use Rattle.lra_script.proofs.DecimalNumbers.{id_parted, one_number}
 use Rattle.lra_script.proofs.Splits.{parts_some}
 
 -- Words are those of one text

@@ -10,9 +10,8 @@ ghost use Rattle.lra_id.specs.Ids.{Id, IsId, id_text};
 ghost use Rattle.lra_script.specs.Asks.{IsMemberNumber, IsNodeOf};
 
 use lra_forest::MAX_MEMBERS;
-use lra_id::{LraId, MAX_NODES, NodeId};
+use lra_id::{LraId, MAX_NODES, NodeId, number_of};
 use std::marker::Model;
-use std::str;
 
 /// The words of a line that are still to be read. Words are parted by one space.
 #[derive(Drop)]
@@ -146,35 +145,6 @@ impl Verb {
             _ => None,
         }
     }
-}
-
-/// The number that a word spells in decimal, without leading zeros.
-pub fn number_of(word: &[u8]) -> Option<u64>
-    ensures { MatchOption result ((n : ℕ) → n < 2 ^ 64 → word.now ≡ decimal n → ⊥)
-        (λ n. word.now ≡ decimal n) }
-{
-    if !is_canonical(word) {
-        return None;
-    }
-    let Ok(text) = str::from_utf8(word) else {
-        return None;
-    };
-    match text.parse::<u64>() {
-        Ok(number) => Some(number),
-        Err(_) => None,
-    }
-}
-
-fn is_canonical(word: &[u8]) -> bool
-    ensures plain { IsTrue result →
-        (slice_index word.now 0 ≡ 43 → ⊥) × (slice_index word.now 0 ≡ 48 → length word.now ≡ 1) }
-    ensures odd { (IsTrue result → ⊥) → (slice_index word.now 0 ≡ 43 → length word.now ≡ 0) →
-        (slice_index word.now 0 ≡ 48) × (length word.now ≢ 1) }
-{
-    if word.is_empty() {
-        return true;
-    }
-    word[0] != b'+' && (word[0] != b'0' || word.len() == 1)
 }
 
 /// The node, of so many, that a word spells.

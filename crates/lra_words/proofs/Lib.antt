@@ -1,5 +1,4 @@
 mod Addresses
 mod ChoiceWords
-mod DecimalNumbers
 mod EachWord
 mod NodeWords

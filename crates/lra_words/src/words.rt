@@ -14,31 +14,13 @@ pub enum Unasked {
     NoMemory,
 }
 
-/// The number that a word spells in decimal, without leading zeros. `lra_script` reads one from
-/// bytes, by a function that is private there.
+/// Returns the number that a word spells in decimal, if it has no sign and no leading zero and is
+/// below 2 ^ 64.
 pub fn number_of(word: &str) -> Option<u64>
     ensures { MatchOption result ((n : ℕ) → n < 2 ^ 64 → word.now ≡ decimal n → ⊥)
         (λ n. word.now ≡ decimal n) }
 {
-    if !is_canonical(word.as_bytes()) {
-        return None;
-    }
-    match word.parse::<u64>() {
-        Ok(number) => Some(number),
-        Err(_) => None,
-    }
-}
-
-fn is_canonical(word: &[u8]) -> bool
-    ensures plain { IsTrue result →
-        (slice_index word.now 0 ≡ 43 → ⊥) × (slice_index word.now 0 ≡ 48 → length word.now ≡ 1) }
-    ensures odd { (IsTrue result → ⊥) → (slice_index word.now 0 ≡ 43 → length word.now ≡ 0) →
-        (slice_index word.now 0 ≡ 48) × (length word.now ≢ 1) }
-{
-    if word.is_empty() {
-        return true;
-    }
-    word[0] != b'+' && (word[0] != b'0' || word.len() == 1)
+    lra_id::number_of(word.as_bytes())
 }
 
 /// The port that a word spells.

@@ -7,9 +7,9 @@ ghost use Rattle.lra_id.specs.Names.{verdict_name};
 ghost use Rattle.lra_script.specs.Asks.{IsNodeOf, ReadsArguments, parent_words};
 
 use crate::asking::Ask;
-use crate::words::{Words, id_of, node_of, number_of};
+use crate::words::{Words, id_of, node_of};
 use lra_facts::Command;
-use lra_id::{LraId, NodeId, Verdict};
+use lra_id::{LraId, NodeId, Verdict, number_of};
 
 pub fn begin_of(mut words: Words<'_>, nodes: u8) -> Option<Ask>
     requires { nodes ≤ MAX_NODES }

@@ -5,8 +5,8 @@ ghost use Rattle.lra_id.specs.declared.TheConstants.{MAX_NODES};
 ghost use Rattle.lra_script.specs.Asks.{IsBaseOf, IsNumber, ReadsArguments, kept_words};
 
 use crate::asking::Ask;
-use crate::words::{Words, node_of, number_of};
-use lra_id::Front;
+use crate::words::{Words, node_of};
+use lra_id::{Front, number_of};
 
 pub fn front_of(mut words: Words<'_>, nodes: u8) -> Option<Ask>
     requires { nodes ≤ MAX_NODES }

@@ -2,8 +2,8 @@ use Rattle.std.proofs.Common.{ℕ, ap, sym, ◌∙◌, true≢false, refl, Ok}
 use Rattle.std.specs.Fmt.{decimal}
 use Rattle.std.proofs.lemmas.Fmt.{parse-decimal, decimal-digits_value}
 use Rattle.std.proofs.lemmas.Str.Parse.{parse_plain}
-use Rattle.lra_script.proofs.DecimalNumbers.{own, odd_is_none, decimal_is_text}
-use Rattle.lra_script.proofs.words.number_of.Goals as goal
+use Rattle.lra_id.proofs.DecimalNumbers.{own, odd_is_none, decimal_is_text}
+use Rattle.lra_id.proofs.number.number_of.Goals as goal
 
 pub returns-then-not-is_canonical : goal.returns-then-not-is_canonical
 returns-then-not-is_canonical c = λ n small e. odd_is_none c.args.word.now n small e (c.if-not-is_canonical.ensures.odd (λ t. true≢false (sym t)))

@@ -1,8 +1,10 @@
 -- Decimal numbers in a text.
 use Rattle.std.proofs.Common.{◌≡◌, ◌≢◌, ℕ, ◌<◌, ◌^◌, ◌⊎◌, inl, inr, List, [], ◌∷◌, length, get_or, ap, ◌∙◌, arith}
 use Rattle.std.specs.Fmt.{decimal}
-use Rattle.std.proofs.lemmas.Fmt.{first_decimal, decimal_digit}
+use Rattle.std.proofs.lemmas.Fmt.{first_decimal, decimal_digit, IsAscii-decimal}
+use Rattle.std.proofs.lemmas.Str.{IsUtf8-from_ascii}
 use Rattle.std.proofs.lemmas.Str.Parse.{IsNumeralModel, numerals_by_value, tells_digits}
+use Rattle.std.specs.Str.{IsUtf8}
 use Rattle.std.specs.Str.Parse.{AllDigits, digits_value}
 
 -- std's own reading of digits
@@ -28,3 +30,6 @@ odd_is_none text n small e odd = elim (starts n small) [
   | inr more ↦ let first : get_or text 0 0 ≡ get_or (decimal n) 0 0 = ap (λ (l : List ℕ). get_or l 0 0) e in
       let is = odd (λ plus. absurd (omega (arith, plus, first, more))) in absurd (omega (arith, is.0, first, more))
 ]
+
+pub decimal_is_text : (text : List ℕ) (n : ℕ) → n < 2 ^ 64 → text ≡ decimal n → IsUtf8 text
+decimal_is_text text n small e = rw e (IsUtf8-from_ascii (decimal n) (IsAscii-decimal n small))
